@@ -1,0 +1,11 @@
+pub mod Booleans
+pub mod Parameters
+pub mod Grammar
+pub mod Words
+pub mod Fronts
+pub mod Judging
+pub mod Canonical
+pub mod Folding
+pub mod Building
+pub mod Splitting
+pub mod Items

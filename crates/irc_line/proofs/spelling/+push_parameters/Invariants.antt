@@ -1,0 +1,5 @@
+use Rattle.std.proofs.Common.{length}
+use Rattle.irc_line.proofs.spelling.+push_parameters.Given as goal
+
+abbrev pub decreases-push_parameters : goal.decreases-push_parameters
+decreases-push_parameters g l = length l.parameters.now

@@ -1,0 +1,5 @@
+pub mod Names
+pub mod Lines
+pub mod Grammar
+pub mod Reading
+pub mod Splitting

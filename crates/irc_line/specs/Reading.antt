@@ -1,0 +1,65 @@
+-- How a content is read from its front, and which fault it has.
+use Rattle.std.specs.Prelude.{ℕ, Bool, true, false, not, if◌then◌else◌, ◌==◌, nat_lt, List, [], ◌∷◌, length, Option, Some, None, Result, Ok, Err, map, position}
+use Rattle.irc_line.specs.Names.{is_content_byte}
+use Rattle.irc_line.specs.Lines.{Parts, spelling}
+use Rattle.irc_line.specs.Grammar.{is_space, is_command, upper}
+use Rattle.irc_line.specs.declared.fault.LineFault.{LineFault}
+use Rattle.irc_line.specs.declared.fault.LineFault.TheVariants.{TooLong, NoCommand, BadByte, TooManyParameters}
+
+-- the bytes behind the first spaces
+abbrev pub skip_spaces : List ℕ → List ℕ
+skip_spaces [] = []
+skip_spaces (b ∷ s) = if is_space b then skip_spaces s else b ∷ s
+
+-- the bytes before the first space
+abbrev pub word_of : List ℕ → List ℕ
+word_of [] = []
+word_of (b ∷ s) = if is_space b then [] else b ∷ word_of s
+
+-- the bytes from the first space on
+abbrev pub behind_word : List ℕ → List ℕ
+behind_word [] = []
+behind_word (b ∷ s) = if is_space b then b ∷ s else behind_word s
+
+-- the parameters that follow, where the first argument says whether this is still within a word
+abbrev pub parameters_from : Bool → List ℕ → List (List ℕ)
+parameters_from b [] = []
+parameters_from true (x ∷ s) = if is_space x then parameters_from false s else parameters_from true s
+parameters_from false (x ∷ s) =
+    if is_space x then parameters_from false s else if x == 58 then s ∷ [] else (x ∷ word_of s) ∷ parameters_from true s
+
+-- the parameters of what stands behind a command
+abbrev pub parameters_of : List ℕ → List (List ℕ)
+parameters_of s = parameters_from false s
+
+-- the parts of what stands behind a prefix, where it begins with a command
+abbrev pub read_command : Option (List ℕ) → List ℕ → Option Parts
+read_command prefix s =
+    if is_command (word_of s) then Some (record { prefix = prefix; command = map upper (word_of s); parameters = parameters_of (behind_word s) }) else None
+
+-- the parts of what does not begin with a space
+abbrev pub read_prefix : List ℕ → Option Parts
+read_prefix [] = None
+read_prefix (b ∷ s) =
+    if b == 58
+    then (if length (word_of s) == 0 then None else read_command (Some (word_of s)) (skip_spaces (behind_word s)))
+    else read_command None (b ∷ s)
+
+-- the parts of a content, or none
+unfoldable pub read : List ℕ → Option Parts
+read content = read_prefix (skip_spaces content)
+
+-- what was read, within its limits
+abbrev pub judged_parts : Option Parts → Result Parts LineFault
+judged_parts None = Err NoCommand
+judged_parts (Some p) =
+    if nat_lt 15 (length p.parameters) then Err TooManyParameters else if nat_lt 511 (length (spelling p)) then Err TooLong else Ok p
+
+-- the first argument is the place of the first byte that no content may hold
+abbrev pub judged_bytes : Option ℕ → List ℕ → Result Parts LineFault
+judged_bytes None content = judged_parts (read content)
+judged_bytes (Some place) content = Err (BadByte place)
+
+-- the parts of a content, or its first fault
+unfoldable pub judged : List ℕ → Result Parts LineFault
+judged content = if nat_lt 511 (length content) then Err TooLong else judged_bytes (position (λ b. not (is_content_byte b)) content) content

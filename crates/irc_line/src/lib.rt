@@ -1,0 +1,27 @@
+//! Lines and names of IRC: their grammar, how a content is read, and the one canonical spelling of a line.
+#![tactic(auto)]
+
+mod bytes;
+mod draft;
+mod fault;
+mod fold;
+mod item;
+pub mod laws;
+mod line;
+mod name;
+mod reading;
+mod spelling;
+mod splitter;
+#[cfg(test)]
+mod tests;
+mod text;
+
+pub use bytes::is_same;
+pub use fault::LineFault;
+pub use fold::{fold_name, is_same_name};
+pub use item::Item;
+pub use line::Line;
+pub use name::{Name, is_a_name, is_channel_name};
+pub use spelling::write_parts;
+pub use splitter::Splitter;
+pub use text::{Text, is_a_text};

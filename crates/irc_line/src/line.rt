@@ -1,0 +1,138 @@
+ghost use Rattle.std.specs.Prelude.{◌≡◌, ◌∷◌, [], map, length, unwrap_or, slice_get, IfOk, IfSome, IsTrue};
+ghost use Rattle.std.specs.Option.{option_map};
+ghost use Rattle.irc_line.specs.Lines.{Parts, is_line, is_prefix, is_upper_command, parts};
+
+use crate::{Name, Text};
+use std::alloc::{AllocError, Global};
+use std::marker::Model;
+
+/// A line, by what it says (RFC 2812, 2.3.1): an optional prefix, a command and at most 15 parameters.
+///
+/// A line that was read has at most 511 bytes; one that was built may have more.
+#[derive(Drop)]
+pub struct Line {
+    prefix: Option<Vec<u8>>,
+    command: Vec<u8>,
+    parameters: Vec<Vec<u8>>,
+}
+
+impl Model for Line {
+    ghost use Rattle.std.specs.Prelude.{map, IsTrue};
+    ghost use Rattle.std.specs.Option.{option_map};
+    ghost use Rattle.irc_line.specs.Lines.{Parts, parts, parts_code, is_line};
+
+    ghost Value = { Parts };
+
+    ghost coded = { parts_code };
+
+    ghost view = { λ l. parts (option_map (λ v. v.items) l.prefix) l.command.items (map (λ v. v.items) l.parameters.items) };
+
+    ghost invariant = { λ l. IsTrue (is_line (parts (option_map (λ v. v.items) l.prefix) l.command.items (map (λ v. v.items) l.parameters.items))) };
+}
+
+impl Line {
+    /// The line of these parts.
+    pub fn new(prefix: Option<Vec<u8>>, command: Vec<u8>, parameters: Vec<Vec<u8>>) -> Line
+        requires { IsTrue (is_line (parts (option_map (λ v. v.items) prefix) command.items (map (λ v. v.items) parameters.items))) }
+        ensures { result ≡ parts (option_map (λ v. v.items) prefix) command.items (map (λ v. v.items) parameters.items) }
+    {
+        Line {
+            prefix,
+            command,
+            parameters,
+        }
+    }
+
+    /// A command to a target with a text, as `PRIVMSG` and `NOTICE` are (RFC 2812, 3.3).
+    pub fn message(
+        alloc: Global,
+        prefix: Option<&[u8]>,
+        command: &[u8],
+        target: &Name,
+        text: &Text,
+    ) -> Result<Line, AllocError>
+        requires prefix { IsTrue (is_prefix (option_map (λ x. x.now) prefix)) }
+        requires command { IsTrue (is_upper_command command.now) }
+        ensures { IfOk result (λ l. l ≡ parts (option_map (λ x. x.now) prefix.entry) command.now (target.now ∷ text.now ∷ [])) }
+    {
+        let prefix = copied_prefix(alloc, prefix)?;
+        let command = Vec::from_slice(alloc, command)?;
+        let parameters = vec![in alloc;
+            Vec::from_slice(alloc, target.as_bytes())?,
+            Vec::from_slice(alloc, text.as_bytes())?,
+        ]?;
+        Ok(Line::new(prefix, command, parameters))
+    }
+
+    /// The prefix, without its colon, where there is one.
+    pub fn prefix(&self) -> Option<&[u8]>
+        ensures value { option_map (λ x. x.now) result ≡ self.now.prefix }
+        ensures line { IsTrue (is_line self.now) }
+    {
+        match &self.prefix {
+            None => None,
+            Some(prefix) => Some(prefix.as_slice()),
+        }
+    }
+
+    /// The command, in upper case.
+    pub fn command(&self) -> &[u8]
+        ensures value { result.now ≡ self.now.command }
+        ensures line { IsTrue (is_line self.now) }
+    {
+        self.command.as_slice()
+    }
+
+    pub fn parameter_count(&self) -> usize
+        ensures value { result ≡ length self.now.parameters }
+        ensures line { IsTrue (is_line self.now) }
+    {
+        self.parameters.len()
+    }
+
+    /// A parameter, from 0; no bytes where there is none.
+    pub fn parameter(&self, i: usize) -> &[u8]
+        ensures value { result.now ≡ unwrap_or (slice_get self.now.parameters i) [] }
+        ensures line { IsTrue (is_line self.now) }
+    {
+        match self.parameters.get(i) {
+            None => &[],
+            Some(parameter) => parameter.as_slice(),
+        }
+    }
+
+    pub fn parameters(&self) -> &[Vec<u8>]
+        ensures { map (λ p. p.items) result.now ≡ self.now.parameters }
+    {
+        self.parameters.as_slice()
+    }
+
+    pub fn copy(&self, alloc: Global) -> Result<Line, AllocError>
+        ensures { IfOk result (λ l. l ≡ self.now) }
+    {
+        Ok(Line {
+            prefix: copied_prefix(alloc, self.prefix())?,
+            command: Vec::from_slice(alloc, &self.command)?,
+            parameters: copied_parameters(alloc, &self.parameters)?,
+        })
+    }
+}
+
+fn copied_prefix(alloc: Global, prefix: Option<&[u8]>) -> Result<Option<Vec<u8>>, AllocError>
+    ensures { IfOk result (λ p. option_map (λ v. v.items) p ≡ option_map (λ x. x.now) prefix.entry) }
+{
+    match prefix {
+        None => Ok(None),
+        Some(prefix) => Ok(Some(Vec::from_slice(alloc, prefix)?)),
+    }
+}
+
+fn copied_parameters(alloc: Global, parameters: &[Vec<u8>]) -> Result<Vec<Vec<u8>>, AllocError>
+    ensures { IfOk result (λ v. map (λ p. p.items) v.items ≡ map (λ p. p.items) parameters.now) }
+{
+    let mut all = Vec::new(alloc);
+    for parameter in parameters {
+        all.push(Vec::from_slice(alloc, parameter)?)?;
+    }
+    Ok(all)
+}

@@ -1,0 +1,203 @@
+//! The canonical spelling of a line (RFC 2812, 2.3.1).
+ghost use Rattle.std.specs.Prelude.{◌≡◌, ◌+◌, ◌++◌, ◌∷◌, [], length, map, min, take, vec_capacity, vec_len, ◌<◌, ◌≤◌, OnErr, OnOk};
+ghost use Rattle.std.specs.Option.{option_map};
+ghost use Rattle.irc_line.specs.Lines.{cut_spelling, has_colon, is_spoken, parts, spelled_last, spelled_parameters, spelled_prefix, spelling};
+
+use crate::Line;
+use crate::bytes::{begins_with, has_space, is_same};
+use std::alloc::AllocError;
+use std::convert::AsSlice;
+
+impl Line {
+    /// Appends the canonical spelling, without CR LF. It is refused only where room is missing and no memory is left.
+    pub fn write_to(&self, out: &mut Vec<u8>) -> Result<(), AllocError>
+        ensures ok { OnOk result (out.new.items ≡ out.old.items ++ spelling self.now) }
+        ensures err { OnErr result (out.new.items ≡ out.old.items) }
+        ensures full { OnErr result (vec_capacity out.old < vec_len out.old + length (spelling self.now)) }
+        ensures capacity { vec_capacity out.old ≤ vec_capacity out.new }
+    {
+        write_spelling(out, self.prefix(), self.command(), self.parameters())
+    }
+
+    /// Appends the first 510 bytes of the canonical spelling with CR LF, as a line leaves
+    /// (RFC 2812, 2.3: 512 bytes with CR LF). On the way there the whole spelling needs room.
+    pub fn write_cut(&self, out: &mut Vec<u8>) -> Result<(), AllocError>
+        ensures ok { OnOk result (out.new.items ≡ out.old.items ++ cut_spelling self.now) }
+        ensures err { OnErr result (out.new.items ≡ out.old.items) }
+        ensures full { OnErr result (vec_capacity out.old < vec_len out.old + length (spelling self.now) + 2) }
+        ensures capacity { vec_capacity out.old ≤ vec_capacity out.new }
+    {
+        let before = out.len();
+        self.write_to(out)?;
+        out.truncate(before + 510);
+        let ended = out.extend_from_slice(b"\r\n");
+        if ended.is_err() {
+            out.truncate(before);
+        }
+        ended
+    }
+
+    /// How many bytes `write_to` appends; `usize::MAX` where they are more than that.
+    pub fn spelled_len(&self) -> usize
+        ensures { result ≡ min (length (spelling self.now)) usize.MAX }
+    {
+        spelling_len(self.prefix(), self.command(), self.parameters())
+    }
+}
+
+/// Appends the canonical spelling of these parts, which need be no line's.
+pub fn write_parts(
+    out: &mut Vec<u8>,
+    prefix: Option<&[u8]>,
+    command: &[u8],
+    parameters: &[&[u8]],
+) -> Result<(), AllocError>
+    ensures ok { OnOk result (out.new.items ≡ out.old.items ++ spelling (parts (option_map (λ x. x.now) prefix.entry) command.now (map (λ x. x.now) parameters.now))) }
+    ensures err { OnErr result (out.new.items ≡ out.old.items) }
+    ensures full { OnErr result (vec_capacity out.old < vec_len out.old + length (spelling (parts (option_map (λ x. x.now) prefix.entry) command.now (map (λ x. x.now) parameters.now)))) }
+    ensures capacity { vec_capacity out.old ≤ vec_capacity out.new }
+{
+    write_spelling(out, prefix, command, parameters)
+}
+
+fn write_spelling<P: AsSlice<u8>>(
+    out: &mut Vec<u8>,
+    prefix: Option<&[u8]>,
+    command: &[u8],
+    parameters: &[P],
+) -> Result<(), AllocError>
+    ensures ok { OnOk result (out.new.items ≡ out.old.items ++ spelling (parts (option_map (λ x. x.now) prefix.entry) command.now (map P.items parameters.now))) }
+    ensures err { OnErr result (out.new.items ≡ out.old.items) }
+    ensures full { OnErr result (vec_capacity out.old < vec_len out.old + length (spelling (parts (option_map (λ x. x.now) prefix.entry) command.now (map P.items parameters.now)))) }
+    ensures capacity { vec_capacity out.old ≤ vec_capacity out.new }
+{
+    let before = out.len();
+    let written = push_spelling(out, prefix, command, parameters);
+    if written.is_err() {
+        out.truncate(before);
+    }
+    written
+}
+
+/// Appends the canonical spelling. After an error a part of it may have been appended.
+#[tactic(auto, unfolding(crate::specs::Lines::spelling))]
+fn push_spelling<P: AsSlice<u8>>(
+    out: &mut Vec<u8>,
+    prefix: Option<&[u8]>,
+    command: &[u8],
+    parameters: &[P],
+) -> Result<(), AllocError>
+    ensures ok { OnOk result (out.new.items ≡ out.old.items ++ spelling (parts (option_map (λ x. x.now) prefix.entry) command.now (map P.items parameters.now))) }
+    ensures err { OnErr result (take (length out.old.items) out.new.items ≡ out.old.items) }
+    ensures full { OnErr result (vec_capacity out.old < vec_len out.old + length (spelling (parts (option_map (λ x. x.now) prefix.entry) command.now (map P.items parameters.now)))) }
+    ensures capacity { vec_capacity out.old ≤ vec_capacity out.new }
+{
+    push_prefix(out, prefix)?;
+    out.extend_from_slice(command)?;
+    push_parameters(out, command, parameters)
+}
+
+fn push_prefix(out: &mut Vec<u8>, prefix: Option<&[u8]>) -> Result<(), AllocError>
+    ensures ok { OnOk result (out.new.items ≡ out.old.items ++ spelled_prefix (option_map (λ x. x.now) prefix.entry)) }
+    ensures err { OnErr result (take (length out.old.items) out.new.items ≡ out.old.items) }
+    ensures full { OnErr result (vec_capacity out.old < vec_len out.old + length (spelled_prefix (option_map (λ x. x.now) prefix.entry))) }
+    ensures capacity { vec_capacity out.old ≤ vec_capacity out.new }
+{
+    if let Some(prefix) = prefix {
+        out.push(b':')?;
+        out.extend_from_slice(prefix)?;
+        out.push(b' ')?;
+    }
+    Ok(())
+}
+
+fn push_parameters<P: AsSlice<u8>>(
+    out: &mut Vec<u8>,
+    command: &[u8],
+    parameters: &[P],
+) -> Result<(), AllocError>
+    ensures ok { OnOk result (out.new.items ≡ out.old.items ++ spelled_parameters command.now (map P.items parameters.now)) }
+    ensures err { OnErr result (take (length out.old.items) out.new.items ≡ out.old.items) }
+    ensures full { OnErr result (vec_capacity out.old < vec_len out.old + length (spelled_parameters command.now (map P.items parameters.now))) }
+    ensures capacity { vec_capacity out.old ≤ vec_capacity out.new }
+{
+    match parameters {
+        [] => Ok(()),
+        [last] => push_last(out, command, last.as_slice()),
+        [first, rest @ ..] => {
+            out.push(b' ')?;
+            out.extend_from_slice(first.as_slice())?;
+            push_parameters(out, command, rest)
+        }
+    }
+}
+
+fn push_last(out: &mut Vec<u8>, command: &[u8], last: &[u8]) -> Result<(), AllocError>
+    ensures ok { OnOk result (out.new.items ≡ out.old.items ++ spelled_last command.now last.now) }
+    ensures err { OnErr result (take (length out.old.items) out.new.items ≡ out.old.items) }
+    ensures full { OnErr result (vec_capacity out.old < vec_len out.old + length (spelled_last command.now last.now)) }
+    ensures capacity { vec_capacity out.old ≤ vec_capacity out.new }
+{
+    out.push(b' ')?;
+    if needs_colon(command, last) {
+        out.push(b':')?;
+    }
+    out.extend_from_slice(last)
+}
+
+/// The length of the canonical spelling, at most `usize::MAX`.
+#[tactic(auto, unfolding(crate::specs::Lines::spelling))]
+pub fn spelling_len<P: AsSlice<u8>>(
+    prefix: Option<&[u8]>,
+    command: &[u8],
+    parameters: &[P],
+) -> usize
+    ensures { result ≡ min (length (spelling (parts (option_map (λ x. x.now) prefix.entry) command.now (map P.items parameters.now)))) usize.MAX }
+{
+    let front = prefix_len(prefix).saturating_add(command.len());
+    front.saturating_add(parameters_len(command, parameters))
+}
+
+fn prefix_len(prefix: Option<&[u8]>) -> usize
+    ensures { result ≡ length (spelled_prefix (option_map (λ x. x.now) prefix.entry)) }
+{
+    match prefix {
+        None => 0,
+        Some(prefix) => prefix.len() + 2,
+    }
+}
+
+fn parameters_len<P: AsSlice<u8>>(command: &[u8], parameters: &[P]) -> usize
+    ensures { result ≡ min (length (spelled_parameters command.now (map P.items parameters.now))) usize.MAX }
+{
+    match parameters {
+        [] => 0,
+        [last] => last_len(command, last.as_slice()),
+        [first, rest @ ..] => (first.as_slice().len() + 1).saturating_add(parameters_len(
+            command, rest,
+        )),
+    }
+}
+
+fn last_len(command: &[u8], last: &[u8]) -> usize
+    ensures { result ≡ length (spelled_last command.now last.now) }
+{
+    if needs_colon(command, last) {
+        last.len() + 2
+    } else {
+        last.len() + 1
+    }
+}
+
+fn needs_colon(command: &[u8], last: &[u8]) -> bool
+    ensures { result ≡ has_colon command.now last.now }
+{
+    last.is_empty() || begins_with(last, b':') || has_space(last) || is_spoken_word(command)
+}
+
+/// Whether the command's last parameter always has a colon before it.
+fn is_spoken_word(command: &[u8]) -> bool
+    ensures { result ≡ is_spoken command.now }
+{
+    is_same(command, b"PRIVMSG") || is_same(command, b"NOTICE") || is_same(command, b"TOPIC")
+}

@@ -1,0 +1,169 @@
+//! How a stream of bytes is split into lines (RFC 2812, 2.3).
+ghost use Rattle.std.specs.Prelude.{◌≡◌, ◌<◌, ◌≤◌, ◌++◌, ◌∷◌, List, ℕ, [], length, take, position, IfOk, OnOk, OnErr, MatchOption};
+ghost use Rattle.irc_line.specs.Splitting.{HasNoLineFeed, Stands, is_line_feed, content_item, items, ended_items, items_from, unended_from, without_return};
+
+use crate::{Item, Line, LineFault};
+use std::alloc::{AllocError, Global};
+use std::marker::Model;
+
+/// Splits bytes that come in pieces, however they are cut, into items.
+///
+/// A LF ends a content, one CR before it is dropped, and an empty content gives nothing. A content of
+/// more than 510 bytes is refused once, at its LF. What follows the last LF gives nothing yet.
+#[derive(Drop)]
+pub struct Splitter {
+    alloc: Global,
+    /// The bytes since the last LF, up to the 512th, which tells that they are too many even with a CR.
+    held: Vec<u8>,
+}
+
+impl Model for Splitter {
+    ghost use Rattle.std.specs.Prelude.{ℕ, List, length, ◌≤◌};
+
+    ghost Value = { List ℕ };
+
+    ghost view = { λ s. s.held.items };
+
+    ghost invariant = { λ s. length s.held.items ≤ 512 };
+}
+
+impl Splitter {
+    /// A splitter that was fed nothing; it takes no memory.
+    #[tactic(auto, unfolding(crate::specs::Splitting::Stands))]
+    pub fn new(alloc: Global) -> Splitter
+        ensures { Stands result [] }
+    {
+        Splitter {
+            alloc,
+            held: Vec::new(alloc),
+        }
+    }
+
+    /// The items of the contents that these bytes end. Where no memory is left the splitter is as before;
+    /// none is asked for what follows the last LF past the 512th byte.
+    pub fn feed(&mut self, bytes: &[u8]) -> Result<Vec<Item>, AllocError>
+        ensures stands { (fed : List ℕ) → Stands self.old fed → OnOk result (Stands self.new (fed ++ bytes.now)) }
+        ensures items { (fed : List ℕ) → Stands self.old fed → IfOk result (λ got. items fed ++ got.items ≡ items (fed ++ bytes.now)) }
+        ensures err { OnErr result (self.new ≡ self.old) }
+        ensures memory { OnErr result (HasNoLineFeed bytes.now → (length self.old < 512) × (0 < length bytes.now)) }
+    {
+        match at_line_feed(bytes) {
+            None => {
+                hold(&mut self.held, bytes)?;
+                Ok(Vec::new(self.alloc))
+            }
+            Some((ended, rest)) => {
+                let (items, held) = self.split(ended, rest)?;
+                self.held = held;
+                Ok(items)
+            }
+        }
+    }
+
+    /// What a LF gives, between what stands before it and the rest: the items, and the bytes that are then held.
+    fn split(&self, ended: &[u8], rest: &[u8]) -> Result<(Vec<Item>, Vec<u8>), AllocError>
+        ensures items { IfOk result (λ t. t.0.items ≡ ended_items (take 512 (self.now ++ ended.now)) ++ items_from [] rest.now) }
+        ensures held { IfOk result (λ t. t.1.items ≡ take 512 (unended_from [] rest.now)) }
+        ensures bound { IfOk result (λ t. length t.1.items ≤ 512) }
+    {
+        let mut first = Vec::from_slice(self.alloc, &self.held)?;
+        hold(&mut first, ended)?;
+        let mut items = Vec::new(self.alloc);
+        push_item(self.alloc, &mut items, &first)?;
+        let unended = push_items(self.alloc, &mut items, rest)?;
+        let held = Vec::from_slice(self.alloc, at_most(unended, 512))?;
+        Ok((items, held))
+    }
+}
+
+/// What stands before the first LF, and what follows it.
+fn at_line_feed(bytes: &[u8]) -> Option<(&[u8], &[u8])>
+    ensures { MatchOption result (HasNoLineFeed bytes.now) (λ t. HasNoLineFeed t.0.now × (bytes.now ≡ t.0.now ++ 10 ∷ t.1.now)) }
+{
+    match line_feed_place(bytes) {
+        None => None,
+        Some(place) => Some((&bytes[..place], &bytes[place + 1..])),
+    }
+}
+
+fn line_feed_place(bytes: &[u8]) -> Option<usize>
+    ensures { result ≡ position is_line_feed bytes.now }
+{
+    bytes.iter().position(|byte| *byte == b'\n')
+}
+
+/// The first bytes, so many where there are.
+fn at_most(bytes: &[u8], n: usize) -> &[u8]
+    ensures value { result.now ≡ take n bytes.now }
+    ensures bound { length result.now ≤ n }
+{
+    if n < bytes.len() { &bytes[..n] } else { bytes }
+}
+
+/// Adds bytes to those that are held, up to the 512th.
+#[tactic(auto, using(crate::proofs::Splitting::held_more))]
+fn hold(held: &mut Vec<u8>, bytes: &[u8]) -> Result<(), AllocError>
+    requires { length held.old.items ≤ 512 }
+    ensures ok { OnOk result (held.new.items ≡ take 512 (held.old.items ++ bytes.now)) }
+    ensures bound { length held.new.items ≤ 512 }
+    ensures err { OnErr result (held.new.items ≡ held.old.items) }
+    ensures memory { OnErr result ((length held.old.items < 512) × (0 < length bytes.now)) }
+{
+    let room = 512 - held.len();
+    held.extend_from_slice(at_most(bytes, room))
+}
+
+/// What stands before a LF, without the CR at its end.
+fn content_of(ended: &[u8]) -> &[u8]
+    ensures { result.now ≡ without_return ended.now }
+{
+    match ended {
+        [] => ended,
+        [content @ .., last] => if *last == b'\r' { content } else { ended },
+    }
+}
+
+/// What a content that is not empty gives.
+#[tactic(auto, unfolding(crate::specs::Splitting::content_item))]
+fn judge(alloc: Global, content: &[u8]) -> Result<Item, AllocError>
+    ensures { IfOk result (λ item. item ≡ content_item content.now) }
+{
+    if content.len() > 510 {
+        return Ok(Item::Refused(LineFault::TooLong));
+    }
+    match Line::parse(alloc, content) {
+        Ok(line) => Ok(Item::Got(line)),
+        Err(LineFault::Memory) => Err(AllocError),
+        Err(fault) => Ok(Item::Refused(fault)),
+    }
+}
+
+/// Adds the item, if any, of what stands before a LF.
+#[tactic(auto, unfolding(crate::specs::Splitting::ended_items))]
+fn push_item(alloc: Global, items: &mut Vec<Item>, ended: &[u8]) -> Result<(), AllocError>
+    ensures { OnOk result (items.new.items ≡ items.old.items ++ ended_items ended.now) }
+{
+    let content = content_of(ended);
+    if content.is_empty() {
+        return Ok(());
+    }
+    items.push(judge(alloc, content)?)?;
+    Ok(())
+}
+
+/// Adds the items of the contents that these bytes end, and gives what follows the last LF.
+fn push_items<'a>(
+    alloc: Global,
+    items: &mut Vec<Item>,
+    bytes: &'a [u8],
+) -> Result<&'a [u8], AllocError>
+    ensures items { OnOk result (items.new.items ≡ items.old.items ++ items_from [] bytes.now) }
+    ensures rest { IfOk result (λ rest. rest.now ≡ unended_from [] bytes.now) }
+{
+    let mut rest = bytes;
+    while let Some((ended, behind)) = at_line_feed(rest) {
+        push_item(alloc, items, ended)?;
+        rest = behind;
+    }
+    Ok(rest)
+}

@@ -1,0 +1,251 @@
+//! What lines say, by examples.
+use crate::{
+    Item, Line, LineFault, Name, Splitter, Text, fold_name, is_channel_name, is_same_name,
+    write_parts,
+};
+use std::alloc::Global;
+use std::test::Fail;
+
+fn spelled(alloc: Global, content: &str) -> Result<Vec<u8>, Fail> {
+    let mut out = Vec::new(alloc);
+    Line::parse(alloc, content.as_bytes())?.write_to(&mut out)?;
+    Ok(out)
+}
+
+#[test]
+fn a_line_is_spelled_in_one_way(rt: HostRuntime) -> Result<(), Fail> {
+    let alloc = rt.alloc();
+    for (content, want) in [
+        ("PING  b", "PING b"),
+        ("  ping b  ", "PING b"),
+        (":s 001 me :Hello", ":s 001 me Hello"),
+        (":s  001  me  :Hello  you", ":s 001 me :Hello  you"),
+        ("PRIVMSG #x :", "PRIVMSG #x :"),
+        ("privmsg #x word", "PRIVMSG #x :word"),
+        (
+            "USER guest 0 * :Ronnie Reagan",
+            "USER guest 0 * :Ronnie Reagan",
+        ),
+        (
+            ":Angel!wings@irc.org PRIVMSG Wiz :Are you receiving this message ?",
+            ":Angel!wings@irc.org PRIVMSG Wiz :Are you receiving this message ?",
+        ),
+        ("MODE #Finnish +o Kilroy", "MODE #Finnish +o Kilroy"),
+    ] {
+        let out = spelled(alloc, content)?;
+        assert_eq!(rt; out.as_slice(), want.as_bytes());
+    }
+    Ok(())
+}
+
+#[test]
+fn a_content_has_its_first_fault(rt: HostRuntime) -> Result<(), Fail> {
+    let alloc = rt.alloc();
+    for (content, want) in [
+        ("PING\0b", LineFault::BadByte(4)),
+        ("\0 \n", LineFault::BadByte(0)),
+        ("   ", LineFault::NoCommand),
+        ("", LineFault::NoCommand),
+        (": PING", LineFault::NoCommand),
+        ("12 b", LineFault::NoCommand),
+        (
+            "P 1 2 3 4 5 6 7 8 9 10 11 12 13 14 15 16",
+            LineFault::TooManyParameters,
+        ),
+    ] {
+        assert_eq!(rt; Line::parse(alloc, content.as_bytes()).err(), Some(want));
+    }
+    Ok(())
+}
+
+/// These bytes and letters behind them, so many in all.
+fn filled(alloc: Global, front: &[u8], len: usize) -> Result<Vec<u8>, Fail> {
+    let mut bytes = Vec::from_slice(alloc, front)?;
+    for _ in front.len()..len {
+        bytes.push(b'a')?;
+    }
+    Ok(bytes)
+}
+
+#[test]
+fn a_line_has_at_most_511_bytes(rt: HostRuntime) -> Result<(), Fail> {
+    let alloc = rt.alloc();
+    let front = b"PRIVMSG #x :".as_slice();
+    let longest = Line::parse(alloc, &filled(alloc, front, 511)?)?;
+    assert_eq!(rt; longest.spelled_len(), 511);
+    assert_eq!(rt;
+        Line::parse(alloc, &filled(alloc, front, 512)?).err(),
+        Some(LineFault::TooLong)
+    );
+    let without_colon = filled(alloc, b"PRIVMSG #x ", 511)?;
+    assert_eq!(rt;
+        Line::parse(alloc, &without_colon).err(),
+        Some(LineFault::TooLong)
+    );
+    let mut out = Vec::from_slice(alloc, b"before ")?;
+    longest.write_cut(&mut out)?;
+    let mut want = Vec::from_slice(alloc, b"before ")?;
+    want.extend_from_slice(&filled(alloc, front, 510)?)?;
+    want.extend_from_slice(b"\r\n")?;
+    assert_eq!(rt; out.as_slice(), want.as_slice());
+    Ok(())
+}
+
+#[test]
+fn a_line_says_its_parts(rt: HostRuntime) -> Result<(), Fail> {
+    let line = Line::parse(rt.alloc(), b":WiZ!jto@tolsun.oulu.fi nick Kilroy :")?.copy(rt.alloc())?;
+    assert_eq!(rt; line.prefix(), Some(b"WiZ!jto@tolsun.oulu.fi".as_slice()));
+    assert_eq!(rt; line.command(), b"NICK".as_slice());
+    assert_eq!(rt; line.parameter_count(), 2);
+    assert_eq!(rt; line.parameter(0), b"Kilroy".as_slice());
+    assert_eq!(rt; line.parameter(1), b"".as_slice());
+    assert_eq!(rt; line.parameter(2), b"".as_slice());
+    assert_eq!(rt; line.parameters().len(), 2);
+    Ok(())
+}
+
+#[test]
+fn names_fold(rt: HostRuntime) -> Result<(), Fail> {
+    let folded = fold_name(rt.alloc(), b"A[]\\~Z@a{}|^_`")?;
+    assert_eq!(rt; folded.as_slice(), b"a{}|^z@a{}|^_`".as_slice());
+    assert!(rt; is_same_name(b"#Ab[]\\~", b"#aB{}|^"));
+    assert!(rt; !is_same_name(b"ab", b"a"));
+    assert!(rt; !is_same_name(b"a_", b"a^"));
+    Ok(())
+}
+
+#[test]
+fn names_and_texts_have_limits(rt: HostRuntime) -> Result<(), Fail> {
+    let alloc = rt.alloc();
+    for (bytes, is_name, is_channel) in [
+        ("me", true, false),
+        ("*status", true, false),
+        ("#x", true, true),
+        ("&x", true, true),
+        ("+x", true, true),
+        ("!x", true, true),
+        ("", false, false),
+        (":x", false, false),
+        ("#a b", false, false),
+        ("#a,b", false, false),
+        ("#a\x07", false, false),
+    ] {
+        let name = Name::from_bytes(Vec::from_slice(alloc, bytes.as_bytes())?);
+        assert_eq!(rt; name.is_some(), is_name, "{bytes}");
+        assert_eq!(rt; is_channel_name(bytes.as_bytes()), is_channel, "{bytes}");
+    }
+    assert!(rt; Text::from_bytes(filled(alloc, b"a", 510)?).is_some());
+    assert!(rt; Text::from_bytes(filled(alloc, b"a", 511)?).is_none());
+    assert!(rt; Text::from_bytes(Vec::from_slice(alloc, b"two\nlines")?).is_none());
+    Ok(())
+}
+
+#[test]
+fn messages_are_built(rt: HostRuntime) -> Result<(), Fail> {
+    let alloc = rt.alloc();
+    let target = Name::from_bytes(Vec::from_slice(alloc, b"#x")?)
+        .expect(&rt, "a name")
+        .copy(alloc)?;
+    let text = Text::from_bytes(Vec::from_slice(alloc, b"hi")?)
+        .expect(&rt, "a text")
+        .copy(alloc)?;
+    let mut out = Vec::new(alloc);
+    Line::message(alloc, Some(b"me!bouncer@local"), b"PRIVMSG", &target, &text)?.write_to(
+        &mut out,
+    )?;
+    assert_eq!(rt;
+        out.as_slice(),
+        b":me!bouncer@local PRIVMSG #x :hi".as_slice()
+    );
+    assert!(rt; target.is_channel());
+    out.clear();
+    write_parts(&mut out, None, b"CAP", &[b"*".as_slice(), b"LS", b""])?;
+    assert_eq!(rt; out.as_slice(), b"CAP * LS :".as_slice());
+    Ok(())
+}
+
+#[test]
+fn faults_are_told(rt: HostRuntime) -> Result<(), Fail> {
+    let told = format!(in rt.alloc(); "{}; {}", LineFault::BadByte(3), LineFault::NoCommand)?;
+    assert_eq!(rt;
+        told.as_str(),
+        "a byte that no line may hold stands at 3; a line has no command"
+    );
+    Ok(())
+}
+
+/// Adds the front of a content, `a` up to this length, and an end.
+fn fed_content(out: &mut Vec<u8>, front: &[u8], len: usize, end: &[u8]) -> Result<(), Fail> {
+    out.extend_from_slice(front)?;
+    for _ in front.len()..len {
+        out.push(b'a')?;
+    }
+    out.extend_from_slice(end)?;
+    Ok(())
+}
+
+/// Adds each item: a line's canonical spelling or its fault's letter, and a LF.
+fn tell_items(out: &mut Vec<u8>, items: &[Item]) -> Result<(), Fail> {
+    for item in items {
+        match item {
+            Item::Got(line) => line.write_to(out)?,
+            Item::Refused(LineFault::TooLong) => out.push(b'L')?,
+            Item::Refused(LineFault::BadByte(_)) => out.push(b'B')?,
+            Item::Refused(_) => out.push(b'N')?,
+        }
+        out.push(b'\n')?;
+    }
+    Ok(())
+}
+
+/// What is told of the items of bytes that are fed piece by piece.
+fn told_in_pieces(alloc: Global, pieces: &[&[u8]]) -> Result<Vec<u8>, Fail> {
+    let mut splitter = Splitter::new(alloc);
+    let mut told = Vec::new(alloc);
+    for piece in pieces {
+        tell_items(&mut told, &splitter.feed(*piece)?)?;
+    }
+    Ok(told)
+}
+
+#[test]
+fn a_stream_is_split_however_it_is_cut(rt: HostRuntime) -> Result<(), Fail> {
+    let alloc = rt.alloc();
+    let mut bytes = Vec::new(alloc);
+    let mut want = Vec::new(alloc);
+    fed_content(&mut bytes, b"PRIVMSG #x :", 510, b"\r\n")?;
+    fed_content(&mut want, b"PRIVMSG #x :", 510, b"\n")?;
+    fed_content(&mut bytes, b"PRIVMSG #x :", 511, b"\r\n")?;
+    bytes.extend_from_slice(b"PING  b\n")?;
+    want.extend_from_slice(b"L\nPING b\n")?;
+    let whole = told_in_pieces(alloc, &[bytes.as_slice()])?;
+    assert_eq!(rt; whole.as_slice(), want.as_slice());
+    for cut in 0..bytes.len() {
+        let (front, rest) = bytes.as_slice().split_at(cut);
+        let told = told_in_pieces(alloc, &[front, rest])?;
+        assert_eq!(rt; told.as_slice(), want.as_slice(), "{cut}");
+    }
+    let mut splitter = Splitter::new(alloc);
+    let mut told = Vec::new(alloc);
+    for byte in &bytes {
+        tell_items(&mut told, &splitter.feed(&[*byte])?)?;
+    }
+    assert_eq!(rt; told.as_slice(), want.as_slice());
+    Ok(())
+}
+
+#[test]
+fn a_stream_has_empty_contents_and_faults(rt: HostRuntime) -> Result<(), Fail> {
+    let alloc = rt.alloc();
+    for (bytes, want) in [
+        ("\n\r\n\n", ""),
+        ("PING a\rb\r\n", "B\n"),
+        ("PING a\r\r\n", "B\n"),
+        ("   \r\n12\nPING b\r\n", "N\nN\nPING b\n"),
+        ("PING b", ""),
+    ] {
+        let told = told_in_pieces(alloc, &[bytes.as_bytes()])?;
+        assert_eq!(rt; told.as_slice(), want.as_bytes());
+    }
+    Ok(())
+}

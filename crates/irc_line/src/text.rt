@@ -1,0 +1,66 @@
+ghost use Rattle.std.specs.Prelude.{◌≡◌, false, IfOk, IsTrue, MatchOption};
+ghost use Rattle.std.specs.List.{list_all};
+ghost use Rattle.irc_line.specs.Names.{is_content_byte, is_text};
+
+use crate::bytes::is_allowed;
+use std::alloc::{AllocError, Global};
+use std::marker::Model;
+
+/// A text that a line may carry: at most 510 bytes, none of them NUL, CR or LF.
+#[derive(Drop)]
+pub struct Text {
+    bytes: Vec<u8>,
+}
+
+impl Model for Text {
+    ghost use Rattle.std.specs.Prelude.{ℕ, List, IsTrue};
+    ghost use Rattle.irc_line.specs.Names.{is_text};
+
+    ghost Value = { List ℕ };
+
+    ghost view = { λ t. t.bytes.items };
+
+    ghost invariant = { λ t. IsTrue (is_text t.bytes.items) };
+}
+
+impl Text {
+    /// The text of these bytes, where they are one.
+    pub fn from_bytes(bytes: Vec<u8>) -> Option<Text>
+        ensures { MatchOption result (is_text bytes.items ≡ false) (λ t. (t ≡ bytes.items) × IsTrue (is_text bytes.items)) }
+    {
+        if is_a_text(bytes.as_slice()) {
+            Some(Text { bytes })
+        } else {
+            None
+        }
+    }
+
+    pub fn as_bytes(&self) -> &[u8]
+        ensures value { result.now ≡ self.now }
+        ensures text { IsTrue (is_text self.now) }
+    {
+        self.bytes.as_slice()
+    }
+
+    pub fn copy(&self, alloc: Global) -> Result<Text, AllocError>
+        ensures { IfOk result (λ t. t ≡ self.now) }
+    {
+        Ok(Text {
+            bytes: Vec::from_slice(alloc, self.as_bytes())?,
+        })
+    }
+}
+
+fn all_allowed(bytes: &[u8]) -> bool
+    ensures { result ≡ list_all is_content_byte bytes.now }
+{
+    bytes.iter().all(|byte| is_allowed(*byte))
+}
+
+/// Whether these bytes are a text.
+#[tactic(auto, unfolding(crate::specs::Names::is_text))]
+pub fn is_a_text(bytes: &[u8]) -> bool
+    ensures { result ≡ is_text bytes.now }
+{
+    bytes.len() <= 510 && all_allowed(bytes)
+}
