@@ -1,0 +1,5 @@
+use Rattle.wire_bytes.specs.FieldCodecs.{name_short}
+use Rattle.wire_bytes.proofs.contents.NameWire.put.Goals as goal
+
+pub put_sized-requires : goal.put_sized-requires
+put_sized-requires c = rw c.as_bytes.ensures.value (name_short c.args.self.now c.as_bytes.ensures.name)

@@ -1,0 +1,48 @@
+-- The spelling, the limits and the reading of the small values.
+use Rattle.std.specs.Prelude.{ℕ, ◌^◌, ◌≤◌, List, ◌∷◌, ◌++◌}
+use Rattle.std.specs.Int.{w64, to_be_bytes}
+use Rattle.wire_bytes.specs.Fields.{Reading, byte_within, number_to, both, through}
+
+-- at most 2^60
+abbrev pub FitsNumber : ℕ → Type 0
+FitsNumber n = n ≤ 2 ^ 60
+
+-- eight bytes, at most 2^60
+unfoldable pub number : Reading ℕ
+number = number_to w64 (2 ^ 60)
+
+-- at most 250,000,000,000 seconds
+abbrev pub FitsMoment : ℕ → Type 0
+FitsMoment n = n ≤ 250000000000
+
+-- eight bytes, at most 250,000,000,000
+unfoldable pub moment : Reading ℕ
+moment = number_to w64 250000000000
+
+-- eight bytes, the highest first
+unfoldable pub spelled_number : ℕ → List ℕ
+spelled_number n = to_be_bytes w64 n
+
+-- a node from 1 to 7, its run and the client
+abbrev pub FitsOrigin : ℕ × ℕ × ℕ → Type 0
+FitsOrigin o = (1 ≤ o.0) × (o.0 ≤ 7) × FitsNumber o.1 × FitsNumber o.2
+
+-- the node, its run and the client
+unfoldable pub spelled_origin : ℕ × ℕ × ℕ → List ℕ
+spelled_origin o = o.0 ∷ (spelled_number o.1 ++ spelled_number o.2)
+
+-- a node from 1 to 7, and two numbers
+unfoldable pub origin : Reading (ℕ × ℕ × ℕ)
+origin = through (λ p. (p.0, p.1.0, p.1.1)) (both (byte_within 1 7) (both number number))
+
+-- a term and an attempt
+abbrev pub FitsSession : ℕ × ℕ → Type 0
+FitsSession id = FitsNumber id.0 × FitsNumber id.1
+
+-- the term and the attempt
+unfoldable pub spelled_session : ℕ × ℕ → List ℕ
+spelled_session id = spelled_number id.0 ++ spelled_number id.1
+
+-- two numbers
+unfoldable pub session : Reading (ℕ × ℕ)
+session = both number number

@@ -1,0 +1,40 @@
+ghost use Rattle.std.specs.Prelude.{◌≡◌, IfOk};
+
+use irc_line::{Line, Name, Text};
+use std::alloc::{AllocError, Global};
+
+/// A value that can be copied where there is memory.
+pub trait Copied: Drop {
+    fn copy(&self, alloc: Global) -> Result<Self, AllocError>
+        ensures { IfOk result (λ c. c ≡ self.now) };
+}
+
+impl Copied for Name {
+    fn copy(&self, alloc: Global) -> Result<Self, AllocError> {
+        Name::copy(self, alloc)
+    }
+}
+
+impl Copied for Text {
+    fn copy(&self, alloc: Global) -> Result<Self, AllocError> {
+        Text::copy(self, alloc)
+    }
+}
+
+impl Copied for Line {
+    fn copy(&self, alloc: Global) -> Result<Self, AllocError> {
+        Line::copy(self, alloc)
+    }
+}
+
+impl Copied for bool {
+    fn copy(&self, _alloc: Global) -> Result<Self, AllocError> {
+        Ok(*self)
+    }
+}
+
+impl Copied for u8 {
+    fn copy(&self, _alloc: Global) -> Result<Self, AllocError> {
+        Ok(*self)
+    }
+}

@@ -1,0 +1,95 @@
+ghost use Rattle.std.specs.Prelude.{IfOk, IfErr, Ok, Err, ◌≡◌, ℕ, ◌≤◌, Some};
+ghost use Rattle.wire_bytes.specs.Values.{moment};
+
+use crate::copied::Copied;
+use crate::fields::take_u64;
+use crate::wire::Wire;
+use crate::wire_fault::WireFault;
+use std::alloc::{AllocError, Global};
+use std::fmt;
+use std::marker::Model;
+
+/// Whole seconds since 1970 in UTC, at most 250,000,000,000.
+///
+/// A clause sees it as the number of seconds.
+#[derive(Clone, Copy, Debug, PartialEq, Eq, PartialOrd, Ord)]
+pub struct Moment {
+    seconds: u64,
+}
+
+impl Model for Moment {
+    ghost use Rattle.std.specs.Prelude.{ℕ, ◌≤◌};
+
+    ghost Value = { ℕ };
+
+    ghost view = { λ m. m.seconds };
+
+    ghost invariant = { λ m. m.seconds ≤ 250000000000 };
+
+    ghost inverse = { λ v. record { seconds = v } };
+}
+
+impl Moment {
+    pub fn new(seconds: u64) -> Moment
+        requires { seconds ≤ 250000000000 }
+        ensures { result ≡ seconds }
+    {
+        Moment { seconds }
+    }
+
+    pub fn seconds(self) -> u64
+        ensures value { result ≡ self }
+        ensures limit { self ≤ 250000000000 }
+    {
+        self.seconds
+    }
+}
+
+impl Copied for Moment {
+    fn copy(&self, _alloc: Global) -> Result<Self, AllocError> {
+        Ok(*self)
+    }
+}
+
+impl Wire for Moment {
+    ghost use Rattle.wire_bytes.specs.Values.{spelled_number, FitsMoment, moment};
+    ghost use Rattle.wire_bytes.specs.ValueCodecs.{moment_is_codec};
+
+    ghost spelled = { spelled_number };
+
+    ghost fits = { FitsMoment };
+
+    ghost taken = { moment };
+
+    #[tactic(auto, unfolding(crate::specs::Values::spelled_number))]
+    fn put(&self, out: &mut Vec<u8>) -> Result<(), AllocError> {
+        out.extend_from_slice(&self.seconds.to_be_bytes())
+    }
+
+    #[tactic(auto, unfolding(crate::specs::Values::moment))]
+    fn take(_alloc: Global, input: &[u8]) -> Result<(Self, usize), WireFault>
+        ensures ok { IfOk result (λ r. moment input.now ≡ Ok (r.0, r.1)) }
+        ensures err { IfErr result (λ e. moment input.now ≡ Err e) }
+    {
+        let (seconds, len) = take_u64(input, 250_000_000_000)?;
+        Ok((Moment { seconds }, len))
+    }
+
+    ghost read_back = { moment_is_codec.read_back };
+
+    ghost one_spelling = { moment_is_codec.one_spelling };
+
+    ghost bad_within = { moment_is_codec.bad_within };
+}
+
+impl fmt::Display for Moment {
+    ghost use Rattle.std.specs.Prelude.{Some};
+    ghost use Rattle.std.specs.Fmt.{decimal};
+
+    ghost output = { λ m. Some (decimal m) };
+
+    fn fmt<W: fmt::Write>(&self, f: &mut fmt::Formatter<W>) -> fmt::Result {
+        let seconds = self.seconds;
+        write!(f, "{seconds}")
+    }
+}

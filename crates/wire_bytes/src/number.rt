@@ -1,0 +1,95 @@
+ghost use Rattle.std.specs.Prelude.{IfOk, IfErr, Ok, Err, ◌≡◌, ℕ, ◌≤◌, ◌^◌, Some};
+ghost use Rattle.wire_bytes.specs.Values.{number};
+
+use crate::copied::Copied;
+use crate::fields::take_u64;
+use crate::wire::Wire;
+use crate::wire_fault::WireFault;
+use std::alloc::{AllocError, Global};
+use std::fmt;
+use std::marker::Model;
+
+/// A number of a request, a floor or a sequence, at most 2^60.
+///
+/// A clause sees it as the number.
+#[derive(Clone, Copy, Debug, PartialEq, Eq, PartialOrd, Ord)]
+pub struct Number {
+    value: u64,
+}
+
+impl Model for Number {
+    ghost use Rattle.std.specs.Prelude.{ℕ, ◌≤◌, ◌^◌};
+
+    ghost Value = { ℕ };
+
+    ghost view = { λ n. n.value };
+
+    ghost invariant = { λ n. n.value ≤ 2 ^ 60 };
+
+    ghost inverse = { λ v. record { value = v } };
+}
+
+impl Number {
+    pub fn new(value: u64) -> Number
+        requires { value ≤ 2 ^ 60 }
+        ensures { result ≡ value }
+    {
+        Number { value }
+    }
+
+    pub fn value(self) -> u64
+        ensures value { result ≡ self }
+        ensures limit { self ≤ 2 ^ 60 }
+    {
+        self.value
+    }
+}
+
+impl Copied for Number {
+    fn copy(&self, _alloc: Global) -> Result<Self, AllocError> {
+        Ok(*self)
+    }
+}
+
+impl Wire for Number {
+    ghost use Rattle.wire_bytes.specs.Values.{spelled_number, FitsNumber, number};
+    ghost use Rattle.wire_bytes.specs.ValueCodecs.{number_is_codec};
+
+    ghost spelled = { spelled_number };
+
+    ghost fits = { FitsNumber };
+
+    ghost taken = { number };
+
+    #[tactic(auto, unfolding(crate::specs::Values::spelled_number))]
+    fn put(&self, out: &mut Vec<u8>) -> Result<(), AllocError> {
+        out.extend_from_slice(&self.value.to_be_bytes())
+    }
+
+    #[tactic(auto, unfolding(crate::specs::Values::number))]
+    fn take(_alloc: Global, input: &[u8]) -> Result<(Self, usize), WireFault>
+        ensures ok { IfOk result (λ r. number input.now ≡ Ok (r.0, r.1)) }
+        ensures err { IfErr result (λ e. number input.now ≡ Err e) }
+    {
+        let (value, len) = take_u64(input, 1 << 60)?;
+        Ok((Number { value }, len))
+    }
+
+    ghost read_back = { number_is_codec.read_back };
+
+    ghost one_spelling = { number_is_codec.one_spelling };
+
+    ghost bad_within = { number_is_codec.bad_within };
+}
+
+impl fmt::Display for Number {
+    ghost use Rattle.std.specs.Prelude.{Some};
+    ghost use Rattle.std.specs.Fmt.{decimal};
+
+    ghost output = { λ n. Some (decimal n) };
+
+    fn fmt<W: fmt::Write>(&self, f: &mut fmt::Formatter<W>) -> fmt::Result {
+        let value = self.value;
+        write!(f, "{value}")
+    }
+}
