@@ -1,0 +1,105 @@
+-- How one more body changes what is kept.
+use Rattle.std.proofs.Common.{◌≡◌, ℕ, ◌+◌, ◌<◌, ◌≤◌, ◌≢◌, Bool, true, false, List, [], ◌∷◌, ◌++◌, map, refl, ap, ◌∙◌, sym, arith}
+use Rattle.std.specs.Prelude.{if◌then◌else◌, ◌==◌, nat_le}
+use Rattle.std.proofs.lemmas.Bool.Decides.{nat_tests}
+use Rattle.wire_bytes.specs.declared.origin.Origin.{Origin}
+use Rattle.machine_laws.specs.Runs.{History}
+use Rattle.request_once.specs.declared.body.Body.{Body}
+use Rattle.request_once.specs.declared.body.Body.TheVariants.{Inner, Asked}
+use Rattle.request_once.specs.declared.answer.Answer.TheVariants.{Effect, Done, Repeat, Gap}
+use Rattle.request_once.specs.Fresh.{same_origin, asked, fresh, last, plain, answers}
+
+is_next : (m n : ℕ) → m ≡ n → (m == n) ≡ true
+is_next m n e = grind (arith, nat_tests)
+
+is_not_next : (m n : ℕ) → m ≢ n → (m == n) ≡ false
+is_not_next m n e = grind (arith, nat_tests)
+
+is_repeat : (m n : ℕ) → m ≤ n → nat_le m n ≡ true
+is_repeat m n e = grind (arith, nat_tests)
+
+is_gap : (m n : ℕ) → n < m → nat_le m n ≡ false
+is_gap m n e = grind (arith, nat_tests)
+
+pub last-nil : (C A : Type 0) (o : Origin) → last {C = C} {A = A} [] o ≡ 0
+unfolding last fresh
+last-nil C A o = refl
+
+pub plain-nil : {C A : Type 0} (client : Origin → ℕ → A → C) → plain client [] ≡ []
+unfolding plain fresh
+plain-nil client = refl
+
+module _ {C A : Type 0} where
+  pub last-inner : (earlier : History (Body C A)) (place : ℕ) (c : C) (o : Origin) → last ((place, Inner c) ∷ earlier) o ≡ last earlier o
+  unfolding last fresh
+  last-inner earlier place c o = refl
+
+  fresh-next : (earlier : History (Body C A)) (place : ℕ) (o : Origin) (n at : ℕ) (a : A) → n ≡ last earlier o + 1 → fresh ((place, Asked o n at a) ∷ earlier) ≡ (place, Asked o n at a) ∷ fresh earlier
+  unfolding last fresh
+  fresh-next earlier place o n at a e = rw (is_next n (asked o (fresh earlier) + 1) e)
+
+  fresh-skip : (earlier : History (Body C A)) (place : ℕ) (o : Origin) (n at : ℕ) (a : A) → n ≢ last earlier o + 1 → fresh ((place, Asked o n at a) ∷ earlier) ≡ fresh earlier
+  unfolding last fresh
+  fresh-skip earlier place o n at a e = rw (is_not_next n (asked o (fresh earlier) + 1) e)
+
+  pub last-skip : (earlier : History (Body C A)) (place : ℕ) (o : Origin) (n at : ℕ) (a : A) (p : Origin) → n ≢ last earlier o + 1 → last ((place, Asked o n at a) ∷ earlier) p ≡ last earlier p
+  unfolding last
+  last-skip earlier place o n at a p e = rw (fresh-skip earlier place o n at a e)
+
+  pub last-next : (earlier : History (Body C A)) (place : ℕ) (o : Origin) (n at : ℕ) (a : A) (p : Origin) → n ≡ last earlier o + 1
+      → last ((place, Asked o n at a) ∷ earlier) p ≡ (if same_origin p o then last earlier p + 1 else last earlier p)
+  unfolding last
+  last-next earlier place o n at a p e = rw (fresh-next earlier place o n at a e)
+
+  module _ (client : Origin → ℕ → A → C) where
+    pub plain-inner : (earlier : History (Body C A)) (place : ℕ) (c : C) → plain client ((place, Inner c) ∷ earlier) ≡ (place, c) ∷ plain client earlier
+    unfolding plain fresh
+    plain-inner earlier place c = refl
+
+    pub plain-next : (earlier : History (Body C A)) (place : ℕ) (o : Origin) (n at : ℕ) (a : A) → n ≡ last earlier o + 1 → plain client ((place, Asked o n at a) ∷ earlier) ≡ (place, client o at a) ∷ plain client earlier
+    unfolding plain
+    plain-next earlier place o n at a e = rw (fresh-next earlier place o n at a e)
+
+    pub plain-skip : (earlier : History (Body C A)) (place : ℕ) (o : Origin) (n at : ℕ) (a : A) → n ≢ last earlier o + 1 → plain client ((place, Asked o n at a) ∷ earlier) ≡ plain client earlier
+    unfolding plain
+    plain-skip earlier place o n at a e = rw (fresh-skip earlier place o n at a e)
+
+    module _ {E : Type 0} (effects : History C → ℕ → C → List E) where
+      pub answers-inner : (earlier : History (Body C A)) (place : ℕ) (c : C) → answers client effects earlier place (Inner c) ≡ map Effect (effects (plain client earlier) place c)
+      unfolding answers
+      answers-inner earlier place c = refl
+
+      pub answers-next : (earlier : History (Body C A)) (place : ℕ) (o : Origin) (n at : ℕ) (a : A) → n ≡ last earlier o + 1 → answers client effects earlier place (Asked o n at a) ≡ map Effect (effects (plain client earlier) place (client o at a)) ++ Done o n ∷ []
+      unfolding answers
+      answers-next earlier place o n at a e = rw (is_next n (last earlier o + 1) e)
+
+      pub answers-repeat : (earlier : History (Body C A)) (place : ℕ) (o : Origin) (n at : ℕ) (a : A) → n ≤ last earlier o → answers client effects earlier place (Asked o n at a) ≡ Repeat o (last earlier o) ∷ []
+      unfolding answers
+      answers-repeat earlier place o n at a e =
+          let ne : n ≢ last earlier o + 1 = omega arith in
+          rw (is_not_next n (last earlier o + 1) ne, is_repeat n (last earlier o) e)
+
+      pub answers-gap : (earlier : History (Body C A)) (place : ℕ) (o : Origin) (n at : ℕ) (a : A) → last earlier o + 1 < n → answers client effects earlier place (Asked o n at a) ≡ Gap o (last earlier o + 1) ∷ []
+      unfolding answers
+      answers-gap earlier place o n at a e =
+          let ne : n ≢ last earlier o + 1 = omega arith in
+          rw (is_not_next n (last earlier o + 1) ne, is_gap n (last earlier o) (omega arith))
+
+same_origin-is : (p o : Origin) → same_origin p o ≡ true → p ≡ o
+same_origin-is p o e =
+    let e0 : p.0 ≡ o.0 = grind (arith, nat_tests) in
+    let e1 : p.1 ≡ o.1 = grind (arith, nat_tests) in
+    let e2 : p.2 ≡ o.2 = grind (arith, nat_tests) in
+    let f : ℕ → ℕ → ℕ → Origin = λ x y z. (x, y, z) in
+    ap (λ x. f x p.1 p.2) e0 ∙ ap (λ y. f o.0 y p.2) e1 ∙ ap (λ z. f o.0 o.1 z) e2
+
+numbers-next_by : {C A : Type 0} (earlier : History (Body C A)) (o p : Origin) (n was : ℕ) (b : Bool) → same_origin p o ≡ b → n ≡ last earlier o + 1 → was ≡ last earlier p
+    → (if b then n else was) ≡ (if b then last earlier p + 1 else last earlier p)
+numbers-next_by earlier o p n was true s e w = e ∙ ap (λ q. last earlier q + 1) (sym (same_origin-is p o s))
+numbers-next_by earlier o p n was false s e w = w
+
+-- the numbers that are kept follow
+pub numbers-next : {C A : Type 0} (old new : Origin → ℕ) (earlier : History (Body C A)) (place : ℕ) (o : Origin) (n at : ℕ) (a : A)
+    → ((p : Origin) → old p ≡ last earlier p) → n ≡ last earlier o + 1 → ((p : Origin) → new p ≡ (if same_origin p o then n else old p))
+    → (p : Origin) → new p ≡ last ((place, Asked o n at a) ∷ earlier) p
+numbers-next old new earlier place o n at a h e noted p = noted p ∙ numbers-next_by earlier o p n _ (same_origin p o) refl e (h p) ∙ sym (last-next earlier place o n at a p e)

@@ -1,0 +1,47 @@
+-- Bodies are a codec where the commands below and the actions are.
+use Rattle.std.proofs.Common.{◌≡◌, ℕ, List, [], ◌∷◌, ◌++◌, IsTrue, refl, arith}
+use Rattle.std.specs.Prelude.{is_some}
+use Rattle.wire_bytes.specs.Fields.{Reading, through, both, reading_of}
+use Rattle.wire_bytes.specs.Codecs.{IsCodec, through-codec, both-codec, choice-codec}
+use Rattle.wire_bytes.specs.Values.{spelled_origin, spelled_number, FitsOrigin, FitsNumber, FitsMoment, origin, number, moment}
+use Rattle.wire_bytes.specs.ValueCodecs.{origin_is_codec, number_is_codec, moment_is_codec}
+use Rattle.wire_bytes.specs.declared.origin.Origin.{Origin}
+use Rattle.request_once.specs.declared.body.Body.{Body}
+use Rattle.request_once.specs.declared.body.Body.TheVariants.{Inner, Asked}
+use Rattle.request_once.specs.Spelling.{body_kind, spelled_parts, spelled_body, FitsBody, asked_of, asked_taken, body_taken}
+
+module _ {C A : Type 0} (command : C → List ℕ) (command_fits : C → Type 0) (command_taken : Reading C) (action : A → List ℕ) (action_fits : A → Type 0) (action_taken : Reading A)
+    (command_codec : IsCodec command command_fits command_taken) (action_codec : IsCodec action action_fits action_taken) where
+  abbrev fits : Body C A → Type 0
+  fits body = FitsBody command_fits action_fits body
+
+  parts_codec : IsCodec (λ (p : ((Origin × ℕ) × ℕ) × A). ((spelled_origin p.0.0.0 ++ spelled_number p.0.0.1) ++ spelled_number p.0.1) ++ action p.1) (λ p. ((FitsOrigin p.0.0.0 × FitsNumber p.0.0.1) × FitsMoment p.0.1) × action_fits p.1) (both (both (both origin number) moment) action_taken)
+  parts_codec =
+      both-codec (λ (p : (Origin × ℕ) × ℕ). (spelled_origin p.0.0 ++ spelled_number p.0.1) ++ spelled_number p.1) (λ p. (FitsOrigin p.0.0 × FitsNumber p.0.1) × FitsMoment p.1) (both (both origin number) moment) action action_fits action_taken
+      (both-codec (λ (p : Origin × ℕ). spelled_origin p.0 ++ spelled_number p.1) (λ p. FitsOrigin p.0 × FitsNumber p.1) (both origin number) spelled_number FitsMoment moment
+      (both-codec spelled_origin FitsOrigin origin spelled_number FitsNumber number origin_is_codec number_is_codec)
+      moment_is_codec)
+      action_codec
+
+  split_inner : (body : Body C A) → fits body × (body_kind body ≡ 0) → (c : C) × command_fits c × (Inner c ≡ body)
+  split_inner (Inner c) h = (c, h.0, refl)
+  split_inner (Asked o n at a) h = absurd (omega arith)
+
+  split_asked : (body : Body C A) → fits body × (body_kind body ≡ 1) → (p : ((Origin × ℕ) × ℕ) × A) × (((FitsOrigin p.0.0.0 × FitsNumber p.0.0.1) × FitsMoment p.0.1) × action_fits p.1) × (asked_of p ≡ body)
+  split_asked (Inner c) h = absurd (omega arith)
+  split_asked (Asked o n at a) h = ((((o, n), at), a), h.0, refl)
+
+  listed : (body : Body C A) → fits body → IsTrue (is_some (reading_of (body_kind body) ((0, through Inner command_taken) ∷ (1, asked_taken action_taken) ∷ [])))
+  listed (Inner c) h = refl
+  listed (Asked o n at a) h = refl
+
+  pub body_is_codec : IsCodec (spelled_body command action) (FitsBody command_fits action_fits) (body_taken command_taken action_taken)
+  body_is_codec =
+      choice-codec body_kind (spelled_parts command action) fits ((0, through Inner command_taken) ∷ (1, asked_taken action_taken) ∷ []) (
+        through-codec (spelled_parts command action) (λ body. fits body × (body_kind body ≡ 0)) command command_fits command_taken Inner command_codec (λ c h. (h, refl)) (λ c h. refl) split_inner,
+        (
+          through-codec (spelled_parts command action) (λ body. fits body × (body_kind body ≡ 1)) _ _ (both (both (both origin number) moment) action_taken) asked_of parts_codec (λ p h. (h, refl)) (λ p h. refl) split_asked,
+          tt,
+        ),
+      )
+      listed

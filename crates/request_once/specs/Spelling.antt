@@ -1,0 +1,37 @@
+-- Bodies as bytes: a kind byte, 0 for a command of the machine below and 1 for a numbered request, and what it has.
+use Rattle.std.specs.Prelude.{ℕ, List, [], ◌∷◌, ◌++◌}
+use Rattle.wire_bytes.specs.Fields.{Reading, through, both, choice}
+use Rattle.wire_bytes.specs.Values.{spelled_origin, spelled_number, FitsOrigin, FitsNumber, FitsMoment, origin, number, moment}
+use Rattle.wire_bytes.specs.declared.origin.Origin.{Origin}
+use Rattle.request_once.specs.declared.body.Body.{Body}
+use Rattle.request_once.specs.declared.body.Body.TheVariants.{Inner, Asked}
+
+module _ {C A : Type 0} where
+  abbrev pub body_kind : Body C A → ℕ
+  body_kind (Inner c) = 0
+  body_kind (Asked o n at a) = 1
+
+  -- origin, number, moment, action
+  abbrev pub spelled_parts : (C → List ℕ) → (A → List ℕ) → Body C A → List ℕ
+  spelled_parts command action (Inner c) = command c
+  spelled_parts command action (Asked o n at a) = ((spelled_origin o ++ spelled_number n) ++ spelled_number at) ++ action a
+
+  abbrev pub spelled_body : (C → List ℕ) → (A → List ℕ) → Body C A → List ℕ
+  spelled_body command action body = body_kind body ∷ spelled_parts command action body
+
+  abbrev pub FitsBody : (C → Type 0) → (A → Type 0) → Body C A → Type 0
+  FitsBody command action (Inner c) = command c
+  FitsBody command action (Asked o n at a) = ((FitsOrigin o × FitsNumber n) × FitsMoment at) × action a
+
+  abbrev pub inner_taken : Reading C → Reading (Body C A)
+  inner_taken command = through Inner command
+
+  abbrev pub asked_of : ((Origin × ℕ) × ℕ) × A → Body C A
+  asked_of p = Asked p.0.0.0 p.0.0.1 p.0.1 p.1
+
+  abbrev pub asked_taken : Reading A → Reading (Body C A)
+  asked_taken action = through asked_of (both (both (both origin number) moment) action)
+
+  -- the body at the front of an input
+  abbrev pub body_taken : Reading C → Reading A → Reading (Body C A)
+  body_taken command action = choice ((0, inner_taken command) ∷ (1, asked_taken action) ∷ [])
