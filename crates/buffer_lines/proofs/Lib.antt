@@ -1,0 +1,5 @@
+pub mod Keeping
+pub mod Clock
+pub mod Framed
+pub mod Heads
+pub mod Stamped

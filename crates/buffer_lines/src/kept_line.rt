@@ -1,0 +1,53 @@
+ghost use Rattle.std.specs.Prelude.{◌≡◌, IfOk};
+ghost use Rattle.irc_line.specs.Lines.{spelling};
+ghost use Rattle.buffer_lines.specs.Stamps.{timed};
+
+use crate::head::push_head;
+use crate::offset::Offset;
+use crate::shown::Shown;
+use crate::stamp::{STAMP_LEN, push_stamped};
+use irc_line::Line;
+use std::alloc::{AllocError, Global};
+use std::marker::Model;
+use wire_bytes::Moment;
+
+/// A line with the moment at which it came. It has two parameters, a target and a text.
+#[derive(Drop)]
+pub struct KeptLine {
+    at: Moment,
+    line: Line,
+}
+
+impl Model for KeptLine {
+    ghost use Rattle.std.specs.Prelude.{ℕ};
+    ghost use Rattle.irc_line.specs.Lines.{Parts};
+    ghost use Rattle.buffer_lines.specs.Stamps.{line_code};
+
+    ghost Value = { ℕ × Parts };
+
+    ghost coded = { line_code };
+
+    ghost view = { λ k. (k.at, k.line) };
+}
+
+impl KeptLine {
+    /// A line that came at this moment.
+    pub fn new(at: Moment, line: Line) -> KeptLine
+        ensures { result ≡ (at, line) }
+    {
+        KeptLine { at, line }
+    }
+
+    /// What is shown of the line when it is played: its text has the time before it.
+    #[tactic(auto, using(crate::proofs::Heads::spelling_timed))]
+    pub(crate) fn played(&self, alloc: Global, offset: Offset) -> Result<Shown, AllocError>
+        ensures { IfOk result (λ s. s ≡ spelling (timed offset self.now)) }
+    {
+        let line = &self.line;
+        let text = line.parameter(1);
+        let mut out = Vec::with_capacity(alloc, text.len().saturating_add(STAMP_LEN))?;
+        push_head(&mut out, line.prefix(), line.command(), line.parameter(0))?;
+        push_stamped(&mut out, offset, self.at, text)?;
+        Ok(Shown::of_bytes(out))
+    }
+}

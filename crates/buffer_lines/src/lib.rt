@@ -1,0 +1,14 @@
+//! The last lines of one target, with their times, as they are played to a client.
+#![tactic(auto)]
+
+mod head;
+mod kept_line;
+mod line_ring;
+mod offset;
+mod shown;
+mod stamp;
+
+pub use kept_line::KeptLine;
+pub use line_ring::LineRing;
+pub use offset::Offset;
+pub use shown::Shown;
