@@ -1,0 +1,3 @@
+pub mod Measures
+pub mod Repairs
+pub mod Conflicts

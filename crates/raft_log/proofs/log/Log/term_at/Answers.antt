@@ -1,0 +1,11 @@
+use Rattle.std.proofs.Common.{◌-◌, List, get_or, ap, ◌∙◌, arith}
+use Rattle.raft_log.specs.declared.entry.Entry.{Entry}
+use Rattle.raft_log.proofs.Repairs.{term_at_index}
+use Rattle.raft_log.proofs.log.Log.term_at.Goals as goal
+
+pub returns-else-place-eq0 : goal.returns-else-place-eq0
+returns-else-place-eq0 g c =
+    let d : Entry g.row.B.Denot = c.index.result.now in
+    ap (λ (e : Entry g.row.B.Denot). e.term) c.index.ensures
+    ∙ (ap (λ (l : List (Entry g.row.B.Denot)). (get_or l (c.args.place - 1) d).term) c.self.view_is
+    ∙ term_at_index c.args.self.now c.args.place d (omega arith) (omega arith))

@@ -1,0 +1,10 @@
+pub mod Spellings
+pub mod BodyCodec
+pub mod Entries
+pub mod EntryCodec
+pub mod Batches
+pub mod Lists
+pub mod Logs
+pub mod Votes
+pub mod Node
+pub mod Seen

@@ -1,0 +1,30 @@
+-- Lists whose places count from 1, and the nodes.
+use Rattle.std.specs.Prelude.{ℕ, zero, suc, ◌==◌, List, [], ◌∷◌, Option, None, if◌then◌else◌, slice_get, get_or, set}
+
+module _ {A : Type 0} where
+  abbrev pub item : List A → ℕ → Option A
+  item xs zero = None
+  item xs (suc k) = slice_get xs k
+
+  -- the item at a place, or this one where there is none
+  abbrev pub item_or : List A → ℕ → A → A
+  item_or xs zero d = d
+  item_or xs (suc k) d = get_or xs k d
+
+  -- with this item at a place, where there is one
+  abbrev pub with_item : List A → ℕ → A → List A
+  with_item xs zero x = xs
+  with_item xs (suc k) x = set xs k x
+
+-- so many numbers from this one on
+abbrev pub range_from : ℕ → ℕ → List ℕ
+range_from a zero = []
+range_from a (suc n) = a ∷ range_from (suc a) n
+
+abbrev pub without : ℕ → List ℕ → List ℕ
+without i [] = []
+without i (j ∷ js) = if j == i then without i js else j ∷ without i js
+
+-- the other nodes, by rising number
+abbrev pub others : ℕ → ℕ → List ℕ
+others size i = without i (range_from 1 size)

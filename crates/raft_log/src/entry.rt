@@ -1,0 +1,79 @@
+ghost use Rattle.std.specs.Prelude.{◌≡◌, IfOk};
+ghost use Rattle.raft_log.specs.Entries.{FitsEntry};
+
+use crate::body::LoggedBody;
+use std::alloc::{AllocError, Global};
+use wire_bytes::{Copied, Number, Wire, WireFault, undo};
+
+/// A body and the term of the leader that appended it.
+#[derive(Drop)]
+pub struct Entry<B: Wire> {
+    pub term: Number,
+    pub body: LoggedBody<B>,
+}
+
+impl<B: Wire> Entry<B> {
+    /// Does nothing. An entry always has a spelling, since its types keep its limits.
+    pub fn fits(&self)
+        ensures { FitsEntry B.fits B.spelled self.now }
+    {
+        self.term.value();
+        self.body.get();
+    }
+}
+
+impl<B: Wire> Copied for Entry<B> {
+    fn copy(&self, alloc: Global) -> Result<Self, AllocError> {
+        Ok(Entry {
+            term: self.term,
+            body: self.body.copy(alloc)?,
+        })
+    }
+}
+
+/// The term, and the body behind its length.
+impl<B: Wire> Wire for Entry<B> {
+    ghost use Rattle.raft_log.specs.Entries.{spelled_entry, FitsEntry, entry_taken};
+    ghost use Rattle.raft_log.specs.EntryCodec.{entry-codec};
+    ghost use Rattle.wire_bytes.specs.Codecs.{codec};
+
+    ghost spelled = { spelled_entry B.spelled };
+
+    ghost fits = { FitsEntry B.fits B.spelled };
+
+    ghost taken = { entry_taken B.taken };
+
+    #[tactic(auto, unfolding(crate::specs::Entries::spelled_entry))]
+    fn put(&self, out: &mut Vec<u8>) -> Result<(), AllocError> {
+        let len = out.len();
+        self.term.put(out)?;
+        let outcome = self.body.put(out);
+        undo(out, len, outcome)
+    }
+
+    #[tactic(auto, using(wire_bytes::proofs::Steps::composed), unfolding(crate::specs::Entries::entry_taken))]
+    fn take(alloc: Global, input: &[u8]) -> Result<(Self, usize), WireFault> {
+        let ((term, body), len) = <(Number, LoggedBody<B>)>::take(alloc, input)?;
+        Ok((Entry { term, body }, len))
+    }
+
+    ghost read_back = { (entry-codec B.spelled B.fits B.taken (codec B.spelled B.fits B.taken B.read_back B.one_spelling B.bad_within)).read_back };
+
+    ghost one_spelling = { (entry-codec B.spelled B.fits B.taken (codec B.spelled B.fits B.taken B.read_back B.one_spelling B.bad_within)).one_spelling };
+
+    ghost bad_within = { (entry-codec B.spelled B.fits B.taken (codec B.spelled B.fits B.taken B.read_back B.one_spelling B.bad_within)).bad_within };
+}
+
+/// Copies of entries, in order.
+pub fn copied_entries<B: Wire>(
+    alloc: Global,
+    entries: &[Entry<B>],
+) -> Result<Vec<Entry<B>>, AllocError>
+    ensures { IfOk result (λ v. v.items ≡ entries.now) }
+{
+    let mut all = Vec::with_capacity(alloc, entries.len())?;
+    for entry in entries {
+        all.push(entry.copy(alloc)?)?;
+    }
+    Ok(all)
+}
