@@ -1,0 +1,137 @@
+ghost use Rattle.std.specs.Prelude.{◌≡◌, ◌≢◌, ◌≤◌, ◌++◌, length, is_ok, if◌then◌else◌, IfOk, IfErr, Ok, Err};
+ghost use Rattle.wire_bytes.specs.Fields.{behind};
+ghost use Rattle.raft_log.specs.Entries.{FitsEntry, spelled_entry, entry_taken};
+ghost use Rattle.stable_store.specs.Lists.{AllFit, spelled_all, many};
+
+use raft_log::{Entry, copied_entries};
+use std::alloc::{AllocError, Global};
+use std::marker::Model;
+use wire_bytes::{Copied, Wire, WireFault, take_behind, take_u16, undo};
+
+/// At most 256 entries.
+#[derive(Drop)]
+pub struct Entries<B: Wire> {
+    entries: Vec<Entry<B>>,
+}
+
+impl<B: Wire> Model for Entries<B> {
+    ghost use Rattle.std.specs.Prelude.{◌≤◌, List, length};
+    ghost use Rattle.raft_log.specs.declared.entry.Entry.{Entry};
+
+    ghost Value = { List (Entry B) };
+
+    ghost view = { λ e. e.entries.items };
+
+    ghost invariant = { λ e. length e.entries.items ≤ 256 };
+}
+
+impl<B: Wire> Entries<B> {
+    pub fn new(entries: Vec<Entry<B>>) -> Self
+        requires { length entries.items ≤ 256 }
+        ensures { result ≡ entries.items }
+    {
+        Entries { entries }
+    }
+
+    pub fn as_slice(&self) -> &[Entry<B>]
+        ensures value { result.now ≡ self.now }
+        ensures few { length self.now ≤ 256 }
+    {
+        self.entries.as_slice()
+    }
+}
+
+impl<B: Wire> Copied for Entries<B> {
+    fn copy(&self, alloc: Global) -> Result<Self, AllocError> {
+        let entries = copied_entries(alloc, &self.entries)?;
+        Ok(Entries { entries })
+    }
+}
+
+/// Their number in two bytes, and each in turn.
+impl<B: Wire> Wire for Entries<B> {
+    ghost use Rattle.raft_log.specs.Entries.{FitsEntry, spelled_entry, entry_taken};
+    ghost use Rattle.raft_log.specs.EntryCodec.{entry-codec};
+    ghost use Rattle.stable_store.specs.Lists.{spelled_counted, FitsCounted, counted};
+    ghost use Rattle.stable_store.specs.ListCodec.{counted-codec};
+    ghost use Rattle.wire_bytes.specs.Codecs.{codec};
+
+    ghost spelled = { spelled_counted (spelled_entry B.spelled) };
+
+    ghost fits = { FitsCounted (FitsEntry B.fits B.spelled) };
+
+    ghost taken = { counted (entry_taken B.taken) };
+
+    #[tactic(auto, unfolding(crate::specs::Lists::spelled_counted))]
+    fn put(&self, out: &mut Vec<u8>) -> Result<(), AllocError> {
+        let len = out.len();
+        out.extend_from_slice(&(self.entries.len() as u16).to_be_bytes())?;
+        let outcome = put_all(out, &self.entries);
+        undo(out, len, outcome)
+    }
+
+    fn take(alloc: Global, input: &[u8]) -> Result<(Self, usize), WireFault> {
+        let (count, place) = take_u16(input, 256)?;
+        let (entries, end) = take_many(alloc, input, place, count)?;
+        Ok((Entries { entries }, end))
+    }
+
+    ghost read_back = { (counted-codec (spelled_entry B.spelled) (FitsEntry B.fits B.spelled) (entry_taken B.taken) (entry-codec B.spelled B.fits B.taken (codec B.spelled B.fits B.taken B.read_back B.one_spelling B.bad_within))).read_back };
+
+    ghost one_spelling = { (counted-codec (spelled_entry B.spelled) (FitsEntry B.fits B.spelled) (entry_taken B.taken) (entry-codec B.spelled B.fits B.taken (codec B.spelled B.fits B.taken B.read_back B.one_spelling B.bad_within))).one_spelling };
+
+    ghost bad_within = { (counted-codec (spelled_entry B.spelled) (FitsEntry B.fits B.spelled) (entry_taken B.taken) (entry-codec B.spelled B.fits B.taken (codec B.spelled B.fits B.taken B.read_back B.one_spelling B.bad_within))).bad_within };
+}
+
+/// Does nothing. Entries always have a spelling, since their types keep their limits.
+pub fn all_fit<B: Wire>(entries: &[Entry<B>])
+    ensures { AllFit (FitsEntry B.fits B.spelled) entries.now }
+{
+    match entries {
+        [] => {}
+        [first, rest @ ..] => {
+            first.fits();
+            all_fit(rest);
+        }
+    }
+}
+
+/// Appends the spelling of each in turn, or leaves the items as they were.
+fn put_all<B: Wire>(out: &mut Vec<u8>, entries: &[Entry<B>]) -> Result<(), AllocError>
+    requires { AllFit (FitsEntry B.fits B.spelled) entries.now }
+    ensures { out.new.items ≡ (if is_ok result then out.old.items ++ spelled_all (spelled_entry B.spelled) entries.now else out.old.items) }
+{
+    let len = out.len();
+    for entry in entries {
+        let outcome = entry.put(out);
+        if outcome.is_err() {
+            out.truncate(len);
+            return outcome;
+        }
+    }
+    Ok(())
+}
+
+/// Reads so many entries from a place of the input on. Places and the end are counted from the input's front.
+fn take_many<B: Wire>(
+    alloc: Global,
+    input: &[u8],
+    place: usize,
+    count: u16,
+) -> Result<(Vec<Entry<B>>, usize), WireFault>
+    requires { place ≤ length input.now }
+    ensures ok { IfOk result (λ r. behind place (many count (entry_taken B.taken)) input.now ≡ Ok (r.0.items, r.1)) }
+    ensures err { IfErr result (λ e. e ≢ WireFault.Memory → behind place (many count (entry_taken B.taken)) input.now ≡ Err e) }
+    ensures number { IfOk result (λ r. length r.0.items ≡ count) }
+{
+    let mut entries = Vec::new(alloc);
+    let mut end = place;
+    let mut left = count;
+    while left > 0 {
+        let (entry, next) = take_behind::<Entry<B>>(alloc, input, end)?;
+        entries.push(entry)?;
+        end = next;
+        left -= 1;
+    }
+    Ok((entries, end))
+}

@@ -1,0 +1,18 @@
+//! What a node keeps over a restart, and the laws of a store that keeps it.
+#![tactic(auto)]
+
+mod change;
+mod entries;
+mod memory_store;
+mod saved;
+mod stable;
+mod store_fault;
+
+pub use change::Change;
+pub use memory_store::MemoryStore;
+pub use saved::Saved;
+pub use stable::Stable;
+pub use store_fault::StoreFault;
+
+#[cfg(test)]
+mod tests;
