@@ -1,0 +1,13 @@
+//! How a leader is elected: the steps of a node that begins an election, is asked for its vote, or is given one.
+#![tactic(auto)]
+
+mod timeout;
+mod vote;
+mod voters;
+
+pub use timeout::begin;
+pub use vote::{on_request_vote, on_vote, raise};
+pub use voters::majority;
+
+#[cfg(test)]
+mod tests;
