@@ -1,0 +1,7 @@
+use Rattle.buffer_machine.specs.Settings.{plain}
+use Rattle.bouncer_app.specs.Fold.{plain_answers}
+use Rattle.bouncer_app.proofs.fold.plain_text.Goals as goal
+
+pub returns-clause-err : goal.returns-clause-err
+unfolding plain_answers
+returns-clause-err c = c.fold_input.ensures.err plain

@@ -1,0 +1,260 @@
+//! Worked cases, and readers and writers that fail.
+use crate::fault::FoldFault;
+use crate::fold::fold;
+use std::io;
+use std::io::{Error, ErrorKind, Read, Write};
+use std::test::Fail;
+
+const A_LINE: &str = "0002000000006553f10000153a612162406320505249564d5347202378203a6869\n";
+
+const FIRST_ATTACH: &str =
+    "0101000000000000000100000000000000010000000000000001000000006553f13c01\n";
+
+const SECOND_ATTACH: &str =
+    "0101000000000000000100000000000000020000000000000001000000006553f13d01\n";
+
+const ATTACH: &str = "0101000000000000000100000000000000010000000000000001000000006553f10001\n";
+
+const SAY: &str =
+    "0101000000000000000100000000000000010000000000000002000000006553f10003000002237800026869\n";
+
+const ATTACH_OF_NODE_2: &str =
+    "0102000000000000000100000000000000010000000000000001000000006553f10001\n";
+
+const THIRD_LEAVE: &str =
+    "0101000000000000000100000000000000010000000000000003000000006553f10002\n";
+
+const UP: &str = "0004\n";
+
+const DOWN: &str = "0005\n";
+
+const NODE_GONE: &str = "0003010000000000000002\n";
+
+/// What a fold of these lines writes.
+fn printed(rt: &HostRuntime, lines: &[&str]) -> Result<Result<Vec<u8>, FoldFault>, Fail> {
+    let mut input = Vec::new(rt.alloc());
+    for line in lines {
+        input.extend_from_slice(line.as_bytes())?;
+    }
+    let mut output = Vec::new(rt.alloc());
+    let mut reader = input.as_slice();
+    Ok(fold(rt.alloc(), &mut reader, &mut output).map(|_| output))
+}
+
+#[test]
+fn bodies_are_answered_as_worked(rt: HostRuntime) -> Result<(), Fail> {
+    let none: [&str; 0] = [];
+    let without_end = [ATTACH, ATTACH.trim_end()];
+    let playback =
+        "2 show 1.1.1 :***!bouncer@local PRIVMSG #x :Buffer Playback...\n2 show 1.1.1 :a!b@c PRIVMSG #x :[22:13:20] hi\n2 show 1.1.1 :***!bouncer@local PRIVMSG #x :Playback Complete.\n2 done 1.1.1 1\n3 done 1.1.2 1\n";
+    let cases = [
+        (none.as_slice(), ""),
+        ([A_LINE, FIRST_ATTACH, SECOND_ATTACH].as_slice(), playback),
+        (
+            [ATTACH, ATTACH_OF_NODE_2, ATTACH, THIRD_LEAVE].as_slice(),
+            "1 done 1.1.1 1\n2 done 2.1.1 1\n3 repeat 1.1.1 1\n4 gap 1.1.1 2\n",
+        ),
+        (
+            [ATTACH, SAY, SAY].as_slice(),
+            "1 done 1.1.1 1\n2 send 1.1.1 PRIVMSG #x :hi\n2 done 1.1.1 2\n3 repeat 1.1.1 2\n",
+        ),
+        // there is an upstream, a run of node 1 is gone, there is none
+        (
+            [UP, ATTACH, NODE_GONE, ATTACH, DOWN].as_slice(),
+            "1 rejoin JOIN #x\n2 done 1.1.1 1\n4 repeat 1.1.1 1\n",
+        ),
+        // the last line lacks its end
+        (without_end.as_slice(), "1 done 1.1.1 1\n2 repeat 1.1.1 1\n"),
+    ];
+    for (lines, want) in cases {
+        let got = printed(&rt, lines)?;
+        assert!(rt; got.is_ok(), "at {want}");
+        assert_eq!(rt;
+            got.unwrap_or(Vec::new(rt.alloc())).as_slice(),
+            want.as_bytes()
+        );
+    }
+    Ok(())
+}
+
+/// The first two digits of a byte's hex, in lower case.
+fn push_hex(text: &mut Vec<u8>, bytes: &[u8]) -> Result<(), Fail> {
+    for b in bytes {
+        text.push(b"0123456789abcdef"[(*b >> 4) as usize])?;
+        text.push(b"0123456789abcdef"[(*b & 15) as usize])?;
+    }
+    Ok(())
+}
+
+/// A body that brings a message of so many bytes in all from upstream.
+fn long_message(rt: &HostRuntime, len: u16) -> Result<Vec<u8>, Fail> {
+    let mut line = Vec::from_slice(rt.alloc(), b"PRIVMSG #x :")?;
+    for _ in line.len()..len as usize {
+        line.push(b'a')?;
+    }
+    let mut text = Vec::from_slice(rt.alloc(), b"0002000000006553f100")?;
+    push_hex(&mut text, &len.to_be_bytes())?;
+    push_hex(&mut text, &line)?;
+    Ok(text)
+}
+
+#[test]
+fn a_bad_line_is_named_by_the_first(rt: HostRuntime) -> Result<(), Fail> {
+    let cases = [
+        (["0g\n"].as_slice(), FoldFault::BadHex(1)),
+        (["05\n"].as_slice(), FoldFault::BadBody(1)),
+        ([ATTACH, "010\n"].as_slice(), FoldFault::BadHex(2)),
+        ([ATTACH, "\n", "0g\n"].as_slice(), FoldFault::BadBody(2)),
+        (
+            ["0101000000000000000100000000000000010000000000000001000000006553F10001\n"].as_slice(),
+            FoldFault::BadHex(1),
+        ),
+        (
+            ["010100000000000000010000000000000001000000000000000100000000655f10001\n"].as_slice(),
+            FoldFault::BadHex(1),
+        ),
+        (
+            [
+                "0101000000000000000100000000000000010000000000000001000000006553f1000100\n",
+            ].as_slice(),
+            FoldFault::BadBody(1),
+        ),
+        // privmsg in lower-case letters
+        (
+            ["0002000000006553f10000153a612162406320707269766d7367202378203a6869\n"].as_slice(),
+            FoldFault::BadBody(1),
+        ),
+        // no command
+        (
+            ["0006020000000000000005\n"].as_slice(),
+            FoldFault::BadBody(1),
+        ),
+    ];
+    for (lines, want) in cases {
+        assert!(rt; printed(&rt, lines)?.err() == Some(want), "{want}");
+    }
+    Ok(())
+}
+
+#[test]
+fn a_line_from_upstream_has_at_most_511_bytes(rt: HostRuntime) -> Result<(), Fail> {
+    let fits = long_message(&rt, 511)?;
+    let mut output = Vec::new(rt.alloc());
+    assert!(rt; fold(rt.alloc(), &mut fits.as_slice(), &mut output).is_ok());
+    let long = long_message(&rt, 512)?;
+    assert!(rt; fold(rt.alloc(), &mut long.as_slice(), &mut output) == Err(FoldFault::BadBody(1)));
+    Ok(())
+}
+
+/// A reader that gives some bytes, and then one answer for good.
+#[derive(Drop)]
+struct Source {
+    left: u64,
+    then: Option<ErrorKind>,
+}
+
+impl Read for Source {
+    fn read(&mut self, buf: &mut [u8]) -> io::Result<usize> {
+        if self.left == 0 {
+            return match self.then {
+                None => Ok(0),
+                Some(kind) => Err(Error::from(kind)),
+            };
+        }
+        let count = if self.left < buf.len() as u64 {
+            self.left as usize
+        } else {
+            buf.len()
+        };
+        self.left -= count as u64;
+        for b in buf[..count].iter_mut() {
+            *b = b'\n';
+        }
+        Ok(count)
+    }
+}
+
+#[test]
+fn an_input_that_is_not_read_whole_is_refused(rt: HostRuntime) -> Result<(), Fail> {
+    let cases = [
+        (
+            Source {
+                left: u64::MAX,
+                then: None,
+            },
+            FoldFault::InputTooLong,
+        ),
+        (
+            Source {
+                left: 67_108_865,
+                then: None,
+            },
+            FoldFault::InputTooLong,
+        ),
+        (
+            Source {
+                left: 67_108_864,
+                then: None,
+            },
+            FoldFault::BadBody(1),
+        ),
+        (
+            Source {
+                left: 0,
+                then: Some(ErrorKind::Interrupted),
+            },
+            FoldFault::Read,
+        ),
+        (
+            Source {
+                left: 70,
+                then: Some(ErrorKind::TimedOut),
+            },
+            FoldFault::Read,
+        ),
+    ];
+    for (source, want) in cases {
+        let mut source = source;
+        let mut output = Vec::new(rt.alloc());
+        assert!(rt;
+            fold(rt.alloc(), &mut source, &mut output) == Err(want),
+            "{want}"
+        );
+        assert_eq!(rt; output.len(), 0);
+    }
+    Ok(())
+}
+
+/// A writer that takes so many bytes, and then none.
+#[derive(Drop)]
+struct Sink {
+    room: usize,
+}
+
+impl Write for Sink {
+    fn write(&mut self, buf: &[u8]) -> io::Result<usize> {
+        if self.room == 0 {
+            return Err(Error::from(ErrorKind::BrokenPipe));
+        }
+        let count = self.room.min(buf.len());
+        self.room -= count;
+        Ok(count)
+    }
+
+    fn flush(&mut self) -> io::Result<()> {
+        Ok(())
+    }
+}
+
+#[test]
+fn an_output_that_is_not_written_whole_is_a_fault(rt: HostRuntime) -> Result<(), Fail> {
+    for (room, want) in [
+        (0, Err(FoldFault::Write)),
+        (14, Err(FoldFault::Write)),
+        (15, Ok(())),
+    ] {
+        let mut sink = Sink { room };
+        assert!(rt; fold(rt.alloc(), &mut ATTACH.as_bytes(), &mut sink) == want);
+    }
+    Ok(())
+}
