@@ -9,3 +9,5 @@ pub mod Folding
 pub mod Building
 pub mod Splitting
 pub mod Items
+pub mod SameBytes
+pub mod Order

@@ -3,3 +3,4 @@ pub mod Lines
 pub mod Grammar
 pub mod Reading
 pub mod Splitting
+pub mod Keys

@@ -1,6 +1,7 @@
 //! How names are compared (RFC 2812, 2.2).
 ghost use Rattle.std.specs.Prelude.{◌≡◌, IfOk};
 ghost use Rattle.irc_line.specs.Names.{fold_byte, fold_name, same_name};
+ghost use Rattle.irc_line.specs.Keys.{is_below};
 
 use std::alloc::{AllocError, Global};
 
@@ -38,4 +39,18 @@ pub fn is_same_name(a: &[u8], b: &[u8]) -> bool
         }
     }
     true
+}
+
+/// Whether one name comes before another: by their first folded bytes that differ, or as the shorter one where there are none.
+pub fn is_name_below(a: &[u8], b: &[u8]) -> bool
+    ensures { result ≡ is_below (fold_name a.now) (fold_name b.now) }
+{
+    for i in 0..a.len().min(b.len()) {
+        let first = folded_byte(a[i]);
+        let second = folded_byte(b[i]);
+        if first != second {
+            return first < second;
+        }
+    }
+    a.len() < b.len()
 }

@@ -18,7 +18,7 @@ mod text;
 
 pub use bytes::is_same;
 pub use fault::LineFault;
-pub use fold::{fold_name, is_same_name};
+pub use fold::{fold_name, is_name_below, is_same_name};
 pub use item::Item;
 pub use line::Line;
 pub use name::{Name, is_a_name, is_channel_name};

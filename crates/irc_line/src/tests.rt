@@ -1,7 +1,7 @@
 //! What lines say, by examples.
 use crate::{
-    Item, Line, LineFault, Name, Splitter, Text, fold_name, is_channel_name, is_same_name,
-    write_parts,
+    Item, Line, LineFault, Name, Splitter, Text, fold_name, is_channel_name, is_name_below,
+    is_same_name, write_parts,
 };
 use std::alloc::Global;
 use std::test::Fail;
@@ -101,6 +101,26 @@ fn a_line_says_its_parts(rt: HostRuntime) -> Result<(), Fail> {
     assert_eq!(rt; line.parameter(1), b"".as_slice());
     assert_eq!(rt; line.parameter(2), b"".as_slice());
     assert_eq!(rt; line.parameters().len(), 2);
+    Ok(())
+}
+
+#[test]
+fn names_are_in_order(rt: HostRuntime) -> Result<(), Fail> {
+    for (a, b, want) in [
+        ("#a", "#b", true),
+        ("#b", "#a", false),
+        ("#A", "#b", true),
+        ("#a", "#B", true),
+        ("#A", "#a", false),
+        ("#x", "#x", false),
+        ("#x", "#xy", true),
+        ("#xy", "#x", false),
+        ("&x", "#x", false),
+        ("#x[", "#x{", false),
+        ("#z", "#[", true),
+    ] {
+        assert_eq!(rt; is_name_below(a.as_bytes(), b.as_bytes()), want);
+    }
     Ok(())
 }
 
