@@ -1,0 +1,7 @@
+mod ChannelEdits
+mod Edits
+mod Indexes
+mod Keys
+mod QueryEdits
+mod Rising
+mod Search

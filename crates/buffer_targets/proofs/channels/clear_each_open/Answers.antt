@@ -1,0 +1,8 @@
+use Rattle.std.proofs.Common.{if◌then◌else◌}
+use Rattle.buffer_targets.specs.Targets.{over, cleared}
+use Rattle.buffer_targets.proofs.Edits.{map_step}
+use Rattle.buffer_targets.proofs.channels.clear_each_open.Goals as goal
+
+pub loop-channel-preserved : goal.loop-channel-preserved
+loop-channel-preserved c =
+    map_step (λ c. if c.detached then c else over cleared c) c.loop-channel.channels _ c.loop-channel.channel-index c.channel-item.result _ c.loop-channel.invariant c.loop-channel-test.true c.clear_if_open.ensures

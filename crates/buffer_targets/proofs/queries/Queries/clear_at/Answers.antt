@@ -1,0 +1,14 @@
+use Rattle.std.proofs.Common.{ap}
+use Rattle.buffer_targets.specs.Targets.{cleared}
+use Rattle.buffer_targets.proofs.QueryEdits.{query_set, index_set, no_query_set}
+use Rattle.buffer_targets.proofs.queries.Queries.clear_at.Goals as goal
+
+pub invariant_of-self : goal.invariant_of-self
+invariant_of-self c = index_set c.self.inside.targets.items _ c.in-Ok.place _ _ c.self.invariant c.index_mut.ensures.value (ap (λ x. x.name) c.clear.ensures)
+
+pub returns-in-Ok : goal.returns-in-Ok
+returns-in-Ok c =
+    rw (← c.self.view_is) (query_set c.args.key.now c.self.inside.targets.items c.in-Ok.place c.self.invariant.different (rw c.deref.ensures.value at c.in-Ok.ensures.found.1) cleared _ _ c.index_mut.ensures.value c.clear.ensures)
+
+pub returns-in-Err : goal.returns-in-Err
+returns-in-Err c = rw (← c.self.view_is) (no_query_set c.args.key.now c.self.inside.targets.items (rw c.deref.ensures.value at c.in-Err.ensures.absent.2) cleared)

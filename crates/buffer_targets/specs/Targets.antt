@@ -1,0 +1,121 @@
+-- What is held of a target: the spelling of its making and its last lines. And what is done to one.
+use Rattle.std.specs.Prelude.{ℕ, ◌-◌, Bool, true, false, not, if◌then◌else◌, List, [], ◌∷◌, ◌++◌, length, drop, map, filter, find, Option, refl}
+use Rattle.std.specs.List.{list_any}
+use Rattle.std.specs.Coded.{Coded, code_by, coded×, coded_list, coded_ℕ, coded_bool}
+use Rattle.circular_buffer.specs.Buffer.{keep_last}
+use Rattle.irc_line.specs.Keys.{at_key, is_below}
+use Rattle.irc_line.specs.Names.{fold_name}
+use Rattle.irc_line.specs.Lines.{Parts}
+use Rattle.buffer_lines.specs.Stamps.{Ring, ring, ring_code}
+
+-- a target by the spelling of its making, with its last lines
+pub record TargetLines : Type 0 where
+  pub name : List ℕ
+  pub lines : Ring
+
+abbrev pub target : List ℕ → Ring → TargetLines
+target name lines = record { name = name; lines = lines }
+
+-- a target is stored as the pair of its fields
+abbrev pub target_code : Coded TargetLines
+target_code = code_by (List ℕ × Ring) (coded× (coded_list coded_ℕ) ring_code) (λ t. (t.name, t.lines)) (λ p. target p.0 p.1) (λ _. refl)
+
+-- it keeps nothing, and as many lines as before from now on
+abbrev pub cleared : TargetLines → TargetLines
+cleared t = target t.name (ring [] t.lines.size)
+
+-- it keeps so many lines from now on
+abbrev pub resized : ℕ → TargetLines → TargetLines
+resized n t = target t.name (ring (keep_last n t.lines.lines) n)
+
+-- one line more came, with its moment
+abbrev pub pushed : ℕ × Parts → TargetLines → TargetLines
+pushed line t = target t.name (ring (keep_last t.lines.size (t.lines.lines ++ line ∷ [])) t.lines.size)
+
+-- Channels, in rising order of their keys
+
+-- a channel's target, whether the own nick is in the channel, and whether clients are shown it
+pub record ChannelLines : Type 0 where
+  pub target : TargetLines
+  pub joined : Bool
+  pub detached : Bool
+
+abbrev pub channel : TargetLines → Bool → Bool → ChannelLines
+channel target joined detached = record { target = target; joined = joined; detached = detached }
+
+abbrev pub channel_code : Coded ChannelLines
+channel_code = code_by (TargetLines × (Bool × Bool)) (coded× target_code (coded× coded_bool coded_bool)) (λ c. (c.target, (c.joined, c.detached))) (λ p. channel p.0 p.1.0 p.1.1) (λ _. refl)
+
+-- done to a channel's target
+abbrev pub over : (TargetLines → TargetLines) → ChannelLines → ChannelLines
+over f c = channel (f c.target) c.joined c.detached
+
+abbrev pub with_joined : Bool → ChannelLines → ChannelLines
+with_joined joined c = channel c.target joined c.detached
+
+abbrev pub with_detached : Bool → ChannelLines → ChannelLines
+with_detached detached c = channel c.target c.joined detached
+
+abbrev pub has_key : List ℕ → ChannelLines → Bool
+has_key key c = at_key key c.target.name
+
+-- done to the channel of a key, and to no other
+abbrev pub at_channel : List ℕ → (ChannelLines → ChannelLines) → List ChannelLines → List ChannelLines
+at_channel key f cs = map (λ c. if has_key key c then f c else c) cs
+
+-- the channel of a key
+abbrev pub channel_of_key : List ℕ → List ChannelLines → Option ChannelLines
+channel_of_key key cs = find (has_key key) cs
+
+-- the channels' names
+abbrev pub channel_names : List ChannelLines → List (List ℕ)
+channel_names cs = map (λ c. c.target.name) cs
+
+-- a channel put where its key belongs
+abbrev pub put_channel : ChannelLines → List ChannelLines → List ChannelLines
+put_channel c [] = c ∷ []
+put_channel c (d ∷ ds) = if is_below (fold_name d.target.name) (fold_name c.target.name) then d ∷ put_channel c ds else c ∷ d ∷ ds
+
+-- a channel that is joined is made where there is none of its key
+abbrev pub joined_by : List ℕ → ℕ → List ChannelLines → List ChannelLines
+joined_by name size cs =
+    if list_any (has_key (fold_name name)) cs
+    then at_channel (fold_name name) (with_joined true) cs
+    else put_channel (channel (target name (ring [] size)) true false) cs
+
+-- the channel of a key goes with all that it has
+abbrev pub without_channel : List ℕ → List ChannelLines → List ChannelLines
+without_channel key cs = filter (λ c. not (has_key key c)) cs
+
+-- the channels that clients are shown are emptied
+abbrev pub open_cleared : List ChannelLines → List ChannelLines
+open_cleared cs = map (λ c. if c.detached then c else over cleared c) cs
+
+-- Queries, in order of making
+
+abbrev pub has_name_key : List ℕ → TargetLines → Bool
+has_name_key key t = at_key key t.name
+
+-- done to the query of a key, and to no other
+abbrev pub at_query : List ℕ → (TargetLines → TargetLines) → List TargetLines → List TargetLines
+at_query key f ts = map (λ t. if has_name_key key t then f t else t) ts
+
+-- the query of a key
+abbrev pub query_of_key : List ℕ → List TargetLines → Option TargetLines
+query_of_key key ts = find (has_name_key key) ts
+
+-- the queries' names
+abbrev pub query_names : List TargetLines → List (List ℕ)
+query_names ts = map (λ t. t.name) ts
+
+-- the last of a list, at most so many
+abbrev pub newest : {A : Type 0} → ℕ → List A → List A
+newest n xs = drop (length xs - n) xs
+
+-- a line stored in the query of a name, which is made where there is none, with so many lines to keep; past the most that
+-- there may be, the oldest made goes
+abbrev pub query_stored : ℕ → ℕ → List ℕ → ℕ × Parts → List TargetLines → List TargetLines
+query_stored most size name line ts =
+    if list_any (has_name_key (fold_name name)) ts
+    then at_query (fold_name name) (pushed line) ts
+    else newest most (ts ++ pushed line (target name (ring [] size)) ∷ [])

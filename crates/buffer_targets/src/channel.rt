@@ -1,0 +1,110 @@
+ghost use Rattle.std.specs.Prelude.{◌≡◌, [], false, if◌then◌else◌, IfOk, OnOk, OnErr};
+ghost use Rattle.buffer_lines.specs.Stamps.{ring};
+ghost use Rattle.buffer_targets.specs.Targets.{channel, cleared, over, pushed, resized, target, with_detached, with_joined};
+
+use crate::target::Target;
+use irc_line::{Line, Name};
+use std::alloc::{AllocError, Global};
+use std::marker::Model;
+use wire_bytes::Moment;
+
+/// A channel with the last lines that came for it.
+#[derive(Drop)]
+pub struct Channel {
+    target: Target,
+    joined: bool,
+    detached: bool,
+}
+
+impl Model for Channel {
+    ghost use Rattle.buffer_targets.specs.Targets.{ChannelLines, channel, channel_code};
+
+    ghost Value = { ChannelLines };
+
+    ghost coded = { channel_code };
+
+    ghost view = { λ c. channel c.target c.joined c.detached };
+}
+
+impl Channel {
+    /// A channel of this name that is shown to clients, with no lines.
+    pub(crate) fn new(
+        alloc: Global,
+        name: &Name,
+        size: usize,
+        joined: bool,
+    ) -> Result<Channel, AllocError>
+        ensures { IfOk result (λ c. c ≡ channel (target name.now (ring [] size)) joined false) }
+    {
+        Ok(Channel {
+            target: Target::new(alloc, name, size)?,
+            joined,
+            detached: false,
+        })
+    }
+
+    /// Its name and its lines.
+    pub fn target(&self) -> &Target
+        ensures { result.now ≡ self.now.target }
+    {
+        &self.target
+    }
+
+    /// Whether the own nick is in the channel.
+    pub fn is_joined(&self) -> bool
+        ensures { result ≡ self.now.joined }
+    {
+        self.joined
+    }
+
+    /// Whether clients are shown nothing of the channel.
+    pub fn is_detached(&self) -> bool
+        ensures { result ≡ self.now.detached }
+    {
+        self.detached
+    }
+
+    /// Lets all lines go.
+    pub(crate) fn clear(&mut self)
+        ensures { self.new ≡ over cleared self.old }
+    {
+        self.target.clear();
+    }
+
+    /// Lets all lines go where clients are shown the channel.
+    pub(crate) fn clear_if_open(&mut self)
+        ensures { self.new ≡ (if self.old.detached then self.old else over cleared self.old) }
+    {
+        if !self.detached {
+            self.target.clear();
+        }
+    }
+
+    /// Keeps at most so many lines from now on. A refused call changes nothing.
+    pub(crate) fn resize(&mut self, size: usize) -> Result<(), AllocError>
+        ensures ok { OnOk result (self.new ≡ over (resized size) self.old) }
+        ensures err { OnErr result (self.new ≡ self.old) }
+    {
+        self.target.resize(size)
+    }
+
+    /// Keeps a copy of a line that came at this moment. A refused call changes nothing.
+    pub(crate) fn push(&mut self, alloc: Global, at: Moment, line: &Line) -> Result<(), AllocError>
+        ensures ok { OnOk result (self.new ≡ over (pushed (at, line.now)) self.old) }
+        ensures err { OnErr result (self.new ≡ self.old) }
+    {
+        self.target.push(alloc, at, line)
+    }
+
+    pub(crate) fn set_joined(&mut self, joined: bool)
+        ensures { self.new ≡ with_joined joined self.old }
+    {
+        self.joined = joined;
+    }
+
+    pub(crate) fn set_detached(&mut self, detached: bool)
+        ensures { self.new ≡ with_detached detached self.old }
+    {
+        self.detached = detached;
+    }
+}

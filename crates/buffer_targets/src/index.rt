@@ -1,0 +1,98 @@
+//! The places of targets, in rising order of the targets' keys.
+ghost use Rattle.std.specs.Prelude.{◌≡◌, ◌≤◌, ◌<◌, ◌-◌, ◌++◌, [], ◌∷◌, false, nat_le, drop, length, map, IfOk, IfErr, MatchResult, IsTrue, OnOk, OnErr};
+ghost use Rattle.std.specs.List.{list_all};
+ghost use Rattle.std.specs.List.Sorted.{IsSearchInRange};
+ghost use Rattle.irc_line.specs.Keys.{is_in};
+ghost use Rattle.irc_line.specs.Names.{fold_name};
+ghost use Rattle.buffer_targets.specs.Places.{compared_at, lowered, names_at, IsGap, IsIndex, IsPlace};
+ghost use Rattle.buffer_targets.specs.Targets.{newest, query_names};
+
+use crate::target::Target;
+use std::alloc::AllocError;
+use std::cmp::Ordering;
+
+// How the key of the target at a place compares; the places of an index are places of targets.
+fn compare_at(targets: &[Target], place: usize, key: &[u8]) -> Ordering
+    ensures { result ≡ compared_at (query_names targets.now) key.now place }
+{
+    if place < targets.len() {
+        targets[place].compare(key)
+    } else {
+        Ordering::Greater
+    }
+}
+
+// Where in the index the place of a key's target stands, or would stand.
+fn search_index(targets: &[Target], places: &[usize], key: &[u8]) -> Result<usize, usize>
+    requires { IsIndex (query_names targets.now) places.now }
+    ensures bound { IsSearchInRange result (length places.now) }
+    ensures place { MatchResult result (IsPlace key.now (names_at (query_names targets.now) places.now)) (IsGap key.now (names_at (query_names targets.now) places.now)) }
+{
+    places.binary_search_by(|place| compare_at(targets, *place, key))
+}
+
+/// The place of a key's target, or where in the index it would stand.
+pub fn search(targets: &[Target], places: &[usize], key: &[u8]) -> Result<usize, usize>
+    requires { IsIndex (query_names targets.now) places.now }
+    ensures found { IfOk result (λ place. (place < length targets.now) × IsPlace key.now (query_names targets.now) place) }
+    ensures absent { IfErr result (λ gap. (gap ≤ length places.now) × IsGap key.now (names_at (query_names targets.now) places.now) gap × (is_in key.now (query_names targets.now) ≡ false)) }
+{
+    match search_index(targets, places, key) {
+        Ok(found) => Ok(places[found]),
+        Err(gap) => Err(gap),
+    }
+}
+
+/// Adds a target whose key has its place in the index at this gap. A refused call changes nothing.
+pub fn insert(
+    targets: &mut Vec<Target>,
+    places: &mut Vec<usize>,
+    gap: usize,
+    target: Target,
+) -> Result<(), AllocError>
+    requires index { IsIndex (query_names targets.old.items) places.old.items }
+    requires gap { IsGap (fold_name target.name) (names_at (query_names targets.old.items) places.old.items) gap }
+    requires bound { gap ≤ length places.old.items }
+    ensures ok { OnOk result (targets.new.items ≡ targets.old.items ++ target ∷ []) }
+    ensures err { OnErr result (targets.new.items ≡ targets.old.items) }
+    ensures index { IsIndex (query_names targets.new.items) places.new.items }
+{
+    targets.reserve(1)?;
+    places.insert(gap, targets.len())?;
+    Ok(targets.push(target)?)
+}
+
+/// Lets the oldest targets go that are too many.
+pub fn keep_newest(targets: &mut Vec<Target>, places: &mut Vec<usize>, most: usize)
+    requires { IsIndex (query_names targets.old.items) places.old.items }
+    ensures items { targets.new.items ≡ newest most targets.old.items }
+    ensures index { IsIndex (query_names targets.new.items) places.new.items }
+{
+    let excess = targets.len().saturating_sub(most);
+    drop_first(targets, excess);
+    drop_places(places, excess);
+}
+
+fn drop_first(targets: &mut Vec<Target>, many: usize)
+    requires { many ≤ length targets.old.items }
+    ensures { targets.new.items ≡ drop many targets.old.items }
+{
+    targets.drain(..many);
+}
+
+// Without the places of as many targets, which went in front.
+fn drop_places(places: &mut Vec<usize>, many: usize)
+    ensures { places.new.items ≡ lowered many places.old.items }
+{
+    places.retain(|place| many <= *place);
+    lower(places.as_mut_slice(), many);
+}
+
+fn lower(places: &mut [usize], by: usize)
+    requires { IsTrue (list_all (λ i. nat_le by i) places.old) }
+    ensures { places.new ≡ map (λ i. i - by) places.old }
+{
+    for place in places.iter_mut() {
+        *place -= by;
+    }
+}

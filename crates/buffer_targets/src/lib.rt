@@ -1,0 +1,15 @@
+//! The channels and the queries of a bouncer, each with its last lines, found by folded name.
+#![tactic(auto)]
+
+mod channel;
+mod channels;
+mod index;
+mod queries;
+mod target;
+#[cfg(test)]
+mod tests;
+
+pub use channel::Channel;
+pub use channels::Channels;
+pub use queries::Queries;
+pub use target::Target;

@@ -1,0 +1,142 @@
+ghost use Rattle.std.specs.Prelude.{◌≡◌, [], false, map, option_map, IfOk, IsOk, IsTrue, OnOk, OnErr};
+ghost use Rattle.std.specs.List.{list_any};
+ghost use Rattle.irc_line.specs.Names.{fold_name};
+ghost use Rattle.buffer_lines.specs.Stamps.{ring};
+ghost use Rattle.buffer_targets.specs.Places.{are_different};
+ghost use Rattle.buffer_targets.specs.Targets.{at_query, cleared, has_name_key, pushed, query_names, query_of_key, query_stored, resized, target};
+
+use crate::index;
+use crate::target::Target;
+use irc_line::{Line, Name};
+use std::alloc::{AllocError, Global};
+use std::marker::Model;
+use wire_bytes::Moment;
+
+/// Queries in order of making, found by key. A key is a folded name; bytes that are no query's key find nothing.
+#[derive(Drop)]
+pub struct Queries {
+    targets: Vec<Target>,
+    places: Vec<usize>,
+}
+
+impl Model for Queries {
+    ghost use Rattle.std.specs.Prelude.{List};
+    ghost use Rattle.std.specs.Coded.{coded_list};
+    ghost use Rattle.buffer_targets.specs.Places.{IsIndex};
+    ghost use Rattle.buffer_targets.specs.Targets.{TargetLines, target_code, query_names};
+
+    ghost Value = { List TargetLines };
+
+    ghost coded = { coded_list target_code };
+
+    ghost view = { λ q. q.targets.items };
+
+    ghost invariant = { λ q. IsIndex (query_names q.targets.items) q.places.items };
+}
+
+impl Queries {
+    pub fn new(alloc: Global) -> Queries
+        ensures { result ≡ [] }
+    {
+        Queries {
+            targets: Vec::new(alloc),
+            places: Vec::new(alloc),
+        }
+    }
+
+    /// In order of making.
+    pub fn as_slice(&self) -> &[Target]
+        ensures all { result.now ≡ self.now }
+        ensures different { IsTrue (are_different (query_names self.now)) }
+    {
+        self.targets.as_slice()
+    }
+
+    /// The query of a key.
+    pub fn find(&self, key: &[u8]) -> Option<&Target>
+        ensures { option_map (λ t. t.now) result ≡ query_of_key key.now self.now }
+    {
+        match index::search(&self.targets, &self.places, key) {
+            Ok(place) => Some(&self.targets[place]),
+            Err(_) => None,
+        }
+    }
+
+    /// Empties the query of a key.
+    pub fn clear_at(&mut self, key: &[u8])
+        ensures { self.new ≡ at_query key.now cleared self.old }
+    {
+        match index::search(&self.targets, &self.places, key) {
+            Ok(place) => self.targets[place].clear(),
+            Err(_) => {}
+        }
+    }
+
+    /// Gives the query of a key another size. A refused call changes nothing.
+    pub fn resize_at(&mut self, key: &[u8], size: usize) -> Result<(), AllocError>
+        ensures ok { OnOk result (self.new ≡ at_query key.now (resized size) self.old) }
+        ensures err { OnErr result (self.new ≡ self.old) }
+        ensures unknown { list_any (has_name_key key.now) self.old ≡ false → IsOk result }
+    {
+        match index::search(&self.targets, &self.places, key) {
+            Ok(place) => self.targets[place].resize(size),
+            Err(_) => Ok(()),
+        }
+    }
+
+    /// Empties all queries.
+    pub fn clear_all(&mut self)
+        ensures { self.new ≡ map cleared self.old }
+    {
+        clear_each(self.targets.as_mut_slice());
+    }
+
+    /// Keeps a copy of a line that came at this moment in the query of this name, which is made where there is none of its key,
+    /// with so many lines to keep. Past the most queries that there may be, the oldest made goes. A refused call changes nothing.
+    pub fn store(
+        &mut self,
+        alloc: Global,
+        name: &Name,
+        key: &[u8],
+        at: Moment,
+        line: &Line,
+        size: usize,
+        most: usize,
+    ) -> Result<(), AllocError>
+        requires { key.now ≡ fold_name name.now }
+        ensures ok { OnOk result (self.new ≡ query_stored most size name.now (at, line.now) self.old) }
+        ensures err { OnErr result (self.new ≡ self.old) }
+    {
+        match index::search(&self.targets, &self.places, key) {
+            Ok(place) => self.targets[place].push(alloc, at, line),
+            Err(gap) => {
+                let target = new_query(alloc, name, at, line, size)?;
+                index::insert(&mut self.targets, &mut self.places, gap, target)?;
+                index::keep_newest(&mut self.targets, &mut self.places, most);
+                Ok(())
+            }
+        }
+    }
+}
+
+fn clear_each(targets: &mut [Target])
+    ensures { targets.new ≡ map cleared targets.old }
+{
+    for target in targets.iter_mut() {
+        target.clear();
+    }
+}
+
+fn new_query(
+    alloc: Global,
+    name: &Name,
+    at: Moment,
+    line: &Line,
+    size: usize,
+) -> Result<Target, AllocError>
+    ensures { IfOk result (λ t. t ≡ pushed (at, line.now) (target name.now (ring [] size))) }
+{
+    let mut target = Target::new(alloc, name, size)?;
+    target.push(alloc, at, line)?;
+    Ok(target)
+}
