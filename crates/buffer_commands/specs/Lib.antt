@@ -1,0 +1,4 @@
+pub mod Settings
+pub mod Spellings
+pub mod ActionCodec
+pub mod CommandCodec

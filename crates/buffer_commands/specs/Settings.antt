@@ -1,0 +1,87 @@
+-- What a bouncer is set up with.
+use Rattle.std.specs.Prelude.{ℕ, ◌+◌, Bool, true, ◌&&◌, ◌||◌, if◌then◌else◌, nat_le, nat_lt, List, [], ◌∷◌, length, Option, Some, None, codes}
+use Rattle.std.specs.List.{list_all}
+use Rattle.irc_line.specs.Names.{is_channel}
+use Rattle.irc_line.specs.Keys.{is_below_all, are_rising}
+use Rattle.buffer_commands.specs.declared.options.Options.{Options}
+use Rattle.buffer_commands.specs.declared.setup_fault.SetupFault.{SetupFault}
+use Rattle.buffer_commands.specs.declared.setup_fault.SetupFault.TheVariants.{TooManyChannels, NotAChannel, NotRising, ChannelSize, QuerySize, MostQueries}
+
+pub record Settings : Type 0 where
+  pub nick : List ℕ
+  -- the channels that stand at the start, in rising order of folded name
+  pub channels : List (List ℕ)
+  pub channel_size : ℕ
+  pub query_size : ℕ
+  pub most_queries : ℕ
+  -- whether playing a channel, or a query, empties it
+  pub clears_channels : Bool
+  pub clears_queries : Bool
+  pub many_clients : Bool
+  -- in minutes, and 1,439 more
+  pub offset : ℕ
+
+-- 50 lines each, 50 queries, all options on, and no offset
+abbrev pub default_options : Options
+default_options =
+    record {
+      channel_size = 50;
+      query_size = 50;
+      most_queries = 50;
+      clears_channels = true;
+      clears_queries = true;
+      many_clients = true;
+      offset = 1439;
+    }
+
+-- this nick, these channels, and all else by the options
+abbrev pub settings_of : List ℕ → List (List ℕ) → Options → Settings
+settings_of nick channels options =
+    record {
+      nick = nick;
+      channels = channels;
+      channel_size = options.channel_size;
+      query_size = options.query_size;
+      most_queries = options.most_queries;
+      clears_channels = options.clears_channels;
+      clears_queries = options.clears_queries;
+      many_clients = options.many_clients;
+      offset = options.offset;
+    }
+
+-- the nick `me`, the channel `#x`, and all else as it is by default
+abbrev pub plain : Settings
+plain = settings_of (codes "me") (codes "#x" ∷ []) default_options
+
+-- at most 100 names, each a channel's, each before the next one in the order of folded names
+abbrev pub are_channels : List (List ℕ) → Bool
+are_channels channels = nat_le (length channels) 100 && (list_all is_channel channels && are_rising channels)
+
+-- at most 500 lines for a channel and for a query, and 1 to 50 queries
+abbrev pub are_sizes : Options → Bool
+are_sizes options = nat_le options.channel_size 500 && (nat_le options.query_size 500 && (nat_le 1 options.most_queries && nat_le options.most_queries 50))
+
+-- all limits hold
+abbrev pub within_limits : List (List ℕ) → Options → Bool
+within_limits channels options = are_channels channels && are_sizes options
+
+-- what is wrong first with names of which the first stands at this place: a name that is no channel's, or one that does not come after the name before it
+abbrev pub order_fault : ℕ → List (List ℕ) → Option SetupFault
+order_fault place [] = None
+order_fault place (c ∷ cs) = if is_channel c then (if is_below_all c cs then order_fault (place + 1) cs else Some (NotRising (place + 1))) else Some (NotAChannel place)
+
+-- what is wrong first with the sizes
+abbrev pub size_fault : Options → Option SetupFault
+size_fault options =
+    if nat_lt 500 options.channel_size
+    then Some ChannelSize
+    else (if nat_lt 500 options.query_size then Some QuerySize else (if nat_lt options.most_queries 1 || nat_lt 50 options.most_queries then Some MostQueries else None))
+
+-- the first fault, or the second where there is no first
+abbrev pub first_fault : Option SetupFault → Option SetupFault → Option SetupFault
+first_fault (Some fault) other = Some fault
+first_fault None other = other
+
+-- what is wrong first: the number of channels, then the channels one by one, then the sizes
+abbrev pub fault_of : List (List ℕ) → Options → Option SetupFault
+fault_of channels options = if nat_lt 100 (length channels) then Some TooManyChannels else first_fault (order_fault 0 channels) (size_fault options)

@@ -1,0 +1,202 @@
+-- Actions and commands as bytes: a kind byte, and behind it what is of that kind.
+use Rattle.std.specs.Prelude.{ℕ, ◌≤◌, ◌==◌, if◌then◌else◌, List, [], ◌∷◌, ◌++◌, IsTrue}
+use Rattle.std.specs.Int.{w16, to_be_bytes}
+use Rattle.irc_line.specs.Names.{is_name, is_channel, is_text}
+use Rattle.irc_line.specs.Lines.{Parts}
+use Rattle.wire_bytes.specs.Fields.{Reading, done, through, both, only, choice, byte_within, number_to}
+use Rattle.wire_bytes.specs.Contents.{sized, name, text, spelled_line, FitsLine, line}
+use Rattle.wire_bytes.specs.Values.{spelled_origin, spelled_number, FitsOrigin, FitsNumber, FitsMoment, origin, number, moment}
+use Rattle.wire_bytes.specs.declared.origin.Origin.{Origin}
+use Rattle.buffer_commands.specs.declared.command.Verb.{Verb}
+use Rattle.buffer_commands.specs.declared.command.Verb.TheVariants.{Privmsg, Notice}
+use Rattle.buffer_commands.specs.declared.command.Action.{Action}
+use Rattle.buffer_commands.specs.declared.command.Action.TheVariants.{Attach, Leave, Say, Join, Part, Detach, Reattach, Play, Clear, ClearChannels, ClearQueries, ClearAll, SetBuffer, Pass}
+use Rattle.buffer_commands.specs.declared.command.Command.{Command}
+use Rattle.buffer_commands.specs.declared.command.Command.TheVariants.{Client, Upstream, NodeGone, Up, Down}
+
+-- A verb: one byte, 0 or 1
+
+abbrev pub verb_byte : Verb → ℕ
+verb_byte Privmsg = 0
+verb_byte Notice = 1
+
+abbrev pub verb_of : ℕ → Verb
+verb_of byte = if byte == 0 then Privmsg else Notice
+
+abbrev pub spelled_verb : Verb → List ℕ
+spelled_verb verb = verb_byte verb ∷ []
+
+unfoldable pub verb : Reading Verb
+verb = through verb_of (byte_within 0 1)
+
+-- A channel's name: a name; one that is no channel's is refused as that field
+
+abbrev pub FitsChannel : List ℕ → Type 0
+FitsChannel c = IsTrue (is_channel c)
+
+unfoldable pub channel_name : Reading (List ℕ)
+channel_name = only is_channel name
+
+-- A size of a buffer: two bytes
+
+abbrev pub FitsSize : ℕ → Type 0
+FitsSize n = n ≤ 65535
+
+unfoldable pub spelled_size : ℕ → List ℕ
+spelled_size n = to_be_bytes w16 n
+
+unfoldable pub buffer_size : Reading ℕ
+buffer_size = number_to w16 65535
+
+-- Actions
+
+abbrev pub action_kind : Action → ℕ
+action_kind Attach = 1
+action_kind Leave = 2
+action_kind (Say v n t) = 3
+action_kind (Join c) = 4
+action_kind (Part c) = 5
+action_kind (Detach c) = 6
+action_kind (Reattach c) = 7
+action_kind (Play n) = 8
+action_kind (Clear n) = 9
+action_kind ClearChannels = 10
+action_kind ClearQueries = 11
+action_kind ClearAll = 12
+action_kind (SetBuffer n k) = 13
+action_kind (Pass p) = 14
+
+-- verb, name, text; or name; or name, size; or line
+abbrev pub action_body : Action → List ℕ
+action_body Attach = []
+action_body Leave = []
+action_body (Say v n t) = (spelled_verb v ++ sized n) ++ sized t
+action_body (Join c) = sized c
+action_body (Part c) = sized c
+action_body (Detach c) = sized c
+action_body (Reattach c) = sized c
+action_body (Play n) = sized n
+action_body (Clear n) = sized n
+action_body ClearChannels = []
+action_body ClearQueries = []
+action_body ClearAll = []
+action_body (SetBuffer n k) = sized n ++ spelled_size k
+action_body (Pass p) = spelled_line p
+
+unfoldable pub spelled_action : Action → List ℕ
+spelled_action a = action_kind a ∷ action_body a
+
+abbrev pub FitsAction : Action → Type 0
+FitsAction Attach = Unit {0}
+FitsAction Leave = Unit {0}
+FitsAction (Say v n t) = (Unit {0} × IsTrue (is_name n)) × IsTrue (is_text t)
+FitsAction (Join c) = FitsChannel c
+FitsAction (Part c) = FitsChannel c
+FitsAction (Detach c) = FitsChannel c
+FitsAction (Reattach c) = FitsChannel c
+FitsAction (Play n) = IsTrue (is_name n)
+FitsAction (Clear n) = IsTrue (is_name n)
+FitsAction ClearChannels = Unit {0}
+FitsAction ClearQueries = Unit {0}
+FitsAction ClearAll = Unit {0}
+FitsAction (SetBuffer n k) = IsTrue (is_name n) × FitsSize k
+FitsAction (Pass p) = FitsLine p
+
+abbrev pub say_of : (Verb × List ℕ) × List ℕ → Action
+say_of p = Say p.0.0 p.0.1 p.1
+
+abbrev pub say_taken : Reading Action
+say_taken = through say_of (both (both verb name) text)
+
+abbrev pub set_of : List ℕ × ℕ → Action
+set_of p = SetBuffer p.0 p.1
+
+abbrev pub set_buffer_taken : Reading Action
+set_buffer_taken = through set_of (both name buffer_size)
+
+-- what may stand behind each kind byte
+abbrev pub action_cases : List (ℕ × Reading Action)
+action_cases =
+    (1, done Attach)
+    ∷ (2, done Leave)
+    ∷ (3, say_taken)
+    ∷ (4, through Join channel_name)
+    ∷ (5, through Part channel_name)
+    ∷ (6, through Detach channel_name)
+    ∷ (7, through Reattach channel_name)
+    ∷ (8, through Play name)
+    ∷ (9, through Clear name)
+    ∷ (10, done ClearChannels)
+    ∷ (11, done ClearQueries)
+    ∷ (12, done ClearAll)
+    ∷ (13, set_buffer_taken)
+    ∷ (14, through Pass line)
+    ∷ []
+
+-- the action at the front of an input
+unfoldable pub action : Reading Action
+action = choice action_cases
+
+-- The number of a node, which need not be one of the nodes: one byte
+
+abbrev pub FitsNode : ℕ → Type 0
+FitsNode n = (0 ≤ n) × (n ≤ 255)
+
+abbrev pub spelled_node : ℕ → List ℕ
+spelled_node n = n ∷ []
+
+unfoldable pub node : Reading ℕ
+node = byte_within 0 255
+
+-- Commands
+
+abbrev pub command_kind : Command → ℕ
+command_kind (Client o at a) = 1
+command_kind (Upstream at p) = 2
+command_kind (NodeGone n floor) = 3
+command_kind Up = 4
+command_kind Down = 5
+
+-- origin, moment, action; or moment, line; or node, floor
+abbrev pub command_body : Command → List ℕ
+command_body (Client o at a) = (spelled_origin o ++ spelled_number at) ++ spelled_action a
+command_body (Upstream at p) = spelled_number at ++ spelled_line p
+command_body (NodeGone n floor) = spelled_node n ++ spelled_number floor
+command_body Up = []
+command_body Down = []
+
+unfoldable pub spelled_command : Command → List ℕ
+spelled_command c = command_kind c ∷ command_body c
+
+abbrev pub FitsCommand : Command → Type 0
+FitsCommand (Client o at a) = (FitsOrigin o × FitsMoment at) × FitsAction a
+FitsCommand (Upstream at p) = FitsMoment at × FitsLine p
+FitsCommand (NodeGone n floor) = FitsNode n × FitsNumber floor
+FitsCommand Up = Unit {0}
+FitsCommand Down = Unit {0}
+
+abbrev pub client_of : (Origin × ℕ) × Action → Command
+client_of p = Client p.0.0 p.0.1 p.1
+
+abbrev pub upstream_of : ℕ × Parts → Command
+upstream_of p = Upstream p.0 p.1
+
+abbrev pub client_taken : Reading Command
+client_taken = through client_of (both (both origin moment) action)
+
+abbrev pub upstream_taken : Reading Command
+upstream_taken = through upstream_of (both moment line)
+
+abbrev pub gone_of : ℕ × ℕ → Command
+gone_of p = NodeGone p.0 p.1
+
+abbrev pub gone_taken : Reading Command
+gone_taken = through gone_of (both node number)
+
+-- what may stand behind each kind byte
+abbrev pub command_cases : List (ℕ × Reading Command)
+command_cases = (1, client_taken) ∷ (2, upstream_taken) ∷ (3, gone_taken) ∷ (4, done Up) ∷ (5, done Down) ∷ []
+
+-- the command at the front of an input
+unfoldable pub command : Reading Command
+command = choice command_cases

@@ -1,0 +1,157 @@
+//! How actions are spelled: a kind byte, and behind it what is of that kind.
+ghost use Rattle.std.specs.Prelude.{◌≡◌, ◌≢◌, ◌≤◌, ◌++◌, length, is_ok, if◌then◌else◌, IfOk, IfErr, IsTrue, Ok, Err};
+ghost use Rattle.irc_line.specs.Names.{is_name, is_text};
+ghost use Rattle.wire_bytes.specs.Contents.{sized};
+ghost use Rattle.buffer_commands.specs.Spellings.{FitsAction, spelled_verb};
+
+use crate::buffer_size::BufferSize;
+use crate::channel_name::ChannelName;
+use crate::command::{Action, Verb};
+use crate::fields::{put_kind, put_two};
+use crate::wire_line::WireLine;
+use irc_line::{Name, Text};
+use std::alloc::{AllocError, Global};
+use wire_bytes::{Wire, WireFault, take_behind, undo};
+
+impl Action {
+    /// Does nothing. An action always has a spelling, since its types keep its limits.
+    pub fn fits(&self)
+        ensures { FitsAction self.now }
+    {
+        match self {
+            Action::Say(_, target, text) => {
+                target.as_bytes();
+                text.as_bytes();
+            }
+            Action::Join(channel)
+            | Action::Part(channel)
+            | Action::Detach(channel)
+            | Action::Reattach(channel) => {
+                channel.name();
+            }
+            Action::Play(target) | Action::Clear(target) => {
+                target.as_bytes();
+            }
+            Action::SetBuffer(target, size) => {
+                target.as_bytes();
+                size.lines();
+            }
+            Action::Pass(line) => {
+                line.fits();
+            }
+            _ => {}
+        }
+    }
+}
+
+/// Attach is 1, Leave 2, Say 3 with verb, target and text, Join 4, Part 5, Detach 6 and Reattach 7 with their channel,
+/// Play 8 and Clear 9 with their target, ClearChannels 10, ClearQueries 11, ClearAll 12, SetBuffer 13 with its target
+/// and size, and Pass 14 with its line.
+impl Wire for Action {
+    ghost use Rattle.buffer_commands.specs.Spellings.{spelled_action, FitsAction, action};
+    ghost use Rattle.buffer_commands.specs.ActionCodec.{action_is_codec};
+
+    ghost spelled = { spelled_action };
+
+    ghost fits = { FitsAction };
+
+    ghost taken = { action };
+
+    #[tactic(auto, unfolding(crate::specs::Spellings::spelled_action))]
+    fn put(&self, out: &mut Vec<u8>) -> Result<(), AllocError> {
+        let len = out.len();
+        match self {
+            Action::Attach => Ok(out.push(1)?),
+            Action::Leave => Ok(out.push(2)?),
+            Action::Say(verb, target, text) => {
+                out.push(3)?;
+                let outcome = put_said(out, *verb, target, text);
+                undo(out, len, outcome)
+            }
+            Action::Join(channel) => put_kind(out, 4, channel),
+            Action::Part(channel) => put_kind(out, 5, channel),
+            Action::Detach(channel) => put_kind(out, 6, channel),
+            Action::Reattach(channel) => put_kind(out, 7, channel),
+            Action::Play(target) => put_kind(out, 8, target),
+            Action::Clear(target) => put_kind(out, 9, target),
+            Action::ClearChannels => Ok(out.push(10)?),
+            Action::ClearQueries => Ok(out.push(11)?),
+            Action::ClearAll => Ok(out.push(12)?),
+            Action::SetBuffer(target, size) => {
+                out.push(13)?;
+                let outcome = put_two(out, target, size);
+                undo(out, len, outcome)
+            }
+            Action::Pass(line) => put_kind(out, 14, line),
+        }
+    }
+
+    #[tactic(auto, using(wire_bytes::proofs::Steps::composed), unfolding(crate::specs::Spellings::action))]
+    fn take(alloc: Global, input: &[u8]) -> Result<(Self, usize), WireFault> {
+        match input {
+            [] => Err(WireFault::Short),
+            [1, ..] => Ok((Action::Attach, 1)),
+            [2, ..] => Ok((Action::Leave, 1)),
+            [3, ..] => {
+                let (((verb, target), text), end) = take_behind::<((Verb, Name), Text)>(
+                    alloc, input, 1,
+                )?;
+                Ok((Action::Say(verb, target, text), end))
+            }
+            [4, ..] => {
+                let (channel, end) = take_behind::<ChannelName>(alloc, input, 1)?;
+                Ok((Action::Join(channel), end))
+            }
+            [5, ..] => {
+                let (channel, end) = take_behind::<ChannelName>(alloc, input, 1)?;
+                Ok((Action::Part(channel), end))
+            }
+            [6, ..] => {
+                let (channel, end) = take_behind::<ChannelName>(alloc, input, 1)?;
+                Ok((Action::Detach(channel), end))
+            }
+            [7, ..] => {
+                let (channel, end) = take_behind::<ChannelName>(alloc, input, 1)?;
+                Ok((Action::Reattach(channel), end))
+            }
+            [8, ..] => {
+                let (target, end) = take_behind::<Name>(alloc, input, 1)?;
+                Ok((Action::Play(target), end))
+            }
+            [9, ..] => {
+                let (target, end) = take_behind::<Name>(alloc, input, 1)?;
+                Ok((Action::Clear(target), end))
+            }
+            [10, ..] => Ok((Action::ClearChannels, 1)),
+            [11, ..] => Ok((Action::ClearQueries, 1)),
+            [12, ..] => Ok((Action::ClearAll, 1)),
+            [13, ..] => {
+                let ((target, size), end) = take_behind::<(Name, BufferSize)>(alloc, input, 1)?;
+                Ok((Action::SetBuffer(target, size), end))
+            }
+            [14, ..] => {
+                let (line, end) = take_behind::<WireLine>(alloc, input, 1)?;
+                Ok((Action::Pass(line), end))
+            }
+            _ => Err(WireFault::Bad(0)),
+        }
+    }
+
+    ghost read_back = { action_is_codec.read_back };
+
+    ghost one_spelling = { action_is_codec.one_spelling };
+
+    ghost bad_within = { action_is_codec.bad_within };
+}
+
+/// Appends what a Say has, or leaves the items as they were.
+fn put_said(out: &mut Vec<u8>, verb: Verb, target: &Name, text: &Text) -> Result<(), AllocError>
+    requires target { IsTrue (is_name target.now) }
+    requires text { IsTrue (is_text text.now) }
+    ensures { out.new.items ≡ (if is_ok result then out.old.items ++ ((spelled_verb verb ++ sized target.now) ++ sized text.now) else out.old.items) }
+{
+    let len = out.len();
+    put_two(out, &verb, target)?;
+    let outcome = text.put(out);
+    undo(out, len, outcome)
+}

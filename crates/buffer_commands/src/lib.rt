@@ -1,0 +1,27 @@
+//! What comes to the buffers of a bouncer and what they bring about: commands and their bytes, effects, and the setup.
+#![tactic(auto)]
+
+mod action_spelling;
+mod buffer_size;
+mod channel_name;
+mod command;
+mod command_spelling;
+mod effect;
+mod fields;
+mod node_byte;
+mod options;
+mod setup;
+mod setup_fault;
+#[cfg(test)]
+mod tests;
+mod verb;
+mod wire_line;
+
+pub use buffer_size::BufferSize;
+pub use channel_name::ChannelName;
+pub use command::{Action, Command, Verb};
+pub use effect::Effect;
+pub use options::Options;
+pub use setup::Setup;
+pub use setup_fault::SetupFault;
+pub use wire_line::WireLine;

@@ -1,0 +1,242 @@
+ghost use Rattle.std.specs.Prelude.{◌≡◌, ◌<◌, ◌≤◌, is_ok, length, drop, slice_index_or, [], ◌+◌, None, Some, IfOk, IfErr, IsTrue, MatchResult};
+ghost use Rattle.std.specs.List.{list_all};
+ghost use Rattle.irc_line.specs.Names.{is_channel, is_name};
+ghost use Rattle.irc_line.specs.Keys.{are_rising, is_below_all};
+ghost use Rattle.buffer_commands.specs.Settings.{fault_of, order_fault, plain, settings_of, size_fault, within_limits};
+
+use crate::options::Options;
+use crate::setup_fault::SetupFault;
+use buffer_lines::Offset;
+use irc_line::{Name, is_name_below};
+use std::alloc::{AllocError, Global};
+use std::marker::Model;
+use wire_bytes::Copied;
+
+/// The most channels that may stand at the start.
+const MOST_CHANNELS: usize = 100;
+
+/// The most lines that a channel or a query may keep.
+const MOST_LINES: u16 = 500;
+
+/// The most queries that there may be.
+const MOST_QUERIES: u8 = 50;
+
+/// What a bouncer is set up with.
+#[derive(Drop)]
+pub struct Setup {
+    nick: Name,
+    channels: Vec<Name>,
+    options: Options,
+}
+
+impl Model for Setup {
+    ghost use Rattle.std.specs.Prelude.{◌≤◌, IsTrue, length};
+    ghost use Rattle.std.specs.List.{list_all};
+    ghost use Rattle.irc_line.specs.Names.{is_channel};
+    ghost use Rattle.irc_line.specs.Keys.{are_rising};
+    ghost use Rattle.buffer_commands.specs.Settings.{Settings, settings_of};
+
+    ghost Value = { Settings };
+
+    ghost view = { λ s. settings_of s.nick s.channels.items s.options };
+
+    ghost invariant = { λ s. IsTrue (are_rising s.channels.items) × IsTrue (list_all is_channel s.channels.items) × (length s.channels.items ≤ 100) × (s.options.channel_size ≤ 500) × (s.options.query_size ≤ 500) × (1 ≤ s.options.most_queries) × (s.options.most_queries ≤ 50) };
+}
+
+impl Setup {
+    /// The setup of a nick and the channels that stand at the start, which are to be in rising order of folded name.
+    /// Of several faults the first one is told: of the number of channels, then of the channels one by one, then of
+    /// the sizes in the order of [`Options`].
+    pub fn new(nick: Name, channels: Vec<Name>, options: Options) -> Result<Setup, SetupFault>
+        ensures limits { is_ok result ≡ within_limits channels.items options }
+        ensures ok { IfOk result (λ s. s ≡ settings_of nick channels.items options) }
+        ensures err { IfErr result (λ e. fault_of channels.items options ≡ Some e) }
+    {
+        check(channels.as_slice(), &options)?;
+        Ok(Setup::within_limits(nick, channels, options))
+    }
+
+    /// The setup whose limits hold.
+    fn within_limits(nick: Name, channels: Vec<Name>, options: Options) -> Setup
+        requires { IsTrue (within_limits channels.items options) }
+        ensures { result ≡ settings_of nick channels.items options }
+    {
+        Setup {
+            nick,
+            channels,
+            options,
+        }
+    }
+
+    /// The nick `me`, the channel `#x`, and all else as it is by default.
+    #[tactic(auto, unfolding(irc_line::specs::Names::is_name, irc_line::specs::Names::is_channel))]
+    pub fn plain(alloc: Global) -> Result<Setup, AllocError>
+        ensures { IfOk result (λ s. s ≡ plain) }
+    {
+        let channels = vec![in alloc; named(alloc, b"#x")?]?;
+        let nick = named(alloc, b"me")?;
+        Ok(Setup {
+            nick,
+            channels,
+            options: Options::default(),
+        })
+    }
+
+    pub fn nick(&self) -> &Name
+        ensures { result.now ≡ self.now.nick }
+    {
+        &self.nick
+    }
+
+    /// The channels that stand at the start, in rising order of folded name.
+    pub fn channels(&self) -> &[Name]
+        ensures value { result.now ≡ self.now.channels }
+        ensures rising { IsTrue (are_rising self.now.channels) }
+        ensures channels { IsTrue (list_all is_channel self.now.channels) }
+        ensures most { length self.now.channels ≤ 100 }
+    {
+        self.channels.as_slice()
+    }
+
+    /// How many lines a channel keeps.
+    pub fn channel_size(&self) -> usize
+        ensures value { result ≡ self.now.channel_size }
+        ensures limit { self.now.channel_size ≤ 500 }
+    {
+        self.options.channel_size as usize
+    }
+
+    /// How many lines a query keeps.
+    pub fn query_size(&self) -> usize
+        ensures value { result ≡ self.now.query_size }
+        ensures limit { self.now.query_size ≤ 500 }
+    {
+        self.options.query_size as usize
+    }
+
+    /// How many queries there are at the most.
+    pub fn most_queries(&self) -> usize
+        ensures value { result ≡ self.now.most_queries }
+        ensures least { 1 ≤ self.now.most_queries }
+        ensures most { self.now.most_queries ≤ 50 }
+    {
+        self.options.most_queries as usize
+    }
+
+    /// Whether playing a channel empties it.
+    pub fn clears_channels(&self) -> bool
+        ensures { result ≡ self.now.clears_channels }
+    {
+        self.options.clears_channels
+    }
+
+    /// Whether playing a query empties it.
+    pub fn clears_queries(&self) -> bool
+        ensures { result ≡ self.now.clears_queries }
+    {
+        self.options.clears_queries
+    }
+
+    /// Whether more than one client may be attached.
+    pub fn many_clients(&self) -> bool
+        ensures { result ≡ self.now.many_clients }
+    {
+        self.options.many_clients
+    }
+
+    pub fn offset(&self) -> Offset
+        ensures { result ≡ self.now.offset }
+    {
+        self.options.offset
+    }
+}
+
+/// Refuses what is wrong first.
+fn check(channels: &[Name], options: &Options) -> Result<(), SetupFault>
+    ensures { MatchResult result (λ _. fault_of channels.now options.now ≡ None) (λ e. fault_of channels.now options.now ≡ Some e) }
+{
+    check_count(channels.len())?;
+    check_channels(channels)?;
+    check_sizes(options)
+}
+
+/// Refuses more channels than there may be.
+fn check_count(count: usize) -> Result<(), SetupFault>
+    ensures { MatchResult result (λ _. count ≤ 100) (λ e. (100 < count) × (e ≡ SetupFault.TooManyChannels)) }
+{
+    if count > MOST_CHANNELS {
+        return Err(SetupFault::TooManyChannels);
+    }
+    Ok(())
+}
+
+/// Refuses the first name that is no channel's or that does not come after the one before it.
+fn check_channels(channels: &[Name]) -> Result<(), SetupFault>
+    ensures { MatchResult result (λ _. order_fault 0 channels.now ≡ None) (λ e. order_fault 0 channels.now ≡ Some e) }
+{
+    for place in 0..channels.len() {
+        if !channels[place].is_channel() {
+            return Err(SetupFault::NotAChannel(place));
+        }
+        if !rises_at(channels, place) {
+            return Err(SetupFault::NotRising(place + 1));
+        }
+    }
+    Ok(())
+}
+
+/// Whether the name at a place comes before the next one, if there is a next one.
+fn rises_at(names: &[Name], place: usize) -> bool
+    requires { place < length names.now }
+    ensures { result ≡ is_below_all (slice_index_or names.now place []) (drop (place + 1) names.now) }
+{
+    let next = place + 1;
+    next == names.len() || is_name_below(names[place].as_bytes(), names[next].as_bytes())
+}
+
+/// Refuses the first size that is out of its limits.
+fn check_sizes(options: &Options) -> Result<(), SetupFault>
+    ensures { MatchResult result (λ _. size_fault options.now ≡ None) (λ e. size_fault options.now ≡ Some e) }
+{
+    if options.channel_size > MOST_LINES {
+        return Err(SetupFault::ChannelSize);
+    }
+    if options.query_size > MOST_LINES {
+        return Err(SetupFault::QuerySize);
+    }
+    if options.most_queries < 1 || options.most_queries > MOST_QUERIES {
+        return Err(SetupFault::MostQueries);
+    }
+    Ok(())
+}
+
+/// The name of bytes that are one.
+fn named(alloc: Global, bytes: &[u8]) -> Result<Name, AllocError>
+    requires { IsTrue (is_name bytes.now) }
+    ensures { IfOk result (λ n. n ≡ bytes.now) }
+{
+    let bytes = Vec::from_slice(alloc, bytes)?;
+    Ok(Name::from_bytes(bytes).unwrap())
+}
+
+impl Copied for Setup {
+    fn copy(&self, alloc: Global) -> Result<Self, AllocError> {
+        let nick = self.nick.copy(alloc)?;
+        let channels = copied_names(alloc, &self.channels)?;
+        Ok(Setup {
+            nick,
+            channels,
+            options: self.options,
+        })
+    }
+}
+
+fn copied_names(alloc: Global, names: &[Name]) -> Result<Vec<Name>, AllocError>
+    ensures { IfOk result (λ v. v.items ≡ names.now) }
+{
+    let mut all = Vec::new(alloc);
+    for name in names {
+        all.push(name.copy(alloc)?)?;
+    }
+    Ok(all)
+}

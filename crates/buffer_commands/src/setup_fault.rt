@@ -1,0 +1,20 @@
+use thiserror::Error;
+
+/// Why no bouncer is set up so. Of several faults the one that is named first here is told, and of two names the first one's.
+#[derive(Clone, Copy, Debug, Drop, PartialEq, Eq, Error)]
+pub enum SetupFault {
+    #[error("there are more than 100 channels")]
+    TooManyChannels,
+    /// The name at this place, from 0, is no channel's.
+    #[error("name {0} is no channel's")]
+    NotAChannel(usize),
+    /// The folded name at this place, from 0, does not come after the one before it.
+    #[error("channel {0} is not in rising order")]
+    NotRising(usize),
+    #[error("a channel would keep more than 500 lines")]
+    ChannelSize,
+    #[error("a query would keep more than 500 lines")]
+    QuerySize,
+    #[error("the most queries are not 1 to 50")]
+    MostQueries,
+}

@@ -1,0 +1,95 @@
+ghost use Rattle.std.specs.Prelude.{◌≡◌, ◌<◌, ◌≤◌, length, MatchOption};
+ghost use Rattle.irc_line.specs.Lines.{spelling};
+ghost use Rattle.wire_bytes.specs.Contents.{FitsLine};
+
+use irc_line::Line;
+use std::alloc::{AllocError, Global};
+use std::marker::Model;
+use wire_bytes::{Copied, Wire, WireFault};
+
+/// The most bytes that a line may have, without its CR LF, where it is to have a spelling.
+const MOST_BYTES: usize = 511;
+
+/// Any line of at most 511 bytes.
+#[derive(Drop)]
+pub struct WireLine {
+    line: Line,
+}
+
+impl Model for WireLine {
+    ghost use Rattle.std.specs.Prelude.{◌≤◌, length};
+    ghost use Rattle.irc_line.specs.Lines.{Parts, parts_code, spelling};
+
+    ghost Value = { Parts };
+
+    ghost coded = { parts_code };
+
+    ghost view = { λ l. l.line };
+
+    ghost invariant = { λ l. length (spelling l.line) ≤ 511 };
+}
+
+impl WireLine {
+    /// The line, where it is not too long.
+    pub fn from_line(line: Line) -> Option<WireLine>
+        ensures { MatchOption result (511 < length (spelling line)) (λ l. (l ≡ line) × (length (spelling line) ≤ 511)) }
+    {
+        if line.spelled_len() <= MOST_BYTES {
+            Some(WireLine { line })
+        } else {
+            None
+        }
+    }
+
+    pub fn line(&self) -> &Line
+        ensures value { result.now ≡ self.now }
+        ensures fits { length (spelling self.now) ≤ 511 }
+    {
+        &self.line
+    }
+
+    /// Does nothing. A line of at most 511 bytes has a spelling.
+    pub fn fits(&self)
+        ensures { FitsLine self.now }
+    {
+        let line = self.line();
+        line.command();
+    }
+}
+
+impl Copied for WireLine {
+    fn copy(&self, alloc: Global) -> Result<Self, AllocError> {
+        Ok(WireLine {
+            line: self.line.copy(alloc)?,
+        })
+    }
+}
+
+/// A line, as any other.
+impl Wire for WireLine {
+    ghost use Rattle.wire_bytes.specs.Contents.{spelled_line, FitsLine, line};
+    ghost use Rattle.wire_bytes.specs.LineCodec.{line_is_codec};
+
+    ghost spelled = { spelled_line };
+
+    ghost fits = { FitsLine };
+
+    ghost taken = { line };
+
+    fn put(&self, out: &mut Vec<u8>) -> Result<(), AllocError> {
+        let line = self.line();
+        line.put(out)
+    }
+
+    fn take(alloc: Global, input: &[u8]) -> Result<(Self, usize), WireFault> {
+        let (line, len) = Line::take(alloc, input)?;
+        let line = WireLine::from_line(line).ok_or(WireFault::Bad(0))?;
+        Ok((line, len))
+    }
+
+    ghost read_back = { line_is_codec.read_back };
+
+    ghost one_spelling = { line_is_codec.one_spelling };
+
+    ghost bad_within = { line_is_codec.bad_within };
+}
