@@ -1,0 +1,105 @@
+//! Machines that a node of a cluster hosts.
+ghost use Rattle.std.specs.Prelude.{◌≡◌, ℕ, ◌+◌, List, Option, option_map, IfOk};
+ghost use Rattle.irc_line.specs.Lines.{Parts};
+ghost use Rattle.machine_laws.specs.Runs.{History};
+ghost use Rattle.machine_laws.specs.Classes.{class_map};
+ghost use Rattle.machine_laws.specs.declared.class.Class.{Class};
+ghost use Rattle.machine_laws.specs.declared.class.Source.{Source};
+
+use crate::class::{Class, Source};
+use crate::machine::Machine;
+use irc_line::Line;
+use std::alloc::{AllocError, Global};
+use wire_bytes::{Copied, Moment, Number, Origin, SessionId, Wire};
+
+/// A machine that a node of a cluster hosts. Its commands are the bodies of the node's log.
+pub trait Hosted: Machine {
+    ghost use Rattle.wire_bytes.specs.declared.origin.Origin.{Origin};
+    ghost use Rattle.wire_bytes.specs.declared.session_id.SessionId.{SessionId};
+
+    type Action: Wire;
+
+    /// A line as it comes from upstream.
+    type Line: Wire;
+
+    /// What a playback is asked of.
+    type Target: Wire;
+
+    /// A line of a playback.
+    type Played: Copied;
+
+    /// The body of a client's numbered request at a moment.
+    ghost asked: { Origin → ℕ → ℕ → Self.Action → Self.Command };
+
+    /// The body that raises a node's floor.
+    ghost node_gone: { ℕ → ℕ → Self.Command };
+
+    /// The body of a session that is opened.
+    ghost opened: { SessionId → Self.Command };
+
+    /// The body of a session that is shut.
+    ghost shut: { SessionId → Self.Command };
+
+    /// The body of the line of a session with this place in it, that came at a moment.
+    ghost heard: { SessionId → ℕ → ℕ → Self.Line → Self.Command };
+
+    /// The body by which a session claims the line of this number.
+    ghost claim: { SessionId → ℕ → Self.Command };
+
+    /// Who may bring a body.
+    ghost source: { Self.Command → Source };
+
+    /// The number of the line that is to be claimed next, where a line is numbered and not claimed.
+    ghost next_claim: { Self.Setup → History Self.Command → Option ℕ };
+
+    /// What is played of a target after a history.
+    ghost playback: { Self.Setup → History Self.Command → Self.Target → List Self.Played };
+
+    /// Where an effect goes.
+    ghost class: { Self.Effect → Class Parts };
+
+    /// Takes no memory.
+    fn asked(origin: Origin, number: Number, at: Moment, action: Self::Action) -> Self::Command
+        ensures { result ≡ asked origin number at action };
+
+    /// Takes no memory.
+    fn node_gone(node: u8, floor: Number) -> Self::Command
+        ensures { result ≡ node_gone node floor };
+
+    /// Takes no memory.
+    fn opened(id: SessionId) -> Self::Command
+        ensures { result ≡ opened id };
+
+    /// Takes no memory.
+    fn shut(id: SessionId) -> Self::Command
+        ensures { result ≡ shut id };
+
+    /// Takes no memory. The lines of a session are numbered from 1.
+    fn heard(id: SessionId, number: Number, at: Moment, line: Self::Line) -> Self::Command
+        ensures { result ≡ heard id number at line };
+
+    /// Takes no memory.
+    fn claim(id: SessionId, number: Number) -> Self::Command
+        ensures { result ≡ claim id number };
+
+    /// Who may bring a body. Takes no memory.
+    fn source(body: &Self::Command) -> Source
+        ensures { result ≡ source body.now };
+
+    /// The number of the line that is to be claimed next: the first that is numbered and not claimed, whichever
+    /// session is in force. Takes no memory.
+    fn next_claim(&self) -> Option<u64>
+        ensures { (s : Self.Setup) (earlier : History Self.Command) → Self.stands self.now s earlier → result ≡ next_claim s earlier };
+
+    /// What is played of a target; nothing of one that is not known. Nothing is emptied.
+    fn playback(
+        &self,
+        alloc: Global,
+        target: &Self::Target,
+    ) -> Result<Vec<Self::Played>, AllocError>
+        ensures { (s : Self.Setup) (earlier : History Self.Command) → Self.stands self.now s earlier → IfOk result (λ v. v.items ≡ playback s earlier target.now) };
+
+    /// Where an effect goes. Takes no memory.
+    fn class(effect: &Self::Effect) -> Class<&Line>
+        ensures { class_map (λ l. l.now) result ≡ class effect.now };
+}
