@@ -1,205 +1,277 @@
 -- What the machine answers is what its definitions say.
-use Rattle.std.proofs.Common.{◌≡◌, ℕ, List, [], ◌∷◌, ◌++◌, map, refl, ap, ◌∙◌, sym, arith, Bool, true, false, not, ◌&&◌, ◌||◌}
-use Rattle.std.specs.Prelude.{Option, Some, None, if◌then◌else◌, nat_le, nat_lt, filter, find, flat_map, codes, unwrap_or}
+use Rattle.std.proofs.Common.{◌≡◌, ℕ, List, [], ◌∷◌, ◌++◌, map, refl, ap, ◌∙◌, sym, arith, append_assoc, Bool, true, false, not, ◌&&◌, ◌||◌, subst}
+use Rattle.std.specs.Prelude.{Some, None, if◌then◌else◌, nat_le, nat_lt, filter, find, flat_map, codes, unwrap_or}
+use Rattle.std.specs.List.{list_all}
 use Rattle.std.proofs.lemmas.Bool.Decides.{nat_tests}
-use Rattle.irc_line.specs.Names.{fold_name, is_channel}
+use Rattle.irc_line.specs.Names.{fold_name}
+use Rattle.irc_line.specs.Keys.{at_key, is_in}
 use Rattle.irc_line.specs.Lines.{Parts}
-use Rattle.buffer_lines.specs.Stamps.{ring, framed}
+use Rattle.buffer_lines.specs.Stamps.{framed}
+use Rattle.buffer_targets.specs.Targets.{ChannelLines}
 use Rattle.wire_bytes.specs.declared.origin.Origin.{Origin}
-use Rattle.buffer_machine.specs.Settings.{Settings}
-use Rattle.buffer_machine.specs.Messages.{at_key, is_in, is_among, has_command, channel_of, bare, own_said, own_line, verb_word}
-use Rattle.buffer_machine.specs.Buffers.{floor, attached, nick, targets, is_known, made_as, joined, detached, size, is_past, kept, playback}
-use Rattle.buffer_machine.specs.Effects.{show_all, send_all, status, open_channels, closings, if_some, shown_attaching, shown, sent, effects}
-use Rattle.buffer_machine.specs.Targets.{TargetLines, target, played, played_of, found}
-use Rattle.buffer_machine.specs.Steps.{closed_out, shown_to, others, played_or_status, answers, answers_attaching, answers_saying, answers_playing, done_or_status, answers_clearing, answers_clearing_all, answers_sizing, answers_passing, answers_taking, answers_up}
-use Rattle.buffer_machine.specs.Held.{IsSound, targets_of}
-use Rattle.buffer_machine.specs.declared.command.Verb.{Verb}
-use Rattle.buffer_machine.specs.declared.command.Action.TheVariants.{Attach, Leave, Say, Play, Clear, ClearChannels, ClearQueries, ClearAll, SetBuffer, Pass}
-use Rattle.buffer_machine.specs.declared.command.Command.{Command}
-use Rattle.buffer_machine.specs.declared.command.Command.TheVariants.{Client, Upstream, NodeGone, Up, Down}
-use Rattle.buffer_machine.specs.declared.effect.Effect.{Effect}
-use Rattle.buffer_machine.specs.declared.effect.Effect.TheVariants.{Close, Send, Rejoin}
-use Rattle.buffer_machine.proofs.Channels.{IsChannelOf, channel_of_setup}
-use Rattle.buffer_machine.proofs.Kept.{known-is}
+use Rattle.buffer_commands.specs.Settings.{Settings}
+use Rattle.buffer_commands.specs.declared.command.Verb.{Verb}
+use Rattle.buffer_commands.specs.declared.command.Action.TheVariants.{Attach, Leave, Say, Join, Part, Detach, Reattach, Play, Clear, ClearChannels, ClearQueries, ClearAll, SetBuffer, Pass}
+use Rattle.buffer_commands.specs.declared.command.Command.{Command}
+use Rattle.buffer_commands.specs.declared.command.Command.TheVariants.{Client, Upstream, NodeGone, Up, Down}
+use Rattle.buffer_commands.specs.declared.effect.Effect.{Effect}
+use Rattle.buffer_commands.specs.declared.effect.Effect.TheVariants.{Close, Send, Rejoin}
+use Rattle.buffer_machine.specs.Messages.{is_among, channel_of, bare, own_line, is_query_name}
+use Rattle.buffer_machine.specs.Buffers.{floor, attached, nick, channels, queries, is_known, joined, detached, is_past, kept, playback}
+use Rattle.buffer_machine.specs.Effects.{show_all, show_each, send_all, status, named, is_channel_known, open_channels, closings, if_some, shown_again, sent_again, shown, sent, effects}
+use Rattle.buffer_machine.specs.Steps.{played, closed_out, others, shown_at_attach, sent_at_attach, answers, answers_attaching, answers_again, answers_joining, answers_parting, answers_detaching, answers_reattaching, answers_taking}
+use Rattle.buffer_machine.specs.Held.{IsSound, channel_held, target_held, held}
+use Rattle.buffer_machine.proofs.Folded.{query-key}
 use Rattle.buffer_machine.proofs.Lists.{append-nil, flat_map_at, flat_map_through, map_through}
-use Rattle.buffer_machine.proofs.NameLemmas.{same_bytes-eq}
-use Rattle.buffer_machine.proofs.Order.{by_folded-rising}
-use Rattle.buffer_machine.proofs.TargetsStep.{floor_now}
-use Rattle.buffer_machine.proofs.Unchanged.{nick-same, channels-same, joined-none, detached-none}
+use Rattle.buffer_machine.proofs.Names.{all-at, or_left_false, or_right_false}
+use Rattle.buffer_machine.proofs.Standing.{queries-are, not_a_channel}
+use Rattle.buffer_machine.proofs.Unknown.{detached-unknown}
+use Rattle.buffer_machine.proofs.Found.{channel_under, channel-found, found-detached}
+use Rattle.buffer_machine.proofs.Playing.{playback-both, playback-channel, playback-query, asked-is, done-is}
+use Rattle.buffer_machine.proofs.ChannelsCome.{floor_now}
 
--- ---- what is known, and what is played
+-- ---- the parts of an answer, by whether the asker is attached
 
-made-is : (s : Settings) (history : List Command) (t : List ℕ) → made_as s history t ≡ unwrap_or (find (at_key t) s.channels) t
-unfolding made_as targets
-made-is s history t = ap (λ cs. unwrap_or (find (at_key t) cs) t) (channels-same s history)
+parts_by : (am : Bool) (all shows sends close : List Effect) → all ≡ shows ++ sends
+    → (if am then all else close) ≡ (if am then [] else close) ++ (if am then shows else []) ++ (if am then sends else [])
+parts_by true all shows sends close e = e
+parts_by false all shows sends close e = sym (append-nil (close ++ []) ∙ append-nil close)
 
--- the playback of a key
-playback-is : (s : Settings) (history : List Command) (t : List ℕ)
-    → playback s history t ≡ (if is_in t s.channels then framed s.offset (unwrap_or (find (at_key t) s.channels) t) (kept s history t) else [])
-unfolding playback
-playback-is s history t = rw (known-is s history t, made-is s history t) refl
+-- shown alone
+shows_by : (am : Bool) (shows close : List Effect) → (if am then shows else close) ≡ (if am then [] else close) ++ (if am then shows else []) ++ (if am then [] else [])
+shows_by am shows close = parts_by am shows shows [] close (sym (append-nil shows))
 
-playback-channel : (s : Settings) (history : List Command) (c : List ℕ) → IsChannelOf s c → playback s history (fold_name c) ≡ framed s.offset c (kept s history (fold_name c))
-playback-channel s history c channel = playback-is s history (fold_name c) ∙ rw (channel.known, channel.own) refl
+-- ---- a channel by its name
 
-at_key_same : (t c : List ℕ) → at_key t c ≡ true → t ≡ fold_name c
-unfolding at_key
-at_key_same t c e = same_bytes-eq t (fold_name c) e
+found_none_by : (k c : List ℕ) (cs : List (List ℕ)) (b : Bool) → b ≡ false → find (at_key k) cs ≡ None → (if b then Some c else find (at_key k) cs) ≡ None
+found_none_by k c cs true e f = absurd cc
+found_none_by k c cs false e f = f
 
-abbrev held : Settings → List Command → List ℕ → TargetLines
-held s history c = target c (ring (kept s history (fold_name c)) (size s (fold_name c) history))
+-- no name is found under a key that is not there
+found_none : (k : List ℕ) (cs : List (List ℕ)) → is_in k cs ≡ false → find (at_key k) cs ≡ None
+found_none k [] e = refl
+found_none k (c ∷ cs) e = found_none_by k c cs (at_key k c) (or_left_false (at_key k c) _ e) (found_none k cs (or_right_false (at_key k c) _ e))
 
--- the target of a key, with what is kept under it
-abbrev kept_at : Settings → List Command → List ℕ → Option (List ℕ) → TargetLines
-kept_at s history t c = target (unwrap_or c t) (ring (kept s history t) (size s t history))
+found_some_by : (k c a b : List ℕ) (cs : List (List ℕ)) (t : Bool) → (t || is_in k cs) ≡ true → (is_in k cs ≡ true → unwrap_or (find (at_key k) cs) a ≡ unwrap_or (find (at_key k) cs) b)
+    → unwrap_or (if t then Some c else find (at_key k) cs) a ≡ unwrap_or (if t then Some c else find (at_key k) cs) b
+found_some_by k c a b cs true e ih = refl
+found_some_by k c a b cs false e ih = ih e
 
-found-is_by : (s : Settings) (history : List Command) (t c : List ℕ) (cs : List (List ℕ)) (b : Bool) → at_key t c ≡ b
-    → found t (map (held s history) cs) ≡ (if is_in t cs then Some (kept_at s history t (find (at_key t) cs)) else None)
-    → (if b then Some (held s history c) else found t (map (held s history) cs))
-    ≡ (if b || is_in t cs then Some (kept_at s history t (if b then Some c else find (at_key t) cs)) else None)
-found-is_by s history t c cs true e ih = ap (λ k. Some (target c (ring (kept s history k) (size s k history)))) (sym (at_key_same t c e))
-found-is_by s history t c cs false e ih = ih
+-- a name is found, whatever stands for none
+found_some : (k a b : List ℕ) (cs : List (List ℕ)) → is_in k cs ≡ true → unwrap_or (find (at_key k) cs) a ≡ unwrap_or (find (at_key k) cs) b
+found_some k a b [] e = absurd cc
+found_some k a b (c ∷ cs) e = found_some_by k c a b cs (at_key k c) e (λ i. found_some k a b cs i)
 
-found-is : (s : Settings) (history : List Command) (t : List ℕ) (cs : List (List ℕ))
-    → found t (map (held s history) cs) ≡ (if is_in t cs then Some (kept_at s history t (find (at_key t) cs)) else None)
-found-is s history t [] = refl
-found-is s history t (c ∷ cs) = found-is_by s history t c cs (at_key t c) refl (found-is s history t cs)
+named-known : (s : Settings) (history : List Command) (c : List ℕ) → is_in (fold_name c) (channels s history) ≡ true
+    → named s history c ≡ unwrap_or (find (at_key (fold_name c)) (channels s history)) (fold_name c)
+unfolding named
+named-known s history c e = found_some (fold_name c) c (fold_name c) (channels s history) e
 
-played_by : (offset : ℕ) (t : TargetLines) (b : Bool) → played_of offset (if b then Some t else None) ≡ (if b then played offset t else [])
-played_by offset t true = refl
-played_by offset t false = refl
+named-unknown : (s : Settings) (history : List Command) (c : List ℕ) → is_in (fold_name c) (channels s history) ≡ false → named s history c ≡ c
+unfolding named
+named-unknown s history c e = rw (found_none (fold_name c) (channels s history) e) refl
 
--- what is played of a key is its playback
-pub played-is : (s : Settings) (history : List Command) (t : List ℕ) → played_of s.offset (found t (targets_of s history)) ≡ playback s history t
-played-is s history t =
-    ap (λ o. played_of s.offset o) (found-is s history t s.channels)
-    ∙ (played_by s.offset (kept_at s history t (find (at_key t) s.channels)) (is_in t s.channels) ∙ sym (playback-is s history t))
+known-is : (s : Settings) (history : List Command) (c : List ℕ) → is_channel_known s history c ≡ is_in (fold_name c) (channels s history)
+unfolding is_channel_known
+known-is s history c = refl
 
-status_by : (s : Settings) (o : Origin) (t : TargetLines) (b : Bool)
-    → played_or_status s o (if b then Some t else None) ≡ (if b then show_all o (played_of s.offset (if b then Some t else None)) else status s.nick o (codes "No such target."))
-status_by s o t true = refl
-status_by s o t false = refl
+-- the playback of a channel that is known
+played-known : (s : Settings) (history : List Command) (c : List ℕ) → is_in (fold_name c) (channels s history) ≡ true
+    → playback s history (fold_name c) ≡ framed s.offset (unwrap_or (find (at_key (fold_name c)) (channels s history)) (fold_name c)) (kept s history (fold_name c))
+played-known s history c e = playback-both s history (fold_name c) ∙ rw e refl
 
-asked-is : (s : Settings) (history : List Command) (o : Origin) (t : List ℕ) → played_or_status s o (found t (targets_of s history))
-    ≡ (if is_known s history t then show_all o (playback s history t) else status s.nick o (codes "No such target."))
-asked-is s history o t =
-    rw (← played-is s history t, known-is s history t, found-is s history t s.channels)
-    (status_by s o (kept_at s history t (find (at_key t) s.channels)) (is_in t s.channels))
+-- ---- a channel attached again
 
-done_by : (s : Settings) (o : Origin) (t : TargetLines) (b : Bool)
-    → done_or_status s o (if b then Some t else None) ≡ status s.nick o (if b then codes "Done." else codes "No such target.")
-done_by s o t true = refl
-done_by s o t false = refl
+abbrev under : Settings → List Command → List ℕ → ChannelLines
+under s history c = channel_under s history (fold_name c) (find (at_key (fold_name c)) (channels s history))
 
-done-is : (s : Settings) (history : List Command) (o : Origin) (t : List ℕ) → done_or_status s o (found t (targets_of s history))
-    ≡ status s.nick o (if is_known s history t then codes "Done." else codes "No such target.")
-done-is s history o t =
-    rw (known-is s history t, found-is s history t s.channels) (done_by s o (kept_at s history t (find (at_key t) s.channels)) (is_in t s.channels))
+again-is : (s : Settings) (history : List Command) (o : Origin) (c : List ℕ) → is_in (fold_name c) (channels s history) ≡ true
+    → answers_again s (held s history) o (under s history c) ≡ shown_again s history (attached s history) (nick s history) c ++ send_all o (sent_again s history c)
+again-is s history o c e = rw (named-known s history c e, played-known s history c e) refl
+
+-- what is shown and sent where a channel is joined, by whether it is known, detached and joined
+abbrev join_shows : Settings → List Command → List ℕ → Bool → List Effect
+join_shows s h c det = if det then shown_again s h (attached s h) (nick s h) c else []
+
+abbrev join_sends : Settings → List Command → List ℕ → Bool → Bool → Bool → List Parts
+join_sends s h c known det here =
+    if det then sent_again s h c
+    else
+    if known && here then [] else bare (codes "JOIN") (named s h c ∷ []) ∷ []
+
+join_by : (s : Settings) (h : List Command) (o : Origin) (c : List ℕ) (known det here : Bool) → is_in (fold_name c) (channels s h) ≡ known → detached s h (fold_name c) ≡ det → joined s h (fold_name c) ≡ here
+    → answers_joining s (held s h) o c (if known then Some (under s h c) else None) ≡ join_shows s h c det ++ send_all o (join_sends s h c known det here)
+join_by s h o c true true here e d j = rw d (again-is s h o c e)
+join_by s h o c true false true e d j = rw (d, j) refl
+join_by s h o c true false false e d j = rw (d, j, named-known s h c e) refl
+join_by s h o c false true here e d j = absurd (let f = detached-unknown s h (fold_name c) e in cc)
+join_by s h o c false false here e d j = rw (named-unknown s h c e) refl
+
+join-is : (s : Settings) (h : List Command) (o : Origin) (at : ℕ) (c : List ℕ) → answers s (floor h o.0) (held s h) (Client o at (Join c)) ≡ effects s h (Client o at (Join c))
+unfolding effects closings shown sent
+join-is s h o at c =
+    parts_by (is_among o (attached s h)) _ _ _ (Close o ∷ [])
+    (ap (answers_joining s (held s h) o c) (channel-found s h (fold_name c) (channels s h))
+    ∙ (join_by s h o c (is_in (fold_name c) (channels s h)) (detached s h (fold_name c)) (joined s h (fold_name c)) refl refl refl
+    ∙ ap (λ b. join_shows s h c (detached s h (fold_name c)) ++ send_all o (join_sends s h c b (detached s h (fold_name c)) (joined s h (fold_name c)))) (sym (known-is s h c))))
+
+part_by : (s : Settings) (h : List Command) (o : Origin) (c : List ℕ) (known here : Bool) → is_in (fold_name c) (channels s h) ≡ known → joined s h (fold_name c) ≡ here
+    → answers_parting o c (if known then Some (under s h c) else None) ≡ send_all o (if known && not here then [] else bare (codes "PART") (named s h c ∷ []) ∷ [])
+part_by s h o c true true e j = rw (j, named-known s h c e) refl
+part_by s h o c true false e j = rw j refl
+part_by s h o c false here e j = rw (named-unknown s h c e) refl
+
+part-is : (s : Settings) (h : List Command) (o : Origin) (at : ℕ) (c : List ℕ) → answers s (floor h o.0) (held s h) (Client o at (Part c)) ≡ effects s h (Client o at (Part c))
+unfolding effects closings shown sent
+part-is s h o at c =
+    parts_by (is_among o (attached s h)) _ [] _ (Close o ∷ [])
+    (ap (answers_parting o c) (channel-found s h (fold_name c) (channels s h))
+    ∙ (part_by s h o c (is_in (fold_name c) (channels s h)) (joined s h (fold_name c)) refl refl
+    ∙ ap (λ b. send_all o (if b && not (joined s h (fold_name c)) then [] else bare (codes "PART") (named s h c ∷ []) ∷ [])) (sym (known-is s h c))))
+
+detach_by : (s : Settings) (h : List Command) (o : Origin) (c : List ℕ) (known det : Bool) → is_in (fold_name c) (channels s h) ≡ known → detached s h (fold_name c) ≡ det
+    → answers_detaching (held s h) o (if known then Some (under s h c) else None)
+    ≡ (if not known then status (nick s h) o (codes "No such target.") else if det then [] else show_each (attached s h) (own_line (nick s h) (codes "PART") (named s h c) ∷ []))
+detach_by s h o c true true e d = rw d refl
+detach_by s h o c true false e d = rw (d, named-known s h c e) refl
+detach_by s h o c false det e d = refl
+
+detach-is : (s : Settings) (h : List Command) (o : Origin) (at : ℕ) (c : List ℕ) → answers s (floor h o.0) (held s h) (Client o at (Detach c)) ≡ effects s h (Client o at (Detach c))
+unfolding effects closings shown sent
+detach-is s h o at c =
+    rw (known-is s h c)
+    (ap (λ es. if is_among o (attached s h) then es else Close o ∷ [])
+    (ap (answers_detaching (held s h) o) (channel-found s h (fold_name c) (channels s h)) ∙ detach_by s h o c (is_in (fold_name c) (channels s h)) (detached s h (fold_name c)) refl refl)
+    ∙ shows_by (is_among o (attached s h)) _ (Close o ∷ []))
+
+reattach_by : (s : Settings) (h : List Command) (o : Origin) (c : List ℕ) (known det : Bool) → is_in (fold_name c) (channels s h) ≡ known → detached s h (fold_name c) ≡ det
+    → answers_reattaching s (held s h) o (if known then Some (under s h c) else None)
+    ≡ (if not known then status (nick s h) o (codes "No such target.") else join_shows s h c det) ++ send_all o (if det then sent_again s h c else [])
+reattach_by s h o c true true e d = rw d (again-is s h o c e)
+reattach_by s h o c true false e d = rw d refl
+reattach_by s h o c false true e d = absurd (let f = detached-unknown s h (fold_name c) e in cc)
+reattach_by s h o c false false e d = refl
+
+reattach-is : (s : Settings) (h : List Command) (o : Origin) (at : ℕ) (c : List ℕ) → answers s (floor h o.0) (held s h) (Client o at (Reattach c)) ≡ effects s h (Client o at (Reattach c))
+unfolding effects closings shown sent
+reattach-is s h o at c =
+    parts_by (is_among o (attached s h)) _ _ _ (Close o ∷ [])
+    (ap (answers_reattaching s (held s h) o) (channel-found s h (fold_name c) (channels s h))
+    ∙ (reattach_by s h o c (is_in (fold_name c) (channels s h)) (detached s h (fold_name c)) refl refl
+    ∙ ap (λ b. (if not b then status (nick s h) o (codes "No such target.") else join_shows s h c (detached s h (fold_name c))) ++ send_all o (if detached s h (fold_name c) then sent_again s h c else [])) (sym (known-is s h c))))
 
 -- ---- Attach
 
-open_by : (s : Settings) (history : List Command) (cs : List (List ℕ)) → filter (λ c. not (detached s history (fold_name c))) cs ≡ cs
-open_by s history [] = refl
-open_by s history (c ∷ cs) = rw (detached-none s history (fold_name c)) (ap (λ ds. c ∷ ds) (open_by s history cs))
+flat_filter_by : {A B : Type 0} (f : A → List B) (x : A) (xs : List A) (ys : List B) (b : Bool) → flat_map f xs ≡ ys → flat_map f (if b then x ∷ xs else xs) ≡ (if b then f x else []) ++ ys
+flat_filter_by f x xs ys true e = ap (λ l. f x ++ l) e
+flat_filter_by f x xs ys false e = e
 
-open-is : (s : Settings) → IsSound s → (history : List Command) → open_channels s history ≡ s.channels
+-- what each of those gives that pass a test
+flat_filter : {A B : Type 0} (f : A → List B) (p : A → Bool) (xs : List A) → flat_map f (filter p xs) ≡ flat_map (λ x. if p x then f x else []) xs
+flat_filter f p [] = refl
+flat_filter f p (x ∷ xs) = flat_filter_by f x (filter p xs) (flat_map (λ y. if p y then f y else []) xs) (p x) (flat_filter f p xs)
+
+not_if : {A : Type 0} (b : Bool) (xs : List A) → (if b then [] else xs) ≡ (if not b then xs else [])
+not_if true xs = refl
+not_if false xs = refl
+
+-- the channels that are played
+channels-attaching : (s : Settings) → IsSound s → (h : List Command) (o : Origin)
+    → flat_map (shown_at_attach s.offset (nick s h) o) (map (channel_held s h) (channels s h))
+    ≡ flat_map (λ c. show_all o (if_some (joined s h (fold_name c)) (own_line (nick s h) (codes "JOIN") c ∷ []) ++ playback s h (fold_name c))) (open_channels s h)
 unfolding open_channels
-open-is s sound history = rw (channels-same s history, by_folded-rising s.channels sound.rising) (open_by s history s.channels)
+channels-attaching s sound h o =
+    flat_map_through (channel_held s h) (shown_at_attach s.offset (nick s h) o) (channels s h)
+    ∙ (flat_map_at (λ c. shown_at_attach s.offset (nick s h) o (channel_held s h c))
+    (λ c. if not (detached s h (fold_name c)) then show_all o (if_some (joined s h (fold_name c)) (own_line (nick s h) (codes "JOIN") c ∷ []) ++ playback s h (fold_name c)) else []) (channels s h)
+    (λ front c back e. rw (playback-channel s sound h front c back e) (not_if (detached s h (fold_name c)) (show_all o (if_some (joined s h (fold_name c)) (own_line (nick s h) (codes "JOIN") c ∷ []) ++ framed s.offset c (kept s h (fold_name c))))))
+    ∙ sym (flat_filter (λ c. show_all o (if_some (joined s h (fold_name c)) (own_line (nick s h) (codes "JOIN") c ∷ []) ++ playback s h (fold_name c))) (λ c. not (detached s h (fold_name c))) (channels s h)))
 
-not_joined : (s : Settings) (history : List Command) (cs : List (List ℕ)) → filter (λ c. joined s history (fold_name c)) cs ≡ []
-not_joined s history [] = refl
-not_joined s history (c ∷ cs) = rw (joined-none s history (fold_name c)) (not_joined s history cs)
+-- the queries that are played
+queries-attaching : (s : Settings) → IsSound s → (h : List Command) (o : Origin)
+    → flat_map (λ t. show_all o (played s.offset t)) (map (target_held s h) (queries s h)) ≡ flat_map (λ q. show_all o (playback s h (fold_name q))) (queries s h)
+queries-attaching s sound h o =
+    flat_map_through (target_held s h) (λ t. show_all o (played s.offset t)) (queries s h)
+    ∙ flat_map_at (λ q. show_all o (played s.offset (target_held s h q))) (λ q. show_all o (playback s h (fold_name q))) (queries s h)
+    (λ front q back e.
+    let query_name : is_query_name q ≡ true = all-at is_query_name front q back (subst (λ qs. list_all is_query_name qs ≡ true) e (queries-are s h)) in
+    ap (show_all o) (sym (playback-query s h front q back e (not_a_channel s sound h (fold_name q) (query-key q query_name)))))
 
-attaching-is : (s : Settings) → IsSound s → (earlier : List Command) (own : List ℕ) (o : Origin)
-    → flat_map (λ t. show_all o (played s.offset t)) (targets_of s earlier) ≡ shown_attaching s earlier own o
-attaching-is s sound earlier own o =
-    flat_map_through (held s earlier) (λ t. show_all o (played s.offset t)) s.channels
-    ∙ (flat_map_at (λ c. show_all o (framed s.offset c (kept s earlier (fold_name c))))
-    (λ c. show_all o (if_some (joined s earlier (fold_name c)) (own_line own (codes "JOIN") c ∷ []) ++ playback s earlier (fold_name c))) s.channels
-    (λ front c back e. rw (joined-none s earlier (fold_name c), playback-channel s earlier c (channel_of_setup s sound front c back e)) refl)
-    ∙ ap (λ cs. flat_map (λ c. show_all o (if_some (joined s earlier (fold_name c)) (own_line own (codes "JOIN") c ∷ []) ++ playback s earlier (fold_name c))) cs) (sym (open-is s sound earlier)))
+names_by : (o : Origin) (c : List ℕ) (cs : List (List ℕ)) (es : List Effect) (d j : Bool) → map (λ l. Send o l) (map (λ x. bare (codes "NAMES") (x ∷ [])) cs) ≡ es
+    → map (λ l. Send o l) (map (λ x. bare (codes "NAMES") (x ∷ [])) (if j then c ∷ cs else cs)) ≡ (if j then Send o (bare (codes "NAMES") (c ∷ [])) ∷ [] else []) ++ es
+names_by o c cs es d true e = ap (λ l. Send o (bare (codes "NAMES") (c ∷ [])) ∷ l) e
+names_by o c cs es d false e = e
 
-names-none : (s : Settings) (earlier : List Command) (o : Origin)
-    → send_all o (map (λ c. bare (codes "NAMES") (c ∷ [])) (filter (λ c. joined s earlier (fold_name c)) (open_channels s earlier))) ≡ []
-names-none s earlier o = ap (λ cs. send_all o (map (λ c. bare (codes "NAMES") (c ∷ [])) cs)) (not_joined s earlier (open_channels s earlier))
+names_of : (s : Settings) (h : List Command) (o : Origin) (cs : List (List ℕ))
+    → send_all o (map (λ c. bare (codes "NAMES") (c ∷ [])) (filter (λ c. joined s h (fold_name c)) cs)) ≡ flat_map (λ c. if joined s h (fold_name c) then Send o (bare (codes "NAMES") (c ∷ [])) ∷ [] else []) cs
+names_of s h o [] = refl
+names_of s h o (c ∷ cs) = names_by o c (filter (λ d. joined s h (fold_name d)) cs) _ false (joined s h (fold_name c)) (names_of s h o cs)
+
+both_if : (d j : Bool) (e : Effect) → (if not d && j then e ∷ [] else []) ≡ (if not d then (if j then e ∷ [] else []) else [])
+both_if true j e = refl
+both_if false true e = refl
+both_if false false e = refl
+
+-- who is in the channels that are joined
+names-attaching : (s : Settings) (h : List Command) (o : Origin)
+    → flat_map (sent_at_attach o) (map (channel_held s h) (channels s h)) ≡ send_all o (map (λ c. bare (codes "NAMES") (c ∷ [])) (filter (λ c. joined s h (fold_name c)) (open_channels s h)))
+unfolding open_channels
+names-attaching s h o =
+    flat_map_through (channel_held s h) (sent_at_attach o) (channels s h)
+    ∙ (flat_map_at (λ c. sent_at_attach o (channel_held s h c)) (λ c. if not (detached s h (fold_name c)) then (if joined s h (fold_name c) then Send o (bare (codes "NAMES") (c ∷ [])) ∷ [] else []) else []) (channels s h)
+    (λ front c back e. both_if (detached s h (fold_name c)) (joined s h (fold_name c)) (Send o (bare (codes "NAMES") (c ∷ []))))
+    ∙ (sym (flat_filter (λ c. if joined s h (fold_name c) then Send o (bare (codes "NAMES") (c ∷ [])) ∷ [] else []) (λ c. not (detached s h (fold_name c))) (channels s h))
+    ∙ sym (names_of s h o (filter (λ c. not (detached s h (fold_name c))) (channels s h)))))
 
 lt_by : (a b : ℕ) (t : Bool) → nat_le b a ≡ t → nat_lt a b ≡ not t
 lt_by a b true e = grind (arith, nat_tests)
 lt_by a b false e = grind (arith, nat_tests)
 
-attach_by : (am le lt : Bool) (others shows close : List Effect) → lt ≡ not le
-    → (if not am && le then others ++ shows else if am then [] else close)
-    ≡ (if not am && le then others else (if lt && not am then close else [])) ++ (if not am && le then shows else []) ++ (if not am && le then [] else [])
-attach_by true le true others shows close e = refl
-attach_by true le false others shows close e = refl
-attach_by false true lt others shows close e = sym (append-nil (others ++ shows))
-attach_by false false lt others shows close e = rw e (sym (append-nil (close ++ []) ∙ append-nil close))
+attach_by : (am le lt : Bool) (others shows plays sends close : List Effect) → lt ≡ not le
+    → (if not am && le then others ++ shows ++ plays ++ sends else if am then [] else close)
+    ≡ (if not am && le then others else (if lt && not am then close else [])) ++ (if not am && le then shows ++ plays else []) ++ (if not am && le then sends else [])
+attach_by true le true others shows plays sends close e = refl
+attach_by true le false others shows plays sends close e = refl
+attach_by false true lt others shows plays sends close e = ap (λ l. l ++ sends) (append_assoc others shows plays)
+attach_by false false lt others shows plays sends close e = rw e (sym (append-nil (close ++ []) ∙ append-nil close))
 
-attach-is : (s : Settings) → IsSound s → (earlier : List Command) (o : Origin) (at : ℕ)
-    → answers_attaching s (floor earlier o.0) (attached s earlier) (targets_of s earlier) o ≡ effects s earlier (Client o at Attach)
+attach-is : (s : Settings) → IsSound s → (h : List Command) (o : Origin) (at : ℕ) → answers_attaching s (floor h o.0) (held s h) o ≡ effects s h (Client o at Attach)
 unfolding effects closings shown sent
-attach-is s sound earlier o at =
-    rw (← attaching-is s sound earlier (nick s earlier) o, names-none s earlier o)
-    (attach_by (is_among o (attached s earlier)) (nat_le (floor earlier o.0) o.1) (nat_lt o.1 (floor earlier o.0)) (if s.many_clients then [] else map Close (attached s earlier))
-    (flat_map (λ t. show_all o (played s.offset t)) (targets_of s earlier)) (Close o ∷ []) (lt_by o.1 (floor earlier o.0) (nat_le (floor earlier o.0) o.1) refl))
+attach-is s sound h o at =
+    rw (← channels-attaching s sound h o, ← queries-attaching s sound h o, ← names-attaching s h o)
+    (attach_by (is_among o (attached s h)) (nat_le (floor h o.0) o.1) (nat_lt o.1 (floor h o.0)) (if s.many_clients then [] else map Close (attached s h))
+    (flat_map (shown_at_attach s.offset (nick s h) o) (map (channel_held s h) (channels s h))) (flat_map (λ t. show_all o (played s.offset t)) (map (target_held s h) (queries s h)))
+    (flat_map (sent_at_attach o) (map (channel_held s h) (channels s h))) (Close o ∷ []) (lt_by o.1 (floor h o.0) (nat_le (floor h o.0) o.1) refl))
 
 -- ---- the other commands
 
-leave_by : (am : Bool) (close : List Effect) → (if am then [] else close) ≡ (if am then [] else close) ++ (if am then [] else []) ++ (if am then [] else [])
-leave_by true close = refl
-leave_by false close = sym (append-nil (close ++ []) ∙ append-nil close)
-
-leave-is : (s : Settings) (earlier : List Command) (o : Origin) (at : ℕ) → closed_out o (attached s earlier) ≡ effects s earlier (Client o at Leave)
+leave-is : (s : Settings) (h : List Command) (o : Origin) (at : ℕ) → closed_out o (attached s h) ≡ effects s h (Client o at Leave)
 unfolding effects closings shown sent
-leave-is s earlier o at = leave_by (is_among o (attached s earlier)) (Close o ∷ [])
+leave-is s h o at = shows_by (is_among o (attached s h)) [] (Close o ∷ [])
 
-say_by : (am channel : Bool) (shows sends close : List Effect)
-    → (if am then (if channel then shows else []) ++ sends else close)
-    ≡ (if am then [] else close) ++ (if am then (if channel && not false then shows else []) else []) ++ (if am then sends else [])
-say_by true true shows sends close = refl
-say_by true false shows sends close = refl
-say_by false channel shows sends close = sym (append-nil (close ++ []) ∙ append-nil close)
-
-say-is : (s : Settings) (earlier : List Command) (o : Origin) (at : ℕ) (verb : Verb) (name text : List ℕ)
-    → answers_saying s (attached s earlier) o verb name text ≡ effects s earlier (Client o at (Say verb name text))
+say-is : (s : Settings) (h : List Command) (o : Origin) (at : ℕ) (verb : Verb) (name text : List ℕ) → answers s (floor h o.0) (held s h) (Client o at (Say verb name text)) ≡ effects s h (Client o at (Say verb name text))
 unfolding effects closings shown sent
-say-is s earlier o at verb name text =
-    rw (nick-same s earlier, detached-none s earlier (fold_name name))
-    (say_by (is_among o (attached s earlier)) (is_channel name) (shown_to (others o (attached s earlier)) (own_said s.nick verb name text)) (Send o (bare (verb_word verb) (name ∷ text ∷ [])) ∷ []) (Close o ∷ []))
+say-is s h o at verb name text = rw (found-detached s h (fold_name name)) (parts_by (is_among o (attached s h)) _ _ _ (Close o ∷ []) refl)
 
-play_by : (am : Bool) (shows close : List Effect) → (if am then shows else close) ≡ (if am then [] else close) ++ (if am then shows else []) ++ (if am then [] else [])
-play_by true shows close = sym (append-nil shows)
-play_by false shows close = sym (append-nil (close ++ []) ∙ append-nil close)
-
-play-is : (s : Settings) (earlier : List Command) (o : Origin) (at : ℕ) (name : List ℕ)
-    → answers_playing s (attached s earlier) (targets_of s earlier) o name ≡ effects s earlier (Client o at (Play name))
+play-is : (s : Settings) (h : List Command) (o : Origin) (at : ℕ) (t : List ℕ) → answers s (floor h o.0) (held s h) (Client o at (Play t)) ≡ effects s h (Client o at (Play t))
 unfolding effects closings shown sent
-play-is s earlier o at name =
-    rw (nick-same s earlier, ← asked-is s earlier o (fold_name name))
-    (play_by (is_among o (attached s earlier)) (played_or_status s o (found (fold_name name) (targets_of s earlier))) (Close o ∷ []))
+play-is s h o at t = ap (λ es. if is_among o (attached s h) then es else Close o ∷ []) (asked-is s h o (fold_name t)) ∙ shows_by (is_among o (attached s h)) _ (Close o ∷ [])
 
-clear-is : (s : Settings) (earlier : List Command) (o : Origin) (at : ℕ) (name : List ℕ)
-    → answers_clearing s (attached s earlier) (targets_of s earlier) o name ≡ effects s earlier (Client o at (Clear name))
+clear-is : (s : Settings) (h : List Command) (o : Origin) (at : ℕ) (t : List ℕ) → answers s (floor h o.0) (held s h) (Client o at (Clear t)) ≡ effects s h (Client o at (Clear t))
 unfolding effects closings shown sent
-clear-is s earlier o at name =
-    rw (nick-same s earlier, ← done-is s earlier o (fold_name name))
-    (play_by (is_among o (attached s earlier)) (done_or_status s o (found (fold_name name) (targets_of s earlier))) (Close o ∷ []))
+clear-is s h o at t = ap (λ es. if is_among o (attached s h) then es else Close o ∷ []) (done-is s h o (fold_name t)) ∙ shows_by (is_among o (attached s h)) _ (Close o ∷ [])
 
-clear_all-is : (s : Settings) (earlier : List Command) (o : Origin) → answers_clearing_all s (attached s earlier) o
-    ≡ (if is_among o (attached s earlier) then [] else Close o ∷ []) ++ (if is_among o (attached s earlier) then status (nick s earlier) o (codes "Done.") else []) ++ (if is_among o (attached s earlier) then [] else [])
-clear_all-is s earlier o = rw (nick-same s earlier) (play_by (is_among o (attached s earlier)) (status s.nick o (codes "Done.")) (Close o ∷ []))
-
-clear_channels-is : (s : Settings) (earlier : List Command) (o : Origin) (at : ℕ) → answers_clearing_all s (attached s earlier) o ≡ effects s earlier (Client o at ClearChannels)
+clear_channels-is : (s : Settings) (h : List Command) (o : Origin) (at : ℕ) → answers s (floor h o.0) (held s h) (Client o at ClearChannels) ≡ effects s h (Client o at ClearChannels)
 unfolding effects closings shown sent
-clear_channels-is s earlier o at = clear_all-is s earlier o
+clear_channels-is s h o at = shows_by (is_among o (attached s h)) _ (Close o ∷ [])
 
-clear_queries-is : (s : Settings) (earlier : List Command) (o : Origin) (at : ℕ) → answers_clearing_all s (attached s earlier) o ≡ effects s earlier (Client o at ClearQueries)
+clear_queries-is : (s : Settings) (h : List Command) (o : Origin) (at : ℕ) → answers s (floor h o.0) (held s h) (Client o at ClearQueries) ≡ effects s h (Client o at ClearQueries)
 unfolding effects closings shown sent
-clear_queries-is s earlier o at = clear_all-is s earlier o
+clear_queries-is s h o at = shows_by (is_among o (attached s h)) _ (Close o ∷ [])
 
-clear_each-is : (s : Settings) (earlier : List Command) (o : Origin) (at : ℕ) → answers_clearing_all s (attached s earlier) o ≡ effects s earlier (Client o at ClearAll)
+clear_all-is : (s : Settings) (h : List Command) (o : Origin) (at : ℕ) → answers s (floor h o.0) (held s h) (Client o at ClearAll) ≡ effects s h (Client o at ClearAll)
 unfolding effects closings shown sent
-clear_each-is s earlier o at = clear_all-is s earlier o
+clear_all-is s h o at = shows_by (is_among o (attached s h)) _ (Close o ∷ [])
 
 size_by : (nick : List ℕ) (o : Origin) (past known : Bool)
     → (if past then status nick o (codes "Size is past 500.") else status nick o (if known then codes "Done." else codes "No such target."))
@@ -207,57 +279,49 @@ size_by : (nick : List ℕ) (o : Origin) (past known : Bool)
 size_by nick o true known = refl
 size_by nick o false known = refl
 
-size-is : (s : Settings) (earlier : List Command) (o : Origin) (at : ℕ) (name : List ℕ) (n : ℕ)
-    → answers_sizing s (attached s earlier) (targets_of s earlier) o name n ≡ effects s earlier (Client o at (SetBuffer name n))
+size-is : (s : Settings) (h : List Command) (o : Origin) (at : ℕ) (t : List ℕ) (n : ℕ) → answers s (floor h o.0) (held s h) (Client o at (SetBuffer t n)) ≡ effects s h (Client o at (SetBuffer t n))
 unfolding effects closings shown sent
-size-is s earlier o at name n =
-    rw (nick-same s earlier, done-is s earlier o (fold_name name), size_by s.nick o (is_past n) (is_known s earlier (fold_name name)))
-    (play_by (is_among o (attached s earlier)) (status s.nick o (if is_past n then codes "Size is past 500." else if is_known s earlier (fold_name name) then codes "Done." else codes "No such target.")) (Close o ∷ []))
+size-is s h o at t n =
+    ap (λ es. if is_among o (attached s h) then (if is_past n then status (nick s h) o (codes "Size is past 500.") else es) else Close o ∷ []) (done-is s h o (fold_name t))
+    ∙ (ap (λ es. if is_among o (attached s h) then es else Close o ∷ []) (size_by (nick s h) o (is_past n) (is_known s h (fold_name t)))
+    ∙ shows_by (is_among o (attached s h)) _ (Close o ∷ []))
 
-pass_by : (am : Bool) (sends close : List Effect) → (if am then sends else close) ≡ (if am then [] else close) ++ (if am then [] else []) ++ (if am then sends else [])
-pass_by true sends close = refl
-pass_by false sends close = sym (append-nil (close ++ []) ∙ append-nil close)
-
-pass-is : (s : Settings) (earlier : List Command) (o : Origin) (at : ℕ) (line : Parts) → answers_passing (attached s earlier) o line ≡ effects s earlier (Client o at (Pass line))
+pass-is : (s : Settings) (h : List Command) (o : Origin) (at : ℕ) (line : Parts) → answers s (floor h o.0) (held s h) (Client o at (Pass line)) ≡ effects s h (Client o at (Pass line))
 unfolding effects closings shown sent
-pass-is s earlier o at line = pass_by (is_among o (attached s earlier)) (Send o line ∷ []) (Close o ∷ [])
+pass-is s h o at line = parts_by (is_among o (attached s h)) _ [] _ (Close o ∷ []) refl
 
-take_by : (welcome : Bool) (shows : List Effect) → (if welcome then [] else shows) ≡ (if welcome || false then [] else shows) ++ []
-take_by true shows = refl
-take_by false shows = sym (append-nil shows)
-
-take-is : (s : Settings) (earlier : List Command) (at : ℕ) (line : Parts) → answers_taking (attached s earlier) line ≡ effects s earlier (Upstream at line)
+line-is : (s : Settings) (h : List Command) (at : ℕ) (line : Parts) → answers_taking (held s h) line ≡ effects s h (Upstream at line)
 unfolding effects closings shown sent
-take-is s earlier at line =
-    rw (detached-none s earlier (fold_name (channel_of line))) (take_by (has_command (codes "001") line) (shown_to (attached s earlier) line))
+line-is s h at line = rw (found-detached s h (fold_name (channel_of line))) (sym (append-nil _))
 
-gone-is : (s : Settings) (earlier : List Command) (node boot : ℕ) → [] ≡ effects s earlier (NodeGone node boot)
+gone-is : (s : Settings) (h : List Command) (node boot : ℕ) → [] ≡ effects s h (NodeGone node boot)
 unfolding effects closings shown sent
-gone-is s earlier node boot = refl
+gone-is s h node boot = refl
 
-up-is : (s : Settings) → IsSound s → (earlier : List Command) → answers_up (targets_of s earlier) ≡ effects s earlier Up
+up-is : (s : Settings) (h : List Command) → answers s 0 (held s h) Up ≡ effects s h Up
 unfolding effects closings shown sent
-up-is s sound earlier =
-    rw (channels-same s earlier, by_folded-rising s.channels sound.rising)
-    (map_through (held s earlier) (λ t. Rejoin (bare (codes "JOIN") (t.name ∷ []))) (λ c. Rejoin (bare (codes "JOIN") (c ∷ []))) (λ c. refl) s.channels)
+up-is s h = map_through (channel_held s h) (λ c. Rejoin (bare (codes "JOIN") (c.target.name ∷ []))) (λ c. Rejoin (bare (codes "JOIN") (c ∷ []))) (λ c. refl) (channels s h)
 
-down-is : (s : Settings) (earlier : List Command) → [] ≡ effects s earlier Down
+down-is : (s : Settings) (h : List Command) → [] ≡ effects s h Down
 unfolding effects closings shown sent
-down-is s earlier = refl
+down-is s h = refl
 
-pub effects-step : (s : Settings) → IsSound s → (earlier : List Command) (x : Command)
-    → answers s (floor_now earlier x) (attached s earlier) (targets_of s earlier) x ≡ effects s earlier x
-effects-step s sound earlier (Client o at Attach) = attach-is s sound earlier o at
-effects-step s sound earlier (Client o at Leave) = leave-is s earlier o at
-effects-step s sound earlier (Client o at (Say verb name text)) = say-is s earlier o at verb name text
-effects-step s sound earlier (Client o at (Play name)) = play-is s earlier o at name
-effects-step s sound earlier (Client o at (Clear name)) = clear-is s earlier o at name
-effects-step s sound earlier (Client o at ClearChannels) = clear_channels-is s earlier o at
-effects-step s sound earlier (Client o at ClearQueries) = clear_queries-is s earlier o at
-effects-step s sound earlier (Client o at ClearAll) = clear_each-is s earlier o at
-effects-step s sound earlier (Client o at (SetBuffer name n)) = size-is s earlier o at name n
-effects-step s sound earlier (Client o at (Pass line)) = pass-is s earlier o at line
-effects-step s sound earlier (Upstream at line) = take-is s earlier at line
-effects-step s sound earlier (NodeGone node boot) = gone-is s earlier node boot
-effects-step s sound earlier Up = up-is s sound earlier
-effects-step s sound earlier Down = down-is s earlier
+pub effects-step : (s : Settings) → IsSound s → (h : List Command) (x : Command) → answers s (floor_now h x) (held s h) x ≡ effects s h x
+effects-step s sound h (Client o at Attach) = attach-is s sound h o at
+effects-step s sound h (Client o at Leave) = leave-is s h o at
+effects-step s sound h (Client o at (Say verb name text)) = say-is s h o at verb name text
+effects-step s sound h (Client o at (Join c)) = join-is s h o at c
+effects-step s sound h (Client o at (Part c)) = part-is s h o at c
+effects-step s sound h (Client o at (Detach c)) = detach-is s h o at c
+effects-step s sound h (Client o at (Reattach c)) = reattach-is s h o at c
+effects-step s sound h (Client o at (Play t)) = play-is s h o at t
+effects-step s sound h (Client o at (Clear t)) = clear-is s h o at t
+effects-step s sound h (Client o at ClearChannels) = clear_channels-is s h o at
+effects-step s sound h (Client o at ClearQueries) = clear_queries-is s h o at
+effects-step s sound h (Client o at ClearAll) = clear_all-is s h o at
+effects-step s sound h (Client o at (SetBuffer t n)) = size-is s h o at t n
+effects-step s sound h (Client o at (Pass line)) = pass-is s h o at line
+effects-step s sound h (Upstream at line) = line-is s h at line
+effects-step s sound h (NodeGone node boot) = gone-is s h node boot
+effects-step s sound h Up = up-is s h
+effects-step s sound h Down = down-is s h

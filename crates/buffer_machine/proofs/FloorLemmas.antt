@@ -3,14 +3,14 @@ use Rattle.std.proofs.Common.{◌≡◌, ◌≢◌, ℕ, zero, suc, ◌<◌, ◌
 use Rattle.std.proofs.Math.ListN.{length-set}
 use Rattle.std.specs.Prelude.{if◌then◌else◌, ◌==◌, nat_lt, max, replicate, slice_index, slice_set}
 use Rattle.std.proofs.lemmas.Bool.Decides.{nat_tests}
-use Rattle.buffer_machine.specs.Settings.{Settings}
+use Rattle.buffer_commands.specs.Settings.{Settings}
 use Rattle.buffer_machine.specs.Buffers.{floor, floor_after, attached, attached_after}
 use Rattle.buffer_machine.specs.Steps.{IsWithinLimits, raised, floors_after, floor_for}
 use Rattle.buffer_machine.specs.Held.{AreFloors}
-use Rattle.buffer_machine.specs.declared.command.Action.TheVariants.{Attach, Leave, Say, Play, Clear, ClearChannels, ClearQueries, ClearAll, SetBuffer, Pass}
-use Rattle.buffer_machine.specs.declared.command.Command.{Command}
-use Rattle.buffer_machine.specs.declared.command.Command.TheVariants.{Client, Upstream, NodeGone, Up, Down}
-use Rattle.buffer_machine.proofs.TargetsStep.{floor_now}
+use Rattle.buffer_commands.specs.declared.command.Action.TheVariants.{Attach, Leave, Say, Join, Part, Detach, Reattach, Play, Clear, ClearChannels, ClearQueries, ClearAll, SetBuffer, Pass}
+use Rattle.buffer_commands.specs.declared.command.Command.{Command}
+use Rattle.buffer_commands.specs.declared.command.Command.TheVariants.{Client, Upstream, NodeGone, Up, Down}
+use Rattle.buffer_machine.proofs.ChannelsCome.{floor_now}
 
 floor-none : (node : ℕ) → floor [] node ≡ 0
 unfolding floor
@@ -83,6 +83,10 @@ one_floor : (s : Settings) (earlier : List Command) (x : Command) → attached_a
 one_floor s earlier (Client o at Attach) = refl
 one_floor s earlier (Client o at Leave) = refl
 one_floor s earlier (Client o at (Say verb name text)) = refl
+one_floor s earlier (Client o at (Join c)) = refl
+one_floor s earlier (Client o at (Part c)) = refl
+one_floor s earlier (Client o at (Detach c)) = refl
+one_floor s earlier (Client o at (Reattach c)) = refl
 one_floor s earlier (Client o at (Play name)) = refl
 one_floor s earlier (Client o at (Clear name)) = refl
 one_floor s earlier (Client o at ClearChannels) = refl

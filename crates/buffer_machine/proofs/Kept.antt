@@ -1,22 +1,27 @@
--- What a channel keeps after one command more.
+-- What a target keeps after one command more.
 use Rattle.std.proofs.Common.{◌≡◌, ℕ, ◌-◌, ◌≤◌, List, [], ◌∷◌, ◌++◌, length, refl, ap, ◌∙◌, sym, arith, Bool, true, false, not, ◌&&◌, ◌||◌, length-drop}
-use Rattle.std.specs.Prelude.{Option, Some, None, if◌then◌else◌}
+use Rattle.std.specs.Prelude.{Option, Some, None, if◌then◌else◌, codes}
 use Rattle.circular_buffer.specs.Buffer.{keep_last}
-use Rattle.irc_line.specs.Names.{fold_name, same_bytes}
+use Rattle.irc_line.specs.Names.{fold_name, same_bytes, is_channel}
+use Rattle.irc_line.specs.Keys.{at_key, is_in}
 use Rattle.irc_line.specs.Lines.{Parts}
+use Rattle.irc_line.proofs.Booleans.{and_right}
+use Rattle.irc_line.proofs.SameBytes.{same_bytes-eq}
 use Rattle.buffer_lines.specs.Keeping.{if_kept}
 use Rattle.buffer_lines.specs.Stamps.{parameter}
 use Rattle.buffer_lines.proofs.Keeping.{kept-more, kept-nil}
-use Rattle.wire_bytes.specs.declared.origin.Origin.{Origin}
-use Rattle.buffer_machine.specs.Settings.{Settings}
-use Rattle.buffer_machine.specs.Messages.{at_key, is_in, is_storable, is_none_of}
-use Rattle.buffer_machine.specs.Buffers.{floor, is_taken, attached, is_known, targets, size, first_size, size_after, said, is_for, stored_where, stored, is_cleared, plays, emptied, kept}
+use Rattle.buffer_commands.specs.Settings.{Settings}
+use Rattle.buffer_commands.specs.declared.command.Command.{Command}
+use Rattle.buffer_machine.specs.Messages.{has_command, is_storable, is_none_of, is_query_line, is_query_name, source}
+use Rattle.buffer_machine.specs.Buffers.{attached, nick, channels, is_known, size, first_size, size_after, said, aim, is_for, stored_where, stored, stored_query, query_aim, emptied, detached, kept, removes_target}
 use Rattle.buffer_machine.specs.Steps.{keeps}
-use Rattle.buffer_machine.specs.declared.command.Command.{Command}
-use Rattle.buffer_machine.proofs.Channels.{IsChannelOf}
+use Rattle.buffer_machine.specs.Held.{IsSound}
+use Rattle.buffer_machine.proofs.Folded.{at_key-eq, query-key}
 use Rattle.buffer_machine.proofs.Lists.{append-nil}
-use Rattle.buffer_machine.proofs.NameLemmas.{same_bytes-sym, same_bytes-eq}
-use Rattle.buffer_machine.proofs.Unchanged.{nick-same, channels-same, detached-none}
+use Rattle.buffer_machine.proofs.Names.{is_made_at, or_none}
+use Rattle.buffer_machine.proofs.Standing.{not_a_channel}
+
+-- ---- the last lines
 
 keep_last-all : {K : Type 0} (n : ℕ) (xs : List K) → length xs ≤ n → keep_last n xs ≡ xs
 keep_last-all n xs h = let e : length xs - n ≡ 0 = omega arith in rw e refl
@@ -35,7 +40,12 @@ next n ks emptied stored = keep_last n ((if emptied then [] else ks) ++ if_kept 
 pub next-quiet : (n : ℕ) (ks : List (ℕ × Parts)) → length ks ≤ n → next n ks false None ≡ ks
 next-quiet n ks h = rw append-nil (keep_last-all n ks h)
 
-kept-next : (s : Settings) (earlier : List Command) (x : Command) (t : List ℕ) → kept s (x ∷ earlier) t ≡ next (size s t (x ∷ earlier)) (kept s earlier t) (emptied s t earlier x) (stored s t earlier x)
+-- of nothing, nothing is kept
+pub next-nothing : (n : ℕ) (e : Bool) → next n [] e None ≡ []
+next-nothing n true = keep_last-nil n
+next-nothing n false = keep_last-nil n
+
+pub kept-next : (s : Settings) (earlier : List Command) (x : Command) (t : List ℕ) → kept s (x ∷ earlier) t ≡ next (size s t (x ∷ earlier)) (kept s earlier t) (emptied s t earlier x) (stored s t earlier x)
 unfolding kept
 kept-next s earlier x t = kept-more (stored s t) (emptied s t) (size s t) x earlier
 
@@ -47,76 +57,134 @@ pub kept-fits : (s : Settings) (history : List Command) (t : List ℕ) → lengt
 kept-fits s [] t = rw kept-none (omega arith)
 kept-fits s (x ∷ earlier) t = rw kept-next (length-keep_last (size s t (x ∷ earlier)) ((if emptied s t earlier x then [] else kept s earlier t) ++ if_kept true (stored s t earlier x)))
 
--- whether a command empties a channel
-abbrev pub empties : Settings → List Command → List Origin → List ℕ → Command → Bool
-empties s earlier os c x = is_cleared os true (fold_name c) true x || (s.clears_channels && plays (is_taken (floor earlier) os x) os false (fold_name c) true x)
-
--- what is known is what stands in the setup
-pub known-is : (s : Settings) (earlier : List Command) (t : List ℕ) → is_known s earlier t ≡ is_in t s.channels
-unfolding is_known targets
-known-is s earlier t = ap (λ cs. is_in t cs) (channels-same s earlier)
-
-emptied-is : (s : Settings) (earlier : List Command) (x : Command) (c : List ℕ) → IsChannelOf s c → emptied s (fold_name c) earlier x ≡ empties s earlier (attached s earlier) c x
-unfolding emptied
-emptied-is s earlier x c channel = rw (channel.key, detached-none s earlier (fold_name c), known-is s earlier (fold_name c), channel.known) refl
-
 pub size-first : (s : Settings) (t : List ℕ) → size s t [] ≡ first_size s t
 unfolding size
 size-first s t = refl
 
--- the size of a channel after one command more
-pub size-channel : (s : Settings) (earlier : List Command) (x : Command) (c : List ℕ) → IsChannelOf s c
-    → size s (fold_name c) (x ∷ earlier) ≡ size_after (attached s earlier) true (fold_name c) (size s (fold_name c) earlier) x
+pub size-more : (s : Settings) (earlier : List Command) (x : Command) (t : List ℕ)
+    → size s t (x ∷ earlier) ≡ (if removes_target s earlier t x then first_size s t else size_after (attached s earlier) (is_known s earlier t) t (size s t earlier) x)
 unfolding size
-size-channel s earlier x c channel = rw (known-is s earlier (fold_name c), channel.known) refl
+size-more s earlier x t = refl
 
--- the line that a command stores in a channel
-abbrev pub stores : Bool → List ℕ → Option (ℕ × Parts) → Option (ℕ × Parts)
-stores keeps c None = None
-stores keeps c (Some line) = if keeps && is_storable line.1 && at_key (fold_name (parameter 1 (line.1))) c then Some line else None
-
-pub or_none : (a : Bool) → (a || false) ≡ a
-or_none true = refl
-or_none false = refl
-
-same_test : (k : Bool) (a b : Bool) (line : ℕ × Parts) → a ≡ b → (if k && a then Some line else None) ≡ (if k && b then Some line else None)
-same_test k a b line e = ap (λ t. if k && t then Some line else None) e
+-- ---- what a line is for
 
 and_assoc : (a b c : Bool) → (a && b && c) ≡ (a && (b && c))
 and_assoc true b c = refl
 and_assoc false b c = refl
 
-aim_absent : (b : Bool) → (b ≡ true → true ≡ false) → false ≡ b
-aim_absent true h = sym (h refl)
-aim_absent false h = refl
+-- a known key is not that of a name that is not known
+key_apart : (cs : List (List ℕ)) (k p : List ℕ) (b : Bool) → at_key k p ≡ b → is_in k cs ≡ true → is_in (fold_name p) cs ≡ false → b ≡ false
+key_apart cs k p true e i n = sym i ∙ (ap (λ key. is_in key cs) (at_key-eq k p e) ∙ n)
+key_apart cs k p false e i n = refl
 
-aim-is_by : (cs : List (List ℕ)) (c p : List ℕ) (storable known : Bool) → is_in (fold_name c) cs ≡ true → is_in (fold_name p) cs ≡ known
-    → is_for (fold_name c) (if storable && known then Some p else None) ≡ (storable && at_key (fold_name p) c)
-unfolding at_key
-aim-is_by cs c p false known k e = refl
-aim-is_by cs c p true true k e = same_bytes-sym (fold_name c) (fold_name p)
-aim-is_by cs c p true false k e = aim_absent (same_bytes (fold_name p) (fold_name c)) (λ h. sym k ∙ (ap (λ key. is_in key cs) (sym (same_bytes-eq (fold_name p) (fold_name c) h)) ∙ e))
+-- nor is a key that is not known that of a known name
+key_apart_too : (cs : List (List ℕ)) (k p : List ℕ) (b : Bool) → at_key k p ≡ b → is_in k cs ≡ false → is_in (fold_name p) cs ≡ true → b ≡ false
+key_apart_too cs k p true e n i = sym i ∙ (ap (λ key. is_in key cs) (sym (at_key-eq k p e)) ∙ n)
+key_apart_too cs k p false e n i = refl
 
-stored-is_by : (keep : Bool) (cs : List (List ℕ)) (c : List ℕ) (o : Option (ℕ × Parts)) → is_in (fold_name c) cs ≡ true → stored_where keep cs (fold_name c) o ≡ stores keep c o
-stored-is_by keep cs c None k = refl
-stored-is_by keep cs c (Some line) k =
-    let p = parameter 1 (line.1) in
-    same_test keep _ _ line (aim-is_by cs c p (is_storable line.1) (is_in (fold_name p) cs) k refl)
-    ∙ ap (λ t. if t then Some line else None) (sym (and_assoc keep (is_storable line.1) (at_key (fold_name p) c)))
+-- a channel's key is not that of a nick
+query_apart : (k q : List ℕ) (b : Bool) → at_key k q ≡ b → is_channel k ≡ true → is_query_name q ≡ true → b ≡ false
+query_apart k q true e c n = sym c ∙ (ap is_channel (at_key-eq k q e) ∙ query-key q n)
+query_apart k q false e c n = refl
 
-stored-is : (s : Settings) (earlier : List Command) (x : Command) (c : List ℕ) → IsChannelOf s c
-    → stored s (fold_name c) earlier x ≡ stores (keeps s (attached s earlier)) c (said (attached s earlier) s.nick x)
+query_for : (k : List ℕ) (own : List ℕ) (line : Parts) (b : Bool) → is_query_line own line ≡ b → is_channel k ≡ true → is_for k (if b then Some (source line) else None) ≡ false
+query_for k own line true e c = query_apart k (source line) (at_key k (source line)) refl c (and_right _ (is_query_name (source line)) e)
+query_for k own line false e c = refl
+
+-- a line for a known channel
+aim-known_by : (cs : List (List ℕ)) (own k : List ℕ) (line : Parts) (storable known : Bool) → is_channel k ≡ true → is_in k cs ≡ true → is_in (fold_name (parameter 1 line)) cs ≡ known
+    → is_for k (if not storable then None else if known then Some (parameter 1 line) else if is_query_line own line then Some (source line) else None) ≡ (storable && at_key k (parameter 1 line))
+aim-known_by cs own k line false known c i e = refl
+aim-known_by cs own k line true true c i e = refl
+aim-known_by cs own k line true false c i e =
+    query_for k own line (is_query_line own line) refl c ∙ sym (key_apart cs k (parameter 1 line) (at_key k (parameter 1 line)) refl i e)
+
+aim-known : (cs : List (List ℕ)) (own k : List ℕ) (line : Parts) → is_channel k ≡ true → is_in k cs ≡ true → is_for k (aim cs own line) ≡ (is_storable line && at_key k (parameter 1 line))
+aim-known cs own k line c i = aim-known_by cs own k line (is_storable line) (is_in (fold_name (parameter 1 line)) cs) c i refl
+
+-- no line is for a channel that is not known
+aim-unknown_by : (cs : List (List ℕ)) (own k : List ℕ) (line : Parts) (storable known : Bool) → is_channel k ≡ true → is_in k cs ≡ false → is_in (fold_name (parameter 1 line)) cs ≡ known
+    → is_for k (if not storable then None else if known then Some (parameter 1 line) else if is_query_line own line then Some (source line) else None) ≡ false
+aim-unknown_by cs own k line false known c i e = refl
+aim-unknown_by cs own k line true true c i e = key_apart_too cs k (parameter 1 line) (at_key k (parameter 1 line)) refl i e
+aim-unknown_by cs own k line true false c i e = query_for k own line (is_query_line own line) refl c
+
+aim-unknown : (cs : List (List ℕ)) (own k : List ℕ) (line : Parts) → is_channel k ≡ true → is_in k cs ≡ false → is_for k (aim cs own line) ≡ false
+aim-unknown cs own k line c i = aim-unknown_by cs own k line (is_storable line) (is_in (fold_name (parameter 1 line)) cs) c i refl
+
+-- a line for a query
+aim-query_by : (cs : List (List ℕ)) (k : List ℕ) (line : Parts) (storable known query : Bool) → is_in k cs ≡ false → is_in (fold_name (parameter 1 line)) cs ≡ known
+    → is_for k (if not storable then None else if known then Some (parameter 1 line) else if query then Some (source line) else None)
+    ≡ is_made_at k (if storable && not known && query then Some (source line) else None)
+aim-query_by cs k line false known query i e = refl
+aim-query_by cs k line true true query i e = key_apart_too cs k (parameter 1 line) (at_key k (parameter 1 line)) refl i e
+aim-query_by cs k line true false true i e = refl
+aim-query_by cs k line true false false i e = refl
+
+aim-query : (cs : List (List ℕ)) (own k : List ℕ) (line : ℕ × Parts) → is_in k cs ≡ false → is_for k (aim cs own line.1) ≡ is_made_at k (query_aim cs own (Some line))
+aim-query cs own k line i = aim-query_by cs k line.1 (is_storable line.1) (is_in (fold_name (parameter 1 (line.1))) cs) (is_query_line own line.1) i refl
+
+-- ---- what is stored
+
+-- the line that is stored in the channel of a key
+abbrev pub channel_stored : Bool → List ℕ → Option (ℕ × Parts) → Option (ℕ × Parts)
+channel_stored keep k None = None
+channel_stored keep k (Some line) = if keep && (is_storable line.1 && at_key k (parameter 1 (line.1))) then Some line else None
+
+stored_channel : (keep : Bool) (cs : List (List ℕ)) (own k : List ℕ) (o : Option (ℕ × Parts)) → is_channel k ≡ true → is_in k cs ≡ true → stored_where keep cs own k o ≡ channel_stored keep k o
+stored_channel keep cs own k None c i = refl
+stored_channel keep cs own k (Some line) c i = ap (λ b. if keep && b then Some line else None) (aim-known cs own k line.1 c i)
+
+-- what is stored in a known channel
+pub stored-channel : (s : Settings) (earlier : List Command) (x : Command) (k : List ℕ) → is_channel k ≡ true → is_in k (channels s earlier) ≡ true
+    → stored s k earlier x ≡ channel_stored (keeps s.clears_channels (attached s earlier) || detached s earlier k) k (said (attached s earlier) (nick s earlier) x)
 unfolding stored
-stored-is s earlier x c channel =
-    rw (channel.key, detached-none s earlier (fold_name c), channels-same s earlier, nick-same s earlier, or_none (not s.clears_channels || is_none_of (attached s earlier)))
-    (stored-is_by (keeps s (attached s earlier)) s.channels c (said (attached s earlier) s.nick x) channel.known)
+stored-channel s earlier x k c i =
+    rw c (stored_channel (keeps s.clears_channels (attached s earlier) || detached s earlier k) (channels s earlier) (nick s earlier) k (said (attached s earlier) (nick s earlier) x) c i)
 
--- what a channel keeps next
-pub kept-channel : (s : Settings) (earlier : List Command) (x : Command) (c : List ℕ) → IsChannelOf s c → kept s (x ∷ earlier) (fold_name c)
-    ≡ next (size_after (attached s earlier) true (fold_name c) (size s (fold_name c) earlier) x) (kept s earlier (fold_name c)) (empties s earlier (attached s earlier) c x) (stores (keeps s (attached s earlier)) c (said (attached s earlier) s.nick x))
-kept-channel s earlier x c channel =
-    kept-next s earlier x (fold_name c)
-    ∙ (ap (λ e. next (size s (fold_name c) (x ∷ earlier)) (kept s earlier (fold_name c)) e (stored s (fold_name c) earlier x)) (emptied-is s earlier x c channel)
-    ∙ (ap (λ o. next (size s (fold_name c) (x ∷ earlier)) (kept s earlier (fold_name c)) (empties s earlier (attached s earlier) c x) o) (stored-is s earlier x c channel)
-    ∙ ap (λ n. next n (kept s earlier (fold_name c)) (empties s earlier (attached s earlier) c x) (stores (keeps s (attached s earlier)) c (said (attached s earlier) s.nick x)))
-    (size-channel s earlier x c channel)))
+and_false : (a : Bool) → (a && false) ≡ false
+and_false true = refl
+and_false false = refl
+
+stored_none : (keep : Bool) (cs : List (List ℕ)) (own k : List ℕ) (o : Option (ℕ × Parts)) → is_channel k ≡ true → is_in k cs ≡ false → stored_where keep cs own k o ≡ None
+stored_none keep cs own k None c i = refl
+stored_none keep cs own k (Some line) c i =
+    ap (λ b. if keep && b then Some line else None) (aim-unknown cs own k line.1 c i) ∙ ap (λ b. if b then Some line else None) (and_false keep)
+
+-- nothing is stored in a channel that is not known
+pub stored-unknown : (s : Settings) (earlier : List Command) (x : Command) (k : List ℕ) → is_channel k ≡ true → is_in k (channels s earlier) ≡ false → stored s k earlier x ≡ None
+unfolding stored
+stored-unknown s earlier x k c i = stored_none _ (channels s earlier) (nick s earlier) k (said (attached s earlier) (nick s earlier) x) c i
+
+-- the line where the test is true
+abbrev pub line_if : Bool → Option (ℕ × Parts) → Option (ℕ × Parts)
+line_if b None = None
+line_if b (Some line) = if b then Some line else None
+
+made_if : (keep : Bool) (k : List ℕ) (m : Option (List ℕ)) → is_made_at k (if keep then m else None) ≡ (keep && is_made_at k m)
+made_if true k m = refl
+made_if false k m = refl
+
+stored_query_at : (keep : Bool) (cs : List (List ℕ)) (own k : List ℕ) (o : Option (ℕ × Parts)) → is_in k cs ≡ false
+    → stored_where keep cs own k o ≡ line_if (is_made_at k (if keep then query_aim cs own o else None)) o
+stored_query_at keep cs own k None i = refl
+stored_query_at keep cs own k (Some line) i =
+    ap (λ b. if keep && b then Some line else None) (aim-query cs own k line i)
+    ∙ ap (λ b. if b then Some line else None) (sym (made_if keep k (query_aim cs own (Some line))))
+
+-- what is stored in a query is stored in the one that the command names
+pub stored-query : (s : Settings) → IsSound s → (earlier : List Command) (x : Command) (k : List ℕ) → is_channel k ≡ false
+    → stored s k earlier x ≡ line_if (is_made_at k (stored_query s earlier x)) (said (attached s earlier) (nick s earlier) x)
+unfolding stored stored_query
+stored-query s sound earlier x k c =
+    rw (c, or_none (not s.clears_queries || is_none_of (attached s earlier)))
+    (stored_query_at (not s.clears_queries || is_none_of (attached s earlier)) (channels s earlier) (nick s earlier) k (said (attached s earlier) (nick s earlier) x) (not_a_channel s sound earlier k c))
+
+-- ---- lines of other commands
+
+pub other_command : (word other : List ℕ) (line : Parts) → has_command word line ≡ true → same_bytes word other ≡ false → has_command other line ≡ false
+other_command word other line e f = ap (λ c. same_bytes c other) (same_bytes-eq line.command word e) ∙ f
+
+-- a line of another command than PRIVMSG and NOTICE is not stored
+pub not_storable : (word : List ℕ) (line : Parts) → has_command word line ≡ true → same_bytes word (codes "PRIVMSG") ≡ false → same_bytes word (codes "NOTICE") ≡ false → is_storable line ≡ false
+not_storable word line e f g = rw (other_command word (codes "PRIVMSG") line e f, other_command word (codes "NOTICE") line e g) refl

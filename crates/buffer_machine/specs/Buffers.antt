@@ -1,16 +1,20 @@
 -- What is so of the buffers after the commands that came. A history is the list of these commands, the newest first.
 -- Each is a recursion of its own over the history: one step from what was so before the newest command.
-use Rattle.std.specs.Prelude.{ℕ, Bool, false, not, ◌&&◌, ◌||◌, if◌then◌else◌, ◌==◌, nat_lt, nat_le, max, List, [], ◌∷◌, ◌++◌, Option, Some, None, filter, find, unwrap_or}
+-- What is so of a target goes by its key, a folded name.
+use Rattle.std.specs.Prelude.{ℕ, Bool, true, false, not, ◌&&◌, ◌||◌, if◌then◌else◌, ◌==◌, nat_lt, nat_le, max, List, [], ◌∷◌, ◌++◌, Option, Some, None, filter, find, unwrap_or, codes}
 use Rattle.irc_line.specs.Names.{fold_name, is_channel}
+use Rattle.irc_line.specs.Keys.{at_key, is_in, put_in}
 use Rattle.irc_line.specs.Lines.{Parts}
 use Rattle.buffer_lines.specs.Keeping.{kept as kept_lines}
 use Rattle.buffer_lines.specs.Stamps.{parameter, framed}
+use Rattle.buffer_targets.specs.Targets.{newest}
 use Rattle.wire_bytes.specs.declared.origin.Origin.{Origin}
-use Rattle.buffer_machine.specs.Settings.{Settings}
-use Rattle.buffer_machine.specs.Messages.{at_key, is_in, is_among, is_none_of, is_storable, own_said, same_origin}
-use Rattle.buffer_machine.specs.declared.command.Action.TheVariants.{Attach, Leave, Say, Play, Clear, ClearChannels, ClearQueries, ClearAll, SetBuffer}
-use Rattle.buffer_machine.specs.declared.command.Command.{Command}
-use Rattle.buffer_machine.specs.declared.command.Command.TheVariants.{Client, Upstream, NodeGone, Down}
+use Rattle.buffer_commands.specs.Settings.{Settings}
+use Rattle.buffer_commands.specs.declared.command.Action.{Action}
+use Rattle.buffer_commands.specs.declared.command.Action.TheVariants.{Attach, Leave, Say, Join, Part, Detach, Reattach, Play, Clear, ClearChannels, ClearQueries, ClearAll, SetBuffer}
+use Rattle.buffer_commands.specs.declared.command.Command.{Command}
+use Rattle.buffer_commands.specs.declared.command.Command.TheVariants.{Client, Upstream, NodeGone, Down}
+use Rattle.buffer_machine.specs.Messages.{is_among, is_none_of, is_storable, is_own, is_own_kick, is_new_nick, is_query_line, source, own_said, same_origin}
 
 -- Who is attached
 
@@ -22,6 +26,10 @@ floor_after was node _ = was
 unfoldable pub floor : List Command → ℕ → ℕ
 floor [] node = 0
 floor (x ∷ earlier) node = floor_after (floor earlier node) node x
+
+abbrev pub is_attach : Action → Bool
+is_attach Attach = true
+is_attach _ = false
 
 -- an Attach is taken where its origin is not attached and its boot is not below its node's floor
 abbrev pub can_attach : ℕ → List Origin → Origin → Bool
@@ -43,21 +51,142 @@ unfoldable pub attached : Settings → List Command → List Origin
 attached s [] = []
 attached s (x ∷ earlier) = attached_after s.many_clients (floor earlier) (attached s earlier) x
 
--- Names and channels
+-- The own nick
 
--- the own nick, which no command changes yet
+abbrev pub nick_after : List ℕ → Command → List ℕ
+nick_after was (Upstream at line) = if is_new_nick was line then parameter 1 line else was
+nick_after was _ = was
+
+-- the setup's, until the server's welcome or a change of it
 unfoldable pub nick : Settings → List Command → List ℕ
 nick s [] = s.nick
-nick s (x ∷ earlier) = nick s earlier
+nick s (x ∷ earlier) = nick_after (nick s earlier) x
 
--- the channels that stand, by the spelling of their making; no command makes or removes one yet
+-- Channels
+
+-- a line by the own nick, with this command, that names the channel of this key
+abbrev pub is_own_at : List ℕ → List ℕ → List ℕ → Parts → Bool
+is_own_at word nick c line = is_own word nick line && at_key c (parameter 1 line)
+
+-- JOIN by the own nick joins a channel; PART by it, a KICK of it and the end of the upstream leave one
+abbrev pub joined_after : List ℕ → List ℕ → Bool → Command → Bool
+joined_after nick c was (Upstream at line) =
+    (was || is_own_at (codes "JOIN") nick c line) && not (is_own_at (codes "PART") nick c line) && not (is_own_kick nick line && at_key c (parameter 1 line))
+joined_after nick c was Down = false
+joined_after nick c was _ = was
+
+-- whether the own nick is in a channel
+unfoldable pub joined : Settings → List Command → List ℕ → Bool
+joined s [] c = false
+joined s (x ∷ earlier) c = joined_after (nick s earlier) c (joined s earlier c) x
+
+abbrev pub removes : List Origin → List ℕ → Bool → List ℕ → Command → Bool
+removes attached nick joined c (Client o at (Part d)) = is_among o attached && at_key c d && not joined
+removes attached nick joined c (Upstream at line) = is_own_at (codes "PART") nick c line
+removes attached nick joined c _ = false
+
+-- whether a command removes a channel, where it is known: a client's Part of one that is not joined, or PART by the own nick
+unfoldable pub is_removed : Settings → List Command → List ℕ → Command → Bool
+is_removed s earlier c x = removes (attached s earlier) (nick s earlier) (joined s earlier c) c x
+
+-- JOIN by the own nick makes a channel
+abbrev pub made_by : List ℕ → Command → Option (List ℕ)
+made_by nick (Upstream at line) = if is_own (codes "JOIN") nick line then Some (parameter 1 line) else None
+made_by nick _ = None
+
+-- one name more, where none of its key is there
+abbrev pub with_made : Option (List ℕ) → List (List ℕ) → List (List ℕ)
+with_made None names = names
+with_made (Some c) names = if is_in (fold_name c) names then names else put_in c names
+
+-- the channels that were made and not removed, by the spelling of their making, in order of their keys
 unfoldable pub channels : Settings → List Command → List (List ℕ)
 channels s [] = s.channels
-channels s (x ∷ earlier) = channels s earlier
+channels s (x ∷ earlier) =
+    filter (λ c. not (is_removed s earlier (fold_name c) x)) (with_made (made_by (nick s earlier) x) (channels s earlier))
+
+abbrev pub detached_after : List Origin → Bool → List ℕ → Bool → Command → Bool
+detached_after attached known c was (Client o at (Detach d)) = was || (is_among o attached && known && at_key c d)
+detached_after attached known c was (Client o at (Reattach d)) = was && not (is_among o attached && at_key c d)
+detached_after attached known c was (Client o at (Join d)) = was && not (is_among o attached && at_key c d)
+detached_after attached known c was _ = was
+
+-- whether a channel is detached: shown to no client, and kept for later
+unfoldable pub detached : Settings → List Command → List ℕ → Bool
+detached s [] c = false
+detached s (x ∷ earlier) c =
+    detached_after (attached s earlier) (is_in c (channels s earlier)) c (detached s earlier c) x && not (is_removed s earlier c x)
+
+-- What is stored
+
+-- the line that a command says, with its moment
+abbrev pub said : List Origin → List ℕ → Command → Option (ℕ × Parts)
+said attached nick (Client o at (Say verb target text)) =
+    if is_among o attached && is_channel target then Some (at, own_said nick verb target text) else None
+said attached nick (Upstream at line) = Some (at, line)
+said attached nick _ = None
+
+-- the target that a line is for: a known channel, or the query of one who writes to the own nick
+abbrev pub aim : List (List ℕ) → List ℕ → Parts → Option (List ℕ)
+aim channels nick line =
+    if not (is_storable line)
+    then None
+    else
+    if is_in (fold_name (parameter 1 line)) channels
+    then Some (parameter 1 line)
+    else
+    if is_query_line nick line then Some (source line) else None
+
+abbrev pub is_for : List ℕ → Option (List ℕ) → Bool
+is_for t None = false
+is_for t (Some name) = at_key t name
+
+-- whether a target is emptied where it is played
+abbrev pub clears : Settings → List ℕ → Bool
+clears s t = if is_channel t then s.clears_channels else s.clears_queries
+
+abbrev pub stored_where : Bool → List (List ℕ) → List ℕ → List ℕ → Option (ℕ × Parts) → Option (ℕ × Parts)
+stored_where keeps channels nick t None = None
+stored_where keeps channels nick t (Some line) = if keeps && is_for t (aim channels nick line.1) then Some line else None
+
+-- the one line that a command adds to a target: where playing does not empty it, or nobody is attached, or it is detached
+unfoldable pub stored : Settings → List ℕ → List Command → Command → Option (ℕ × Parts)
+stored s t earlier x =
+    let os = attached s earlier in
+    let own = nick s earlier in
+    stored_where (not (clears s t) || is_none_of os || (is_channel t && detached s earlier t)) (channels s earlier) own t (said os own x)
+
+-- Queries
+
+-- the query that a line is for
+abbrev pub query_aim : List (List ℕ) → List ℕ → Option (ℕ × Parts) → Option (List ℕ)
+query_aim channels nick None = None
+query_aim channels nick (Some line) =
+    if is_storable line.1 && not (is_in (fold_name (parameter 1 (line.1))) channels) && is_query_line nick line.1 then Some (source line.1) else None
+
+-- the query that a command stores a line in
+unfoldable pub stored_query : Settings → List Command → Command → Option (List ℕ)
+stored_query s earlier x =
+    let os = attached s earlier in
+    let own = nick s earlier in
+    if not s.clears_queries || is_none_of os then query_aim (channels s earlier) own (said os own x) else None
+
+-- one name more at the end, where none of its key is there
+abbrev pub with_new : Option (List ℕ) → List (List ℕ) → List (List ℕ)
+with_new None names = names
+with_new (Some c) names = if is_in (fold_name c) names then names else names ++ c ∷ []
+
+-- the queries that were made, each by its first stored line, and not removed, in order of making; past the most that there
+-- may be, the oldest made goes
+unfoldable pub queries : Settings → List Command → List (List ℕ)
+queries s [] = []
+queries s (x ∷ earlier) = newest s.most_queries (with_new (stored_query s earlier x) (queries s earlier))
+
+-- Targets
 
 -- what lines are kept of
 unfoldable pub targets : Settings → List Command → List (List ℕ)
-targets s history = channels s history
+targets s history = channels s history ++ queries s history
 
 unfoldable pub is_known : Settings → List Command → List ℕ → Bool
 is_known s history t = is_in t (targets s history)
@@ -66,20 +195,12 @@ is_known s history t = is_in t (targets s history)
 unfoldable pub made_as : Settings → List Command → List ℕ → List ℕ
 made_as s history t = unwrap_or (find (at_key t) (targets s history)) t
 
--- where there is no upstream, no channel is joined
-abbrev pub joined_after : Bool → Command → Bool
-joined_after was Down = false
-joined_after was _ = was
+-- whether a command removes a query: it makes another for which there is no room
+unfoldable pub is_pushed_out : Settings → List Command → List ℕ → Command → Bool
+is_pushed_out s earlier t x = is_in t (queries s earlier) && not (is_in t (queries s (x ∷ earlier)))
 
--- whether a channel is joined; no command joins one yet
-unfoldable pub joined : Settings → List Command → List ℕ → Bool
-joined s [] c = false
-joined s (x ∷ earlier) c = joined_after (joined s earlier c) x
-
--- whether a channel is detached; no command detaches one yet
-unfoldable pub detached : Settings → List Command → List ℕ → Bool
-detached s [] c = false
-detached s (x ∷ earlier) c = detached s earlier c
+unfoldable pub removes_target : Settings → List Command → List ℕ → Command → Bool
+removes_target s earlier t x = if is_channel t then is_removed s earlier t x else is_pushed_out s earlier t x
 
 abbrev pub first_size : Settings → List ℕ → ℕ
 first_size s t = if is_channel t then s.channel_size else s.query_size
@@ -93,45 +214,18 @@ size_after attached known t was (Client o at (SetBuffer u n)) =
     if is_among o attached && not (is_past n) && known && at_key t u then n else was
 size_after attached known t was _ = was
 
--- how many lines a target keeps: the last size that was set
+-- how many lines a target keeps: the last size that was set since it was made
 unfoldable pub size : Settings → List ℕ → List Command → ℕ
 size s t [] = first_size s t
-size s t (x ∷ earlier) = size_after (attached s earlier) (is_known s earlier t) t (size s t earlier) x
+size s t (x ∷ earlier) =
+    if removes_target s earlier t x then first_size s t else size_after (attached s earlier) (is_known s earlier t) t (size s t earlier) x
 
--- What is stored and kept
-
--- the line that a command says, with its moment
-abbrev pub said : List Origin → List ℕ → Command → Option (ℕ × Parts)
-said attached nick (Client o at (Say verb target text)) =
-    if is_among o attached && is_channel target then Some (at, own_said nick verb target text) else None
-said attached nick (Upstream at line) = Some (at, line)
-said attached nick _ = None
-
--- the target that a line is for
-abbrev pub aim : List (List ℕ) → Parts → Option (List ℕ)
-aim channels line =
-    if is_storable line && is_in (fold_name (parameter 1 line)) channels then Some (parameter 1 line) else None
-
-abbrev pub is_for : List ℕ → Option (List ℕ) → Bool
-is_for t None = false
-is_for t (Some name) = at_key t name
-
--- whether a target is emptied where it is played
-abbrev pub clears : Settings → List ℕ → Bool
-clears s t = if is_channel t then s.clears_channels else s.clears_queries
-
-abbrev pub stored_where : Bool → List (List ℕ) → List ℕ → Option (ℕ × Parts) → Option (ℕ × Parts)
-stored_where keeps channels t None = None
-stored_where keeps channels t (Some line) = if keeps && is_for t (aim channels line.1) then Some line else None
-
--- the one line that a command adds to a target: where playing does not empty it, or nobody is attached, or it is detached
-unfoldable pub stored : Settings → List ℕ → List Command → Command → Option (ℕ × Parts)
-stored s t earlier x =
-    let os = attached s earlier in
-    stored_where (not (clears s t) || is_none_of os || (is_channel t && detached s earlier t)) (channels s earlier) t (said os (nick s earlier) x)
+-- What is kept
 
 abbrev pub plays : Bool → List Origin → Bool → List ℕ → Bool → Command → Bool
 plays taken attached detached t known (Client o at Attach) = taken && known && not detached
+plays taken attached detached t known (Client o at (Reattach c)) = is_among o attached && known && detached && at_key t c
+plays taken attached detached t known (Client o at (Join c)) = is_among o attached && known && detached && at_key t c
 plays taken attached detached t known (Client o at (Play u)) = is_among o attached && known && at_key t u
 plays taken attached detached t known _ = false
 
@@ -143,12 +237,13 @@ is_cleared attached channel t known (Client o at ClearQueries) = is_among o atta
 is_cleared attached channel t known (Client o at ClearAll) = is_among o attached
 is_cleared attached channel t known _ = false
 
--- whether a command empties a target: it clears it, or it plays it and playing empties it
+-- whether a command empties a target: it clears it, or it plays it and playing empties it, or it removes it
 unfoldable pub emptied : Settings → List ℕ → List Command → Command → Bool
 emptied s t earlier x =
     let os = attached s earlier in
     is_cleared os (is_channel t) t (is_known s earlier t) x
     || (clears s t && plays (is_taken (floor earlier) os x) os (is_channel t && detached s earlier t) t (is_known s earlier t) x)
+    || removes_target s earlier t x
 
 -- the lines that a target keeps, the oldest first
 unfoldable pub kept : Settings → List Command → List ℕ → List (ℕ × Parts)

@@ -1,10 +1,6 @@
-pub mod Settings
 pub mod Messages
 pub mod Buffers
 pub mod Effects
-pub mod Targets
-pub mod Steps
 pub mod Held
-pub mod Spellings
-pub mod CommandCodec
+pub mod Steps
 pub mod Machine

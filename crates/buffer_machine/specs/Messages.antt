@@ -1,19 +1,14 @@
--- Names as keys, origins, and the parts of a line that the buffers look at.
-use Rattle.std.specs.Prelude.{ℕ, Bool, true, false, not, ◌&&◌, ◌||◌, if◌then◌else◌, ◌==◌, nat_le, List, [], ◌∷◌, ◌++◌, length, None, codes}
-use Rattle.std.specs.List.{list_any}
-use Rattle.irc_line.specs.Names.{fold_name, same_bytes, first_is, is_channel}
-use Rattle.irc_line.specs.Lines.{Parts, spelling}
+-- Origins, and the parts of a line that the buffers look at.
+use Rattle.std.specs.Prelude.{ℕ, Bool, true, false, not, ◌&&◌, ◌||◌, if◌then◌else◌, ◌==◌, List, [], ◌∷◌, ◌++◌, length, None, is_some, unwrap_or, codes}
+use Rattle.std.specs.List.{list_any, take_while}
+use Rattle.irc_line.specs.Names.{same_bytes, same_name, first_is, is_name, is_channel}
+use Rattle.irc_line.specs.Lines.{Parts}
 use Rattle.buffer_lines.specs.Stamps.{begins_with, action_mark, line_of, parameter}
 use Rattle.wire_bytes.specs.declared.origin.Origin.{Origin}
-use Rattle.buffer_machine.specs.declared.command.Verb.{Verb}
-use Rattle.buffer_machine.specs.declared.command.Verb.TheVariants.{Privmsg, Notice}
-
--- a key is a folded name: what is so of a target goes by its key
-unfoldable pub at_key : List ℕ → List ℕ → Bool
-at_key k name = same_bytes k (fold_name name)
-
-abbrev pub is_in : List ℕ → List (List ℕ) → Bool
-is_in k names = list_any (at_key k) names
+use Rattle.buffer_commands.specs.declared.command.Verb.{Verb}
+use Rattle.buffer_commands.specs.declared.command.Verb.TheVariants.{Privmsg, Notice}
+use Rattle.buffer_machine.specs.declared.message.ChannelWord.{ChannelWord}
+use Rattle.buffer_machine.specs.declared.message.ChannelWord.TheVariants.{Join, Part, Names}
 
 abbrev pub same_origin : Origin → Origin → Bool
 same_origin a b = a.0 == b.0 && a.1 == b.1 && a.2 == b.2
@@ -39,23 +34,52 @@ is_plain_or_action text = not (first_is 1 text) || begins_with text action_mark
 abbrev pub is_storable : Parts → Bool
 is_storable line = is_message line && length line.parameters == 2 && is_plain_or_action (parameter 2 line)
 
--- the place, from 1, of the parameter that is a line's channel; 0 where it names none
-abbrev pub channel_place : Parts → ℕ
-channel_place line =
-    if list_any (λ w. has_command w line) (codes "JOIN" ∷ codes "PART" ∷ codes "KICK" ∷ codes "TOPIC" ∷ codes "MODE" ∷ codes "PRIVMSG" ∷ codes "NOTICE" ∷ [])
-    then 1
-    else
-    if list_any (λ w. has_command w line) (codes "332" ∷ codes "366" ∷ codes "403" ∷ [])
-    then 2
-    else
-    if has_command (codes "353") line then 3 else 0
+-- the part of a prefix before its first `!`
+abbrev pub source : Parts → List ℕ
+source line = take_while (λ b. not (b == 33)) (unwrap_or line.prefix [])
 
+-- a line by this nick
+abbrev pub is_by : List ℕ → Parts → Bool
+is_by nick line = is_some line.prefix && same_name (source line) nick
+
+-- a line by this nick that has this command and names a channel
+abbrev pub is_own : List ℕ → List ℕ → Parts → Bool
+is_own word nick line = has_command word line && is_by nick line && is_channel (parameter 1 line)
+
+-- a line that puts this nick out of a channel
+abbrev pub is_own_kick : List ℕ → Parts → Bool
+is_own_kick nick line = has_command (codes "KICK") line && same_name nick (parameter 2 line) && is_channel (parameter 1 line)
+
+-- a line that gives this nick another: the server's welcome, or a change of the nick's own
+abbrev pub is_new_nick : List ℕ → Parts → Bool
+is_new_nick nick line = is_name (parameter 1 line) && (has_command (codes "001") line || (has_command (codes "NICK") line && is_by nick line))
+
+abbrev pub is_query_name : List ℕ → Bool
+is_query_name name = is_name name && not (is_channel name)
+
+-- a message to this nick from one who may have a query
+abbrev pub is_query_line : List ℕ → Parts → Bool
+is_query_line nick line = has_command (codes "PRIVMSG") line && is_some line.prefix && same_name nick (parameter 1 line) && is_query_name (source line)
+
+-- a line whose first parameter is its channel
+abbrev pub names_first : Parts → Bool
+names_first line =
+    list_any (λ w. has_command w line) (codes "JOIN" ∷ codes "PART" ∷ codes "KICK" ∷ codes "TOPIC" ∷ codes "MODE" ∷ codes "PRIVMSG" ∷ codes "NOTICE" ∷ [])
+
+-- a line whose second parameter is its channel
+abbrev pub names_second : Parts → Bool
+names_second line = list_any (λ w. has_command w line) (codes "332" ∷ codes "366" ∷ codes "403" ∷ [])
+
+-- the channel that a line names, whatever stands there; no bytes where its command names none
 abbrev pub channel_of : Parts → List ℕ
-channel_of line = if channel_place line == 0 then [] else parameter (channel_place line) line
-
--- what is taken from upstream: a message to a channel, of at most 511 bytes
-abbrev pub is_taken_line : Parts → Bool
-is_taken_line line = nat_le (length (spelling line)) 511 && is_message line && is_channel (parameter 1 line)
+channel_of line =
+    if names_first line
+    then parameter 1 line
+    else
+    if names_second line
+    then parameter 2 line
+    else
+    if has_command (codes "353") line then parameter 3 line else []
 
 -- a line with no prefix
 abbrev pub bare : List ℕ → List (List ℕ) → Parts
@@ -74,3 +98,9 @@ verb_word Notice = codes "NOTICE"
 -- what a client says, as the others see it
 abbrev pub own_said : List ℕ → Verb → List ℕ → List ℕ → Parts
 own_said nick verb target text = line_of (own_prefix nick) (verb_word verb) (target ∷ text ∷ [])
+
+-- a command about a channel
+abbrev pub word_bytes : ChannelWord → List ℕ
+word_bytes Join = codes "JOIN"
+word_bytes Part = codes "PART"
+word_bytes Names = codes "NAMES"

@@ -1,24 +1,24 @@
--- One step of the machine, on the floors, the clients and the targets that it holds.
-use Rattle.std.specs.Prelude.{◌≡◌, ℕ, ◌<◌, Bool, true, not, ◌&&◌, ◌||◌, if◌then◌else◌, nat_lt, max, List, [], ◌∷◌, ◌++◌, length, map, Option, Some, None, filter, flat_map, codes, slice_index, slice_set, ⊤}
+-- One step of the machine, on what it holds: what it holds next, and what it answers.
+use Rattle.std.specs.Prelude.{ℕ, ◌<◌, Bool, true, false, not, ◌&&◌, ◌||◌, if◌then◌else◌, nat_lt, max, List, [], ◌∷◌, ◌++◌, length, map, Option, Some, None, is_some, filter, flat_map, codes, slice_index, slice_set, ⊤}
 use Rattle.irc_line.specs.Names.{fold_name, is_channel}
 use Rattle.irc_line.specs.Lines.{Parts}
+use Rattle.buffer_lines.specs.Stamps.{framed, parameter, ring}
+use Rattle.buffer_targets.specs.Targets.{ChannelLines, TargetLines, channel, target, cleared, resized, pushed, over, with_joined, with_detached, at_channel, channel_of_key, joined_by, without_channel, open_cleared, at_query, query_of_key, query_stored}
 use Rattle.wire_bytes.specs.declared.origin.Origin.{Origin}
-use Rattle.buffer_machine.specs.Settings.{Settings}
-use Rattle.buffer_machine.specs.Messages.{is_among, is_none_of, same_origin, is_storable, is_taken_line, has_command, bare, own_said, verb_word}
-use Rattle.buffer_machine.specs.Buffers.{can_attach, is_past}
-use Rattle.buffer_machine.specs.Effects.{show_all, status}
-use Rattle.buffer_machine.specs.Targets.{TargetLines, played, cleared, cleared_at, sized_at, stored_in, found}
-use Rattle.buffer_machine.specs.declared.command.Verb.{Verb}
-use Rattle.buffer_machine.specs.declared.command.Action.TheVariants.{Attach, Leave, Say, Play, Clear, ClearChannels, ClearQueries, ClearAll, SetBuffer, Pass}
-use Rattle.buffer_machine.specs.declared.command.Command.{Command}
-use Rattle.buffer_machine.specs.declared.command.Command.TheVariants.{Client, Upstream, NodeGone, Up, Down}
-use Rattle.buffer_machine.specs.declared.effect.Effect.{Effect}
-use Rattle.buffer_machine.specs.declared.effect.Effect.TheVariants.{Close, Send, Rejoin}
+use Rattle.buffer_commands.specs.Settings.{Settings}
+use Rattle.buffer_commands.specs.declared.command.Action.TheVariants.{Attach, Leave, Say, Join, Part, Detach, Reattach, Play, Clear, ClearChannels, ClearQueries, ClearAll, SetBuffer, Pass}
+use Rattle.buffer_commands.specs.declared.command.Command.{Command}
+use Rattle.buffer_commands.specs.declared.command.Command.TheVariants.{Client, Upstream, NodeGone, Up, Down}
+use Rattle.buffer_commands.specs.declared.effect.Effect.{Effect}
+use Rattle.buffer_commands.specs.declared.effect.Effect.TheVariants.{Close, Send, Rejoin}
+use Rattle.buffer_machine.specs.Messages.{is_among, is_none_of, same_origin, is_storable, is_own, is_own_kick, is_query_line, source, has_command, channel_of, bare, own_line, own_said, verb_word}
+use Rattle.buffer_machine.specs.Buffers.{attached_after, can_attach, is_past, nick_after, said}
+use Rattle.buffer_machine.specs.Effects.{if_some, show_all, show_each, status}
+use Rattle.buffer_machine.specs.Held.{Held, holding}
 
--- what the types of a command keep: its node is one of 1 to 7, its line one that is taken
+-- what the types of a command keep: its client's node is one of 1 to 7
 abbrev pub IsWithinLimits : Command → Type 0
 IsWithinLimits (Client o at action) = o.0 < 8
-IsWithinLimits (Upstream at line) = is_taken_line line ≡ true
 IsWithinLimits _ = ⊤
 
 -- a node's floor, raised to at least this one
@@ -34,135 +34,257 @@ abbrev pub floor_for : List ℕ → Command → ℕ
 floor_for floors (Client o at action) = slice_index floors o.0
 floor_for floors _ = 0
 
--- where a client asks that is not attached, it is closed
+-- What is kept next
+
+-- whether a target of this option keeps what comes now: playing does not empty it, or nobody is attached
+abbrev pub keeps : Bool → List Origin → Bool
+keeps clears os = not clears || is_none_of os
+
+abbrev pub is_detached : Option ChannelLines → Bool
+is_detached None = false
+is_detached (Some c) = c.detached
+
+abbrev pub is_joined : Option ChannelLines → Bool
+is_joined None = false
+is_joined (Some c) = c.joined
+
+-- a line pushed to the channel that it is for, where that keeps lines now or is detached
+abbrev pub channels_storing : Settings → Held → Option (ℕ × Parts) → List ChannelLines
+channels_storing s h None = h.channels
+channels_storing s h (Some line) =
+    if is_storable line.1
+    then
+    (if keeps s.clears_channels h.clients || is_detached (channel_of_key (fold_name (parameter 1 (line.1))) h.channels)
+    then at_channel (fold_name (parameter 1 (line.1))) (over (pushed line)) h.channels else h.channels)
+    else h.channels
+
+-- a line is stored in a query where it is for no channel that is known
+abbrev pub queries_storing : Settings → Held → Option (ℕ × Parts) → List TargetLines
+queries_storing s h None = h.queries
+queries_storing s h (Some line) =
+    if is_storable line.1 && not (is_some (channel_of_key (fold_name (parameter 1 (line.1))) h.channels)) && keeps s.clears_queries h.clients && is_query_line h.nick line.1
+    then query_stored s.most_queries s.query_size (source line.1) line h.queries
+    else h.queries
+
+-- a line stored, if there is one
+abbrev pub storing : Settings → Held → Option (ℕ × Parts) → Held
+storing s h line = holding h.nick h.clients (channels_storing s h line) (queries_storing s h line)
+
+-- the channel of a key that is detached, attached again and played
+abbrev pub attached_again : Bool → List ℕ → List ChannelLines → Option ChannelLines → List ChannelLines
+attached_again clears key cs found =
+    if not (is_detached found)
+    then cs
+    else
+    if clears then at_channel key (over cleared) (at_channel key (with_detached false) cs) else at_channel key (with_detached false) cs
+
+-- the channel of a key that is not joined, let go
+abbrev pub let_go : List ℕ → List ChannelLines → Option ChannelLines → List ChannelLines
+let_go key cs found = if is_some found && not (is_joined found) then without_channel key cs else cs
+
+-- the target of a key emptied, where playing empties it
+abbrev pub played_out : Settings → List ℕ → Held → Held
+played_out s key h =
+    holding h.nick h.clients (if s.clears_channels then at_channel key (over cleared) h.channels else h.channels) (if s.clears_queries then at_query key cleared h.queries else h.queries)
+
+-- another size for the target of a key, unless it is past what there may be
+abbrev pub sized_unless_past : ℕ → List ℕ → Held → Held
+sized_unless_past n key h =
+    holding h.nick h.clients (if not (is_past n) then at_channel key (over (resized n)) h.channels else h.channels) (if not (is_past n) then at_query key (resized n) h.queries else h.queries)
+
+-- a line from upstream: a JOIN, PART or KICK of the own nick, or any other
+abbrev pub channels_taking : Settings → Held → ℕ → Parts → List ChannelLines
+channels_taking s h at line =
+    if is_own (codes "JOIN") h.nick line
+    then joined_by (parameter 1 line) s.channel_size h.channels
+    else
+    if is_own (codes "PART") h.nick line
+    then without_channel (fold_name (parameter 1 line)) h.channels
+    else
+    if is_own_kick h.nick line then at_channel (fold_name (parameter 1 line)) (with_joined false) h.channels else channels_storing s h (Some (at, line))
+
+abbrev pub channels_after : Settings → ℕ → Held → Command → List ChannelLines
+channels_after s floor h (Client o at Attach) = if can_attach floor h.clients o && s.clears_channels then open_cleared h.channels else h.channels
+channels_after s floor h (Client o at Leave) = h.channels
+channels_after s floor h (Client o at (Say verb name text)) = channels_storing s h (said h.clients h.nick (Client o at (Say verb name text)))
+channels_after s floor h (Client o at (Join c)) =
+    if is_among o h.clients then attached_again s.clears_channels (fold_name c) h.channels (channel_of_key (fold_name c) h.channels) else h.channels
+channels_after s floor h (Client o at (Part c)) =
+    if is_among o h.clients then let_go (fold_name c) h.channels (channel_of_key (fold_name c) h.channels) else h.channels
+channels_after s floor h (Client o at (Detach c)) = if is_among o h.clients then at_channel (fold_name c) (with_detached true) h.channels else h.channels
+channels_after s floor h (Client o at (Reattach c)) =
+    if is_among o h.clients then attached_again s.clears_channels (fold_name c) h.channels (channel_of_key (fold_name c) h.channels) else h.channels
+channels_after s floor h (Client o at (Play t)) =
+    if is_among o h.clients && s.clears_channels then at_channel (fold_name t) (over cleared) h.channels else h.channels
+channels_after s floor h (Client o at (Clear t)) = if is_among o h.clients then at_channel (fold_name t) (over cleared) h.channels else h.channels
+channels_after s floor h (Client o at ClearChannels) = if is_among o h.clients then map (over cleared) h.channels else h.channels
+channels_after s floor h (Client o at ClearQueries) = h.channels
+channels_after s floor h (Client o at ClearAll) = if is_among o h.clients then map (over cleared) h.channels else h.channels
+channels_after s floor h (Client o at (SetBuffer t n)) =
+    if is_among o h.clients && not (is_past n) then at_channel (fold_name t) (over (resized n)) h.channels else h.channels
+channels_after s floor h (Client o at (Pass line)) = h.channels
+channels_after s floor h (Upstream at line) = channels_taking s h at line
+channels_after s floor h (NodeGone node boot) = h.channels
+channels_after s floor h Up = h.channels
+channels_after s floor h Down = map (with_joined false) h.channels
+
+abbrev pub queries_after : Settings → ℕ → Held → Command → List TargetLines
+queries_after s floor h (Client o at Attach) = if can_attach floor h.clients o && s.clears_queries then map cleared h.queries else h.queries
+queries_after s floor h (Client o at Leave) = h.queries
+queries_after s floor h (Client o at (Say verb name text)) = queries_storing s h (said h.clients h.nick (Client o at (Say verb name text)))
+queries_after s floor h (Client o at (Join c)) = h.queries
+queries_after s floor h (Client o at (Part c)) = h.queries
+queries_after s floor h (Client o at (Detach c)) = h.queries
+queries_after s floor h (Client o at (Reattach c)) = h.queries
+queries_after s floor h (Client o at (Play t)) =
+    if is_among o h.clients && s.clears_queries then at_query (fold_name t) cleared h.queries else h.queries
+queries_after s floor h (Client o at (Clear t)) = if is_among o h.clients then at_query (fold_name t) cleared h.queries else h.queries
+queries_after s floor h (Client o at ClearChannels) = h.queries
+queries_after s floor h (Client o at ClearQueries) = if is_among o h.clients then map cleared h.queries else h.queries
+queries_after s floor h (Client o at ClearAll) = if is_among o h.clients then map cleared h.queries else h.queries
+queries_after s floor h (Client o at (SetBuffer t n)) =
+    if is_among o h.clients && not (is_past n) then at_query (fold_name t) (resized n) h.queries else h.queries
+queries_after s floor h (Client o at (Pass line)) = h.queries
+queries_after s floor h (Upstream at line) = queries_storing s h (Some (at, line))
+queries_after s floor h (NodeGone node boot) = h.queries
+queries_after s floor h Up = h.queries
+queries_after s floor h Down = h.queries
+
+-- all that is held next, where this is the floor of the command's client's node
+abbrev pub after : Settings → ℕ → Held → Command → Held
+after s floor h x =
+    holding (nick_after h.nick x) (attached_after s.many_clients (λ _. floor) h.clients x) (channels_after s floor h x) (queries_after s floor h x)
+
+-- What is answered
+
+-- what is played of a target
+abbrev pub played : ℕ → TargetLines → List Parts
+played offset t = framed offset t.name t.lines.lines
+
+-- the target of a key, a channel or a query
+abbrev pub first_some : Option ChannelLines → Option TargetLines → Option TargetLines
+first_some None t = t
+first_some (Some c) t = Some c.target
+
+abbrev pub target_of_key : List ℕ → Held → Option TargetLines
+target_of_key key h = first_some (channel_of_key key h.channels) (query_of_key key h.queries)
+
+abbrev pub played_of : ℕ → Option TargetLines → List Parts
+played_of offset None = []
+played_of offset (Some t) = played offset t
+
+-- a channel by the spelling of its making; as it was asked for, where there is none
+abbrev pub name_of : List ℕ → Option ChannelLines → List ℕ
+name_of asked None = asked
+name_of asked (Some c) = c.target.name
+
+-- an asker that is not attached is closed
 abbrev pub closed_out : Origin → List Origin → List Effect
 closed_out o os = if is_among o os then [] else Close o ∷ []
-
--- a line shown to each of these
-abbrev pub shown_to : List Origin → Parts → List Effect
-shown_to os line = flat_map (λ p. show_all p (line ∷ [])) os
 
 abbrev pub others : Origin → List Origin → List Origin
 others o os = filter (λ p. not (same_origin o p)) os
 
--- whether a line is stored now
-abbrev pub keeps : Settings → List Origin → Bool
-keeps s os = not s.clears_channels || is_none_of os
+-- Attach: the others are closed where one client alone may be attached, and all that is not detached is played
 
-abbrev pub with_stored : Bool → ℕ → Parts → List TargetLines → List TargetLines
-with_stored keeps at line ts = if keeps && is_storable line then map (stored_in at line) ts else ts
+abbrev pub shown_at_attach : ℕ → List ℕ → Origin → ChannelLines → List Effect
+shown_at_attach offset nick o c =
+    if c.detached then [] else show_all o (if_some c.joined (own_line nick (codes "JOIN") c.target.name ∷ []) ++ played offset c.target)
 
--- Attach: the others are closed where one client alone may be attached, and all targets are played
+abbrev pub sent_at_attach : Origin → ChannelLines → List Effect
+sent_at_attach o c = if not c.detached && c.joined then Send o (bare (codes "NAMES") (c.target.name ∷ [])) ∷ [] else []
 
-abbrev pub clients_attaching : Bool → ℕ → List Origin → Origin → List Origin
-clients_attaching many floor os o = if can_attach floor os o then ((if many then os else []) ++ o ∷ []) else os
+abbrev pub answers_attaching : Settings → ℕ → Held → Origin → List Effect
+answers_attaching s floor h o =
+    if can_attach floor h.clients o
+    then
+    (if s.many_clients then [] else map Close h.clients)
+    ++ flat_map (shown_at_attach s.offset h.nick o) h.channels
+    ++ flat_map (λ t. show_all o (played s.offset t)) h.queries
+    ++ flat_map (sent_at_attach o) h.channels
+    else closed_out o h.clients
 
-abbrev pub targets_attaching : Settings → ℕ → List Origin → List TargetLines → Origin → List TargetLines
-targets_attaching s floor os ts o = if can_attach floor os o && s.clears_channels then map cleared ts else ts
+-- Say: shown to the others where it is for a channel that is not detached, and sent
+abbrev pub answers_saying : Held → Origin → List ℕ → Parts → List Parts → List Effect
+answers_saying h o name line sent =
+    (if is_channel name && not (is_detached (channel_of_key (fold_name name) h.channels)) then show_each (others o h.clients) (line ∷ []) else [])
+    ++ map (λ l. Send o l) sent
 
-abbrev pub answers_attaching : Settings → ℕ → List Origin → List TargetLines → Origin → List Effect
-answers_attaching s floor os ts o =
-    if can_attach floor os o
-    then (if s.many_clients then [] else map Close os) ++ flat_map (λ t. show_all o (played s.offset t)) ts
-    else closed_out o os
+-- a detached channel is attached again: all are shown it, and it is sent who is in it, or that it is joined
+abbrev pub answers_again : Settings → Held → Origin → ChannelLines → List Effect
+answers_again s h o c =
+    show_each h.clients (own_line h.nick (codes "JOIN") c.target.name ∷ played s.offset c.target)
+    ++ Send o (bare (if c.joined then codes "NAMES" else codes "JOIN") (c.target.name ∷ [])) ∷ []
 
--- Say: to a channel it is stored, and shown to the others
+abbrev pub answers_joining : Settings → Held → Origin → List ℕ → Option ChannelLines → List Effect
+answers_joining s h o name None = Send o (bare (codes "JOIN") (name ∷ [])) ∷ []
+answers_joining s h o name (Some c) =
+    if c.detached
+    then answers_again s h o c
+    else
+    if c.joined then [] else Send o (bare (codes "JOIN") (c.target.name ∷ [])) ∷ []
 
-abbrev pub targets_saying : Settings → List Origin → List TargetLines → Origin → ℕ → Verb → List ℕ → List ℕ → List TargetLines
-targets_saying s os ts o at verb name text =
-    if is_among o os && is_channel name then with_stored (keeps s os) at (own_said s.nick verb name text) ts else ts
+abbrev pub answers_parting : Origin → List ℕ → Option ChannelLines → List Effect
+answers_parting o name None = Send o (bare (codes "PART") (name ∷ [])) ∷ []
+answers_parting o name (Some c) = if c.joined then Send o (bare (codes "PART") (c.target.name ∷ [])) ∷ [] else []
 
-abbrev pub answers_saying : Settings → List Origin → Origin → Verb → List ℕ → List ℕ → List Effect
-answers_saying s os o verb name text =
-    if is_among o os
-    then (if is_channel name then shown_to (others o os) (own_said s.nick verb name text) else []) ++ Send o (bare (verb_word verb) (name ∷ text ∷ [])) ∷ []
-    else Close o ∷ []
+abbrev pub answers_detaching : Held → Origin → Option ChannelLines → List Effect
+answers_detaching h o None = status h.nick o (codes "No such target.")
+answers_detaching h o (Some c) = if c.detached then [] else show_each h.clients (own_line h.nick (codes "PART") c.target.name ∷ [])
 
--- Play: one target is played, or there is none
+abbrev pub answers_reattaching : Settings → Held → Origin → Option ChannelLines → List Effect
+answers_reattaching s h o None = status h.nick o (codes "No such target.")
+answers_reattaching s h o (Some c) = if c.detached then answers_again s h o c else []
 
-abbrev pub targets_playing : Settings → List Origin → List TargetLines → Origin → List ℕ → List TargetLines
-targets_playing s os ts o name = if is_among o os && s.clears_channels then map (cleared_at (fold_name name)) ts else ts
+abbrev pub played_or_status : Settings → Held → Origin → Option TargetLines → List Effect
+played_or_status s h o None = status h.nick o (codes "No such target.")
+played_or_status s h o (Some t) = show_all o (played s.offset t)
 
-abbrev pub played_or_status : Settings → Origin → Option TargetLines → List Effect
-played_or_status s o None = status s.nick o (codes "No such target.")
-played_or_status s o (Some t) = show_all o (played s.offset t)
+abbrev pub done_or_status : Held → Origin → Option TargetLines → List Effect
+done_or_status h o None = status h.nick o (codes "No such target.")
+done_or_status h o (Some t) = status h.nick o (codes "Done.")
 
-abbrev pub answers_playing : Settings → List Origin → List TargetLines → Origin → List ℕ → List Effect
-answers_playing s os ts o name = if is_among o os then played_or_status s o (found (fold_name name) ts) else Close o ∷ []
+abbrev pub answers_sizing : Held → Origin → List ℕ → ℕ → List Effect
+answers_sizing h o t n = if is_past n then status h.nick o (codes "Size is past 500.") else done_or_status h o (target_of_key (fold_name t) h)
 
--- Clear: one target is emptied, or there is none
+-- a line from upstream is shown to all, but the server's welcome, and a line of a channel that is detached
+abbrev pub answers_taking : Held → Parts → List Effect
+answers_taking h line =
+    if not (has_command (codes "001") line || is_detached (channel_of_key (fold_name (channel_of line)) h.channels))
+    then show_each h.clients (line ∷ [])
+    else []
 
-abbrev pub targets_clearing : List Origin → List TargetLines → Origin → List ℕ → List TargetLines
-targets_clearing os ts o name = if is_among o os then map (cleared_at (fold_name name)) ts else ts
+-- each channel is joined again
+abbrev pub rejoins : List ChannelLines → List Effect
+rejoins cs = map (λ c. Rejoin (bare (codes "JOIN") (c.target.name ∷ []))) cs
 
-abbrev pub done_or_status : Settings → Origin → Option TargetLines → List Effect
-done_or_status s o None = status s.nick o (codes "No such target.")
-done_or_status s o (Some t) = status s.nick o (codes "Done.")
+-- where the asker is attached
+abbrev pub if_attached : Origin → Held → List Effect → List Effect
+if_attached o h effects = if is_among o h.clients then effects else Close o ∷ []
 
-abbrev pub answers_clearing : Settings → List Origin → List TargetLines → Origin → List ℕ → List Effect
-answers_clearing s os ts o name = if is_among o os then done_or_status s o (found (fold_name name) ts) else Close o ∷ []
+abbrev pub answers : Settings → ℕ → Held → Command → List Effect
+answers s floor h (Client o at Attach) = answers_attaching s floor h o
+answers s floor h (Client o at Leave) = closed_out o h.clients
+answers s floor h (Client o at (Say verb name text)) =
+    if_attached o h (answers_saying h o name (own_said h.nick verb name text) (bare (verb_word verb) (name ∷ text ∷ []) ∷ []))
+answers s floor h (Client o at (Join c)) = if_attached o h (answers_joining s h o c (channel_of_key (fold_name c) h.channels))
+answers s floor h (Client o at (Part c)) = if_attached o h (answers_parting o c (channel_of_key (fold_name c) h.channels))
+answers s floor h (Client o at (Detach c)) = if_attached o h (answers_detaching h o (channel_of_key (fold_name c) h.channels))
+answers s floor h (Client o at (Reattach c)) = if_attached o h (answers_reattaching s h o (channel_of_key (fold_name c) h.channels))
+answers s floor h (Client o at (Play t)) = if_attached o h (played_or_status s h o (target_of_key (fold_name t) h))
+answers s floor h (Client o at (Clear t)) = if_attached o h (done_or_status h o (target_of_key (fold_name t) h))
+answers s floor h (Client o at ClearChannels) = if_attached o h (status h.nick o (codes "Done."))
+answers s floor h (Client o at ClearQueries) = if_attached o h (status h.nick o (codes "Done."))
+answers s floor h (Client o at ClearAll) = if_attached o h (status h.nick o (codes "Done."))
+answers s floor h (Client o at (SetBuffer t n)) = if_attached o h (answers_sizing h o t n)
+answers s floor h (Client o at (Pass line)) = if_attached o h (Send o line ∷ [])
+answers s floor h (Upstream at line) = answers_taking h line
+answers s floor h (NodeGone node boot) = []
+answers s floor h Up = rejoins h.channels
+answers s floor h Down = []
 
--- ClearChannels and ClearAll: all targets are emptied, for they are channels; ClearQueries: none is
+-- Before any command
 
-abbrev pub targets_clearing_all : List Origin → List TargetLines → Origin → List TargetLines
-targets_clearing_all os ts o = if is_among o os then map cleared ts else ts
-
-abbrev pub answers_clearing_all : Settings → List Origin → Origin → List Effect
-answers_clearing_all s os o = if is_among o os then status s.nick o (codes "Done.") else Close o ∷ []
-
--- SetBuffer: one target has another size, or there is none, or the size is past what there may be
-
-abbrev pub targets_sizing : List Origin → List TargetLines → Origin → List ℕ → ℕ → List TargetLines
-targets_sizing os ts o name n = if is_among o os && not (is_past n) then map (sized_at (fold_name name) n) ts else ts
-
-abbrev pub answers_sizing : Settings → List Origin → List TargetLines → Origin → List ℕ → ℕ → List Effect
-answers_sizing s os ts o name n =
-    if is_among o os
-    then (if is_past n then status s.nick o (codes "Size is past 500.") else done_or_status s o (found (fold_name name) ts))
-    else Close o ∷ []
-
--- Pass: a line is sent as it is
-abbrev pub answers_passing : List Origin → Origin → Parts → List Effect
-answers_passing os o line = if is_among o os then Send o line ∷ [] else Close o ∷ []
-
--- a line from upstream is shown to all, unless it welcomes to the server
-abbrev pub answers_taking : List Origin → Parts → List Effect
-answers_taking os line = if has_command (codes "001") line then [] else shown_to os line
-
--- Up: each channel is joined again
-abbrev pub answers_up : List TargetLines → List Effect
-answers_up ts = map (λ t. Rejoin (bare (codes "JOIN") (t.name ∷ []))) ts
-
--- any command, where this is the floor of its client's node
-
-abbrev pub targets_after : Settings → ℕ → List Origin → List TargetLines → Command → List TargetLines
-targets_after s floor os ts (Client o at Attach) = targets_attaching s floor os ts o
-targets_after s floor os ts (Client o at Leave) = ts
-targets_after s floor os ts (Client o at (Say verb name text)) = targets_saying s os ts o at verb name text
-targets_after s floor os ts (Client o at (Play name)) = targets_playing s os ts o name
-targets_after s floor os ts (Client o at (Clear name)) = targets_clearing os ts o name
-targets_after s floor os ts (Client o at ClearChannels) = targets_clearing_all os ts o
-targets_after s floor os ts (Client o at ClearQueries) = ts
-targets_after s floor os ts (Client o at ClearAll) = targets_clearing_all os ts o
-targets_after s floor os ts (Client o at (SetBuffer name n)) = targets_sizing os ts o name n
-targets_after s floor os ts (Client o at (Pass line)) = ts
-targets_after s floor os ts (Upstream at line) = with_stored (keeps s os) at line ts
-targets_after s floor os ts (NodeGone node boot) = ts
-targets_after s floor os ts Up = ts
-targets_after s floor os ts Down = ts
-
-abbrev pub answers : Settings → ℕ → List Origin → List TargetLines → Command → List Effect
-answers s floor os ts (Client o at Attach) = answers_attaching s floor os ts o
-answers s floor os ts (Client o at Leave) = closed_out o os
-answers s floor os ts (Client o at (Say verb name text)) = answers_saying s os o verb name text
-answers s floor os ts (Client o at (Play name)) = answers_playing s os ts o name
-answers s floor os ts (Client o at (Clear name)) = answers_clearing s os ts o name
-answers s floor os ts (Client o at ClearChannels) = answers_clearing_all s os o
-answers s floor os ts (Client o at ClearQueries) = answers_clearing_all s os o
-answers s floor os ts (Client o at ClearAll) = answers_clearing_all s os o
-answers s floor os ts (Client o at (SetBuffer name n)) = answers_sizing s os ts o name n
-answers s floor os ts (Client o at (Pass line)) = answers_passing os o line
-answers s floor os ts (Upstream at line) = answers_taking os line
-answers s floor os ts (NodeGone node boot) = []
-answers s floor os ts Up = answers_up ts
-answers s floor os ts Down = []
+-- what is held before any command
+abbrev pub beginning : Settings → Held
+beginning s = holding s.nick [] (map (λ c. channel (target c (ring [] s.channel_size)) false false) s.channels) []

@@ -1,29 +1,22 @@
 //! The buffers of a bouncer: who is attached, what is kept for clients that are away, and what each command brings about.
 #![tactic(auto)]
 
-mod buffer_actions;
-mod buffer_size;
+mod answers;
+mod buffers;
+mod changes;
+mod channel_answers;
 mod clients;
-mod command;
-mod effect;
 mod floors;
+mod has_lines;
+mod laws;
+mod lines;
 mod machine;
 mod message;
-mod node_byte;
-mod playing;
-mod setup;
-mod spelling;
-mod steps;
-mod target;
-#[cfg(test)]
-mod tests;
-mod upstream_line;
-mod wire_line;
+mod showing;
+mod step;
 
-pub use buffer_size::BufferSize;
-pub use command::{Action, Command, Verb};
-pub use effect::Effect;
+pub use laws::{
+    a_detached_channel_is_not_shown, no_target_keeps_more_than_its_size, playing_leaves_nothing,
+    who_is_not_attached_changes_nothing,
+};
 pub use machine::BufferMachine;
-pub use setup::Setup;
-pub use upstream_line::UpstreamLine;
-pub use wire_line::WireLine;

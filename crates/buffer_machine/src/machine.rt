@@ -1,34 +1,32 @@
-ghost use Rattle.std.specs.Prelude.{◌≡◌, [], map, IfOk, OnOk};
+ghost use Rattle.std.specs.Prelude.{◌≡◌, map, IfOk, OnOk};
 ghost use Rattle.irc_line.specs.Lines.{spelling};
 ghost use Rattle.irc_line.specs.Names.{fold_name};
-ghost use Rattle.buffer_lines.specs.Stamps.{ring};
 ghost use Rattle.machine_laws.specs.Runs.{History};
-ghost use Rattle.buffer_machine.specs.Buffers.{attached_after, nick, playback};
-ghost use Rattle.buffer_machine.specs.Settings.{Settings};
-ghost use Rattle.buffer_machine.specs.Held.{commands};
-ghost use Rattle.buffer_machine.specs.Steps.{IsWithinLimits, answers, floor_for, floors_after, targets_after};
-ghost use Rattle.buffer_machine.specs.Targets.{found, played_of, target};
+ghost use Rattle.buffer_commands.specs.Settings.{Settings};
+ghost use Rattle.buffer_machine.specs.Buffers.{nick, playback};
+ghost use Rattle.buffer_machine.specs.Held.{IsSound, commands};
+ghost use Rattle.buffer_machine.specs.Machine.{held_of};
+ghost use Rattle.buffer_machine.specs.Steps.{beginning, played_of, target_of_key};
 
-use crate::command::{Action, Command};
-use crate::effect::Effect;
+use crate::answers::target_at;
+use crate::buffers::Buffers;
 use crate::floors::Floors;
-use crate::playing::target_at;
-use crate::setup::Setup;
-use crate::steps::step;
-use crate::target::Target;
+use crate::step::step;
+use buffer_commands::{Action, Command, Effect, Setup};
 use buffer_lines::{Offset, Shown};
-use irc_line::{Name, fold_name};
+use buffer_targets::{Channels, Queries};
+use irc_line::Name;
 use machine_laws::{ApplyFault, HasClients, Machine};
 use std::alloc::{AllocError, Global};
 use wire_bytes::{Copied, Moment, Number, Origin};
 
-/// The buffers of a bouncer: which clients are attached, and what each channel keeps for those that are away.
+/// The buffers of a bouncer: the own nick, which clients are attached, and what each channel and query keeps for those that
+/// are away.
 #[derive(Drop)]
 pub struct BufferMachine {
     setup: Setup,
     floors: Floors,
-    clients: Vec<Origin>,
-    targets: Vec<Target>,
+    buffers: Buffers,
     spoilt: bool,
 }
 
@@ -39,29 +37,28 @@ impl BufferMachine {
     pub fn playback(&self, alloc: Global, target: &Name) -> Result<Vec<Shown>, AllocError>
         ensures { (s : Settings) (history : History Command) → Stands self.now s history → IfOk result (λ v. v.items ≡ map spelling (playback s (commands history) (fold_name target.now))) }
     {
-        let key = fold_name(alloc, target.as_bytes())?;
-        played_at(alloc, self.setup.offset(), &self.targets, &key)
+        played_at(alloc, self.setup.offset(), &self.buffers, target)
     }
 
     /// The own nick.
     pub fn nick(&self) -> &Name
         ensures { (s : Settings) (history : History Command) → Stands self.now s history → result.now ≡ nick s (commands history) }
     {
-        self.setup.nick()
+        &self.buffers.nick
     }
 }
 
-/// What is played of the target of a key.
+/// What is played of the target of a name.
 fn played_at(
     alloc: Global,
     offset: Offset,
-    targets: &[Target],
-    key: &[u8],
+    buffers: &Buffers,
+    name: &Name,
 ) -> Result<Vec<Shown>, AllocError>
-    ensures { IfOk result (λ v. v.items ≡ map spelling (played_of offset (found key.now targets.now))) }
+    ensures { IfOk result (λ v. v.items ≡ map spelling (played_of offset (target_of_key (fold_name name.now) (held_of buffers.now)))) }
 {
-    match target_at(targets, key) {
-        Some(target) => target.lines().play(alloc, offset, target.name()),
+    match target_at(buffers, alloc, name)? {
+        Some(target) => target.lines().play(alloc, offset, target.name().as_bytes()),
         None => Ok(Vec::new(alloc)),
     }
 }
@@ -82,12 +79,12 @@ impl Machine for BufferMachine {
     ghost spoilt = { λ m. m.spoilt };
 
     fn start(alloc: Global, setup: &Setup) -> Result<Self, AllocError> {
-        let targets = new_targets(alloc, setup.channels(), setup.channel_size())?;
+        keeps_its_limits(setup);
+        let buffers = new_buffers(alloc, setup)?;
         Ok(BufferMachine {
             setup: setup.copy(alloc)?,
             floors: [0; 8],
-            clients: Vec::new(alloc),
-            targets,
+            buffers,
             spoilt: false,
         })
     }
@@ -101,11 +98,10 @@ impl Machine for BufferMachine {
         if self.spoilt {
             return Err(ApplyFault::Spoilt);
         }
-        let outcome = step_on(
+        let outcome = step(
             &self.setup,
             &mut self.floors,
-            &mut self.clients,
-            &mut self.targets,
+            &mut self.buffers,
             alloc,
             command,
         );
@@ -121,44 +117,28 @@ impl Machine for BufferMachine {
     ghost stands_whole = { λ m s history h. h.whole };
 }
 
-/// A step on the machine's own collections.
-fn step_on(
-    setup: &Setup,
-    floors: &mut Floors,
-    clients: &mut Vec<Origin>,
-    targets: &mut Vec<Target>,
-    alloc: Global,
-    command: &Command,
-) -> Result<Vec<Effect>, AllocError>
-    ensures limits { IsWithinLimits command.now }
-    ensures floors { OnOk result (floors.new ≡ floors_after floors.old command.now) }
-    ensures clients { OnOk result (clients.new.items ≡ attached_after setup.now.many_clients (λ _. floor_for floors.old command.now) clients.old.items command.now) }
-    ensures targets { OnOk result (targets.new.items ≡ targets_after setup.now (floor_for floors.old command.now) clients.old.items targets.old.items command.now) }
-    ensures effects { IfOk result (λ v. v.items ≡ answers setup.now (floor_for floors.old command.now) clients.old.items targets.old.items command.now) }
+/// What is so of every setup.
+fn keeps_its_limits(setup: &Setup)
+    ensures { IsSound setup.now }
 {
-    step(
-        setup,
-        floors,
-        clients,
-        targets.as_mut_slice(),
-        alloc,
-        command,
-    )
+    setup.channels();
+    setup.most_queries();
 }
 
-/// The targets of these names, with no lines.
-fn new_targets(alloc: Global, names: &[Name], size: usize) -> Result<Vec<Target>, AllocError>
-    ensures { IfOk result (λ v. v.items ≡ map (λ c. target c (ring [] size)) names.now) }
+/// What is held before any command.
+fn new_buffers(alloc: Global, setup: &Setup) -> Result<Buffers, AllocError>
+    ensures { IfOk result (λ b. held_of b ≡ beginning setup.now) }
 {
-    let mut all = Vec::new(alloc);
-    for name in names {
-        all.push(Target::new(alloc, name, size)?)?;
-    }
-    Ok(all)
+    Ok(Buffers {
+        nick: setup.nick().copy(alloc)?,
+        clients: Vec::new(alloc),
+        channels: Channels::new(alloc, setup.channels(), setup.channel_size())?,
+        queries: Queries::new(alloc),
+    })
 }
 
 impl HasClients for BufferMachine {
-    ghost use Rattle.buffer_machine.specs.declared.command.Command.TheVariants.{Client, NodeGone};
+    ghost use Rattle.buffer_commands.specs.declared.command.Command.TheVariants.{Client, NodeGone};
 
     type Action = Action;
 

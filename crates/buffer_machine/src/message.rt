@@ -1,50 +1,30 @@
-//! The messages that the buffers take, tell and store.
+//! The lines that the buffers tell and send.
 ghost use Rattle.std.specs.Prelude.{◌≡◌, ◌∷◌, [], codes, IfOk, IsTrue};
 ghost use Rattle.irc_line.specs.Lines.{is_upper_command, is_word, spelling};
-ghost use Rattle.buffer_lines.specs.Stamps.{action_mark, begins_with, line_of};
-ghost use Rattle.buffer_machine.specs.Messages.{bare, is_message, is_plain_or_action, is_storable, own_prefix, own_said, verb_word};
+ghost use Rattle.buffer_lines.specs.Stamps.{line_of};
+ghost use Rattle.buffer_machine.specs.Messages.{bare, own_line, own_prefix, own_said, verb_word, word_bytes};
 
-use crate::command::Verb;
+use buffer_commands::Verb;
 use buffer_lines::Shown;
-use irc_line::{Line, Name, Text, is_same};
+use irc_line::{Line, Name, Text};
 use std::alloc::{AllocError, Global};
 
-/// What an ACTION begins with.
-const ACTION_MARK: &[u8] = b"\x01ACTION ";
-
-/// Whether a line is a message to a channel or a nick (RFC 2812, 3.3).
-pub fn is_message_line(line: &Line) -> bool
-    ensures { result ≡ is_message line.now }
-{
-    is_same(line.command(), b"PRIVMSG") || is_same(line.command(), b"NOTICE")
+/// A command about a channel (RFC 2812, 3.2).
+#[derive(Clone, Copy, Debug, PartialEq, Eq)]
+pub enum ChannelWord {
+    Join,
+    Part,
+    Names,
 }
 
-/// Whether a line may be stored: a message with a target and a text, and of the client-to-client ones only an ACTION.
-pub fn may_store(line: &Line) -> bool
-    ensures { result ≡ is_storable line.now }
-{
-    is_message_line(line) && line.parameter_count() == 2 && is_plain_text(line.parameter(1))
-}
+/// The answer to what was done.
+pub const DONE: &[u8] = b"Done.";
 
-fn is_plain_text(text: &[u8]) -> bool
-    ensures { result ≡ is_plain_or_action text.now }
-{
-    match text {
-        [1, ..] => is_action(text),
-        _ => true,
-    }
-}
+/// The answer to a size past what there may be.
+pub const SIZE_IS_PAST: &[u8] = b"Size is past 500.";
 
-fn is_action(text: &[u8]) -> bool
-    ensures { result ≡ begins_with text.now action_mark }
-{
-    let front = if text.len() < ACTION_MARK.len() {
-        text
-    } else {
-        &text[..ACTION_MARK.len()]
-    };
-    is_same(front, ACTION_MARK)
-}
+/// The answer where a target is not known.
+pub const NO_SUCH_TARGET: &[u8] = b"No such target.";
 
 /// What a client of this nick says, as the others see it.
 pub fn own_message(
@@ -72,14 +52,32 @@ pub fn bare_message(
     Line::message(alloc, None, word_of(verb), target, text)
 }
 
-/// What joins a channel (RFC 2812, 3.2.1), as it goes upstream.
-#[tactic(auto, using(crate::proofs::NameLemmas::bare_join_line))]
-pub fn bare_join(alloc: Global, channel: &Name) -> Result<Line, AllocError>
-    ensures { IfOk result (λ l. l ≡ bare (codes "JOIN") (channel.now ∷ [])) }
+/// A command about a channel, as it goes upstream.
+#[tactic(auto, using(crate::proofs::NameLemmas::bare_channel_line))]
+pub fn bare_channel(alloc: Global, word: ChannelWord, channel: &Name) -> Result<Line, AllocError>
+    ensures { IfOk result (λ l. l ≡ bare (word_bytes word) (channel.now ∷ [])) }
 {
-    let command = Vec::from_slice(alloc, b"JOIN")?;
+    let command = Vec::from_slice(alloc, bytes_of(word))?;
     let channel = Vec::from_slice(alloc, channel.as_bytes())?;
     Ok(Line::new(None, command, vec![in alloc; channel]?))
+}
+
+/// A command of this nick about a channel, as clients are shown it.
+pub fn own_channel(
+    alloc: Global,
+    nick: &Name,
+    word: ChannelWord,
+    channel: &Name,
+) -> Result<Shown, AllocError>
+    ensures { IfOk result (λ x. x ≡ spelling (own_line nick.now (word_bytes word) channel.now)) }
+{
+    let prefix = prefix_of(alloc, nick)?;
+    Shown::of_parts(
+        alloc,
+        Some(prefix.as_slice()),
+        bytes_of(word),
+        &[channel.as_bytes()],
+    )
 }
 
 /// The bouncer's own answer to a client of this nick.
@@ -112,5 +110,15 @@ fn word_of(verb: Verb) -> &'static [u8]
     match verb {
         Verb::Privmsg => b"PRIVMSG",
         Verb::Notice => b"NOTICE",
+    }
+}
+
+fn bytes_of(word: ChannelWord) -> &'static [u8]
+    ensures { result.now ≡ word_bytes word }
+{
+    match word {
+        ChannelWord::Join => b"JOIN",
+        ChannelWord::Part => b"PART",
+        ChannelWord::Names => b"NAMES",
     }
 }

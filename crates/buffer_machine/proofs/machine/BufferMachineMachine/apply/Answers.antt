@@ -1,7 +1,6 @@
 use Rattle.buffer_machine.specs.Held.{commands}
-use Rattle.buffer_machine.proofs.EffectsStep.{effects-step}
-use Rattle.buffer_machine.proofs.FloorLemmas.{floors-step, floor-is, attached-step}
-use Rattle.buffer_machine.proofs.TargetsStep.{targets-step}
+use Rattle.buffer_machine.proofs.FloorLemmas.{floors-step, floor-is}
+use Rattle.buffer_machine.proofs.HeldStep.{held-from, effects-from}
 use Rattle.buffer_machine.proofs.machine.BufferMachineMachine.apply.Goals as goal
 
 pub returns-in-Ok-clause-stands : goal.returns-in-Ok-clause-stands
@@ -11,12 +10,11 @@ returns-in-Ok-clause-stands c = λ s earlier h.
       setup = h.setup;
       sound = h.sound;
       floors = rw c.in-Ok.ensures.floors (floors-step c.args.self.now.floors (commands earlier) c.args.command.now h.floors);
-      clients = rw (c.in-Ok.ensures.clients, h.setup, fl, h.clients) (attached-step s (commands earlier) c.args.command.now);
-      targets = rw (c.in-Ok.ensures.targets, h.setup, fl, h.clients, h.targets) (targets-step s h.sound (commands earlier) c.args.command.now);
+      buffers = held-from s c.args.self.now.setup _ _ _ (commands earlier) c.args.command.now h.sound c.in-Ok.ensures.held h.setup fl h.buffers;
       whole = h.whole;
     }
 
 pub returns-in-Ok-clause-effects : goal.returns-in-Ok-clause-effects
 returns-in-Ok-clause-effects c = λ s earlier h.
     let fl = floor-is c.args.self.now.floors (commands earlier) c.args.command.now h.floors c.in-Ok.ensures.limits in
-    rw (c.in-Ok.ensures.effects, h.setup, fl, h.clients, h.targets) (effects-step s h.sound (commands earlier) c.args.command.now)
+    effects-from s c.args.self.now.setup _ _ _ (commands earlier) c.args.command.now h.sound c.in-Ok.ensures.effects h.setup fl h.buffers

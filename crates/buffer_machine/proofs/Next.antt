@@ -1,0 +1,208 @@
+-- What is held of a channel, and of a query, after one command more.
+use Rattle.std.proofs.Common.{◌≡◌, ℕ, List, [], ◌∷◌, refl, ap, ◌∙◌, Bool, true, false, not, ◌&&◌, ◌||◌}
+use Rattle.std.specs.Prelude.{Option, Some, if◌then◌else◌, codes}
+use Rattle.irc_line.specs.Names.{fold_name, is_channel}
+use Rattle.irc_line.specs.Keys.{at_key, is_in}
+use Rattle.irc_line.specs.Lines.{Parts}
+use Rattle.irc_line.proofs.Booleans.{and_left, and_right}
+use Rattle.irc_line.proofs.Order.{own_key}
+use Rattle.buffer_lines.specs.Stamps.{ring, parameter}
+use Rattle.buffer_targets.specs.Targets.{ChannelLines, TargetLines, channel, target, pushed}
+use Rattle.wire_bytes.specs.declared.origin.Origin.{Origin}
+use Rattle.buffer_commands.specs.Settings.{Settings}
+use Rattle.buffer_commands.specs.declared.command.Command.{Command}
+use Rattle.buffer_commands.specs.declared.command.Command.TheVariants.{Upstream}
+use Rattle.buffer_machine.specs.Messages.{has_command, is_by, is_own, is_own_kick, is_query_name}
+use Rattle.buffer_machine.specs.Buffers.{attached, nick, channels, queries, is_known, joined, joined_after, detached, detached_after, size, first_size, size_after, said, stored, stored_query, emptied, is_cleared, plays, is_taken, floor, kept, is_removed, is_own_at, is_pushed_out}
+use Rattle.buffer_machine.specs.Steps.{keeps}
+use Rattle.buffer_machine.specs.Held.{IsSound, channel_held, target_held}
+use Rattle.buffer_machine.proofs.Folded.{at_key-eq, channel-key, query-key}
+use Rattle.buffer_machine.proofs.Names.{is_made_at, or_none}
+use Rattle.buffer_machine.proofs.Standing.{known-channel, known-query}
+use Rattle.buffer_machine.proofs.Kept.{next, next-nothing, kept-next, size-more, stored-channel, stored-query, channel_stored, line_if, other_command, not_storable}
+use Rattle.buffer_machine.proofs.Unknown.{removes-channel, removed-is, detached-more, detached-unknown, size-unknown, kept-unknown, stored-not_storable, removes-query, query-size-unknown, query-kept-unknown}
+
+-- ---- a channel that stays
+
+abbrev pub channel_empties : Settings → Bool → List Origin → Bool → List ℕ → Command → Bool
+channel_empties s taken os det k x = is_cleared os true k true x || (s.clears_channels && plays taken os det k true x)
+
+-- what is held of a channel next, by what was held
+abbrev pub next_lines : ℕ → TargetLines → Bool → Option (ℕ × Parts) → TargetLines
+next_lines n t emptied stored = target t.name (ring (next n t.lines.lines emptied stored) n)
+
+abbrev pub next_channel : Settings → Bool → List Origin → List ℕ → Command → ChannelLines → ChannelLines
+next_channel s taken os own x c =
+    channel
+    (next_lines (size_after os true (fold_name c.target.name) c.target.lines.size x) c.target (channel_empties s taken os c.detached (fold_name c.target.name) x)
+    (channel_stored (keeps s.clears_channels os || c.detached) (fold_name c.target.name) (said os own x)))
+    (joined_after own (fold_name c.target.name) c.joined x)
+    (detached_after os true (fold_name c.target.name) c.detached x)
+
+size-channel : (s : Settings) (earlier : List Command) (x : Command) (k : List ℕ) → is_channel k ≡ true → is_in k (channels s earlier) ≡ true → is_removed s earlier k x ≡ false
+    → size s k (x ∷ earlier) ≡ size_after (attached s earlier) true k (size s k earlier) x
+size-channel s earlier x k c i r =
+    size-more s earlier x k
+    ∙ (ap (λ b. if b then first_size s k else size_after (attached s earlier) (is_known s earlier k) k (size s k earlier) x) (removes-channel s earlier x k c ∙ r)
+    ∙ ap (λ b. size_after (attached s earlier) b k (size s k earlier) x) (known-channel s earlier k c ∙ i))
+
+emptied-channel : (s : Settings) (earlier : List Command) (x : Command) (k : List ℕ) → is_channel k ≡ true → is_in k (channels s earlier) ≡ true → is_removed s earlier k x ≡ false
+    → emptied s k earlier x ≡ channel_empties s (is_taken (floor earlier) (attached s earlier) x) (attached s earlier) (detached s earlier k) k x
+unfolding emptied
+emptied-channel s earlier x k c i r =
+    rw (removes-channel s earlier x k c, r, known-channel s earlier k c, i, c)
+    (or_none (channel_empties s (is_taken (floor earlier) (attached s earlier) x) (attached s earlier) (detached s earlier k) k x))
+
+and_true : (b : Bool) → (b && true) ≡ b
+and_true true = refl
+and_true false = refl
+
+detached-stays : (s : Settings) (earlier : List Command) (x : Command) (k : List ℕ) → is_in k (channels s earlier) ≡ true → is_removed s earlier k x ≡ false
+    → detached s (x ∷ earlier) k ≡ detached_after (attached s earlier) true k (detached s earlier k) x
+detached-stays s earlier x k i r =
+    detached-more s earlier x k
+    ∙ (ap (λ b. detached_after (attached s earlier) (is_in k (channels s earlier)) k (detached s earlier k) x && not b) r
+    ∙ (and_true (detached_after (attached s earlier) (is_in k (channels s earlier)) k (detached s earlier k) x)
+    ∙ ap (λ b. detached_after (attached s earlier) b k (detached s earlier k) x) i))
+
+joined-more : (s : Settings) (earlier : List Command) (x : Command) (k : List ℕ) → joined s (x ∷ earlier) k ≡ joined_after (nick s earlier) k (joined s earlier k) x
+unfolding joined
+joined-more s earlier x k = refl
+
+kept-channel : (s : Settings) (earlier : List Command) (x : Command) (k : List ℕ) → is_channel k ≡ true → is_in k (channels s earlier) ≡ true → is_removed s earlier k x ≡ false
+    → kept s (x ∷ earlier) k
+    ≡ next (size_after (attached s earlier) true k (size s k earlier) x) (kept s earlier k)
+    (channel_empties s (is_taken (floor earlier) (attached s earlier) x) (attached s earlier) (detached s earlier k) k x)
+    (channel_stored (keeps s.clears_channels (attached s earlier) || detached s earlier k) k (said (attached s earlier) (nick s earlier) x))
+kept-channel s earlier x k c i r =
+    kept-next s earlier x k
+    ∙ rw (size-channel s earlier x k c i r, emptied-channel s earlier x k c i r, stored-channel s earlier x k c i) refl
+
+pub channel-next : (s : Settings) (earlier : List Command) (x : Command) (c : List ℕ) → is_channel c ≡ true → is_in (fold_name c) (channels s earlier) ≡ true → is_removed s earlier (fold_name c) x ≡ false
+    → channel_held s (x ∷ earlier) c ≡ next_channel s (is_taken (floor earlier) (attached s earlier) x) (attached s earlier) (nick s earlier) x (channel_held s earlier c)
+channel-next s earlier x c f i r =
+    let k = channel-key c f in
+    rw (kept-channel s earlier x (fold_name c) k i r, size-channel s earlier x (fold_name c) k i r, joined-more s earlier x (fold_name c), detached-stays s earlier x (fold_name c) i r) refl
+
+-- ---- a channel that is made
+
+-- of a JOIN by the own nick
+join_word : (own : List ℕ) (line : Parts) → is_own (codes "JOIN") own line ≡ true → has_command (codes "JOIN") line ≡ true
+join_word own line e = and_left _ (is_by own line) (and_left _ (is_channel (parameter 1 line)) e)
+
+join_channel : (own : List ℕ) (line : Parts) → is_own (codes "JOIN") own line ≡ true → is_channel (parameter 1 line) ≡ true
+join_channel own line e = and_right (has_command (codes "JOIN") line && is_by own line) _ e
+
+-- it is no PART and no KICK
+pub no_part : (own k : List ℕ) (line : Parts) → is_own (codes "JOIN") own line ≡ true → is_own_at (codes "PART") own k line ≡ false
+no_part own k line e = rw (other_command (codes "JOIN") (codes "PART") line (join_word own line e) refl) refl
+
+pub no_kick : (own : List ℕ) (line : Parts) → is_own (codes "JOIN") own line ≡ true → is_own_kick own line ≡ false
+no_kick own line e = rw (other_command (codes "JOIN") (codes "KICK") line (join_word own line e) refl) refl
+
+pub join_removes : (s : Settings) (earlier : List Command) (at : ℕ) (line : Parts) (k : List ℕ) → is_own (codes "JOIN") (nick s earlier) line ≡ true → is_removed s earlier k (Upstream at line) ≡ false
+join_removes s earlier at line k e = removed-is s earlier k (Upstream at line) ∙ no_part (nick s earlier) k line e
+
+size_made : (s : Settings) (earlier : List Command) (at : ℕ) (line : Parts) (k : List ℕ) → is_channel k ≡ true → is_in k (channels s earlier) ≡ false → is_removed s earlier k (Upstream at line) ≡ false
+    → size s k (Upstream at line ∷ earlier) ≡ s.channel_size
+size_made s earlier at line k c u r =
+    size-more s earlier (Upstream at line) k
+    ∙ (ap (λ b. if b then first_size s k else size s k earlier) (removes-channel s earlier (Upstream at line) k c ∙ r)
+    ∙ size-unknown s earlier k c u)
+
+kept_made : (s : Settings) (earlier : List Command) (at : ℕ) (line : Parts) → is_own (codes "JOIN") (nick s earlier) line ≡ true → (k : List ℕ) → is_channel k ≡ true → is_in k (channels s earlier) ≡ false
+    → kept s (Upstream at line ∷ earlier) k ≡ []
+kept_made s earlier at line e k c u =
+    kept-next s earlier (Upstream at line) k
+    ∙ rw (kept-unknown s earlier k c u, stored-not_storable s earlier at line k (not_storable (codes "JOIN") line (join_word (nick s earlier) line e) refl refl))
+    (next-nothing (size s k (Upstream at line ∷ earlier)) (emptied s k earlier (Upstream at line)))
+
+true_or : (a : Bool) → (a || true) ≡ true
+true_or true = refl
+true_or false = refl
+
+joined_by_join : (own k : List ℕ) (was : Bool) (at : ℕ) (line : Parts) → is_own (codes "JOIN") own line ≡ true → at_key k (parameter 1 line) ≡ true → joined_after own k was (Upstream at line) ≡ true
+joined_by_join own k was at line e f = rw (no_part own k line e, no_kick own line e, e, f) (ap (λ b. b && true && true) (true_or was))
+
+detached_made : (s : Settings) (earlier : List Command) (at : ℕ) (line : Parts) (k : List ℕ) → is_in k (channels s earlier) ≡ false → detached s (Upstream at line ∷ earlier) k ≡ false
+detached_made s earlier at line k u = detached-more s earlier (Upstream at line) k ∙ rw (detached-unknown s earlier k u) refl
+
+-- JOIN by the own nick makes a channel that is joined, and nothing is kept of it yet
+pub channel-made : (s : Settings) (earlier : List Command) (at : ℕ) (line : Parts) → is_own (codes "JOIN") (nick s earlier) line ≡ true → is_in (fold_name (parameter 1 line)) (channels s earlier) ≡ false
+    → channel_held s (Upstream at line ∷ earlier) (parameter 1 line) ≡ channel (target (parameter 1 line) (ring [] s.channel_size)) true false
+channel-made s earlier at line e u =
+    let k = channel-key (parameter 1 line) (join_channel (nick s earlier) line e) in
+    let r = join_removes s earlier at line (fold_name (parameter 1 line)) e in
+    rw (
+      kept_made s earlier at line e (fold_name (parameter 1 line)) k u,
+      size_made s earlier at line (fold_name (parameter 1 line)) k u r,
+      joined-more s earlier (Upstream at line) (fold_name (parameter 1 line)),
+      joined_by_join (nick s earlier) (fold_name (parameter 1 line)) (joined s earlier (fold_name (parameter 1 line))) at line e (own_key (parameter 1 line)),
+      detached_made s earlier at line (fold_name (parameter 1 line)) u,
+    ) refl
+
+-- ---- a query
+
+abbrev pub query_empties : Settings → Bool → List Origin → List ℕ → Command → Bool
+query_empties s taken os k x = is_cleared os false k true x || (s.clears_queries && plays taken os false k true x)
+
+-- what is held of a query next, where a command stores a line in the query of this name, if in one
+abbrev pub next_query : Settings → Bool → List Origin → List ℕ → Option (List ℕ) → Command → TargetLines → TargetLines
+next_query s taken os own m x t =
+    next_lines (size_after os true (fold_name t.name) t.lines.size x) t (query_empties s taken os (fold_name t.name) x) (line_if (is_made_at (fold_name t.name) m) (said os own x))
+
+and_false : (a : Bool) → (a && false) ≡ false
+and_false true = refl
+and_false false = refl
+
+stays_in : (s : Settings) (earlier : List Command) (x : Command) (k : List ℕ) → is_in k (queries s (x ∷ earlier)) ≡ true → is_pushed_out s earlier k x ≡ false
+unfolding is_pushed_out
+stays_in s earlier x k e = rw e (and_false (is_in k (queries s earlier)))
+
+size-query : (s : Settings) → IsSound s → (earlier : List Command) (x : Command) (k : List ℕ) → is_channel k ≡ false → is_in k (queries s earlier) ≡ true → is_in k (queries s (x ∷ earlier)) ≡ true
+    → size s k (x ∷ earlier) ≡ size_after (attached s earlier) true k (size s k earlier) x
+size-query s sound earlier x k c i j =
+    size-more s earlier x k
+    ∙ (ap (λ b. if b then first_size s k else size_after (attached s earlier) (is_known s earlier k) k (size s k earlier) x) (removes-query s earlier x k c ∙ stays_in s earlier x k j)
+    ∙ ap (λ b. size_after (attached s earlier) b k (size s k earlier) x) (known-query s sound earlier k c ∙ i))
+
+emptied-query : (s : Settings) → IsSound s → (earlier : List Command) (x : Command) (k : List ℕ) → is_channel k ≡ false → is_in k (queries s earlier) ≡ true → is_in k (queries s (x ∷ earlier)) ≡ true
+    → emptied s k earlier x ≡ query_empties s (is_taken (floor earlier) (attached s earlier) x) (attached s earlier) k x
+unfolding emptied
+emptied-query s sound earlier x k c i j =
+    rw (removes-query s earlier x k c, stays_in s earlier x k j, known-query s sound earlier k c, i, c)
+    (or_none (query_empties s (is_taken (floor earlier) (attached s earlier) x) (attached s earlier) k x))
+
+pub query-next : (s : Settings) → IsSound s → (earlier : List Command) (x : Command) (q : List ℕ) → is_query_name q ≡ true → is_in (fold_name q) (queries s earlier) ≡ true → is_in (fold_name q) (queries s (x ∷ earlier)) ≡ true
+    → target_held s (x ∷ earlier) q ≡ next_query s (is_taken (floor earlier) (attached s earlier) x) (attached s earlier) (nick s earlier) (stored_query s earlier x) x (target_held s earlier q)
+query-next s sound earlier x q f i j =
+    let c = query-key q f in
+    rw (kept-next s earlier x (fold_name q), size-query s sound earlier x (fold_name q) c i j, emptied-query s sound earlier x (fold_name q) c i j, stored-query s sound earlier x (fold_name q) c) refl
+
+-- ---- a query that is made
+
+next_first : (n : ℕ) (e : Bool) (line : ℕ × Parts) (q : List ℕ) → target q (ring (next n [] e (Some line)) n) ≡ pushed line (target q (ring [] n))
+next_first n true line q = refl
+next_first n false line q = refl
+
+not_pushed : (s : Settings) (earlier : List Command) (x : Command) (k : List ℕ) → is_in k (queries s earlier) ≡ false → is_pushed_out s earlier k x ≡ false
+unfolding is_pushed_out
+not_pushed s earlier x k u = rw u refl
+
+-- the size that a query begins with
+pub query-size-made : (s : Settings) → IsSound s → (earlier : List Command) (x : Command) (k : List ℕ) → is_channel k ≡ false → is_in k (queries s earlier) ≡ false
+    → ((b : Bool) (n : ℕ) → size_after (attached s earlier) b k n x ≡ n) → size s k (x ∷ earlier) ≡ s.query_size
+query-size-made s sound earlier x k c u h =
+    size-more s earlier x k
+    ∙ (ap (λ b. if b then first_size s k else size_after (attached s earlier) (is_known s earlier k) k (size s k earlier) x) (removes-query s earlier x k c ∙ not_pushed s earlier x k u)
+    ∙ (h (is_known s earlier k) (size s k earlier) ∙ query-size-unknown s sound earlier k c u))
+
+-- the query of a name keeps its first line
+pub query-made : (s : Settings) → IsSound s → (earlier : List Command) (x : Command) (c q : List ℕ) (line : ℕ × Parts) → is_query_name q ≡ true → at_key (fold_name c) q ≡ true → is_in (fold_name q) (queries s earlier) ≡ false
+    → stored_query s earlier x ≡ Some q → said (attached s earlier) (nick s earlier) x ≡ Some line → ((b : Bool) (k : List ℕ) (n : ℕ) → size_after (attached s earlier) b k n x ≡ n)
+    → target_held s (x ∷ earlier) c ≡ pushed line (target c (ring [] s.query_size))
+query-made s sound earlier x c q line f same u m l z =
+    let here : is_channel (fold_name c) ≡ false = ap is_channel (at_key-eq (fold_name c) q same) ∙ query-key q f in
+    let new : is_in (fold_name c) (queries s earlier) ≡ false = ap (λ k. is_in k (queries s earlier)) (at_key-eq (fold_name c) q same) ∙ u in
+    rw (kept-next s earlier x (fold_name c), query-size-made s sound earlier x (fold_name c) here new (λ b n. z b (fold_name c) n), query-kept-unknown s sound earlier (fold_name c) here new, stored-query s sound earlier x (fold_name c) here, m, l, same)
+    (next_first s.query_size (emptied s (fold_name c) earlier x) line c)

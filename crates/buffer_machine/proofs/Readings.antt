@@ -1,0 +1,193 @@
+-- What a reader can check the definitions by.
+use Rattle.std.proofs.Common.{◌≡◌, ℕ, ◌≤◌, Bool, true, false, not, ◌&&◌, ◌||◌, List, [], ◌∷◌, length, refl, ap, ◌∙◌, sym}
+use Rattle.std.specs.Prelude.{None, if◌then◌else◌, filter}
+use Rattle.irc_line.specs.Names.{fold_name, is_channel}
+use Rattle.irc_line.specs.Lines.{Parts}
+use Rattle.wire_bytes.specs.declared.origin.Origin.{Origin}
+use Rattle.buffer_commands.specs.Settings.{Settings}
+use Rattle.buffer_commands.specs.declared.command.Verb.{Verb}
+use Rattle.buffer_commands.specs.declared.command.Action.{Action}
+use Rattle.buffer_commands.specs.declared.command.Action.TheVariants.{Attach, Leave, Say, Join, Part, Detach, Reattach, Play, Clear, ClearChannels, ClearQueries, ClearAll, SetBuffer, Pass}
+use Rattle.buffer_commands.specs.declared.command.Command.{Command}
+use Rattle.buffer_commands.specs.declared.command.Command.TheVariants.{Client, Upstream, NodeGone, Up, Down}
+use Rattle.buffer_commands.specs.declared.effect.Effect.TheVariants.{Close}
+use Rattle.buffer_machine.specs.Messages.{channel_of, is_among, same_origin}
+use Rattle.buffer_machine.specs.Buffers.{floor, is_attach, is_taken, attached, nick, detached, is_known, stored, emptied, clears, plays, kept, size, playback}
+use Rattle.buffer_machine.specs.Effects.{shown, effects}
+use Rattle.buffer_machine.specs.Held.{Held, IsSound, held}
+use Rattle.buffer_machine.specs.Steps.{after, answers}
+use Rattle.buffer_machine.proofs.EffectsStep.{effects-step}
+use Rattle.buffer_machine.proofs.HeldStep.{held-step}
+use Rattle.buffer_machine.proofs.Kept.{kept-fits, kept-next, keep_last-nil}
+use Rattle.buffer_machine.proofs.Playing.{played-held, played-is}
+
+-- ---- what is kept fits
+
+pub kept_fits : (s : Settings) (history : List Command) (t : List ℕ) → length (kept s history t) ≤ size s t history
+kept_fits s history t = kept-fits s history t
+
+-- ---- a detached channel
+
+if_false : {A : Type 0} (b : Bool) (xs : List A) → b ≡ false → (if b then xs else []) ≡ []
+if_false true xs e = absurd cc
+if_false false xs e = refl
+
+welcome_or : (w d : Bool) → d ≡ true → not (w || d) ≡ false
+welcome_or true d e = refl
+welcome_or false true e = refl
+welcome_or false false e = cc
+
+pub line_unshown : (s : Settings) (earlier : List Command) (at : ℕ) (line : Parts) → detached s earlier (fold_name (channel_of line)) ≡ true → shown s earlier (Upstream at line) ≡ []
+unfolding shown
+line_unshown s earlier at line e = if_false _ _ (welcome_or _ _ e)
+
+said_by : {A : Type 0} (b c d : Bool) (xs : List A) → d ≡ true → (if b then (if c && not d then xs else []) else []) ≡ []
+said_by true true true xs e = refl
+said_by true false d xs e = refl
+said_by false c d xs e = refl
+said_by true true false xs e = absurd cc
+
+pub said_unshown : (s : Settings) (earlier : List Command) (o : Origin) (at : ℕ) (verb : Verb) (name text : List ℕ) → detached s earlier (fold_name name) ≡ true → shown s earlier (Client o at (Say verb name text)) ≡ []
+unfolding shown
+said_unshown s earlier o at verb name text e = said_by (is_among o (attached s earlier)) (is_channel name) (detached s earlier (fold_name name)) _ e
+
+-- ---- playing empties
+
+or_true : (a b c : Bool) → b ≡ true → (a || b || c) ≡ true
+or_true true b c e = refl
+or_true false true c e = refl
+or_true false false c e = cc
+
+both : (a b : Bool) → a ≡ true → b ≡ true → (a && b) ≡ true
+both true b e f = f
+both false b e f = cc
+
+abbrev plays_now : Settings → List Command → Command → List ℕ → Bool
+plays_now s earlier x t = plays (is_taken (floor earlier) (attached s earlier) x) (attached s earlier) (is_channel t && detached s earlier t) t (is_known s earlier t) x
+
+emptied_played : (s : Settings) (earlier : List Command) (x : Command) (t : List ℕ) → clears s t ≡ true → plays_now s earlier x t ≡ true → emptied s t earlier x ≡ true
+unfolding emptied
+emptied_played s earlier x t e f = or_true _ _ _ (both _ _ e f)
+
+-- what plays says nothing
+unsaid : (s : Settings) (earlier : List Command) (x : Command) (t : List ℕ) → plays_now s earlier x t ≡ true → stored s t earlier x ≡ None
+unfolding stored
+unsaid s earlier (Client o at Attach) t e = refl
+unsaid s earlier (Client o at Leave) t e = refl
+unsaid s earlier (Client o at (Say v n u)) t e = cc
+unsaid s earlier (Client o at (Join c)) t e = refl
+unsaid s earlier (Client o at (Part c)) t e = refl
+unsaid s earlier (Client o at (Detach c)) t e = refl
+unsaid s earlier (Client o at (Reattach c)) t e = refl
+unsaid s earlier (Client o at (Play u)) t e = refl
+unsaid s earlier (Client o at (Clear u)) t e = refl
+unsaid s earlier (Client o at ClearChannels) t e = refl
+unsaid s earlier (Client o at ClearQueries) t e = refl
+unsaid s earlier (Client o at ClearAll) t e = refl
+unsaid s earlier (Client o at (SetBuffer u n)) t e = refl
+unsaid s earlier (Client o at (Pass l)) t e = refl
+unsaid s earlier (Upstream at line) t e = cc
+unsaid s earlier (NodeGone n f) t e = refl
+unsaid s earlier Up t e = refl
+unsaid s earlier Down t e = refl
+
+pub played_out : (s : Settings) (earlier : List Command) (x : Command) (t : List ℕ) → clears s t ≡ true
+    → plays (is_taken (floor earlier) (attached s earlier) x) (attached s earlier) (is_channel t && detached s earlier t) t (is_known s earlier t) x ≡ true → kept s (x ∷ earlier) t ≡ []
+played_out s earlier x t e f = kept-next s earlier x t ∙ rw (emptied_played s earlier x t e f, unsaid s earlier x t f) (keep_last-nil (size s t (x ∷ earlier)))
+
+-- ---- one who is not attached
+
+none_same_by : (o x : Origin) (os : List Origin) (b : Bool) → (b || is_among o os) ≡ false → (is_among o os ≡ false → filter (λ y. not (same_origin o y)) os ≡ os)
+    → (if not b then x ∷ filter (λ y. not (same_origin o y)) os else filter (λ y. not (same_origin o y)) os) ≡ x ∷ os
+none_same_by o x os true e ih = absurd cc
+none_same_by o x os false e ih = ap (λ l. x ∷ l) (ih e)
+
+none_same : (o : Origin) (os : List Origin) → is_among o os ≡ false → filter (λ y. not (same_origin o y)) os ≡ os
+none_same o [] e = refl
+none_same o (x ∷ os) e = none_same_by o x os (same_origin o x) e (λ f. none_same o os f)
+
+-- its requests but Attach do nothing to what is held
+held_still : (s : Settings) (h : Held) (o : Origin) (at : ℕ) (a : Action) → is_attach a ≡ false → is_among o h.clients ≡ false → after s 0 h (Client o at a) ≡ h
+held_still s h o at Attach e f = cc
+held_still s h o at Leave e f = rw (none_same o h.clients f) refl
+held_still s h o at (Say v n u) e f = rw f refl
+held_still s h o at (Join c) e f = rw f refl
+held_still s h o at (Part c) e f = rw f refl
+held_still s h o at (Detach c) e f = rw f refl
+held_still s h o at (Reattach c) e f = rw f refl
+held_still s h o at (Play u) e f = rw f refl
+held_still s h o at (Clear u) e f = rw f refl
+held_still s h o at ClearChannels e f = rw f refl
+held_still s h o at ClearQueries e f = rw f refl
+held_still s h o at ClearAll e f = rw f refl
+held_still s h o at (SetBuffer u n) e f = rw f refl
+held_still s h o at (Pass l) e f = refl
+
+closed_only : (s : Settings) (h : Held) (o : Origin) (at : ℕ) (a : Action) → is_attach a ≡ false → is_among o h.clients ≡ false → answers s 0 h (Client o at a) ≡ Close o ∷ []
+closed_only s h o at Attach e f = cc
+closed_only s h o at Leave e f = rw f refl
+closed_only s h o at (Say v n u) e f = rw f refl
+closed_only s h o at (Join c) e f = rw f refl
+closed_only s h o at (Part c) e f = rw f refl
+closed_only s h o at (Detach c) e f = rw f refl
+closed_only s h o at (Reattach c) e f = rw f refl
+closed_only s h o at (Play u) e f = rw f refl
+closed_only s h o at (Clear u) e f = rw f refl
+closed_only s h o at ClearChannels e f = rw f refl
+closed_only s h o at ClearQueries e f = rw f refl
+closed_only s h o at ClearAll e f = rw f refl
+closed_only s h o at (SetBuffer u n) e f = rw f refl
+closed_only s h o at (Pass l) e f = rw f refl
+
+-- the floor matters to an Attach alone
+any_floor : (s : Settings) (h : Held) (n : ℕ) (o : Origin) (at : ℕ) (a : Action) → is_attach a ≡ false → after s n h (Client o at a) ≡ after s 0 h (Client o at a)
+any_floor s h k o at Attach e = cc
+any_floor s h k o at Leave e = refl
+any_floor s h k o at (Say v n u) e = refl
+any_floor s h k o at (Join c) e = refl
+any_floor s h k o at (Part c) e = refl
+any_floor s h k o at (Detach c) e = refl
+any_floor s h k o at (Reattach c) e = refl
+any_floor s h k o at (Play u) e = refl
+any_floor s h k o at (Clear u) e = refl
+any_floor s h k o at ClearChannels e = refl
+any_floor s h k o at ClearQueries e = refl
+any_floor s h k o at ClearAll e = refl
+any_floor s h k o at (SetBuffer u n) e = refl
+any_floor s h k o at (Pass l) e = refl
+
+any_floor_answers : (s : Settings) (h : Held) (n : ℕ) (o : Origin) (at : ℕ) (a : Action) → is_attach a ≡ false → answers s n h (Client o at a) ≡ answers s 0 h (Client o at a)
+any_floor_answers s h k o at Attach e = cc
+any_floor_answers s h k o at Leave e = refl
+any_floor_answers s h k o at (Say v n u) e = refl
+any_floor_answers s h k o at (Join c) e = refl
+any_floor_answers s h k o at (Part c) e = refl
+any_floor_answers s h k o at (Detach c) e = refl
+any_floor_answers s h k o at (Reattach c) e = refl
+any_floor_answers s h k o at (Play u) e = refl
+any_floor_answers s h k o at (Clear u) e = refl
+any_floor_answers s h k o at ClearChannels e = refl
+any_floor_answers s h k o at ClearQueries e = refl
+any_floor_answers s h k o at ClearAll e = refl
+any_floor_answers s h k o at (SetBuffer u n) e = refl
+any_floor_answers s h k o at (Pass l) e = refl
+
+nothing_changed : (s : Settings) → IsSound s → (earlier : List Command) (o : Origin) (at : ℕ) (a : Action) → is_attach a ≡ false → is_among o (attached s earlier) ≡ false → held s (Client o at a ∷ earlier) ≡ held s earlier
+nothing_changed s sound earlier o at a e f =
+    sym (held-step s sound earlier (Client o at a)) ∙ (any_floor s (held s earlier) (floor earlier o.0) o at a e ∙ held_still s (held s earlier) o at a e f)
+
+pub attached_still : (s : Settings) → IsSound s → (earlier : List Command) (o : Origin) (at : ℕ) (a : Action) → is_attach a ≡ false → is_among o (attached s earlier) ≡ false → attached s (Client o at a ∷ earlier) ≡ attached s earlier
+attached_still s sound earlier o at a e f = ap (λ (h : Held). h.clients) (nothing_changed s sound earlier o at a e f)
+
+pub nick_still : (s : Settings) → IsSound s → (earlier : List Command) (o : Origin) (at : ℕ) (a : Action) → is_attach a ≡ false → is_among o (attached s earlier) ≡ false → nick s (Client o at a ∷ earlier) ≡ nick s earlier
+nick_still s sound earlier o at a e f = ap (λ (h : Held). h.nick) (nothing_changed s sound earlier o at a e f)
+
+pub playback_still : (s : Settings) → IsSound s → (earlier : List Command) (o : Origin) (at : ℕ) (a : Action) (t : List ℕ) → is_attach a ≡ false → is_among o (attached s earlier) ≡ false → playback s (Client o at a ∷ earlier) t ≡ playback s earlier t
+playback_still s sound earlier o at a t e f = sym (played-is s (Client o at a ∷ earlier) t) ∙ played-held s earlier t (held s (Client o at a ∷ earlier)) (nothing_changed s sound earlier o at a e f)
+
+pub held_stays : (s : Settings) → IsSound s → (earlier : List Command) (o : Origin) (at : ℕ) (a : Action) → is_attach a ≡ false → is_among o (attached s earlier) ≡ false → held s (Client o at a ∷ earlier) ≡ held s earlier
+held_stays s sound earlier o at a e f = nothing_changed s sound earlier o at a e f
+
+pub closed_alone : (s : Settings) → IsSound s → (earlier : List Command) (o : Origin) (at : ℕ) (a : Action) → is_attach a ≡ false → is_among o (attached s earlier) ≡ false → effects s earlier (Client o at a) ≡ Close o ∷ []
+closed_alone s sound earlier o at a e f =
+    sym (effects-step s sound earlier (Client o at a)) ∙ (any_floor_answers s (held s earlier) (floor earlier o.0) o at a e ∙ closed_only s (held s earlier) o at a e f)

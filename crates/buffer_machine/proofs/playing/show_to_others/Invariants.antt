@@ -1,7 +1,0 @@
-use Rattle.std.proofs.Common.{◌≡◌, ◌++◌, take}
-use Rattle.buffer_machine.specs.Steps.{shown_to, others}
-use Rattle.buffer_machine.proofs.playing.show_to_others.Given as goal
-
-abbrev pub invariant-loop-origin : goal.invariant-loop-origin
-invariant-loop-origin l =
-    l.effects.items ≡ l.initial.effects.items ++ shown_to (others l.own (take l.origin-index l.origins)) l.line

@@ -1,0 +1,8 @@
+use Rattle.std.proofs.Common.{◌≡◌, ◌++◌, take}
+use Rattle.std.specs.Prelude.{flat_map}
+use Rattle.buffer_machine.specs.Steps.{shown_at_attach}
+use Rattle.buffer_machine.proofs.showing.show_channels.Given as goal
+
+abbrev pub invariant-loop-channel : goal.invariant-loop-channel
+invariant-loop-channel l =
+    l.effects.items ≡ l.initial.effects.items ++ flat_map (shown_at_attach l.offset l.nick l.origin) (take l.channel-index l.channels)

@@ -1,0 +1,9 @@
+use Rattle.std.proofs.Common.{◌≡◌, ◌++◌, take}
+use Rattle.std.specs.Prelude.{flat_map}
+use Rattle.buffer_machine.specs.Effects.{show_all}
+use Rattle.buffer_machine.specs.Steps.{played}
+use Rattle.buffer_machine.proofs.showing.show_queries.Given as goal
+
+abbrev pub invariant-loop-query : goal.invariant-loop-query
+invariant-loop-query l =
+    l.effects.items ≡ l.initial.effects.items ++ flat_map (λ t. show_all l.origin (played l.offset t)) (take l.query-index l.queries)
