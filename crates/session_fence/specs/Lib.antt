@@ -1,0 +1,4 @@
+pub mod Spelling
+pub mod CommandCodec
+pub mod Sessions
+pub mod States

@@ -1,0 +1,49 @@
+-- Commands as bytes: a kind byte, 0 for a command of the machine below, 1 for a session that is opened, 2 for one that is shut, 3 for a line of a session, and what it has.
+use Rattle.std.specs.Prelude.{ℕ, List, [], ◌∷◌, ◌++◌}
+use Rattle.wire_bytes.specs.Fields.{Reading, through, both, choice}
+use Rattle.wire_bytes.specs.Values.{spelled_session, spelled_number, FitsSession, FitsNumber, FitsMoment, session, number, moment}
+use Rattle.wire_bytes.specs.declared.session_id.SessionId.{SessionId}
+use Rattle.session_fence.specs.declared.command.FenceCommand.{FenceCommand}
+use Rattle.session_fence.specs.declared.command.FenceCommand.TheVariants.{Inner, Opened, Shut, Heard}
+
+module _ {C L : Type 0} where
+  abbrev pub command_kind : FenceCommand C L → ℕ
+  command_kind (Inner c) = 0
+  command_kind (Opened id) = 1
+  command_kind (Shut id) = 2
+  command_kind (Heard id n at l) = 3
+
+  -- the session and, of a line, its number, its moment and itself
+  abbrev pub spelled_parts : (C → List ℕ) → (L → List ℕ) → FenceCommand C L → List ℕ
+  spelled_parts command line (Inner c) = command c
+  spelled_parts command line (Opened id) = spelled_session id
+  spelled_parts command line (Shut id) = spelled_session id
+  spelled_parts command line (Heard id n at l) = ((spelled_session id ++ spelled_number n) ++ spelled_number at) ++ line l
+
+  abbrev pub spelled_command : (C → List ℕ) → (L → List ℕ) → FenceCommand C L → List ℕ
+  spelled_command command line x = command_kind x ∷ spelled_parts command line x
+
+  abbrev pub FitsCommand : (C → Type 0) → (L → Type 0) → FenceCommand C L → Type 0
+  FitsCommand command line (Inner c) = command c
+  FitsCommand command line (Opened id) = FitsSession id
+  FitsCommand command line (Shut id) = FitsSession id
+  FitsCommand command line (Heard id n at l) = ((FitsSession id × FitsNumber n) × FitsMoment at) × line l
+
+  abbrev pub inner_taken : Reading C → Reading (FenceCommand C L)
+  inner_taken command = through Inner command
+
+  abbrev pub opened_taken : Reading (FenceCommand C L)
+  opened_taken = through Opened session
+
+  abbrev pub shut_taken : Reading (FenceCommand C L)
+  shut_taken = through Shut session
+
+  abbrev pub heard_of : ((SessionId × ℕ) × ℕ) × L → FenceCommand C L
+  heard_of p = Heard p.0.0.0 p.0.0.1 p.0.1 p.1
+
+  abbrev pub heard_taken : Reading L → Reading (FenceCommand C L)
+  heard_taken line = through heard_of (both (both (both session number) moment) line)
+
+  -- the command at the front of an input
+  abbrev pub command_taken : Reading C → Reading L → Reading (FenceCommand C L)
+  command_taken command line = choice ((0, inner_taken command) ∷ (1, opened_taken) ∷ (2, shut_taken) ∷ (3, heard_taken line) ∷ [])

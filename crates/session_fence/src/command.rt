@@ -1,0 +1,166 @@
+//! What comes to a machine whose sessions follow one another.
+ghost use Rattle.std.specs.Prelude.{◌≡◌, ◌≢◌, ◌≤◌, ◌++◌, length, IfOk, IfErr, Ok, Err, is_ok, if◌then◌else◌};
+ghost use Rattle.wire_bytes.specs.Fields.{behind};
+ghost use Rattle.wire_bytes.specs.Codecs.{codec};
+ghost use Rattle.wire_bytes.specs.Values.{spelled_session, spelled_number};
+ghost use Rattle.session_fence.specs.Spelling.{spelled_command, FitsCommand, command_taken, inner_taken, opened_taken, shut_taken, heard_taken};
+ghost use Rattle.session_fence.specs.CommandCodec.{command_is_codec};
+
+use std::alloc::{AllocError, Global};
+use wire_bytes::{Copied, Moment, Number, SessionId, Wire, WireFault, take_behind, undo};
+
+/// A command of the machine below, or word of the sessions with upstream.
+#[derive(Drop)]
+pub enum FenceCommand<C, L> {
+    Inner(C),
+    /// The session is opened; it is up.
+    Opened(SessionId),
+    /// The session is shut; it is down.
+    Shut(SessionId),
+    /// A line of the session that came at a moment; each session numbers its lines from 1.
+    Heard(SessionId, Number, Moment, L),
+}
+
+impl<C: Copied, L: Copied> Copied for FenceCommand<C, L> {
+    fn copy(&self, alloc: Global) -> Result<Self, AllocError> {
+        match self {
+            FenceCommand::Inner(command) => Ok(FenceCommand::Inner(command.copy(alloc)?)),
+            FenceCommand::Opened(id) => Ok(FenceCommand::Opened(*id)),
+            FenceCommand::Shut(id) => Ok(FenceCommand::Shut(*id)),
+            FenceCommand::Heard(id, number, at, line) => Ok(FenceCommand::Heard(
+                *id,
+                *number,
+                *at,
+                line.copy(alloc)?,
+            )),
+        }
+    }
+}
+
+/// A kind byte, 0 for a command below, 1 for opened, 2 for shut, 3 for a line; then the session and, of a line, its
+/// number, its moment and itself.
+impl<C: Wire, L: Wire> Wire for FenceCommand<C, L> {
+    ghost spelled = { spelled_command C.spelled L.spelled };
+
+    ghost fits = { FitsCommand C.fits L.fits };
+
+    ghost taken = { command_taken C.taken L.taken };
+
+    fn put(&self, out: &mut Vec<u8>) -> Result<(), AllocError> {
+        let len = out.len();
+        match self {
+            FenceCommand::Inner(command) => {
+                out.push(0)?;
+                let outcome = command.put(out);
+                undo(out, len, outcome)
+            }
+            FenceCommand::Opened(id) => {
+                out.push(1)?;
+                let outcome = id.put(out);
+                undo(out, len, outcome)
+            }
+            FenceCommand::Shut(id) => {
+                out.push(2)?;
+                let outcome = id.put(out);
+                undo(out, len, outcome)
+            }
+            FenceCommand::Heard(id, number, at, line) => {
+                out.push(3)?;
+                let outcome = put_heard(out, *id, *number, *at, line);
+                undo(out, len, outcome)
+            }
+        }
+    }
+
+    fn take(alloc: Global, input: &[u8]) -> Result<(Self, usize), WireFault> {
+        match input {
+            [] => Err(WireFault::Short),
+            [0, ..] => take_inner(alloc, input),
+            [1, ..] => take_opened(alloc, input),
+            [2, ..] => take_shut(alloc, input),
+            [3, ..] => take_heard(alloc, input),
+            _ => Err(WireFault::Bad(0)),
+        }
+    }
+
+    ghost read_back = { (command_is_codec C.spelled C.fits C.taken L.spelled L.fits L.taken (codec C.spelled C.fits C.taken C.read_back C.one_spelling C.bad_within) (codec L.spelled L.fits L.taken L.read_back L.one_spelling L.bad_within)).read_back };
+
+    ghost one_spelling = { (command_is_codec C.spelled C.fits C.taken L.spelled L.fits L.taken (codec C.spelled C.fits C.taken C.read_back C.one_spelling C.bad_within) (codec L.spelled L.fits L.taken L.read_back L.one_spelling L.bad_within)).one_spelling };
+
+    ghost bad_within = { (command_is_codec C.spelled C.fits C.taken L.spelled L.fits L.taken (codec C.spelled C.fits C.taken C.read_back C.one_spelling C.bad_within) (codec L.spelled L.fits L.taken L.read_back L.one_spelling L.bad_within)).bad_within };
+}
+
+/// Appends what a line of a session has, behind its kind byte, or leaves the items as they were.
+fn put_heard<L: Wire>(
+    out: &mut Vec<u8>,
+    id: SessionId,
+    number: Number,
+    at: Moment,
+    line: &L,
+) -> Result<(), AllocError>
+    requires { L.fits line.now }
+    ensures { out.new.items ≡ (if is_ok result then out.old.items ++ (((spelled_session id ++ spelled_number number) ++ spelled_number at) ++ L.spelled line.now) else out.old.items) }
+{
+    let len = out.len();
+    ((id, number), at).put(out)?;
+    let outcome = line.put(out);
+    undo(out, len, outcome)
+}
+
+/// The command below, behind a kind byte.
+#[tactic(auto, using(wire_bytes::proofs::Steps::composed))]
+fn take_inner<C: Wire, L: Wire>(
+    alloc: Global,
+    input: &[u8],
+) -> Result<(FenceCommand<C, L>, usize), WireFault>
+    requires { 1 ≤ length input.now }
+    ensures ok { IfOk result (λ r. behind 1 (inner_taken {L = L} C.taken) input.now ≡ Ok (r.0, r.1)) }
+    ensures err { IfErr result (λ e. e ≢ WireFault.Memory → behind 1 (inner_taken {L = L} C.taken) input.now ≡ Err e) }
+{
+    let (command, end) = take_behind::<C>(alloc, input, 1)?;
+    Ok((FenceCommand::Inner(command), end))
+}
+
+/// Word of a session that is opened, behind a kind byte.
+#[tactic(auto, using(wire_bytes::proofs::Steps::composed))]
+fn take_opened<C: Drop, L: Drop>(
+    alloc: Global,
+    input: &[u8],
+) -> Result<(FenceCommand<C, L>, usize), WireFault>
+    requires { 1 ≤ length input.now }
+    ensures ok { IfOk result (λ r. behind 1 (opened_taken {C = C} {L = L}) input.now ≡ Ok (r.0, r.1)) }
+    ensures err { IfErr result (λ e. e ≢ WireFault.Memory → behind 1 (opened_taken {C = C} {L = L}) input.now ≡ Err e) }
+{
+    let (id, end) = take_behind::<SessionId>(alloc, input, 1)?;
+    Ok((FenceCommand::Opened(id), end))
+}
+
+/// Word of a session that is shut, behind a kind byte.
+#[tactic(auto, using(wire_bytes::proofs::Steps::composed))]
+fn take_shut<C: Drop, L: Drop>(
+    alloc: Global,
+    input: &[u8],
+) -> Result<(FenceCommand<C, L>, usize), WireFault>
+    requires { 1 ≤ length input.now }
+    ensures ok { IfOk result (λ r. behind 1 (shut_taken {C = C} {L = L}) input.now ≡ Ok (r.0, r.1)) }
+    ensures err { IfErr result (λ e. e ≢ WireFault.Memory → behind 1 (shut_taken {C = C} {L = L}) input.now ≡ Err e) }
+{
+    let (id, end) = take_behind::<SessionId>(alloc, input, 1)?;
+    Ok((FenceCommand::Shut(id), end))
+}
+
+/// The line of a session, behind a kind byte.
+#[tactic(auto, using(wire_bytes::proofs::Steps::composed))]
+fn take_heard<C: Drop, L: Wire>(
+    alloc: Global,
+    input: &[u8],
+) -> Result<(FenceCommand<C, L>, usize), WireFault>
+    requires { 1 ≤ length input.now }
+    ensures ok { IfOk result (λ r. behind 1 (heard_taken {C = C} L.taken) input.now ≡ Ok (r.0, r.1)) }
+    ensures err { IfErr result (λ e. e ≢ WireFault.Memory → behind 1 (heard_taken {C = C} L.taken) input.now ≡ Err e) }
+{
+    let ((((id, number), at), line), end) = take_behind::<(((SessionId, Number), Moment), L)>(
+        alloc, input, 1,
+    )?;
+    Ok((FenceCommand::Heard(id, number, at, line), end))
+}
