@@ -1,0 +1,5 @@
+pub mod Spelling
+pub mod CommandCodec
+pub mod Numbered
+pub mod States
+pub mod Hands

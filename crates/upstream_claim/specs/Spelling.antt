@@ -1,0 +1,37 @@
+-- Commands as bytes: a kind byte, 0 for a command of the machine below and 1 for a claim, and what it has.
+use Rattle.std.specs.Prelude.{ℕ, List, [], ◌∷◌, ◌++◌}
+use Rattle.wire_bytes.specs.Fields.{Reading, through, both, choice}
+use Rattle.wire_bytes.specs.Values.{spelled_session, spelled_number, FitsSession, FitsNumber, session, number}
+use Rattle.wire_bytes.specs.declared.session_id.SessionId.{SessionId}
+use Rattle.upstream_claim.specs.declared.command.ClaimsCommand.{ClaimsCommand}
+use Rattle.upstream_claim.specs.declared.command.ClaimsCommand.TheVariants.{Inner, Claim}
+
+module _ {C : Type 0} where
+  abbrev pub command_kind : ClaimsCommand C → ℕ
+  command_kind (Inner c) = 0
+  command_kind (Claim id n) = 1
+
+  -- session, number
+  abbrev pub spelled_parts : (C → List ℕ) → ClaimsCommand C → List ℕ
+  spelled_parts command (Inner c) = command c
+  spelled_parts command (Claim id n) = spelled_session id ++ spelled_number n
+
+  abbrev pub spelled_command : (C → List ℕ) → ClaimsCommand C → List ℕ
+  spelled_command command x = command_kind x ∷ spelled_parts command x
+
+  abbrev pub FitsCommand : (C → Type 0) → ClaimsCommand C → Type 0
+  FitsCommand command (Inner c) = command c
+  FitsCommand command (Claim id n) = FitsSession id × FitsNumber n
+
+  abbrev pub inner_taken : Reading C → Reading (ClaimsCommand C)
+  inner_taken command = through Inner command
+
+  abbrev pub claim_of : SessionId × ℕ → ClaimsCommand C
+  claim_of p = Claim p.0 p.1
+
+  abbrev pub claim_taken : Reading (ClaimsCommand C)
+  claim_taken = through claim_of (both session number)
+
+  -- the command at the front of an input
+  abbrev pub command_taken : Reading C → Reading (ClaimsCommand C)
+  command_taken command = choice ((0, inner_taken command) ∷ (1, claim_taken) ∷ [])

@@ -1,0 +1,71 @@
+//! The lines that wait to be claimed.
+ghost use Rattle.std.specs.Prelude.{◌≡◌, ◌+◌, ◌==◌, ◌≤◌, ◌^◌, ◌++◌, ◌∷◌, [], length, drop, slice_get, nat_lt, nat_le, is_some, if◌then◌else◌, OnOk, Some, None};
+
+use irc_line::Line;
+use std::alloc::{AllocError, Global};
+use std::collections::VecDeque;
+use wire_bytes::Number;
+
+/// The most lines that wait to be claimed.
+const MOST_LINES: usize = 1_000;
+
+/// The lines that wait to be claimed, the one to be claimed next first, and how many were claimed before it.
+#[derive(Drop)]
+pub struct Unclaimed {
+    pub count: u64,
+    pub lines: VecDeque<Line>,
+    ghost limit: { count ≤ 2 ^ 60 },
+}
+
+impl Unclaimed {
+    pub fn new(alloc: Global) -> Unclaimed
+        ensures count { result.count ≡ 0 }
+        ensures lines { result.lines.items ≡ [] }
+    {
+        Unclaimed {
+            count: 0,
+            lines: VecDeque::new(alloc),
+        }
+    }
+
+    /// Whether no more lines may wait.
+    pub fn is_full(&self) -> bool
+        ensures { result ≡ nat_le 1000 (length self.now.lines.items) }
+    {
+        self.lines.len() >= MOST_LINES
+    }
+
+    /// The number of the line that is to be claimed next.
+    pub fn next(&self) -> Option<u64>
+        ensures { result ≡ (if nat_lt 0 (length self.now.lines.items) then Some (self.now.count + 1) else None) }
+    {
+        if self.lines.is_empty() {
+            None
+        } else {
+            Some(self.count + 1)
+        }
+    }
+
+    /// Has a line wait behind all others.
+    pub fn keep(&mut self, line: Line) -> Result<(), AllocError>
+        ensures lines { OnOk result (self.new.lines.items ≡ self.old.lines.items ++ line ∷ []) }
+        ensures count { self.new.count ≡ self.old.count }
+    {
+        self.lines.push_back(line)?;
+        Ok(())
+    }
+
+    /// The line of a number, which waits no longer, where it is to be claimed next.
+    pub fn claim(&mut self, number: Number) -> Option<Line>
+        ensures line { result ≡ (if number == self.old.count + 1 then slice_get self.old.lines.items 0 else None) }
+        ensures lines { self.new.lines.items ≡ (if is_some result then drop 1 self.old.lines.items else self.old.lines.items) }
+        ensures count { self.new.count ≡ (if is_some result then self.old.count + 1 else self.old.count) }
+    {
+        if number.value() != self.count + 1 {
+            return None;
+        }
+        let line = self.lines.pop_front()?;
+        self.count = number.value();
+        Some(line)
+    }
+}
