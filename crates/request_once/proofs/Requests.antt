@@ -85,7 +85,7 @@ module _ {C A : Type 0} where
           let ne : n ≢ last earlier o + 1 = omega arith in
           rw (is_not_next n (last earlier o + 1) ne, is_gap n (last earlier o) (omega arith))
 
-same_origin-is : (p o : Origin) → same_origin p o ≡ true → p ≡ o
+pub same_origin-is : (p o : Origin) → same_origin p o ≡ true → p ≡ o
 same_origin-is p o e =
     let e0 : p.0 ≡ o.0 = grind (arith, nat_tests) in
     let e1 : p.1 ≡ o.1 = grind (arith, nat_tests) in

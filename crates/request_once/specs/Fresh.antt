@@ -38,6 +38,15 @@ module _ {C A : Type 0} where
   unfoldable pub last : History (Body C A) → Origin → ℕ
   last bodies o = asked o (fresh bodies)
 
+  -- how many requests there are of this origin and number
+  abbrev pub is_request : Origin → ℕ → Body C A → Bool
+  is_request o n (Inner c) = false
+  is_request o n (Asked p m at a) = same_origin o p && m == n
+
+  abbrev pub times : Origin → ℕ → History (Body C A) → ℕ
+  times o n [] = 0
+  times o n (x ∷ earlier) = if is_request o n x.1 then times o n earlier + 1 else times o n earlier
+
 -- the command of a body, by that of a client's request
 abbrev pub plain_one : {C A : Type 0} → (Origin → ℕ → A → C) → Body C A → C
 plain_one client (Inner c) = c

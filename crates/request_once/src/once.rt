@@ -24,6 +24,15 @@ pub struct Once<M: HasClients> {
     ghost whole: { spoilt ≡ false → M.spoilt machine ≡ false },
 }
 
+impl<M: HasClients> Once<M> {
+    /// The machine below.
+    pub fn machine(&self) -> &M
+        ensures { (s : M.Setup) (earlier : History (Body M.Command M.Action)) → ⟦<Once<M> as Machine>⟧.stands self.now s earlier → M.stands result.now s (plain M.client earlier) }
+    {
+        &self.machine
+    }
+}
+
 impl<M: HasClients> Machine for Once<M> {
     type Setup = M::Setup;
 

@@ -1,0 +1,71 @@
+-- Each request takes effect once.
+use Rattle.std.proofs.Common.{◌≡◌, ℕ, ◌+◌, ◌<◌, ◌≤◌, Bool, true, false, [], ◌∷◌, ◌++◌, map, refl, ap, ◌∙◌, sym, arith}
+use Rattle.std.specs.Prelude.{if◌then◌else◌, ◌==◌, ◌&&◌}
+use Rattle.std.proofs.lemmas.Bool.Decides.{nat_tests}
+use Rattle.wire_bytes.specs.declared.origin.Origin.{Origin}
+use Rattle.machine_laws.specs.Runs.{History}
+use Rattle.request_once.specs.declared.body.Body.{Body}
+use Rattle.request_once.specs.declared.body.Body.TheVariants.{Inner, Asked}
+use Rattle.request_once.specs.Fresh.{same_origin, asked, stays, if_stays, fresh, plain, plain_one, times}
+use Rattle.request_once.proofs.Requests.{same_origin-is}
+
+-- the requests of a number past the last one's, by whether one more is of that origin
+past_by : (b : Bool) (k n m t : ℕ) → m ≡ k + 1 → (if b then k + 1 else k) < n → (k < n → t ≡ 0) → (if b && m == n then t + 1 else t) ≡ 0
+past_by true k n m t e lt ih = let f : (m == n) ≡ false = grind (arith, nat_tests) in rw f (ih (omega arith))
+past_by false k n m t e lt ih = ih lt
+
+-- a request that stays is the only one of its number
+once_by : (b c : Bool) (m n k t : ℕ) → (m == n) ≡ c → m ≡ k + 1 → (k < n → t ≡ 0) → t ≤ 1 → (if b && c then t + 1 else t) ≤ 1
+once_by true true m n k t f e past le = let m_is : m ≡ n = grind (arith, nat_tests) in let z : t ≡ 0 = past (omega arith) in omega arith
+once_by true false m n k t f e past le = le
+once_by false c m n k t f e past le = le
+
+number_of : (m k : ℕ) → (m == k + 1) ≡ true → m ≡ k + 1
+number_of m k e = grind (arith, nat_tests)
+
+asked-same : {C A : Type 0} (kept : History (Body C A)) (o p : Origin) (b : Bool) → same_origin o p ≡ b → (m : ℕ) → m ≡ asked p kept + 1 → b ≡ true → m ≡ asked o kept + 1
+asked-same kept o p b s m e t = e ∙ ap (λ (q : Origin). asked q kept + 1) (sym (same_origin-is o p (s ∙ t)))
+
+module _ {C A : Type 0} where
+  -- of a number past that of an origin's requests that stay none stays
+  past-step : (kept : History (Body C A)) (place : ℕ) (o p : Origin) (m at n : ℕ) (a : A) (b s : Bool) → same_origin o p ≡ s → (m == asked p kept + 1) ≡ b → (asked o kept < n → times o n kept ≡ 0)
+      → asked o (if_stays b (place, Asked p m at a) kept) < n → times o n (if_stays b (place, Asked p m at a) kept) ≡ 0
+  past-step kept place o p m at n a true true e f ih lt =
+      let m_is : m ≡ asked o kept + 1 = asked-same kept o p true e m (number_of m (asked p kept) f) refl in
+      let l = (rw e at lt) in
+      rw e (past_by true (asked o kept) n m (times o n kept) m_is l ih)
+  past-step kept place o p m at n a true false e f ih lt = let l = (rw e at lt) in rw e (ih l)
+  past-step kept place o p m at n a false s e f ih lt = ih lt
+
+  pub past : (bodies : History (Body C A)) (o : Origin) (n : ℕ) → asked o (fresh bodies) < n → times o n (fresh bodies) ≡ 0
+  unfolding fresh
+  past [] o n lt = refl
+  past ((place, Inner c) ∷ earlier) o n lt = past earlier o n lt
+  past ((place, Asked p m at a) ∷ earlier) o n lt = past-step (fresh earlier) place o p m at n a (m == asked p (fresh earlier) + 1) (same_origin o p) refl refl (past earlier o n) lt
+
+  once-step : (kept : History (Body C A)) (place : ℕ) (o p : Origin) (m at n : ℕ) (a : A) (b s : Bool) → same_origin o p ≡ s → (m == asked p kept + 1) ≡ b → (asked o kept < n → times o n kept ≡ 0) → times o n kept ≤ 1
+      → times o n (if_stays b (place, Asked p m at a) kept) ≤ 1
+  once-step kept place o p m at n a true true e f past le =
+      let m_is : m ≡ asked o kept + 1 = asked-same kept o p true e m (number_of m (asked p kept) f) refl in
+      rw e (once_by true (m == n) m n (asked o kept) (times o n kept) refl m_is past le)
+  once-step kept place o p m at n a true false e f past le = rw e le
+  once-step kept place o p m at n a false s e f past le = le
+
+  -- of the requests that stay no two have the same origin and number
+  pub stays_once : (bodies : History (Body C A)) (o : Origin) (n : ℕ) → times o n (fresh bodies) ≤ 1
+  unfolding fresh
+  stays_once [] o n = omega arith
+  stays_once ((place, Inner c) ∷ earlier) o n = stays_once earlier o n
+  stays_once ((place, Asked p m at a) ∷ earlier) o n =
+      once-step (fresh earlier) place o p m at n a (m == asked p (fresh earlier) + 1) (same_origin o p) refl refl (past earlier o n) (stays_once earlier o n)
+
+  -- a body that does not stay is as if it had not come
+  pub fresh_without : (later earlier : History (Body C A)) (x : ℕ × Body C A) → stays (fresh earlier) x.1 ≡ false → fresh (later ++ x ∷ earlier) ≡ fresh (later ++ earlier)
+  unfolding fresh
+  fresh_without [] earlier x e = ap (λ b. if_stays b x (fresh earlier)) e
+  fresh_without (y ∷ later) earlier x e = ap (λ (kept : History (Body C A)). if_stays (stays kept y.1) y kept) (fresh_without later earlier x e)
+
+  pub plain_without : (client : Origin → ℕ → A → C) (later earlier : History (Body C A)) (place : ℕ) (o : Origin) (n at : ℕ) (a : A) → stays (fresh earlier) (Asked o n at a) ≡ false
+      → plain client (later ++ (place, Asked o n at a) ∷ earlier) ≡ plain client (later ++ earlier)
+  unfolding plain
+  plain_without client later earlier place o n at a e = ap (map (λ x. (x.0, plain_one client x.1))) (fresh_without later earlier (place, Asked o n at a) e)

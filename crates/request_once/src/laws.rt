@@ -1,0 +1,17 @@
+//! That each request takes effect once.
+ghost use Rattle.std.specs.Prelude.{◌≡◌, ◌≤◌, ◌++◌, ◌∷◌, ℕ, false};
+ghost use Rattle.machine_laws.specs.Runs.{History};
+ghost use Rattle.wire_bytes.specs.declared.origin.Origin.{Origin};
+ghost use Rattle.request_once.specs.Fresh.{fresh, plain, stays, times};
+
+use crate::body::Body;
+use machine_laws::HasClients;
+
+/// Of the requests that stay, no two have the same origin and number. One that does not stay changes nothing, then or
+/// later: what follows it gives the same commands as without it.
+#[tactic(auto, using(crate::proofs::Stays::stays_once, crate::proofs::Stays::plain_without))]
+pub fn each_request_takes_effect_once<M: HasClients>()
+    ensures once { (bodies : History (Body M.Command M.Action)) (origin : Origin) (number : ℕ) → times origin number (fresh bodies) ≤ 1 }
+    ensures dropped { (later earlier : History (Body M.Command M.Action)) (place : ℕ) (origin : Origin) (number at : ℕ) (action : M.Action) → stays (fresh earlier) (Body.Asked origin number at action) ≡ false
+        → plain M.client (later ++ (place, Body.Asked origin number at action) ∷ earlier) ≡ plain M.client (later ++ earlier) }
+{}
