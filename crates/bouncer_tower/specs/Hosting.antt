@@ -1,0 +1,84 @@
+-- What a node has to know of bodies and effects.
+use Rattle.std.specs.Prelude.{ℕ, List, map}
+use Rattle.irc_line.specs.Lines.{Parts, spelling}
+use Rattle.irc_line.specs.Names.{fold_name}
+use Rattle.machine_laws.specs.Runs.{History}
+use Rattle.machine_laws.specs.declared.class.Class.{Class}
+use Rattle.machine_laws.specs.declared.class.Class.TheVariants.{To, Hand, Rejoin, Nowhere}
+use Rattle.machine_laws.specs.declared.class.Source.{Source}
+use Rattle.machine_laws.specs.declared.class.Source.TheVariants as source
+use Rattle.wire_bytes.specs.declared.origin.Origin.{Origin}
+use Rattle.wire_bytes.specs.declared.session_id.SessionId.{SessionId}
+use Rattle.buffer_commands.specs.Settings.{Settings}
+use Rattle.buffer_machine.specs.Buffers as buffers
+use Rattle.buffer_machine.specs.Held.{commands}
+use Rattle.buffer_commands.specs.declared.command.Action.{Action}
+use Rattle.buffer_commands.specs.declared.command.Command.{Command}
+use Rattle.buffer_commands.specs.declared.command.Command.TheVariants as command
+use Rattle.buffer_commands.specs.declared.effect.Effect.{Effect}
+use Rattle.buffer_commands.specs.declared.effect.Effect.TheVariants as effect
+use Rattle.session_fence.specs.declared.command.FenceCommand.TheVariants as fence
+use Rattle.session_fence.specs.declared.effect.FenceEffect.{FenceEffect}
+use Rattle.session_fence.specs.declared.effect.FenceEffect.TheVariants as fence_effect
+use Rattle.upstream_claim.specs.declared.command.ClaimsCommand.TheVariants as claims
+use Rattle.upstream_claim.specs.declared.effect.ClaimsEffect.{ClaimsEffect}
+use Rattle.upstream_claim.specs.declared.effect.ClaimsEffect.TheVariants as claims_effect
+use Rattle.request_once.specs.declared.body.Body.TheVariants as body
+use Rattle.request_once.specs.declared.answer.Answer.TheVariants as answer
+use Rattle.bouncer_tower.specs.Bodies.{Sessioned, Claimed, TowerBody, TowerEffect, plain}
+
+-- a command of the buffers, of the sessions, and the claim of a line, as bodies
+abbrev pub of_buffers : Command → TowerBody
+of_buffers c = body.Inner (claims.Inner (fence.Inner c))
+
+abbrev pub of_sessions : Sessioned → TowerBody
+of_sessions c = body.Inner (claims.Inner c)
+
+abbrev pub of_claims : Claimed → TowerBody
+of_claims c = body.Inner c
+
+-- Who may bring a body: the client of a request; a node, that another is gone; else the leader alone
+
+abbrev pub command_source : Command → Source
+command_source (command.NodeGone node floor) = source.Node
+command_source _ = source.Leader
+
+abbrev pub session_source : Sessioned → Source
+session_source (fence.Inner c) = command_source c
+session_source _ = source.Leader
+
+abbrev pub claim_source : Claimed → Source
+claim_source (claims.Inner c) = session_source c
+claim_source (claims.Claim id n) = source.Leader
+
+abbrev pub source_of : TowerBody → Source
+source_of (body.Inner c) = claim_source c
+source_of (body.Asked o n at a) = source.Client o
+
+-- Where an effect goes
+
+-- to its client; what no numbering has taken up goes nowhere
+abbrev pub buffer_class : Effect → Class Parts
+buffer_class (effect.Close o) = To o
+buffer_class (effect.Show o shown) = To o
+buffer_class (effect.Send o line) = Nowhere
+buffer_class (effect.Rejoin line) = Nowhere
+
+abbrev pub session_class : FenceEffect Effect → Class Parts
+session_class (fence_effect.Inner e) = buffer_class e
+session_class (fence_effect.Rejoin id line) = Rejoin id line
+
+abbrev pub claim_class : ClaimsEffect (FenceEffect Effect) → Class Parts
+claim_class (claims_effect.Inner e) = session_class e
+claim_class (claims_effect.Busy o) = To o
+claim_class (claims_effect.Hand id n line) = Hand id n line
+
+abbrev pub class_of : TowerEffect → Class Parts
+class_of (answer.Effect e) = claim_class e
+class_of (answer.Done o n) = To o
+class_of (answer.Repeat o n) = To o
+class_of (answer.Gap o n) = To o
+
+-- what is played of a target after a history
+unfoldable pub playback : Settings → History TowerBody → List ℕ → List (List ℕ)
+playback s h target = map spelling (buffers.playback s (commands (plain h)) (fold_name target))

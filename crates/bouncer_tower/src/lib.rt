@@ -1,0 +1,14 @@
+//! The machine that the nodes of a bouncer host: buffers whose sessions with upstream follow one another, whose lines
+//! for upstream are numbered and claimed once, and whose requests take effect once.
+#![tactic(auto)]
+
+mod answers;
+mod hosted;
+mod laws;
+#[cfg(test)]
+mod tests;
+mod tower;
+
+pub use answers::answer_all;
+pub use laws::{a_dropped_request_changes_nothing, each_line_is_handed_once};
+pub use tower::{Layers, Tower, TowerBody, TowerEffect};
