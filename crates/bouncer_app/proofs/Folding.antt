@@ -1,7 +1,7 @@
 -- One line more of an input that is folded.
 use Rattle.std.proofs.Common.{◌≡◌, ℕ, ◌+◌, List, [], ◌∷◌, Result, Ok, Err, refl, sym, ◌∙◌}
 use Rattle.machine_laws.specs.Runs.{History}
-use Rattle.buffer_machine.specs.declared.effect.Effect.{Effect}
+use Rattle.buffer_commands.specs.declared.effect.Effect.{Effect}
 use Rattle.request_once.specs.declared.answer.Answer.{Answer}
 use Rattle.bouncer_app.specs.Fold.{Request, printed, put_before, judged_line, bodies_of, printed_from, fold_text}
 use Rattle.bouncer_app.specs.Lines.{lines_of}

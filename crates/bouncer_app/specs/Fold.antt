@@ -2,13 +2,13 @@
 use Rattle.std.specs.Prelude.{ℕ, ◌+◌, if◌then◌else◌, ◌==◌, List, [], ◌∷◌, ◌++◌, length, Option, Some, None, Result, Ok, Err}
 use Rattle.wire_bytes.specs.declared.wire_fault.WireFault.{WireFault}
 use Rattle.machine_laws.specs.Runs.{History, came}
-use Rattle.buffer_machine.specs.Settings.{plain}
+use Rattle.buffer_commands.specs.Settings.{plain}
 use Rattle.buffer_machine.specs.Machine.{effects_at}
-use Rattle.buffer_machine.specs.Spellings.{command, action}
-use Rattle.buffer_machine.specs.declared.command.Action.{Action}
-use Rattle.buffer_machine.specs.declared.command.Command.{Command}
-use Rattle.buffer_machine.specs.declared.command.Command.TheVariants.{Client}
-use Rattle.buffer_machine.specs.declared.effect.Effect.{Effect}
+use Rattle.buffer_commands.specs.Spellings.{command, action}
+use Rattle.buffer_commands.specs.declared.command.Action.{Action}
+use Rattle.buffer_commands.specs.declared.command.Command.{Command}
+use Rattle.buffer_commands.specs.declared.command.Command.TheVariants.{Client}
+use Rattle.buffer_commands.specs.declared.effect.Effect.{Effect}
 use Rattle.request_once.specs.Fresh.{answers}
 use Rattle.request_once.specs.Spelling.{body_taken}
 use Rattle.request_once.specs.declared.answer.Answer.{Answer}

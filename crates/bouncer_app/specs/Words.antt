@@ -2,8 +2,8 @@
 use Rattle.std.specs.Prelude.{ℕ, List, [], ◌∷◌, ◌++◌, take, flat_map, codes, decimal}
 use Rattle.irc_line.specs.Lines.{spelling}
 use Rattle.wire_bytes.specs.declared.origin.Origin.{Origin}
-use Rattle.buffer_machine.specs.declared.effect.Effect.{Effect}
-use Rattle.buffer_machine.specs.declared.effect.Effect.TheVariants.{Close, Show, Send, Rejoin}
+use Rattle.buffer_commands.specs.declared.effect.Effect.{Effect}
+use Rattle.buffer_commands.specs.declared.effect.Effect.TheVariants.{Close, Show, Send, Rejoin}
 use Rattle.request_once.specs.declared.answer.Answer.{Answer}
 use Rattle.request_once.specs.declared.answer.Answer.TheVariants.{Effect as Passed, Done, Repeat, Gap}
 

@@ -11,7 +11,8 @@ use crate::fault::FoldFault;
 use crate::input::{MOST_BYTES, read_whole};
 use crate::lines::{decode_line, split_line};
 use crate::words::push_answers;
-use buffer_machine::{Action, BufferMachine, Command, Effect, Setup};
+use buffer_commands::{Action, Command, Effect, Setup};
+use buffer_machine::BufferMachine;
 use machine_laws::Machine;
 use request_once::{Answer, Body, Once};
 use std::alloc::{AllocError, Global};
@@ -81,6 +82,29 @@ fn read_line(alloc: Global, number: u64, line: &[u8]) -> Result<Body<Command, Ac
     }
 }
 
+/// Applies a body at a place, and appends the text of its answers.
+fn fold_body<M>(
+    machine: &mut M,
+    output: &mut Vec<u8>,
+    alloc: Global,
+    place: u64,
+    body: &Body<Command, Action>,
+) -> Result<(), FoldFault>
+where
+    M: Machine<Command = Body<Command, Action>, Effect = Answer<Effect>>,
+    requires { M.spoilt machine.old ≡ false }
+    ensures applied { OnOk result ((s : M.Setup) (earlier : History Request) → M.stands machine.old s earlier → output.old.items ≡ printed (M.effects s) earlier
+        → M.stands machine.new s ((place, body.now) ∷ earlier) × (output.new.items ≡ printed (M.effects s) ((place, body.now) ∷ earlier))) }
+    ensures fault { IfErr result (λ e. e ≡ FoldFault.Memory) }
+    ensures whole { OnOk result (M.spoilt machine.new ≡ false) }
+{
+    let answers = machine
+        .apply(alloc, place, body)
+        .map_err(|_| FoldFault::Memory)?;
+    push_answers(output, place, &answers)?;
+    Ok(())
+}
+
 /// Applies the body of a line at a place, and appends the text of its answers.
 fn fold_line<M>(
     machine: &mut M,
@@ -100,10 +124,7 @@ where
     ensures whole { OnOk result (M.spoilt machine.new ≡ false) }
 {
     let body = read_line(alloc, place, line)?;
-    let answers = machine
-        .apply(alloc, place, &body)
-        .map_err(|_| FoldFault::Memory)?;
-    push_answers(output, place, &answers)?;
+    fold_body(machine, output, alloc, place, &body)?;
     Ok(())
 }
 

@@ -4,6 +4,8 @@
 mod fault;
 mod fold;
 mod input;
+#[cfg(test)]
+mod kept_tests;
 mod lines;
 #[cfg(test)]
 mod tests;

@@ -1,8 +1,10 @@
 //! Worked cases, and readers and writers that fail.
 use crate::fault::FoldFault;
 use crate::fold::fold;
+use std::alloc::Global;
 use std::io;
 use std::io::{Error, ErrorKind, Read, Write};
+use std::process::Abort;
 use std::test::Fail;
 
 const A_LINE: &str = "0002000000006553f10000153a612162406320505249564d5347202378203a6869\n";
@@ -31,14 +33,14 @@ const DOWN: &str = "0005\n";
 const NODE_GONE: &str = "0003010000000000000002\n";
 
 /// What a fold of these lines writes.
-fn printed(rt: &HostRuntime, lines: &[&str]) -> Result<Result<Vec<u8>, FoldFault>, Fail> {
-    let mut input = Vec::new(rt.alloc());
+pub fn printed(alloc: Global, lines: &[&str]) -> Result<Result<Vec<u8>, FoldFault>, Fail> {
+    let mut input = Vec::new(alloc);
     for line in lines {
         input.extend_from_slice(line.as_bytes())?;
     }
-    let mut output = Vec::new(rt.alloc());
+    let mut output = Vec::new(alloc);
     let mut reader = input.as_slice();
-    Ok(fold(rt.alloc(), &mut reader, &mut output).map(|_| output))
+    Ok(fold(alloc, &mut reader, &mut output).map(|_| output))
 }
 
 #[test]
@@ -67,7 +69,7 @@ fn bodies_are_answered_as_worked(rt: HostRuntime) -> Result<(), Fail> {
         (without_end.as_slice(), "1 done 1.1.1 1\n2 repeat 1.1.1 1\n"),
     ];
     for (lines, want) in cases {
-        let got = printed(&rt, lines)?;
+        let got = printed(rt.alloc(), lines)?;
         assert!(rt; got.is_ok(), "at {want}");
         assert_eq!(rt;
             got.unwrap_or(Vec::new(rt.alloc())).as_slice(),
@@ -131,7 +133,7 @@ fn a_bad_line_is_named_by_the_first(rt: HostRuntime) -> Result<(), Fail> {
         ),
     ];
     for (lines, want) in cases {
-        assert!(rt; printed(&rt, lines)?.err() == Some(want), "{want}");
+        assert!(rt; printed(rt.alloc(), lines)?.err() == Some(want), "{want}");
     }
     Ok(())
 }
@@ -174,53 +176,34 @@ impl Read for Source {
     }
 }
 
+/// A fold of what this reader gives ends in this fault, and writes nothing.
+fn check_source(
+    rt: &impl Abort,
+    alloc: Global,
+    left: u64,
+    then: Option<ErrorKind>,
+    want: FoldFault,
+) -> Result<(), Fail> {
+    let mut source = Source { left, then };
+    let mut output = Vec::new(alloc);
+    assert!(rt;
+        fold(alloc, &mut source, &mut output) == Err(want),
+        "{want}"
+    );
+    assert_eq!(rt; output.len(), 0);
+    Ok(())
+}
+
 #[test]
 fn an_input_that_is_not_read_whole_is_refused(rt: HostRuntime) -> Result<(), Fail> {
-    let cases = [
-        (
-            Source {
-                left: u64::MAX,
-                then: None,
-            },
-            FoldFault::InputTooLong,
-        ),
-        (
-            Source {
-                left: 67_108_865,
-                then: None,
-            },
-            FoldFault::InputTooLong,
-        ),
-        (
-            Source {
-                left: 67_108_864,
-                then: None,
-            },
-            FoldFault::BadBody(1),
-        ),
-        (
-            Source {
-                left: 0,
-                then: Some(ErrorKind::Interrupted),
-            },
-            FoldFault::Read,
-        ),
-        (
-            Source {
-                left: 70,
-                then: Some(ErrorKind::TimedOut),
-            },
-            FoldFault::Read,
-        ),
-    ];
-    for (source, want) in cases {
-        let mut source = source;
-        let mut output = Vec::new(rt.alloc());
-        assert!(rt;
-            fold(rt.alloc(), &mut source, &mut output) == Err(want),
-            "{want}"
-        );
-        assert_eq!(rt; output.len(), 0);
+    for (left, then, want) in [
+        (u64::MAX, None, FoldFault::InputTooLong),
+        (67_108_865, None, FoldFault::InputTooLong),
+        (67_108_864, None, FoldFault::BadBody(1)),
+        (0, Some(ErrorKind::Interrupted), FoldFault::Read),
+        (70, Some(ErrorKind::TimedOut), FoldFault::Read),
+    ] {
+        check_source(&rt, rt.alloc(), left, then, want)?;
     }
     Ok(())
 }

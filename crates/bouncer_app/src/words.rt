@@ -3,8 +3,8 @@ ghost use Rattle.std.specs.Prelude.{◌≡◌, ◌+◌, ◌<◌, ◌≤◌, ◌+
 ghost use Rattle.irc_line.specs.Lines.{spelling};
 ghost use Rattle.bouncer_app.specs.Words.{origin_words, to_origin, printed_line, effect_words, answer_words, answer_line, answer_lines};
 
+use buffer_commands::Effect;
 use buffer_lines::Shown;
-use buffer_machine::Effect;
 use irc_line::Line;
 use itoa::Buffer;
 use request_once::Answer;
