@@ -1,5 +1,5 @@
 //! What a bouncer that is set up in another way than plainly answers.
-use crate::folded::{check, setup};
+use crate::folded::{check, check_run, setup};
 use buffer_commands::Options;
 use buffer_lines::Offset;
 use std::test::Fail;
@@ -61,6 +61,19 @@ fn one_client_at_a_time(rt: HostRuntime) -> Result<(), Fail> {
     let want =
         b"1 done 1.1.1 1\n2 close 1.1.1\n2 done 1.1.2 1\n3 show 1.1.2 :a!b@c PRIVMSG #x :hi\n4 close 1.1.1\n4 done 1.1.1 2\n";
     check(&rt, rt.alloc(), &setup, &bodies, want.as_slice())
+}
+
+#[test]
+fn one_client_at_a_time_in_one_run(rt: HostRuntime) -> Result<(), Fail> {
+    let options = Options {
+        many_clients: false,
+        ..Options::default()
+    };
+    let setup = setup(rt.alloc(), &[b"#x".as_slice()], options)?;
+    let bodies = [ATTACH, ATTACH_OTHER, HI, PLAY];
+    let want =
+        b"done 1.1.1 1\nclose 1.1.1\ndone 1.1.2 1\nshow 1.1.2 :a!b@c PRIVMSG #x :hi\nclose 1.1.1\ndone 1.1.1 2\n";
+    check_run(&rt, rt.alloc(), &setup, &bodies, want.as_slice())
 }
 
 #[test]

@@ -3,7 +3,7 @@ use buffer_commands::{Action, Command, Effect, Options, Setup};
 use buffer_machine::BufferMachine;
 use irc_line::Name;
 use itoa::Buffer;
-use machine_laws::Machine;
+use machine_laws::{Machine, run_all};
 use request_once::{Answer, Body, Once};
 use std::alloc::{AllocError, Global};
 use std::process::Abort;
@@ -131,5 +131,53 @@ pub fn check(
     want: &[u8],
 ) -> Result<(), Fail> {
     assert_eq!(rt; answered(alloc, setup, bodies)?.as_slice(), want);
+    Ok(())
+}
+
+/// The answers to all bodies in one run, which does not tell their places.
+fn answered_in_one_run(alloc: Global, setup: &Setup, bodies: &[&[u8]]) -> Result<Vec<u8>, Fail> {
+    let answers = run(alloc, setup, &taken(alloc, bodies)?)?;
+    let mut out = Vec::new(alloc);
+    push_lines(&mut out, &answers)?;
+    Ok(out)
+}
+
+/// The bodies that these bytes spell.
+fn taken(alloc: Global, bodies: &[&[u8]]) -> Result<Vec<Body<Command, Action>>, Fail> {
+    let mut all = Vec::new(alloc);
+    for bytes in bodies {
+        all.push(body(alloc, bytes)?)?;
+    }
+    Ok(all)
+}
+
+/// What all bodies bring about from a new machine.
+fn run(
+    alloc: Global,
+    setup: &Setup,
+    bodies: &[Body<Command, Action>],
+) -> Result<Vec<Answer<Effect>>, Fail> {
+    let mut machine: Once<BufferMachine> = Once::start(alloc, setup)?;
+    Ok(run_all(&mut machine, alloc, bodies)?)
+}
+
+/// Appends a line for each answer.
+fn push_lines(out: &mut Vec<u8>, answers: &[Answer<Effect>]) -> Result<(), AllocError> {
+    for answer in answers {
+        push_answer(out, answer)?;
+        out.push(b'\n')?;
+    }
+    Ok(())
+}
+
+/// These bodies are answered in one run by this text over this setup.
+pub fn check_run(
+    rt: &impl Abort,
+    alloc: Global,
+    setup: &Setup,
+    bodies: &[&[u8]],
+    want: &[u8],
+) -> Result<(), Fail> {
+    assert_eq!(rt; answered_in_one_run(alloc, setup, bodies)?.as_slice(), want);
     Ok(())
 }
