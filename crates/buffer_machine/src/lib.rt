@@ -14,6 +14,8 @@ mod machine;
 mod message;
 mod showing;
 mod step;
+#[cfg(test)]
+mod tests;
 
 pub use laws::{
     a_detached_channel_is_not_shown, no_target_keeps_more_than_its_size, playing_leaves_nothing,
