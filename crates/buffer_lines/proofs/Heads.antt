@@ -6,14 +6,7 @@ use Rattle.irc_line.specs.Lines.{Parts, spelling, has_colon, is_spoken}
 use Rattle.irc_line.specs.Names.{first_is}
 use Rattle.buffer_lines.specs.Stamps.{timed, stamp, two_digits, stamped, second_of_day, begins_with, action_mark, parameter}
 use Rattle.buffer_lines.specs.Heads.{head}
-
-or_true : (b : Bool) → (b || true) ≡ true
-or_true true = refl
-or_true false = refl
-
-or_left : (a b : Bool) → a ≡ true → (a || b) ≡ true
-or_left true b e = refl
-or_left false b e = cc
+use Rattle.irc_line.proofs.Booleans.{or_first, or_true}
 
 or_true_middle : (a b c : Bool) → (a || b || true || c) ≡ true
 or_true_middle true b c = refl
@@ -21,7 +14,7 @@ or_true_middle false true c = refl
 or_true_middle false false c = refl
 
 list_any-here : (p : ℕ → Bool) (front rest : List ℕ) (b : ℕ) → p b ≡ true → list_any p (front ++ b ∷ rest) ≡ true
-list_any-here p [] rest b h = or_left (p b) (list_any p rest) h
+list_any-here p [] rest b h = or_first (p b) (list_any p rest) h
 list_any-here p (x ∷ front) rest b h = rw (list_any-here p front rest b h) (or_true (p x))
 
 -- a text with a space in it has a colon before it

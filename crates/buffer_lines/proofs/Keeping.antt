@@ -5,18 +5,7 @@ use Rattle.std.proofs.lemmas.Bool.Decides.{nat_tests}
 use Rattle.std.proofs.lemmas.List.{drop-append-le, drop_all}
 use Rattle.circular_buffer.specs.Buffer.{keep_last}
 use Rattle.buffer_lines.specs.Keeping.{if_kept, one_if, stored_by, stays, kept_since, kept}
-
-and-left : (a b : Bool) → (a && b) ≡ true → a ≡ true
-and-left true b e = refl
-and-left false b e = cc
-
-and-right : (a b : Bool) → (a && b) ≡ true → b ≡ true
-and-right true b e = e
-and-right false b e = cc
-
-and-both : (a b : Bool) → a ≡ true → b ≡ true → (a && b) ≡ true
-and-both true b e f = f
-and-both false b e f = cc
+use Rattle.irc_line.proofs.Booleans.{and_both, and_left, and_right}
 
 true_or_false : (b : Bool) → (b ≡ true) ⊎ (b ≡ false)
 true_or_false true = inl refl
@@ -108,14 +97,14 @@ module _ {X K : Type 0} (stored : List X → X → Option K) (emptied : List X �
   unfolding stays
   stays-longer [] [] e h = h
   stays-longer [] (x ∷ m) e h =
-      let lt : stored_by stored emptied size (x ∷ m) e < size (x ∷ (m ++ e)) = lt_from_true _ _ (and-right _ _ h) in
+      let lt : stored_by stored emptied size (x ∷ m) e < size (x ∷ (m ++ e)) = lt_from_true _ _ (and_right _ _ h) in
       true_from_lt _ _ (omega arith)
   stays-longer (x ∷ l) m e h =
       let P : List X → Type 0 = λ k. (stays stored emptied size (l ++ m) e && not (emptied k x) && nat_lt (stored_by stored emptied size (x ∷ (l ++ m)) e) (size (x ∷ k))) ≡ true in
       let h' : P (l ++ (m ++ e)) = subst P (append_assoc l m e) h in
-      let lt : stored_by stored emptied size (x ∷ (l ++ m)) e < size (x ∷ (l ++ (m ++ e))) = lt_from_true _ _ (and-right _ _ h') in
+      let lt : stored_by stored emptied size (x ∷ (l ++ m)) e < size (x ∷ (l ++ (m ++ e))) = lt_from_true _ _ (and_right _ _ h') in
       let more : stored_by stored emptied size (x ∷ (l ++ m)) e ≡ stored_by stored emptied size (x ∷ l) (m ++ e) + stored_by stored emptied size m e = stored_by-append (x ∷ l) m e in
-      and-both _ _ (and-both _ _ (stays-longer l m e (and-left _ _ (and-left _ _ h'))) (and-right _ _ (and-left _ _ h'))) (true_from_lt _ _ (omega arith))
+      and_both _ _ (and_both _ _ (stays-longer l m e (and_left _ _ (and_left _ _ h'))) (and_right _ _ (and_left _ _ h'))) (true_from_lt _ _ (omega arith))
 
   dead : (l m e : List X) → stays stored emptied size l (m ++ e) ≡ false → kept_since stored emptied size (l ++ m) e ≡ []
   unfolding kept_since

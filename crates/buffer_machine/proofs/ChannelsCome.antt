@@ -5,7 +5,7 @@ use Rattle.std.specs.List.{list_all, list_any}
 use Rattle.irc_line.specs.Names.{fold_name, is_channel}
 use Rattle.irc_line.specs.Keys.{at_key, is_in, is_below, put_in}
 use Rattle.irc_line.specs.Lines.{Parts}
-use Rattle.irc_line.proofs.Booleans.{and_left, and_right}
+use Rattle.irc_line.proofs.Booleans.{and_left, and_right, and_true, not_true, or_left_false, or_right_false, and_false, not_from}
 use Rattle.buffer_lines.specs.Stamps.{ring, parameter}
 use Rattle.buffer_targets.specs.Targets.{ChannelLines, channel, target, with_joined, has_key, at_channel, channel_of_key, joined_by, put_channel, without_channel}
 use Rattle.wire_bytes.specs.declared.origin.Origin.{Origin}
@@ -17,16 +17,16 @@ use Rattle.buffer_machine.specs.Messages.{has_command, is_among, is_by, is_own, 
 use Rattle.buffer_machine.specs.Buffers.{floor, is_taken, attached, nick, channels, joined, joined_after, detached, size, kept, said, made_by, with_made, is_own_at, is_removed}
 use Rattle.buffer_machine.specs.Steps.{keeps, channels_storing, let_go, channels_after}
 use Rattle.buffer_machine.specs.Held.{IsSound, channel_held, held}
-use Rattle.buffer_machine.proofs.Folded.{at_key-eq}
 use Rattle.buffer_machine.proofs.Lists.{map_at}
-use Rattle.buffer_machine.proofs.Names.{all-at, in-own, in-filter, all-filter, at_key-sym}
+use Rattle.buffer_machine.proofs.Names.{all-at, in-filter, all-filter}
 use Rattle.buffer_machine.proofs.Standing.{channels-more, channels-are}
 use Rattle.buffer_machine.proofs.Kept.{other_command, not_storable}
 use Rattle.buffer_machine.proofs.Unknown.{removed-is}
 use Rattle.buffer_machine.proofs.Next.{next_channel, channel-next, channel-made, no_part, no_kick, join_removes}
 use Rattle.buffer_machine.proofs.Found.{found-joined, found-known}
-use Rattle.buffer_machine.proofs.OneChannel.{and_false, one, upon, same}
-use Rattle.buffer_machine.proofs.ChannelsStep.{filter_all, not_from, mapped, quiet_held, attach-held, play-held, clear-held, clear_channels-held, clear_all-held, clear_queries-held, size-held, detach-held, again-held, storing-held, lines, fits}
+use Rattle.buffer_machine.proofs.OneChannel.{one, upon, same}
+use Rattle.buffer_machine.proofs.ChannelsStep.{filter_all, mapped, quiet_held, attach-held, play-held, clear-held, clear_channels-held, clear_all-held, clear_queries-held, size-held, detach-held, again-held, storing-held, lines, fits}
+use Rattle.irc_line.proofs.Order.{key_is, at_key-sym, in-own}
 
 -- ---- lists
 
@@ -47,14 +47,6 @@ filter_absent_by : (k c : List ℕ) (b at : Bool) (cs ds : List (List ℕ)) → 
 filter_absent_by k c b true cs ds e f = absurd cc
 filter_absent_by k c b false cs ds e f = ap (λ l. c ∷ l) f
 
-or_left_false : (a b : Bool) → (a || b) ≡ false → a ≡ false
-or_left_false true b e = cc
-or_left_false false b e = refl
-
-or_right_false : (a b : Bool) → (a || b) ≡ false → b ≡ false
-or_right_false true b e = cc
-or_right_false false b e = e
-
 -- no name goes by a key that is not there
 filter_absent : (k : List ℕ) (b : Bool) (cs : List (List ℕ)) → is_in k cs ≡ false → filter (λ c. not (at_key k c && b)) cs ≡ cs
 filter_absent k b [] e = refl
@@ -62,10 +54,6 @@ filter_absent k b (c ∷ cs) e =
     filter_absent_by k c b (at_key k c) cs (filter (λ d. not (at_key k d && b)) cs) (or_left_false _ (is_in k cs) e) (filter_absent k b cs (or_right_false (at_key k c) _ e))
 
 -- ---- the channels that stay are as they were
-
-not_true : (b : Bool) → not b ≡ true → b ≡ false
-not_true true e = cc
-not_true false e = refl
 
 -- what is held of the channels that stay, where a command does nothing to them
 staying : (s : Settings) → IsSound s → (earlier : List Command) (x : Command) → with_made (made_by (nick s earlier) x) (channels s earlier) ≡ channels s earlier
@@ -89,14 +77,10 @@ staying s sound earlier x m h =
 -- whether a channel goes, by the key that is asked for
 part_test_by : (s : Settings) (earlier : List Command) (asks : Bool) (c t : List ℕ) (b : Bool) → at_key (fold_name c) t ≡ b
     → not (asks && b && not (joined s earlier (fold_name c))) ≡ not (b && (asks && not (joined s earlier (fold_name t))))
-part_test_by s earlier true c t true e = ap (λ j. not (not j)) (ap (joined s earlier) (at_key-eq (fold_name c) t e))
+part_test_by s earlier true c t true e = ap (λ j. not (not j)) (ap (joined s earlier) (key_is (fold_name c) t e))
 part_test_by s earlier false c t true e = refl
 part_test_by s earlier true c t false e = refl
 part_test_by s earlier false c t false e = refl
-
-and_true : (b : Bool) → (b && true) ≡ b
-and_true true = refl
-and_true false = refl
 
 part_names : (asks : Bool) (known here : Bool) (k : List ℕ) (cs : List (List ℕ)) (f : List ℕ → ChannelLines) → ((c : List ℕ) → has_key k (f c) ≡ at_key k c) → is_in k cs ≡ known
     → (if asks then (if known && not (known && here) then without_channel k (map f cs) else map f cs) else map f cs) ≡ map f (filter (λ c. not (at_key k c && (asks && not here))) cs)
@@ -254,7 +238,7 @@ made_names s earlier at line e u =
     ∙ filter_all (λ c. not (is_removed s earlier (fold_name c) (Upstream at line))) (put_in (parameter 1 line) (channels s earlier)) (λ c. not_from _ (join_removes s earlier at line (fold_name c) e)))
 
 apart : (s : Settings) (earlier : List Command) (c p : List ℕ) (b : Bool) → at_key (fold_name c) p ≡ b → is_in (fold_name c) (channels s earlier) ≡ true → is_in (fold_name p) (channels s earlier) ≡ false → b ≡ false
-apart s earlier c p true e i u = sym i ∙ (ap (λ k. is_in k (channels s earlier)) (at_key-eq (fold_name c) p e) ∙ u)
+apart s earlier c p true e i u = sym i ∙ (ap (λ k. is_in k (channels s earlier)) (key_is (fold_name c) p e) ∙ u)
 apart s earlier c p false e i u = refl
 
 -- the other channels are as they were

@@ -16,26 +16,23 @@ use Rattle.buffer_machine.specs.Messages.{is_among, is_storable}
 use Rattle.buffer_machine.specs.Buffers.{floor, can_attach, is_taken, attached, nick, channels, joined, detached, size, kept, is_past, made_by, with_made, is_removed}
 use Rattle.buffer_machine.specs.Steps.{keeps, channels_storing, attached_again, channels_after, is_detached}
 use Rattle.buffer_machine.specs.Held.{IsSound, channel_held, held}
-use Rattle.buffer_machine.proofs.Folded.{at_key-eq}
 use Rattle.buffer_machine.proofs.Lists.{map_at, map_through}
-use Rattle.buffer_machine.proofs.Names.{all-at, in-own, at_key-sym}
+use Rattle.buffer_machine.proofs.Names.{all-at}
 use Rattle.buffer_machine.proofs.Standing.{channels-more, channels-are}
 use Rattle.buffer_machine.proofs.Kept.{kept-fits, channel_stored}
 use Rattle.buffer_machine.proofs.Unknown.{removed-is}
 use Rattle.buffer_machine.proofs.Next.{next_channel, channel-next}
 use Rattle.buffer_machine.proofs.Found.{found-detached}
 use Rattle.buffer_machine.proofs.Pointwise.{if_map, map_id}
-use Rattle.buffer_machine.proofs.OneChannel.{and_false, upon, same, play_one, clear_one, clear_channel, clear_any, clear_query, size_one, store_one, attach_one, detach_one, again_one}
+use Rattle.buffer_machine.proofs.OneChannel.{upon, same, play_one, clear_one, clear_channel, clear_any, clear_query, size_one, store_one, attach_one, detach_one, again_one}
+use Rattle.irc_line.proofs.Booleans.{not_from, and_false}
+use Rattle.irc_line.proofs.Order.{key_is, at_key-sym, in-own}
 
 -- ---- where no channel comes or goes
 
 pub filter_all : {A : Type 0} (p : A → Bool) (xs : List A) → ((x : A) → p x ≡ true) → filter p xs ≡ xs
 filter_all p [] h = refl
 filter_all p (x ∷ xs) h = rw (h x) (ap (λ ys. x ∷ ys) (filter_all p xs h))
-
-pub not_from : (b : Bool) → b ≡ false → not b ≡ true
-not_from true e = cc
-not_from false e = refl
 
 -- no command that removes nothing and makes nothing changes the names
 names-same : (s : Settings) (earlier : List Command) (x : Command) → ((k : List ℕ) → is_removed s earlier k x ≡ false) → with_made (made_by (nick s earlier) x) (channels s earlier) ≡ channels s earlier
@@ -167,7 +164,7 @@ again_map true clears key chs o = again_map_by clears (is_detached o) key chs
 
 -- channels of one key are detached together
 detached_together : (s : Settings) (earlier : List Command) (c t : List ℕ) → at_key (fold_name c) t ≡ true → detached s earlier (fold_name c) ≡ detached s earlier (fold_name t)
-detached_together s earlier c t e = ap (detached s earlier) (at_key-eq (fold_name c) t e)
+detached_together s earlier c t e = ap (detached s earlier) (key_is (fold_name c) t e)
 
 pub again-held : (s : Settings) → IsSound s → (earlier : List Command) (o : Origin) (t : List ℕ) (x : Command) → ((k : List ℕ) → is_removed s earlier k x ≡ false) → with_made (made_by (nick s earlier) x) (channels s earlier) ≡ channels s earlier
     → ((c : List ℕ) → next_channel s (is_taken (floor earlier) (attached s earlier) x) (attached s earlier) (nick s earlier) x (channel_held s earlier c)

@@ -6,7 +6,7 @@ use Rattle.std.proofs.lemmas.Bool.Decides.{nat_tests}
 use Rattle.std.proofs.lemmas.List.{length-map}
 use Rattle.irc_line.specs.Names.{fold_byte, fold_name, is_name, is_name_byte, is_channel}
 use Rattle.irc_line.specs.Keys.{at_key}
-use Rattle.irc_line.proofs.Booleans.{and_left, and_right, and_both}
+use Rattle.irc_line.proofs.Booleans.{and_left, and_right, and_both, not_true}
 use Rattle.irc_line.proofs.SameBytes.{same_bytes-eq}
 use Rattle.buffer_machine.specs.Messages.{is_query_name}
 
@@ -47,13 +47,5 @@ name_of_channel name e = and_left _ _ e
 pub channel-key : (name : List ℕ) → is_channel name ≡ true → is_channel (fold_name name) ≡ true
 channel-key name e = folded-channel name (name_of_channel name e) ∙ e
 
-not_of : (b : Bool) → not b ≡ true → b ≡ false
-not_of true e = cc
-not_of false e = refl
-
 pub query-key : (name : List ℕ) → is_query_name name ≡ true → is_channel (fold_name name) ≡ false
-query-key name e = folded-channel name (and_left _ _ e) ∙ not_of (is_channel name) (and_right (is_name name) _ e)
-
-pub at_key-eq : (key name : List ℕ) → at_key key name ≡ true → key ≡ fold_name name
-unfolding at_key
-at_key-eq key name e = same_bytes-eq key (fold_name name) e
+query-key name e = folded-channel name (and_left _ _ e) ∙ not_true (is_channel name) (and_right (is_name name) _ e)

@@ -5,7 +5,7 @@ use Rattle.circular_buffer.specs.Buffer.{keep_last}
 use Rattle.irc_line.specs.Names.{fold_name, same_bytes, is_channel}
 use Rattle.irc_line.specs.Keys.{at_key, is_in}
 use Rattle.irc_line.specs.Lines.{Parts}
-use Rattle.irc_line.proofs.Booleans.{and_right}
+use Rattle.irc_line.proofs.Booleans.{and_right, and_false, or_false}
 use Rattle.irc_line.proofs.SameBytes.{same_bytes-eq}
 use Rattle.buffer_lines.specs.Keeping.{if_kept}
 use Rattle.buffer_lines.specs.Stamps.{parameter}
@@ -16,10 +16,11 @@ use Rattle.buffer_machine.specs.Messages.{has_command, is_storable, is_none_of, 
 use Rattle.buffer_machine.specs.Buffers.{attached, nick, channels, is_known, size, first_size, size_after, said, aim, is_for, stored_where, stored, stored_query, query_aim, emptied, detached, kept, removes_target}
 use Rattle.buffer_machine.specs.Steps.{keeps}
 use Rattle.buffer_machine.specs.Held.{IsSound}
-use Rattle.buffer_machine.proofs.Folded.{at_key-eq, query-key}
+use Rattle.buffer_machine.proofs.Folded.{query-key}
 use Rattle.buffer_machine.proofs.Lists.{append-nil}
-use Rattle.buffer_machine.proofs.Names.{is_made_at, or_none}
+use Rattle.buffer_machine.proofs.Names.{is_made_at}
 use Rattle.buffer_machine.proofs.Standing.{not_a_channel}
+use Rattle.irc_line.proofs.Order.{key_is}
 
 -- ---- the last lines
 
@@ -74,17 +75,17 @@ and_assoc false b c = refl
 
 -- a known key is not that of a name that is not known
 key_apart : (cs : List (List ℕ)) (k p : List ℕ) (b : Bool) → at_key k p ≡ b → is_in k cs ≡ true → is_in (fold_name p) cs ≡ false → b ≡ false
-key_apart cs k p true e i n = sym i ∙ (ap (λ key. is_in key cs) (at_key-eq k p e) ∙ n)
+key_apart cs k p true e i n = sym i ∙ (ap (λ key. is_in key cs) (key_is k p e) ∙ n)
 key_apart cs k p false e i n = refl
 
 -- nor is a key that is not known that of a known name
 key_apart_too : (cs : List (List ℕ)) (k p : List ℕ) (b : Bool) → at_key k p ≡ b → is_in k cs ≡ false → is_in (fold_name p) cs ≡ true → b ≡ false
-key_apart_too cs k p true e n i = sym i ∙ (ap (λ key. is_in key cs) (sym (at_key-eq k p e)) ∙ n)
+key_apart_too cs k p true e n i = sym i ∙ (ap (λ key. is_in key cs) (sym (key_is k p e)) ∙ n)
 key_apart_too cs k p false e n i = refl
 
 -- a channel's key is not that of a nick
 query_apart : (k q : List ℕ) (b : Bool) → at_key k q ≡ b → is_channel k ≡ true → is_query_name q ≡ true → b ≡ false
-query_apart k q true e c n = sym c ∙ (ap is_channel (at_key-eq k q e) ∙ query-key q n)
+query_apart k q true e c n = sym c ∙ (ap is_channel (key_is k q e) ∙ query-key q n)
 query_apart k q false e c n = refl
 
 query_for : (k : List ℕ) (own : List ℕ) (line : Parts) (b : Bool) → is_query_line own line ≡ b → is_channel k ≡ true → is_for k (if b then Some (source line) else None) ≡ false
@@ -142,10 +143,6 @@ unfolding stored
 stored-channel s earlier x k c i =
     rw c (stored_channel (keeps s.clears_channels (attached s earlier) || detached s earlier k) (channels s earlier) (nick s earlier) k (said (attached s earlier) (nick s earlier) x) c i)
 
-and_false : (a : Bool) → (a && false) ≡ false
-and_false true = refl
-and_false false = refl
-
 stored_none : (keep : Bool) (cs : List (List ℕ)) (own k : List ℕ) (o : Option (ℕ × Parts)) → is_channel k ≡ true → is_in k cs ≡ false → stored_where keep cs own k o ≡ None
 stored_none keep cs own k None c i = refl
 stored_none keep cs own k (Some line) c i =
@@ -177,7 +174,7 @@ pub stored-query : (s : Settings) → IsSound s → (earlier : List Command) (x 
     → stored s k earlier x ≡ line_if (is_made_at k (stored_query s earlier x)) (said (attached s earlier) (nick s earlier) x)
 unfolding stored stored_query
 stored-query s sound earlier x k c =
-    rw (c, or_none (not s.clears_queries || is_none_of (attached s earlier)))
+    rw (c, or_false (not s.clears_queries || is_none_of (attached s earlier)))
     (stored_query_at (not s.clears_queries || is_none_of (attached s earlier)) (channels s earlier) (nick s earlier) k (said (attached s earlier) (nick s earlier) x) (not_a_channel s sound earlier k c))
 
 -- ---- lines of other commands

@@ -5,12 +5,14 @@ use Rattle.std.specs.List.{list_all}
 use Rattle.std.proofs.lemmas.Bool.Decides.{nat_tests}
 use Rattle.irc_line.specs.Names.{fold_name, same_bytes}
 use Rattle.irc_line.specs.Keys.{at_key, is_in, is_below, is_below_all, are_rising, put_in}
-use Rattle.irc_line.proofs.Booleans.{and_left, and_right, and_both}
+use Rattle.irc_line.proofs.Booleans.{and_left, and_right, and_both, and_false, not_from, not_true, or_both_false, or_false, or_left_false, or_right_false, or_true}
 use Rattle.irc_line.proofs.SameBytes.{same_bytes-sym}
-use Rattle.irc_line.proofs.Order.{below-trans, own_key}
+use Rattle.irc_line.proofs.Order.{below-trans, own_key, at_key-sym, in-own, key_is}
 use Rattle.buffer_targets.specs.Targets.{newest}
 use Rattle.buffer_machine.specs.Buffers.{with_made, with_new}
-use Rattle.buffer_machine.proofs.Folded.{at_key-eq}
+use Rattle.buffer_targets.proofs.Keys.{below_later}
+use Rattle.buffer_targets.proofs.Rising.{front_rises}
+use Rattle.buffer_targets.specs.Places.{are_different}
 
 -- ---- Booleans
 
@@ -18,26 +20,10 @@ pub or_assoc : (a b c : Bool) → (a || b || c) ≡ (a || (b || c))
 or_assoc true b c = refl
 or_assoc false b c = refl
 
-pub or_none : (a : Bool) → (a || false) ≡ a
-or_none true = refl
-or_none false = refl
-
 or_swap : (a b c : Bool) → (a || (b || c)) ≡ (b || (a || c))
 or_swap true true c = refl
 or_swap true false c = refl
 or_swap false b c = refl
-
-pub or_both_false : (a b : Bool) → a ≡ false → b ≡ false → (a || b) ≡ false
-or_both_false true b e f = cc
-or_both_false false b e f = f
-
-pub or_left_false : (a b : Bool) → (a || b) ≡ false → a ≡ false
-or_left_false true b e = cc
-or_left_false false b e = refl
-
-pub or_right_false : (a b : Bool) → (a || b) ≡ false → b ≡ false
-or_right_false true b e = cc
-or_right_false false b e = e
 
 -- ---- what is in a list of names
 
@@ -60,7 +46,7 @@ is_made_at k None = false
 is_made_at k (Some c) = at_key k c
 
 in_by_key : (k c : List ℕ) (cs : List (List ℕ)) (b : Bool) → at_key k c ≡ b → is_in (fold_name c) cs ≡ true → is_in k cs ≡ (b || is_in k cs)
-in_by_key k c cs true e i = ap (λ key. is_in key cs) (at_key-eq k c e) ∙ i
+in_by_key k c cs true e i = ap (λ key. is_in key cs) (key_is k c e) ∙ i
 in_by_key k c cs false e i = refl
 
 made_by_known : (k c : List ℕ) (cs : List (List ℕ)) (b : Bool) → is_in (fold_name c) cs ≡ b → is_in k (if b then cs else put_in c cs) ≡ (at_key k c || is_in k cs)
@@ -85,19 +71,15 @@ pub in-new : (k : List ℕ) (m : Option (List ℕ)) (cs : List (List ℕ)) → i
 in-new k None cs = refl
 in-new k (Some c) cs = new_by_known k c cs (is_in (fold_name c) cs) refl
 
-and_false : (a : Bool) → (a && false) ≡ false
-and_false true = refl
-and_false false = refl
-
 -- what stays of the names whose keys are tested
 in-filter_by : (p : List ℕ → Bool) (k c : List ℕ) (cs : List (List ℕ)) (b gone : Bool) → at_key k c ≡ b → p (fold_name c) ≡ gone
     → is_in k (filter (λ d. not (p (fold_name d))) cs) ≡ (is_in k cs && not (p k))
     → is_in k (if not gone then c ∷ filter (λ d. not (p (fold_name d))) cs else filter (λ d. not (p (fold_name d))) cs) ≡ ((b || is_in k cs) && not (p k))
 in-filter_by p k c cs true true e f ih =
-    let gone : p k ≡ true = ap p (at_key-eq k c e) ∙ f in
+    let gone : p k ≡ true = ap p (key_is k c e) ∙ f in
     ih ∙ rw gone (and_false (is_in k cs))
 in-filter_by p k c cs true false e f ih =
-    let stays : p k ≡ false = ap p (at_key-eq k c e) ∙ f in
+    let stays : p k ≡ false = ap p (key_is k c e) ∙ f in
     rw (e, stays) refl
 in-filter_by p k c cs false true e f ih = ih
 in-filter_by p k c cs false false e f ih = rw e ih
@@ -141,29 +123,10 @@ all-at q (f ∷ front) c back e = all-at q front c back (and_right _ _ e)
 
 -- ---- names that rise
 
--- each of these names has a key above this one's
-abbrev above : List ℕ → List (List ℕ) → Bool
-above c cs = list_all (λ d. is_below (fold_name c) (fold_name d)) cs
-
-above-more : (c d : List ℕ) (cs : List (List ℕ)) → is_below (fold_name c) (fold_name d) ≡ true → above d cs ≡ true → above c cs ≡ true
-above-more c d [] e f = refl
-above-more c d (x ∷ xs) e f =
-    and_both _ _ (below-trans (fold_name c) (fold_name d) (fold_name x) e (and_left _ _ f)) (above-more c d xs e (and_right _ _ f))
-
-rising-above : (c : List ℕ) (cs : List (List ℕ)) → are_rising (c ∷ cs) ≡ true → above c cs ≡ true
-rising-above c [] e = refl
-rising-above c (d ∷ ds) e =
-    let first = and_left _ _ e in
-    and_both _ _ first (above-more c d ds first (rising-above d ds (and_right (is_below_all c (d ∷ ds)) _ e)))
-
-above-first : (c : List ℕ) (cs : List (List ℕ)) → above c cs ≡ true → is_below_all c cs ≡ true
-above-first c [] e = refl
-above-first c (d ∷ ds) e = and_left _ _ e
-
 rising-filter_by : (p : List ℕ → Bool) (c : List ℕ) (cs : List (List ℕ)) (b : Bool) → are_rising (c ∷ cs) ≡ true → are_rising (filter p cs) ≡ true
     → are_rising (if b then c ∷ filter p cs else filter p cs) ≡ true
 rising-filter_by p c cs true e ih =
-    and_both _ _ (above-first c (filter p cs) (all-filter (λ d. is_below (fold_name c) (fold_name d)) p cs (rising-above c cs e))) ih
+    and_both _ _ (front_rises c (filter p cs) (all-filter (λ d. is_below (fold_name c) (fold_name d)) p cs (below_later c cs e))) ih
 rising-filter_by p c cs false e ih = ih
 
 pub rising-filter : (p : List ℕ → Bool) (cs : List (List ℕ)) → are_rising cs ≡ true → are_rising (filter p cs) ≡ true
@@ -190,7 +153,7 @@ no_key c d e = e
 rising-put_by : (c d : List ℕ) (ds : List (List ℕ)) (b : Bool) → is_below (fold_name d) (fold_name c) ≡ b → are_rising (d ∷ ds) ≡ true → at_key (fold_name c) d ≡ false
     → are_rising (put_in c ds) ≡ true → are_rising (if b then d ∷ put_in c ds else c ∷ d ∷ ds) ≡ true
 rising-put_by c d ds true b e f ih =
-    and_both _ _ (above-first d (put_in c ds) (all-put (λ x. is_below (fold_name d) (fold_name x)) c ds b (rising-above d ds e))) ih
+    and_both _ _ (front_rises d (put_in c ds) (all-put (λ x. is_below (fold_name d) (fold_name x)) c ds b (below_later d ds e))) ih
 rising-put_by c d ds false b e f ih = and_both _ _ (below-total (fold_name d) (fold_name c) b (no_key c d f)) e
 
 pub rising-put : (c : List ℕ) (cs : List (List ℕ)) → are_rising cs ≡ true → is_in (fold_name c) cs ≡ false → are_rising (put_in c cs) ≡ true
@@ -198,60 +161,19 @@ rising-put c [] e f = refl
 rising-put c (d ∷ ds) e f =
     rising-put_by c d ds (is_below (fold_name d) (fold_name c)) refl e (or_left_false _ _ f) (rising-put c ds (and_right (is_below_all d ds) _ e) (or_right_false (at_key (fold_name c) d) _ f))
 
--- ---- names of which no two have one key
-
-abbrev pub are_different : List (List ℕ) → Bool
-are_different [] = true
-are_different (c ∷ cs) = not (is_in (fold_name c) cs) && are_different cs
-
-pub at_key-sym : (c d : List ℕ) → at_key (fold_name c) d ≡ at_key (fold_name d) c
-unfolding at_key
-at_key-sym c d = same_bytes-sym (fold_name c) (fold_name d)
-
-not_from : (b : Bool) → b ≡ false → not b ≡ true
-not_from true e = cc
-not_from false e = refl
-
-false_of_not : (b : Bool) → not b ≡ true → b ≡ false
-false_of_not true e = cc
-false_of_not false e = refl
-
-pub different-append : (cs : List (List ℕ)) (q : List ℕ) → are_different cs ≡ true → is_in (fold_name q) cs ≡ false → are_different (cs ++ q ∷ []) ≡ true
-different-append [] q e f = refl
-different-append (c ∷ cs) q e f =
-    and_both _ _
-    (not_from _ (in-append (fold_name c) cs (q ∷ []) ∙ or_both_false _ _ (false_of_not _ (and_left _ _ e)) (ap (λ b. b || false) (at_key-sym c q ∙ or_left_false _ _ f))))
-    (different-append cs q (and_right (not (is_in (fold_name c) cs)) _ e) (or_right_false (at_key (fold_name q) c) _ f))
-
-pub different-drop : (n : ℕ) (cs : List (List ℕ)) → are_different cs ≡ true → are_different (drop n cs) ≡ true
-different-drop zero cs e = e
-different-drop (suc n) [] e = refl
-different-drop (suc n) (c ∷ cs) e = different-drop n cs (and_right (not (is_in (fold_name c) cs)) _ e)
-
 -- ---- a name is found under its key
 
 found_first : (f c : List ℕ) (cs : List (List ℕ)) (o : Option (List ℕ)) → at_key (fold_name c) f ≡ false → (if at_key (fold_name c) f then Some f else o) ≡ o
 found_first f c cs o e = rw e refl
 
-true_or : (a : Bool) → (a || true) ≡ true
-true_or true = refl
-true_or false = refl
-
-in_back : (front : List (List ℕ)) (c : List ℕ) (back : List (List ℕ)) → is_in (fold_name c) (front ++ c ∷ back) ≡ true
-in_back [] c back = rw (own_key c) refl
-in_back (f ∷ front) c back = ap (λ b. at_key (fold_name c) f || b) (in_back front c back) ∙ true_or (at_key (fold_name c) f)
-
-pub in-own : (front : List (List ℕ)) (c : List ℕ) (back : List (List ℕ)) → is_in (fold_name c) (front ++ c ∷ back) ≡ true
-in-own front c back = in_back front c back
-
 not_in_key : (k f : List ℕ) (cs : List (List ℕ)) (b : Bool) → at_key k f ≡ b → is_in k cs ≡ true → is_in (fold_name f) cs ≡ false → b ≡ false
-not_in_key k f cs true e i n = sym i ∙ (ap (λ key. is_in key cs) (at_key-eq k f e) ∙ n)
+not_in_key k f cs true e i n = sym i ∙ (ap (λ key. is_in key cs) (key_is k f e) ∙ n)
 not_in_key k f cs false e i n = refl
 
 pub find-different : (front : List (List ℕ)) (c : List ℕ) (back : List (List ℕ)) → are_different (front ++ c ∷ back) ≡ true → find (at_key (fold_name c)) (front ++ c ∷ back) ≡ Some c
 find-different [] c back e = rw (own_key c) refl
 find-different (f ∷ front) c back e =
-    found_first f c (front ++ c ∷ back) (find (at_key (fold_name c)) (front ++ c ∷ back)) (not_in_key (fold_name c) f (front ++ c ∷ back) (at_key (fold_name c) f) refl (in_back front c back) (false_of_not _ (and_left _ _ e)))
+    found_first f c (front ++ c ∷ back) (find (at_key (fold_name c)) (front ++ c ∷ back)) (not_in_key (fold_name c) f (front ++ c ∷ back) (at_key (fold_name c) f) refl (in-own front c back) (not_true _ (and_left _ _ e)))
     ∙ find-different front c back (and_right (not (is_in (fold_name f) (front ++ c ∷ back))) _ e)
 
 find-append_by : (k c : List ℕ) (xs ys : List (List ℕ)) (b : Bool) → find (at_key k) (xs ++ ys) ≡ (if is_in k xs then find (at_key k) xs else find (at_key k) ys)
@@ -272,7 +194,7 @@ pub newest-length : {A : Type 0} (n : ℕ) (xs : List A) → length (newest n xs
 newest-length n xs = rw length-drop (omega arith)
 
 in_drop : (k q : List ℕ) (n : ℕ) (cs : List (List ℕ)) → at_key k q ≡ true → n ≤ length cs → is_in k (drop n (cs ++ q ∷ [])) ≡ true
-in_drop k q zero cs e h = in-append k cs (q ∷ []) ∙ (ap (λ b. is_in k cs || (b || false)) e ∙ true_or (is_in k cs))
+in_drop k q zero cs e h = in-append k cs (q ∷ []) ∙ (ap (λ b. is_in k cs || (b || false)) e ∙ or_true (is_in k cs))
 in_drop k q (suc n) [] e h = absurd (omega arith)
 in_drop k q (suc n) (c ∷ cs) e h = in_drop k q n cs e (omega arith)
 

@@ -4,8 +4,8 @@ use Rattle.std.specs.Prelude.{Option, Some, if◌then◌else◌, codes}
 use Rattle.irc_line.specs.Names.{fold_name, is_channel}
 use Rattle.irc_line.specs.Keys.{at_key, is_in}
 use Rattle.irc_line.specs.Lines.{Parts}
-use Rattle.irc_line.proofs.Booleans.{and_left, and_right}
-use Rattle.irc_line.proofs.Order.{own_key}
+use Rattle.irc_line.proofs.Booleans.{and_left, and_right, and_false, and_true, or_true, or_false}
+use Rattle.irc_line.proofs.Order.{own_key, key_is}
 use Rattle.buffer_lines.specs.Stamps.{ring, parameter}
 use Rattle.buffer_targets.specs.Targets.{ChannelLines, TargetLines, channel, target, pushed}
 use Rattle.wire_bytes.specs.declared.origin.Origin.{Origin}
@@ -16,8 +16,8 @@ use Rattle.buffer_machine.specs.Messages.{has_command, is_by, is_own, is_own_kic
 use Rattle.buffer_machine.specs.Buffers.{attached, nick, channels, queries, is_known, joined, joined_after, detached, detached_after, size, first_size, size_after, said, stored, stored_query, emptied, is_cleared, plays, is_taken, floor, kept, is_removed, is_own_at, is_pushed_out}
 use Rattle.buffer_machine.specs.Steps.{keeps}
 use Rattle.buffer_machine.specs.Held.{IsSound, channel_held, target_held}
-use Rattle.buffer_machine.proofs.Folded.{at_key-eq, channel-key, query-key}
-use Rattle.buffer_machine.proofs.Names.{is_made_at, or_none}
+use Rattle.buffer_machine.proofs.Folded.{channel-key, query-key}
+use Rattle.buffer_machine.proofs.Names.{is_made_at}
 use Rattle.buffer_machine.proofs.Standing.{known-channel, known-query}
 use Rattle.buffer_machine.proofs.Kept.{next, next-nothing, kept-next, size-more, stored-channel, stored-query, channel_stored, line_if, other_command, not_storable}
 use Rattle.buffer_machine.proofs.Unknown.{removes-channel, removed-is, detached-more, detached-unknown, size-unknown, kept-unknown, stored-not_storable, removes-query, query-size-unknown, query-kept-unknown}
@@ -51,11 +51,7 @@ emptied-channel : (s : Settings) (earlier : List Command) (x : Command) (k : Lis
 unfolding emptied
 emptied-channel s earlier x k c i r =
     rw (removes-channel s earlier x k c, r, known-channel s earlier k c, i, c)
-    (or_none (channel_empties s (is_taken (floor earlier) (attached s earlier) x) (attached s earlier) (detached s earlier k) k x))
-
-and_true : (b : Bool) → (b && true) ≡ b
-and_true true = refl
-and_true false = refl
+    (or_false (channel_empties s (is_taken (floor earlier) (attached s earlier) x) (attached s earlier) (detached s earlier k) k x))
 
 detached-stays : (s : Settings) (earlier : List Command) (x : Command) (k : List ℕ) → is_in k (channels s earlier) ≡ true → is_removed s earlier k x ≡ false
     → detached s (x ∷ earlier) k ≡ detached_after (attached s earlier) true k (detached s earlier k) x
@@ -117,12 +113,8 @@ kept_made s earlier at line e k c u =
     ∙ rw (kept-unknown s earlier k c u, stored-not_storable s earlier at line k (not_storable (codes "JOIN") line (join_word (nick s earlier) line e) refl refl))
     (next-nothing (size s k (Upstream at line ∷ earlier)) (emptied s k earlier (Upstream at line)))
 
-true_or : (a : Bool) → (a || true) ≡ true
-true_or true = refl
-true_or false = refl
-
 joined_by_join : (own k : List ℕ) (was : Bool) (at : ℕ) (line : Parts) → is_own (codes "JOIN") own line ≡ true → at_key k (parameter 1 line) ≡ true → joined_after own k was (Upstream at line) ≡ true
-joined_by_join own k was at line e f = rw (no_part own k line e, no_kick own line e, e, f) (ap (λ b. b && true && true) (true_or was))
+joined_by_join own k was at line e f = rw (no_part own k line e, no_kick own line e, e, f) (ap (λ b. b && true && true) (or_true was))
 
 detached_made : (s : Settings) (earlier : List Command) (at : ℕ) (line : Parts) (k : List ℕ) → is_in k (channels s earlier) ≡ false → detached s (Upstream at line ∷ earlier) k ≡ false
 detached_made s earlier at line k u = detached-more s earlier (Upstream at line) k ∙ rw (detached-unknown s earlier k u) refl
@@ -151,10 +143,6 @@ abbrev pub next_query : Settings → Bool → List Origin → List ℕ → Optio
 next_query s taken os own m x t =
     next_lines (size_after os true (fold_name t.name) t.lines.size x) t (query_empties s taken os (fold_name t.name) x) (line_if (is_made_at (fold_name t.name) m) (said os own x))
 
-and_false : (a : Bool) → (a && false) ≡ false
-and_false true = refl
-and_false false = refl
-
 stays_in : (s : Settings) (earlier : List Command) (x : Command) (k : List ℕ) → is_in k (queries s (x ∷ earlier)) ≡ true → is_pushed_out s earlier k x ≡ false
 unfolding is_pushed_out
 stays_in s earlier x k e = rw e (and_false (is_in k (queries s earlier)))
@@ -171,7 +159,7 @@ emptied-query : (s : Settings) → IsSound s → (earlier : List Command) (x : C
 unfolding emptied
 emptied-query s sound earlier x k c i j =
     rw (removes-query s earlier x k c, stays_in s earlier x k j, known-query s sound earlier k c, i, c)
-    (or_none (query_empties s (is_taken (floor earlier) (attached s earlier) x) (attached s earlier) k x))
+    (or_false (query_empties s (is_taken (floor earlier) (attached s earlier) x) (attached s earlier) k x))
 
 pub query-next : (s : Settings) → IsSound s → (earlier : List Command) (x : Command) (q : List ℕ) → is_query_name q ≡ true → is_in (fold_name q) (queries s earlier) ≡ true → is_in (fold_name q) (queries s (x ∷ earlier)) ≡ true
     → target_held s (x ∷ earlier) q ≡ next_query s (is_taken (floor earlier) (attached s earlier) x) (attached s earlier) (nick s earlier) (stored_query s earlier x) x (target_held s earlier q)
@@ -202,7 +190,7 @@ pub query-made : (s : Settings) → IsSound s → (earlier : List Command) (x : 
     → stored_query s earlier x ≡ Some q → said (attached s earlier) (nick s earlier) x ≡ Some line → ((b : Bool) (k : List ℕ) (n : ℕ) → size_after (attached s earlier) b k n x ≡ n)
     → target_held s (x ∷ earlier) c ≡ pushed line (target c (ring [] s.query_size))
 query-made s sound earlier x c q line f same u m l z =
-    let here : is_channel (fold_name c) ≡ false = ap is_channel (at_key-eq (fold_name c) q same) ∙ query-key q f in
-    let new : is_in (fold_name c) (queries s earlier) ≡ false = ap (λ k. is_in k (queries s earlier)) (at_key-eq (fold_name c) q same) ∙ u in
+    let here : is_channel (fold_name c) ≡ false = ap is_channel (key_is (fold_name c) q same) ∙ query-key q f in
+    let new : is_in (fold_name c) (queries s earlier) ≡ false = ap (λ k. is_in k (queries s earlier)) (key_is (fold_name c) q same) ∙ u in
     rw (kept-next s earlier x (fold_name c), query-size-made s sound earlier x (fold_name c) here new (λ b n. z b (fold_name c) n), query-kept-unknown s sound earlier (fold_name c) here new, stored-query s sound earlier x (fold_name c) here, m, l, same)
     (next_first s.query_size (emptied s (fold_name c) earlier x) line c)

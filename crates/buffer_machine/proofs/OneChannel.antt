@@ -6,10 +6,7 @@ use Rattle.buffer_lines.specs.Stamps.{ring}
 use Rattle.buffer_targets.specs.Targets.{ChannelLines, channel, target, cleared, resized, pushed, over, with_detached}
 use Rattle.buffer_machine.proofs.Kept.{next}
 use Rattle.buffer_machine.proofs.Pointwise.{quiet, empty, sized, pushed_if}
-
-pub and_false : (a : Bool) → (a && false) ≡ false
-and_false true = refl
-and_false false = refl
+use Rattle.irc_line.proofs.Booleans.{and_false}
 
 abbrev pub one : List ℕ → List (ℕ × Parts) → ℕ → Bool → Bool → ChannelLines
 one c ks n j d = channel (target c (ring ks n)) j d

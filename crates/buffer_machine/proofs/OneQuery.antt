@@ -6,7 +6,7 @@ use Rattle.buffer_lines.specs.Stamps.{ring}
 use Rattle.buffer_targets.specs.Targets.{TargetLines, target, cleared, resized, pushed}
 use Rattle.buffer_machine.proofs.Kept.{next}
 use Rattle.buffer_machine.proofs.Pointwise.{quiet, empty, sized, pushed_if}
-use Rattle.buffer_machine.proofs.OneChannel.{and_false}
+use Rattle.irc_line.proofs.Booleans.{and_false}
 
 -- a query after one command more
 abbrev pub following : List ℕ → List (ℕ × Parts) → ℕ → Bool → Option (ℕ × Parts) → TargetLines

@@ -4,7 +4,7 @@ use Rattle.std.specs.Prelude.{Option, Some, None, if◌then◌else◌, find, unw
 use Rattle.irc_line.specs.Names.{fold_name}
 use Rattle.irc_line.specs.Keys.{at_key, is_in, are_rising}
 use Rattle.irc_line.specs.Lines.{Parts}
-use Rattle.irc_line.proofs.Order.{find-own}
+use Rattle.irc_line.proofs.Order.{find-own, in-own}
 use Rattle.buffer_lines.specs.Stamps.{framed}
 use Rattle.buffer_targets.specs.Targets.{TargetLines}
 use Rattle.wire_bytes.specs.declared.origin.Origin.{Origin}
@@ -14,9 +14,10 @@ use Rattle.buffer_machine.specs.Buffers.{channels, queries, targets, is_known, m
 use Rattle.buffer_machine.specs.Effects.{show_all, status}
 use Rattle.buffer_machine.specs.Steps.{played_of, first_some, target_of_key, played_or_status, done_or_status}
 use Rattle.buffer_machine.specs.Held.{Held, IsSound, held}
-use Rattle.buffer_machine.proofs.Names.{in-append, in-own, find-append, find-different, are_different}
+use Rattle.buffer_machine.proofs.Names.{in-append, find-append, find-different}
 use Rattle.buffer_machine.proofs.Standing.{channels-rise, queries-differ}
 use Rattle.buffer_machine.proofs.Found.{channel_under, target_under, channel-found, query-found}
+use Rattle.buffer_targets.specs.Places.{are_different}
 
 known-both : (s : Settings) (history : List Command) (k : List ℕ) → is_known s history k ≡ (is_in k (channels s history) || is_in k (queries s history))
 unfolding is_known targets

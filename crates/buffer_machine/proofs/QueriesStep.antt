@@ -6,8 +6,8 @@ use Rattle.std.proofs.lemmas.List.{length-map}
 use Rattle.irc_line.specs.Names.{fold_name}
 use Rattle.irc_line.specs.Keys.{at_key, is_in}
 use Rattle.irc_line.specs.Lines.{Parts}
-use Rattle.irc_line.proofs.Booleans.{and_right}
-use Rattle.irc_line.proofs.Order.{own_key}
+use Rattle.irc_line.proofs.Booleans.{and_right, or_second, and_false, or_left_false, or_right_false}
+use Rattle.irc_line.proofs.Order.{own_key, at_key-sym, in-own}
 use Rattle.buffer_lines.specs.Stamps.{ring, parameter}
 use Rattle.buffer_targets.specs.Targets.{TargetLines, target, cleared, resized, pushed, has_name_key, at_query, query_stored, newest}
 use Rattle.buffer_commands.specs.Settings.{Settings}
@@ -19,13 +19,12 @@ use Rattle.buffer_machine.specs.Buffers.{floor, can_attach, is_taken, attached, 
 use Rattle.buffer_machine.specs.Steps.{keeps, queries_storing, queries_after}
 use Rattle.buffer_machine.specs.Held.{IsSound, target_held, held}
 use Rattle.buffer_machine.proofs.Lists.{map_at, map_through}
-use Rattle.buffer_machine.proofs.Names.{is_made_at, all-at, in-own, in-append, at_key-sym, newest-all, or_left_false, or_right_false}
+use Rattle.buffer_machine.proofs.Names.{is_made_at, all-at, in-append, newest-all}
 use Rattle.buffer_machine.proofs.Standing.{queries-more, queries-are, queries-fit}
 use Rattle.buffer_machine.proofs.Kept.{kept-fits, line_if}
 use Rattle.buffer_machine.proofs.Next.{next_query, query-next, query-made}
 use Rattle.buffer_machine.proofs.Found.{found-known}
 use Rattle.buffer_machine.proofs.Pointwise.{if_map, map_id}
-use Rattle.buffer_machine.proofs.OneChannel.{and_false}
 use Rattle.buffer_machine.proofs.OneQuery.{following, same_query, attach_query, play_query, again_query, clear_query_one, clear_channels_query, clear_queries_query, clear_all_query, size_query_one, store_query_one}
 use Rattle.buffer_machine.proofs.ChannelsCome.{floor_now}
 
@@ -133,10 +132,6 @@ newest_map f n xs = rw length-map (drop_map f (length xs - n) xs)
 map_append : {A B : Type 0} (f : A → B) (xs ys : List A) → map f (xs ++ ys) ≡ map f xs ++ map f ys
 map_append f [] ys = refl
 map_append f (x ∷ xs) ys = ap (λ zs. f x ∷ zs) (map_append f xs ys)
-
-or_second : (a b : Bool) → b ≡ true → (a || b) ≡ true
-or_second true b e = refl
-or_second false b e = e
 
 in_of_drop : (k : List ℕ) (n : ℕ) (cs : List (List ℕ)) → is_in k (drop n cs) ≡ true → is_in k cs ≡ true
 in_of_drop k zero cs e = e

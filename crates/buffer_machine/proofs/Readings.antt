@@ -20,6 +20,7 @@ use Rattle.buffer_machine.proofs.EffectsStep.{effects-step}
 use Rattle.buffer_machine.proofs.HeldStep.{held-step}
 use Rattle.buffer_machine.proofs.Kept.{kept-fits, kept-next, keep_last-nil}
 use Rattle.buffer_machine.proofs.Playing.{played-held, played-is}
+use Rattle.irc_line.proofs.Booleans.{and_both}
 
 -- ---- what is kept fits
 
@@ -58,16 +59,12 @@ or_true true b c e = refl
 or_true false true c e = refl
 or_true false false c e = cc
 
-both : (a b : Bool) → a ≡ true → b ≡ true → (a && b) ≡ true
-both true b e f = f
-both false b e f = cc
-
 abbrev plays_now : Settings → List Command → Command → List ℕ → Bool
 plays_now s earlier x t = plays (is_taken (floor earlier) (attached s earlier) x) (attached s earlier) (is_channel t && detached s earlier t) t (is_known s earlier t) x
 
 emptied_played : (s : Settings) (earlier : List Command) (x : Command) (t : List ℕ) → clears s t ≡ true → plays_now s earlier x t ≡ true → emptied s t earlier x ≡ true
 unfolding emptied
-emptied_played s earlier x t e f = or_true _ _ _ (both _ _ e f)
+emptied_played s earlier x t e f = or_true _ _ _ (and_both _ _ e f)
 
 -- what plays says nothing
 unsaid : (s : Settings) (earlier : List Command) (x : Command) (t : List ℕ) → plays_now s earlier x t ≡ true → stored s t earlier x ≡ None

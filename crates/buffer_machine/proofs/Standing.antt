@@ -5,7 +5,7 @@ use Rattle.std.specs.List.{list_all}
 use Rattle.irc_line.specs.Names.{fold_name, is_channel}
 use Rattle.irc_line.specs.Keys.{at_key, is_in, are_rising}
 use Rattle.irc_line.specs.Lines.{Parts}
-use Rattle.irc_line.proofs.Booleans.{and_left, and_right}
+use Rattle.irc_line.proofs.Booleans.{and_left, and_right, or_both_false, or_false}
 use Rattle.buffer_lines.specs.Stamps.{parameter}
 use Rattle.buffer_targets.specs.Targets.{newest}
 use Rattle.buffer_commands.specs.Settings.{Settings}
@@ -14,8 +14,11 @@ use Rattle.buffer_commands.specs.declared.command.Command.TheVariants.{Client, U
 use Rattle.buffer_machine.specs.Messages.{is_own, is_by, has_command, is_query_line, is_query_name, is_none_of, is_storable, source}
 use Rattle.buffer_machine.specs.Buffers.{attached, nick, channels, queries, made_by, with_made, is_removed, with_new, query_aim, stored_query, said, targets, is_known}
 use Rattle.buffer_machine.specs.Held.{IsSound}
-use Rattle.buffer_machine.proofs.Folded.{at_key-eq, channel-key, query-key}
-use Rattle.buffer_machine.proofs.Names.{is_made_at, in-made, in-new, in-append, in-filter, all-filter, all-put, all-append, all-drop, rising-filter, rising-put, are_different, different-append, different-drop, newest-length, or_none, or_both_false}
+use Rattle.buffer_machine.proofs.Folded.{channel-key, query-key}
+use Rattle.buffer_machine.proofs.Names.{is_made_at, in-made, in-new, in-append, in-filter, all-filter, all-put, all-append, all-drop, rising-filter, rising-put, newest-length}
+use Rattle.irc_line.proofs.Order.{key_is}
+use Rattle.buffer_targets.specs.Places.{are_different}
+use Rattle.buffer_targets.proofs.Indexes.{different_pushed, different_dropped}
 
 -- ---- channels
 
@@ -111,7 +114,7 @@ queries-none s = refl
 
 different-new_by : (c : List ℕ) (cs : List (List ℕ)) (b : Bool) → is_in (fold_name c) cs ≡ b → are_different cs ≡ true → are_different (with_new (Some c) cs) ≡ true
 different-new_by c cs true e d = rw e d
-different-new_by c cs false e d = rw e (different-append cs c d e)
+different-new_by c cs false e d = rw e (different_pushed c cs d e)
 
 different-new : (m : Option (List ℕ)) (cs : List (List ℕ)) → are_different cs ≡ true → are_different (with_new m cs) ≡ true
 different-new None cs d = d
@@ -134,7 +137,7 @@ pub queries-differ : (s : Settings) (history : List Command) → are_different (
 queries-differ s [] = ap are_different (queries-none s)
 queries-differ s (x ∷ earlier) =
     ap are_different (queries-more s earlier x)
-    ∙ different-drop _ (with_new (stored_query s earlier x) (queries s earlier)) (different-new (stored_query s earlier x) (queries s earlier) (queries-differ s earlier))
+    ∙ different_dropped _ (with_new (stored_query s earlier x) (queries s earlier)) (different-new (stored_query s earlier x) (queries s earlier) (queries-differ s earlier))
 
 -- each is a nick
 pub queries-are : (s : Settings) (history : List Command) → list_all is_query_name (queries s history) ≡ true
@@ -156,11 +159,11 @@ new-known s earlier x k = in-new k (stored_query s earlier x) (queries s earlier
 -- ---- a key is a channel's or a query's
 
 no_channel_at : (k c : List ℕ) (b : Bool) → at_key k c ≡ b → is_channel k ≡ false → is_channel c ≡ true → b ≡ false
-no_channel_at k c true e f g = absurd (let t : is_channel k ≡ true = ap is_channel (at_key-eq k c e) ∙ channel-key c g in cc)
+no_channel_at k c true e f g = absurd (let t : is_channel k ≡ true = ap is_channel (key_is k c e) ∙ channel-key c g in cc)
 no_channel_at k c false e f g = refl
 
 no_query_at : (k c : List ℕ) (b : Bool) → at_key k c ≡ b → is_channel k ≡ true → is_query_name c ≡ true → b ≡ false
-no_query_at k c true e f g = absurd (let t : is_channel k ≡ false = ap is_channel (at_key-eq k c e) ∙ query-key c g in cc)
+no_query_at k c true e f g = absurd (let t : is_channel k ≡ false = ap is_channel (key_is k c e) ∙ query-key c g in cc)
 no_query_at k c false e f g = refl
 
 -- no channel has a key that is no channel's
@@ -187,7 +190,7 @@ known-both s history t = in-append t (channels s history) (queries s history)
 
 -- a channel's key is known where a channel has it
 pub known-channel : (s : Settings) (history : List Command) (k : List ℕ) → is_channel k ≡ true → is_known s history k ≡ is_in k (channels s history)
-known-channel s history k e = known-both s history k ∙ (ap (λ b. is_in k (channels s history) || b) (not_a_query s history k e) ∙ or_none (is_in k (channels s history)))
+known-channel s history k e = known-both s history k ∙ (ap (λ b. is_in k (channels s history) || b) (not_a_query s history k e) ∙ or_false (is_in k (channels s history)))
 
 -- any other key is known where a query has it
 pub known-query : (s : Settings) → IsSound s → (history : List Command) (k : List ℕ) → is_channel k ≡ false → is_known s history k ≡ is_in k (queries s history)

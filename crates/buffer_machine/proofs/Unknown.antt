@@ -4,7 +4,7 @@ use Rattle.std.specs.Prelude.{Option, Some, None, if◌then◌else◌, codes}
 use Rattle.irc_line.specs.Names.{fold_name, is_channel}
 use Rattle.irc_line.specs.Keys.{at_key, is_in}
 use Rattle.irc_line.specs.Lines.{Parts}
-use Rattle.irc_line.proofs.Booleans.{and_left}
+use Rattle.irc_line.proofs.Booleans.{and_left, and_false, or_true}
 use Rattle.buffer_lines.specs.Stamps.{parameter}
 use Rattle.buffer_targets.specs.Targets.{newest}
 use Rattle.wire_bytes.specs.declared.origin.Origin.{Origin}
@@ -15,10 +15,10 @@ use Rattle.buffer_commands.specs.declared.command.Command.TheVariants.{Client, U
 use Rattle.buffer_machine.specs.Messages.{has_command, is_among, is_by, is_storable}
 use Rattle.buffer_machine.specs.Buffers.{attached, nick, channels, queries, is_known, joined, detached, detached_after, size, first_size, size_after, said, stored, stored_query, emptied, is_cleared, clears, plays, is_taken, floor, is_past, made_by, stored_where, kept, is_removed, removes, is_pushed_out, removes_target, with_new}
 use Rattle.buffer_machine.specs.Held.{IsSound}
-use Rattle.buffer_machine.proofs.Folded.{at_key-eq}
 use Rattle.buffer_machine.proofs.Names.{is_made_at, newest-all, newest-last}
 use Rattle.buffer_machine.proofs.Standing.{known-next, known-channel, known-query, queries-more, queries-fit}
 use Rattle.buffer_machine.proofs.Kept.{next, next-nothing, keep_last-nil, kept-next, kept-none, size-first, size-more, stored-unknown, stored-query, line_if, not_storable}
+use Rattle.irc_line.proofs.Order.{key_is}
 
 -- ---- channels
 
@@ -33,10 +33,6 @@ pub detached-more : (s : Settings) (earlier : List Command) (x : Command) (k : L
     → detached s (x ∷ earlier) k ≡ (detached_after (attached s earlier) (is_in k (channels s earlier)) k (detached s earlier k) x && not (is_removed s earlier k x))
 unfolding detached
 detached-more s earlier x k = refl
-
-and_false : (a : Bool) → (a && false) ≡ false
-and_false true = refl
-and_false false = refl
 
 not_detached_after : (os : List Origin) (k : List ℕ) (x : Command) → detached_after os false k false x ≡ false
 not_detached_after os k (Client o at (Detach d)) = rw (and_false (is_among o os)) refl
@@ -149,10 +145,6 @@ pub removed-is : (s : Settings) (earlier : List Command) (k : List ℕ) (x : Com
 unfolding is_removed
 removed-is s earlier k x = refl
 
-or_true : (a : Bool) → (a || true) ≡ true
-or_true true = refl
-or_true false = refl
-
 -- what removes a target empties it
 emptied-removed : (s : Settings) (earlier : List Command) (x : Command) (k : List ℕ) → removes_target s earlier k x ≡ true → emptied s k earlier x ≡ true
 unfolding emptied
@@ -177,7 +169,7 @@ query_gone s earlier x k true e f = rw (e, f) refl
 query_gone s earlier x k false e f = rw e refl
 
 made_at_by : (k q : List ℕ) (names : List (List ℕ)) (n : ℕ) (b : Bool) → 1 ≤ n → length names ≤ n → is_in (fold_name q) names ≡ b → at_key k q ≡ true → is_in k (newest n (with_new (Some q) names)) ≡ true
-made_at_by k q names n true h l e f = rw (e, newest-all n names l) (ap (λ key. is_in key names) (at_key-eq k q f) ∙ e)
+made_at_by k q names n true h l e f = rw (e, newest-all n names l) (ap (λ key. is_in key names) (key_is k q f) ∙ e)
 made_at_by k q names n false h l e f = rw e (newest-last k q n names h f)
 
 made_at_some : (k : List ℕ) (m : Option (List ℕ)) (names : List (List ℕ)) (n : ℕ) (b : Bool) → 1 ≤ n → length names ≤ n → is_made_at k m ≡ b → is_in k (newest n (with_new m names)) ≡ false → b ≡ false

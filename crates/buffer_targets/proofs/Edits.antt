@@ -3,17 +3,9 @@ use Rattle.std.proofs.Common.{◌≡◌, ℕ, zero, suc, ◌+◌, ◌<◌, lengt
 use Rattle.std.specs.Prelude.{filter, find, Some, None}
 use Rattle.std.specs.List.{list_any, insert, remove}
 use Rattle.irc_line.specs.Keys.{at_key, is_in}
-use Rattle.irc_line.proofs.Booleans.{and_right}
+use Rattle.irc_line.proofs.Booleans.{and_right, or_left_false, or_right_false}
 use Rattle.buffer_targets.specs.Places.{IsPlace, are_different}
 use Rattle.buffer_targets.proofs.Rising.{before_is_other, behind_are_others}
-
-or_left_false : (a b : Bool) → (a || b) ≡ false → a ≡ false
-or_left_false true b e = e
-or_left_false false b e = refl
-
-or_right_false : (a b : Bool) → (a || b) ≡ false → b ≡ false
-or_right_false true b e = cc
-or_right_false false b e = e
 
 module _ {A : Type 0} (name : A → List ℕ) where
   -- a key that no name has: nothing is changed, removed or found

@@ -8,8 +8,8 @@ use Rattle.std.proofs.lemmas.Bool.Decides.{nat_tests}
 use Rattle.std.proofs.lemmas.List.{get_or_append_left, get_or_push, get_or-drop, length-drop, length_push}
 use Rattle.irc_line.specs.Names.{fold_name}
 use Rattle.irc_line.specs.Keys.{at_key, is_in}
-use Rattle.irc_line.proofs.Booleans.{and_left, and_right, and_both, not_from, not_true}
-use Rattle.irc_line.proofs.Order.{cases_of_or, eq_of}
+use Rattle.irc_line.proofs.Booleans.{and_left, and_right, and_both, not_from, not_true, or_both_false, or_first, or_left_false, or_right_false, or_second}
+use Rattle.irc_line.proofs.Order.{cases_of_or, eq_of, at_key-sym}
 use Rattle.irc_line.proofs.SameBytes.{same_bytes-sym}
 use Rattle.buffer_targets.specs.Places.{IsPlace, IsGap, IsIndex, are_different, names_at, compared_at, lowered}
 use Rattle.buffer_targets.proofs.Rising.{none_at_gap, rising-insert, rising-filter}
@@ -36,26 +36,6 @@ not_le_of x y e = grind (arith, nat_tests)
 
 of_eq : (x y : ℕ) → x ≡ y → (x == y) ≡ true
 of_eq x y e = grind (arith, nat_tests)
-
-or_first : (a b : Bool) → a ≡ true → (a || b) ≡ true
-or_first true b e = refl
-or_first false b e = cc
-
-or_second : (a b : Bool) → b ≡ true → (a || b) ≡ true
-or_second true b e = refl
-or_second false b e = e
-
-or_none : (a b : Bool) → a ≡ false → b ≡ false → (a || b) ≡ false
-or_none true b e f = e
-or_none false b e f = f
-
-none_first : (a b : Bool) → (a || b) ≡ false → a ≡ false
-none_first true b e = e
-none_first false b e = refl
-
-none_second : (a b : Bool) → (a || b) ≡ false → b ≡ false
-none_second true b e = cc
-none_second false b e = e
 
 -- what a search of the index finds
 
@@ -109,14 +89,14 @@ found_in_index key names places p x index h e = found_by key names places p x in
 
 none_by : (key : List ℕ) (ns : List (List ℕ)) → ((i : ℕ) → i < length ns → at_key key (name_at ns i) ≡ false) → is_in key ns ≡ false
 none_by key [] h = refl
-none_by key (n ∷ ns) h = or_none _ _ (h 0 (omega arith)) (none_by key ns (λ i l. h (suc i) (omega arith)))
+none_by key (n ∷ ns) h = or_both_false _ _ (h 0 (omega arith)) (none_by key ns (λ i l. h (suc i) (omega arith)))
 
 none_at : (key : List ℕ) (names : List (List ℕ)) (places : List ℕ) (i : ℕ) → list_any (λ j. j == i) places ≡ true → is_in key (names_at names places) ≡ false → at_key key (name_at names i) ≡ false
 none_at key names [] i h e = cc
 none_at key names (j ∷ places) i h e =
     cases_of_or _ _ h
-    (λ same. subst (λ k. at_key key (name_at names k) ≡ false) (eq_of j i same) (none_first _ _ e))
-    (λ other more. none_at key names places i more (none_second (at_key key (name_at names j)) _ e))
+    (λ same. subst (λ k. at_key key (name_at names k) ≡ false) (eq_of j i same) (or_left_false _ _ e))
+    (λ other more. none_at key names places i more (or_right_false (at_key key (name_at names j)) _ e))
 
 -- a key that has a gap in the index is no name's
 pub none_in_index : (key : List ℕ) (names : List (List ℕ)) (places : List ℕ) (p : ℕ) → IsIndex names places → IsGap key (names_at names places) p → is_in key names ≡ false
@@ -126,19 +106,15 @@ none_in_index key names places p index gap =
 -- one name more
 
 is_in_pushed : (key n : List ℕ) (ns : List (List ℕ)) → is_in key ns ≡ false → at_key key n ≡ false → is_in key (ns ++ n ∷ []) ≡ false
-is_in_pushed key n [] e f = or_none _ _ f refl
-is_in_pushed key n (m ∷ ns) e f = or_none _ _ (none_first _ _ e) (is_in_pushed key n ns (none_second (at_key key m) _ e) f)
+is_in_pushed key n [] e f = or_both_false _ _ f refl
+is_in_pushed key n (m ∷ ns) e f = or_both_false _ _ (or_left_false _ _ e) (is_in_pushed key n ns (or_right_false (at_key key m) _ e) f)
 
-other_way : (a b : List ℕ) → at_key (fold_name a) b ≡ at_key (fold_name b) a
-unfolding at_key
-other_way a b = same_bytes-sym (fold_name a) (fold_name b)
-
-different_pushed : (n : List ℕ) (ns : List (List ℕ)) → are_different ns ≡ true → is_in (fold_name n) ns ≡ false → are_different (ns ++ n ∷ []) ≡ true
+pub different_pushed : (n : List ℕ) (ns : List (List ℕ)) → are_different ns ≡ true → is_in (fold_name n) ns ≡ false → are_different (ns ++ n ∷ []) ≡ true
 different_pushed n [] d e = refl
 different_pushed n (m ∷ ns) d e =
     and_both _ _
-    (not_from _ (is_in_pushed (fold_name m) n ns (not_true _ (and_left _ _ d)) (other_way m n ∙ none_first _ _ e)))
-    (different_pushed n ns (and_right _ _ d) (none_second (at_key (fold_name n) m) _ e))
+    (not_from _ (is_in_pushed (fold_name m) n ns (not_true _ (and_left _ _ d)) (at_key-sym m n ∙ or_left_false _ _ e)))
+    (different_pushed n ns (and_right _ _ d) (or_right_false (at_key (fold_name n) m) _ e))
 
 names_at_pushed : (names : List (List ℕ)) (n : List ℕ) (places : List ℕ) → list_all (λ i. nat_lt i (length names)) places ≡ true → map (name_at (names ++ n ∷ [])) places ≡ names_at names places
 names_at_pushed names n [] r = refl
@@ -192,7 +168,7 @@ module _ (names : List (List ℕ)) (places : List ℕ) (n : List ℕ) (p : ℕ) 
 
 -- without the first names
 
-different_dropped : (k : ℕ) (ns : List (List ℕ)) → are_different ns ≡ true → are_different (drop k ns) ≡ true
+pub different_dropped : (k : ℕ) (ns : List (List ℕ)) → are_different ns ≡ true → are_different (drop k ns) ≡ true
 different_dropped zero ns d = d
 different_dropped (suc k) [] d = d
 different_dropped (suc k) (n ∷ ns) d = different_dropped k ns (and_right _ _ d)

@@ -7,8 +7,8 @@ use Rattle.std.proofs.lemmas.Bool.Decides.{nat_tests}
 use Rattle.std.proofs.lemmas.Cmp.{same_from_slice_cmp, nat_list_cmp_total}
 use Rattle.irc_line.specs.Names.{fold_name, same_bytes}
 use Rattle.irc_line.specs.Keys.{at_key, is_below, are_rising}
-use Rattle.irc_line.proofs.Booleans.{and_left, and_right, and_both}
-use Rattle.irc_line.proofs.Order.{below-trans, below-asym}
+use Rattle.irc_line.proofs.Booleans.{and_left, and_right, and_both, false_of}
+use Rattle.irc_line.proofs.Order.{below-trans, below-asym, below-irrefl, key_is}
 use Rattle.irc_line.proofs.SameBytes.{same_bytes-eq, same_bytes-sym}
 
 -- a comparison's answer, as a test
@@ -27,18 +27,6 @@ above_of_greater a b e = below_of_less b a (nat_list_cmp_total.antisymm b a ∙ 
 pub key_of_equal : (name key : List ℕ) → slice_cmp nat_cmp (fold_name name) key ≡ Equal → at_key key name ≡ true
 unfolding at_key
 key_of_equal name key e = same_bytes-sym key (fold_name name) ∙ sym (equal_is_same (fold_name name) key Equal (sym e))
-
--- who has a key folds to it
-pub key_is : (key name : List ℕ) → at_key key name ≡ true → key ≡ fold_name name
-unfolding at_key
-key_is key name e = same_bytes-eq key (fold_name name) e
-
-false_of : (b : Bool) → (b ≡ true → false ≡ true) → b ≡ false
-false_of true h = sym (h refl)
-false_of false h = refl
-
-below-irrefl : (a : List ℕ) → is_below a a ≡ true → false ≡ true
-below-irrefl a e = sym (below-asym a a e) ∙ e
 
 -- a name below or above a key does not have it
 pub below_is_other : (key name : List ℕ) → is_below (fold_name name) key ≡ true → at_key key name ≡ false

@@ -1,7 +1,7 @@
 mod ChannelEdits
 mod Edits
-mod Indexes
-mod Keys
+pub mod Indexes
+pub mod Keys
 mod QueryEdits
-mod Rising
+pub mod Rising
 mod Search

@@ -4,34 +4,27 @@ use Rattle.std.specs.Prelude.{filter}
 use Rattle.std.specs.List.{list_all, insert}
 use Rattle.irc_line.specs.Names.{fold_name}
 use Rattle.irc_line.specs.Keys.{at_key, is_in, is_below, is_below_all, are_rising}
-use Rattle.irc_line.proofs.Booleans.{and_left, and_right, and_both, not_from, not_true}
+use Rattle.irc_line.proofs.Booleans.{and_left, and_right, and_both, not_from, not_true, false_of, or_both_false, or_second}
 use Rattle.buffer_targets.specs.Places.{IsPlace, IsGap, are_different}
-use Rattle.buffer_targets.proofs.Keys.{key_is, above_is_other, below_is_other, below_later}
-
-or_false : (a b : Bool) → a ≡ false → b ≡ false → (a || b) ≡ false
-or_false true b e f = e
-or_false false b e f = f
-
-or_true : (a b : Bool) → b ≡ true → (a || b) ≡ true
-or_true true b e = refl
-or_true false b e = e
+use Rattle.buffer_targets.proofs.Keys.{above_is_other, below_is_other, below_later}
+use Rattle.irc_line.proofs.Order.{key_is}
 
 -- names that are above a key do not have it
 pub none_above : (key : List ℕ) (ns : List (List ℕ)) → list_all (λ n. is_below key (fold_name n)) ns ≡ true → is_in key ns ≡ false
 none_above key [] e = refl
-none_above key (n ∷ ns) e = or_false _ _ (above_is_other key n (and_left _ _ e)) (none_above key ns (and_right _ _ e))
+none_above key (n ∷ ns) e = or_both_false _ _ (above_is_other key n (and_left _ _ e)) (none_above key ns (and_right _ _ e))
 
 -- no name has a key that has a gap
 pub none_at_gap : (key : List ℕ) (ns : List (List ℕ)) (at : ℕ) → IsGap key ns at → is_in key ns ≡ false
 none_at_gap key ns zero g = none_above key ns g
 none_at_gap key [] (suc at) g = absurd g
-none_at_gap key (n ∷ ns) (suc at) g = or_false _ _ (below_is_other key n g.0) (none_at_gap key ns at g.1)
+none_at_gap key (n ∷ ns) (suc at) g = or_both_false _ _ (below_is_other key n g.0) (none_at_gap key ns at g.1)
 
 -- some name has a key that has a place
 pub some_at_place : (key : List ℕ) (ns : List (List ℕ)) (at : ℕ) → IsPlace key ns at → is_in key ns ≡ true
 some_at_place key [] at p = absurd p
 some_at_place key (n ∷ ns) zero p = rw p refl
-some_at_place key (n ∷ ns) (suc at) p = or_true (at_key key n) _ (some_at_place key ns at p)
+some_at_place key (n ∷ ns) (suc at) p = or_second (at_key key n) _ (some_at_place key ns at p)
 
 -- names that rise have different keys
 pub rising_are_different : (ns : List (List ℕ)) → are_rising ns ≡ true → are_different ns ≡ true
@@ -39,21 +32,17 @@ rising_are_different [] r = refl
 rising_are_different (n ∷ ns) r =
     and_both _ _ (not_from _ (none_above (fold_name n) ns (below_later n ns r))) (rising_are_different ns (and_right _ _ r))
 
-other_by : (b : Bool) → (b ≡ true → false ≡ true) → b ≡ false
-other_by true h = sym (h refl)
-other_by false h = refl
-
 -- of names with different keys, the one before a key's place does not have it
 pub before_is_other : (key n : List ℕ) (ns : List (List ℕ)) (at : ℕ) → are_different (n ∷ ns) ≡ true → IsPlace key ns at → at_key key n ≡ false
 before_is_other key n ns at d p =
-    other_by _ (λ h. sym (not_true _ (and_left _ _ d)) ∙ subst (λ k. is_in k ns ≡ true) (key_is key n h) (some_at_place key ns at p))
+    false_of _ (λ h. sym (not_true _ (and_left _ _ d)) ∙ subst (λ k. is_in k ns ≡ true) (key_is key n h) (some_at_place key ns at p))
 
 -- and the ones behind it do not either
 pub behind_are_others : (key n : List ℕ) (ns : List (List ℕ)) → are_different (n ∷ ns) ≡ true → at_key key n ≡ true → is_in key ns ≡ false
 behind_are_others key n ns d h = subst (λ k. is_in k ns ≡ false) (sym (key_is key n h)) (not_true _ (and_left _ _ d))
 
 -- what is above a key
-front_rises : (n : List ℕ) (ns : List (List ℕ)) → list_all (λ m. is_below (fold_name n) (fold_name m)) ns ≡ true → is_below_all n ns ≡ true
+pub front_rises : (n : List ℕ) (ns : List (List ℕ)) → list_all (λ m. is_below (fold_name n) (fold_name m)) ns ≡ true → is_below_all n ns ≡ true
 front_rises n [] e = refl
 front_rises n (m ∷ ns) e = and_left _ _ e
 

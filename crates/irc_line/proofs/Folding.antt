@@ -1,12 +1,9 @@
 -- Folded names, compared byte by byte.
-use Rattle.std.proofs.Common.{◌≡◌, ◌≢◌, ℕ, Bool, true, false, ◌&&◌, List, [], ◌∷◌, length, drop, get_or, suc, refl, ap, ◌<◌, ◌+◌, add-one}
+use Rattle.std.proofs.Common.{◌≡◌, ◌≢◌, ℕ, false, ◌&&◌, List, [], ◌∷◌, length, drop, get_or, suc, refl, ap, ◌<◌, ◌+◌, add-one}
 use Rattle.std.specs.Prelude.{◌==◌}
 use Rattle.std.proofs.Math.Seq.{drop-cons}
 use Rattle.irc_line.specs.Names.{fold_byte, same_name}
-
-and_false : (b : Bool) → (b && false) ≡ false
-and_false true = refl
-and_false false = refl
+use Rattle.irc_line.proofs.Booleans.{and_false}
 
 -- names of two lengths differ
 pub lengths : (a b : List ℕ) → length a ≢ length b → same_name a b ≡ false

@@ -1,24 +1,16 @@
 -- The order of folded names.
-use Rattle.std.proofs.Common.{◌≡◌, ℕ, ◌-◌, ◌<◌, ◌≤◌, Bool, true, false, ◌||◌, List, [], ◌∷◌, ◌++◌, length, drop, refl, sym, ◌∙◌, arith, subst}
+use Rattle.std.proofs.Common.{◌≡◌, ℕ, ◌-◌, ◌<◌, ◌≤◌, Bool, true, false, ◌||◌, List, [], ◌∷◌, ◌++◌, length, drop, refl, ◌∙◌, arith, subst}
 use Rattle.std.specs.Prelude.{◌==◌, nat_lt, find, Some}
 use Rattle.std.proofs.lemmas.Bool.Decides.{nat_tests}
 use Rattle.std.proofs.lemmas.List.{length-drop}
 use Rattle.irc_line.specs.Names.{fold_name}
 use Rattle.irc_line.specs.Keys.{at_key, is_in, is_below, is_below_all, are_rising, put_in}
-use Rattle.irc_line.proofs.Booleans.{and_left, and_right, and_both}
-use Rattle.irc_line.proofs.SameBytes.{same_bytes-refl, same_bytes-eq}
+use Rattle.irc_line.proofs.Booleans.{and_left, and_right, and_both, false_of, or_first, or_second}
+use Rattle.irc_line.proofs.SameBytes.{same_bytes-refl, same_bytes-eq, same_bytes-sym}
 
 pub cases_of_or : {P : Type 0} (a b : Bool) → (a || b) ≡ true → (a ≡ true → P) → (a ≡ false → b ≡ true → P) → P
 cases_of_or true b e f g = f refl
 cases_of_or false b e f g = g refl e
-
-or_first : (a b : Bool) → a ≡ true → (a || b) ≡ true
-or_first true b e = refl
-or_first false b e = cc
-
-or_second : (a b : Bool) → b ≡ true → (a || b) ≡ true
-or_second true b e = refl
-or_second false b e = e
 
 pub eq_of : (x y : ℕ) → (x == y) ≡ true → x ≡ y
 eq_of x y e = grind (arith, nat_tests)
@@ -35,7 +27,7 @@ of_eq x = grind (arith, nat_tests)
 not_lt : (x : ℕ) → nat_lt x x ≡ true → false ≡ true
 not_lt x e = absurd (let l = lt_of x x e in omega arith)
 
-below-irrefl : (a : List ℕ) → is_below a a ≡ true → false ≡ true
+pub below-irrefl : (a : List ℕ) → is_below a a ≡ true → false ≡ true
 below-irrefl [] e = e
 below-irrefl (x ∷ xs) e = cases_of_or _ _ e (λ l. not_lt x l) (λ n r. below-irrefl xs (and_right _ _ r))
 
@@ -58,10 +50,6 @@ below-trans (x ∷ xs) (y ∷ ys) (z ∷ zs) e f =
     (λ m. below_cons x z xs zs (let p = eq_of x y (and_left _ _ r) in let q = lt_of y z m in omega arith))
     (λ k s. below_same x z xs zs (let p = eq_of x y (and_left _ _ r) in let q = eq_of y z (and_left _ _ s) in omega arith) (below-trans xs ys zs (and_right _ _ r) (and_right _ _ s))))
 
-false_of : (b : Bool) → (b ≡ true → false ≡ true) → b ≡ false
-false_of true h = sym (h refl)
-false_of false h = refl
-
 pub below-asym : (a b : List ℕ) → is_below a b ≡ true → is_below b a ≡ false
 below-asym a b e = false_of _ (λ f. below-irrefl a (below-trans a b a e f))
 
@@ -78,6 +66,16 @@ rising-below f (g ∷ front) c back e =
 pub other_key : (c f : List ℕ) → is_below (fold_name f) (fold_name c) ≡ true → at_key (fold_name c) f ≡ false
 unfolding at_key
 other_key c f e = false_of _ (λ s. below-irrefl (fold_name f) (subst (λ k. is_below (fold_name f) k ≡ true) (same_bytes-eq (fold_name c) (fold_name f) s) e))
+
+-- who has a key folds to it
+pub key_is : (key name : List ℕ) → at_key key name ≡ true → key ≡ fold_name name
+unfolding at_key
+key_is key name e = same_bytes-eq key (fold_name name) e
+
+-- of two names each has the other's key, or neither has
+pub at_key-sym : (c d : List ℕ) → at_key (fold_name c) d ≡ at_key (fold_name d) c
+unfolding at_key
+at_key-sym c d = same_bytes-sym (fold_name c) (fold_name d)
 
 pub own_key : (c : List ℕ) → at_key (fold_name c) c ≡ true
 unfolding at_key

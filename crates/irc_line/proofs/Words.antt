@@ -1,5 +1,5 @@
 -- What the bytes of a content's parts are.
-use Rattle.std.proofs.Common.{◌≡◌, ℕ, Bool, true, false, not, ◌&&◌, List, [], ◌∷◌, ◌++◌, map, length, refl, ap, sym, ◌∙◌, arith, length-append, ◌||◌, ◌≤◌, ◌<◌, ◌+◌}
+use Rattle.std.proofs.Common.{◌≡◌, ℕ, Bool, true, false, not, ◌&&◌, List, [], ◌∷◌, ◌++◌, map, length, refl, ap, sym, ◌∙◌, arith, length-append, ◌≤◌, ◌<◌, ◌+◌}
 use Rattle.std.specs.Prelude.{◌==◌, nat_lt, position, Some, None}
 use Rattle.std.proofs.Common.{suc, cond}
 use Rattle.std.specs.List.{list_all, position_or_len}
@@ -10,7 +10,7 @@ use Rattle.irc_line.specs.Names.{is_content_byte}
 use Rattle.irc_line.specs.Lines.{is_word_byte, is_word, is_middle, is_upper_letter, is_digit, is_upper_command}
 use Rattle.irc_line.specs.Grammar.{is_space, IsWord, IsMiddle, is_letter, is_command, upper, AreContent, IsFirstBad}
 use Rattle.irc_line.proofs.Grammar.{NoSpace}
-use Rattle.irc_line.proofs.Booleans.{and_left, and_right, not_true, or_cases, not_from, and_both}
+use Rattle.irc_line.proofs.Booleans.{and_left, and_right, not_true, or_cases, not_from, and_both, or_first, or_second}
 
 -- Content bytes
 
@@ -134,20 +134,12 @@ upper_length : (w : List ℕ) → length (map upper w) ≡ length w
 upper_length [] = refl
 upper_length (x ∷ w) = ap suc (upper_length w)
 
-or_left : (a b : Bool) → a ≡ true → (a || b) ≡ true
-or_left true b e = refl
-or_left false b e = cc
-
-or_right : (a b : Bool) → b ≡ true → (a || b) ≡ true
-or_right true b e = refl
-or_right false b e = e
-
 -- a command in upper case is the command of a line
 pub command_passes : (w : List ℕ) → is_command w ≡ true → is_upper_command (map upper w) ≡ true
 command_passes w h =
     elim (or_cases (nat_lt 0 (length w) && list_all is_letter w) _ h) [
-      | inl a ↦ or_left (nat_lt 0 (length (map upper w)) && list_all is_upper_letter (map upper w)) _ (and_both (nat_lt 0 (length (map upper w))) _ (rw (upper_length w) (and_left (nat_lt 0 (length w)) _ a)) (upper_letters w (and_right (nat_lt 0 (length w)) _ a)))
-      | inr b ↦ or_right (nat_lt 0 (length (map upper w)) && list_all is_upper_letter (map upper w)) _ (and_both (length (map upper w) == 3) _ (rw (upper_length w) (and_left (length w == 3) _ b)) (upper_digits w (and_right (length w == 3) _ b)))
+      | inl a ↦ or_first (nat_lt 0 (length (map upper w)) && list_all is_upper_letter (map upper w)) _ (and_both (nat_lt 0 (length (map upper w))) _ (rw (upper_length w) (and_left (nat_lt 0 (length w)) _ a)) (upper_letters w (and_right (nat_lt 0 (length w)) _ a)))
+      | inr b ↦ or_second (nat_lt 0 (length (map upper w)) && list_all is_upper_letter (map upper w)) _ (and_both (length (map upper w) == 3) _ (rw (upper_length w) (and_left (length w == 3) _ b)) (upper_digits w (and_right (length w == 3) _ b)))
     ]
 
 letter_is : (b : ℕ) → is_upper_letter b ≡ true → is_letter b ≡ true
@@ -185,9 +177,9 @@ command_holds w h =
     elim (or_cases (nat_lt 0 (length w) && list_all is_upper_letter w) _ h) [
       | inl a ↦
           (let t = letters_are w (and_right (nat_lt 0 (length w)) _ a) in
-          (or_left _ _ (and_both _ _ (and_left (nat_lt 0 (length w)) _ a) t.0), sym t.1, t.2))
+          (or_first _ _ (and_both _ _ (and_left (nat_lt 0 (length w)) _ a) t.0), sym t.1, t.2))
       | inr b ↦
           (let d : list_all is_digit w ≡ true = and_right (length w == 3) _ b in
           let t = digits_are w d in
-          (or_right (nat_lt 0 (length w) && list_all is_letter w) _ b, sym t.0, t.1))
+          (or_second (nat_lt 0 (length w) && list_all is_letter w) _ b, sym t.0, t.1))
     ]

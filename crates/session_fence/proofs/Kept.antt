@@ -12,28 +12,10 @@ use Rattle.session_fence.specs.declared.session.Session.TheVariants.{Never, InFo
 use Rattle.session_fence.specs.Sessions.{is_new, greatest, was_opened, was_shut, unless_shut, session, lines_taken, given, commands}
 use Rattle.session_fence.specs.States.{top_of, now_of, taken_of, next_of, IsKept}
 use Rattle.session_fence.proofs.Ids.{same-is, same-itself, same-turned, below-not_same, new-above, that-is}
+use Rattle.irc_line.proofs.Booleans.{and_false, and_left, and_right, or_both_false, or_left_false, or_right_false, or_true}
 
 true_not_false : true ≡ false → ⊥
 true_not_false e = cc
-
-false_and : (b : Bool) → (b && false) ≡ false
-false_and true = refl
-false_and false = refl
-
-or_true : (b : Bool) → (b || true) ≡ true
-or_true true = refl
-or_true false = refl
-
-or_false_left : (a b : Bool) → (a || b) ≡ false → a ≡ false
-or_false_left true b e = e
-or_false_left false b e = refl
-
-or_false_right : (a b : Bool) → (a || b) ≡ false → b ≡ false
-or_false_right true b e = absurd (true_not_false e)
-or_false_right false b e = e
-
-both_false : (a b : Bool) → a ≡ false → b ≡ false → (a || b) ≡ false
-both_false a b e f = rw (e, f)
 
 is_some_not_none : {A : Type 0} (x : A) → Some x ≡ None → ⊥
 is_some_not_none x e = cc
@@ -44,8 +26,8 @@ differs_by top i j false h e new = h
 
 opened-by : (top : Option SessionId) (i j : SessionId) (was b : Bool) → is_new top i ≡ b → (is_new top j ≡ true → was ≡ false)
     → is_new (if b then Some i else top) j ≡ true → (same_session i j || was) ≡ false
-opened-by top i j was true e ih new = both_false (same_session i j) was (below-not_same i j new) (ih (new-above top i j e new))
-opened-by top i j was false e ih new = both_false (same_session i j) was (differs_by top i j (same_session i j) refl e new) (ih new)
+opened-by top i j was true e ih new = or_both_false (same_session i j) was (below-not_same i j new) (ih (new-above top i j e new))
+opened-by top i j was false e ih new = or_both_false (same_session i j) was (differs_by top i j (same_session i j) refl e new) (ih new)
 
 greatest-by : (top : Option SessionId) (i g : SessionId) (was b : Bool) → is_new top i ≡ b → (top ≡ Some g → was ≡ true) → (if b then Some i else top) ≡ Some g → (same_session i g || was) ≡ true
 greatest-by top i g was true e ih k = let s : i ≡ g = cc in let t : same_session i g ≡ true = ap (same_session i) (sym s) ∙ same-itself i in rw t
@@ -68,9 +50,9 @@ module _ {C L : Type 0} where
   pub not_opened-not_shut : (h : History (FenceCommand C L)) (j : SessionId) → was_opened h j ≡ false → was_shut h j ≡ false
   not_opened-not_shut [] j e = refl
   not_opened-not_shut ((p, Inner c) ∷ h) j e = not_opened-not_shut h j e
-  not_opened-not_shut ((p, Opened i) ∷ h) j e = not_opened-not_shut h j (or_false_right (same_session i j) (was_opened h j) e)
+  not_opened-not_shut ((p, Opened i) ∷ h) j e = not_opened-not_shut h j (or_right_false (same_session i j) (was_opened h j) e)
   not_opened-not_shut ((p, Shut i) ∷ h) j e =
-      both_false (same_session i j && was_opened h j) (was_shut h j) (ap (λ b. same_session i j && b) e ∙ false_and (same_session i j)) (not_opened-not_shut h j e)
+      or_both_false (same_session i j && was_opened h j) (was_shut h j) (ap (λ b. same_session i j && b) e ∙ and_false (same_session i j)) (not_opened-not_shut h j e)
   not_opened-not_shut ((p, Heard i n at l) ∷ h) j e = not_opened-not_shut h j e
 
   -- the greatest id that was opened was opened
@@ -104,7 +86,7 @@ module _ {C L : Type 0} where
   unfolding lines_taken
   not_opened-no_lines [] j e = refl
   not_opened-no_lines ((p, Inner c) ∷ h) j e = not_opened-no_lines h j e
-  not_opened-no_lines ((p, Opened i) ∷ h) j e = not_opened-no_lines h j (or_false_right (same_session i j) (was_opened h j) e)
+  not_opened-no_lines ((p, Opened i) ∷ h) j e = not_opened-no_lines h j (or_right_false (same_session i j) (was_opened h j) e)
   not_opened-no_lines ((p, Shut i) ∷ h) j e = not_opened-no_lines h j e
   not_opened-no_lines ((p, Heard i n at l) ∷ h) j e =
       let f = uncounted_by h i j (same_session i j) (is_that (session h) i) (n == lines_taken h i + 1) refl refl e in
@@ -115,14 +97,6 @@ module _ {C L : Type 0} where
 over_by : (a b : Bool) (i : SessionId) → None ≡ (if b then None else Some i) → None ≡ (if a || b then None else Some i)
 over_by a true i k = rw (or_true a)
 over_by a false i k = absurd (is_some_not_none i (sym k))
-
-and_left : (a b : Bool) → (a && b) ≡ true → a ≡ true
-and_left true b e = refl
-and_left false b e = absurd (true_not_false (sym e))
-
-and_right : (a b : Bool) → (a && b) ≡ true → b ≡ true
-and_right true b e = e
-and_right false b e = absurd (true_not_false (sym e))
 
 same_number : (n m : ℕ) → (n == m) ≡ true → n ≡ m
 same_number n m e = grind (arith, nat_tests)
@@ -201,7 +175,7 @@ module _ {C L : Type 0} where
   -- a line that is not the next one of the session in force is not counted
   uncounted-by : (q : Session) (h : History (FenceCommand C L)) (id j : SessionId) (n : ℕ) (a : Bool) → same_session id j ≡ a → (is_that (session h) id && n == lines_taken h id + 1) ≡ false
       → (if same_session id j && (is_that (session h) id && n == lines_taken h id + 1) then lines_taken h j + 1 else lines_taken h j) ≡ lines_taken h j
-  uncounted-by q h id j n a s e = rw (e, false_and (same_session id j))
+  uncounted-by q h id j n a s e = rw (e, and_false (same_session id j))
 
   counted : (id j : SessionId) (n : ℕ) (h : History (FenceCommand C L)) → n ≡ lines_taken h id + 1 → (is_that (session h) id && n == lines_taken h id + 1) ≡ true → id ≡ j
       → n ≡ (if same_session id j && (is_that (session h) id && n == lines_taken h id + 1) then lines_taken h j + 1 else lines_taken h j)

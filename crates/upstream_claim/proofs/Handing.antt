@@ -15,7 +15,8 @@ use Rattle.upstream_claim.specs.declared.effect.ClaimsEffect.{ClaimsEffect}
 use Rattle.upstream_claim.specs.Hands.{Handed, hands}
 use Rattle.upstream_claim.specs.Numbered.{Numbered, room, lines_of, answer, answered, room_left, handed, is_next, is_taken, with_claim, plain, numbered, numbered_after, answers_by, answers, outgoing, claimed}
 use Rattle.upstream_claim.proofs.Waiting.{append_none, same_number}
-use Rattle.upstream_claim.proofs.Sound.{and_left, and_right, at_most, none_not_some}
+use Rattle.upstream_claim.proofs.Sound.{at_most, none_not_some}
+use Rattle.irc_line.proofs.Booleans.{and_left, and_right}
 
 -- what is numbered and what waits hands out nothing
 no_hand : {E : Type 0} (r : ℕ) (e : E) (o : Option (Origin × Parts)) (b : Bool) (rest : List (ClaimsEffect E)) → nat_lt 0 r ≡ b → hands rest ≡ [] → hands (answer r e o ++ rest) ≡ []

@@ -14,6 +14,7 @@ use Rattle.upstream_claim.specs.declared.command.ClaimsCommand.{ClaimsCommand}
 use Rattle.upstream_claim.specs.declared.command.ClaimsCommand.TheVariants.{Inner, Claim}
 use Rattle.upstream_claim.specs.Numbered.{Numbered, room, lines_of, is_next, is_taken, with_claim, plain, numbered, numbered_after, outgoing, claimed}
 use Rattle.upstream_claim.proofs.Waiting.{same_number, is_more}
+use Rattle.irc_line.proofs.Booleans.{and_left, and_right}
 
 is_not_more : (m n : ℕ) → nat_lt m n ≡ false → n ≤ m
 is_not_more m n e = grind (arith, nat_tests)
@@ -26,14 +27,6 @@ none_not_some x e = cc
 
 true_not_false : true ≡ false → ⊥
 true_not_false e = cc
-
-pub and_left : (a b : Bool) → (a && b) ≡ true → a ≡ true
-and_left true b e = refl
-and_left false b e = absurd (true_not_false (sym e))
-
-pub and_right : (a b : Bool) → (a && b) ≡ true → b ≡ true
-and_right true b e = e
-and_right false b e = absurd (true_not_false (sym e))
 
 more_by : {X : Type 0} (xs : List X) (x y : X) (i : ℕ) (b : Bool) → nat_lt i (length xs) ≡ b → slice_get (xs ++ x ∷ []) i ≡ Some y → (slice_get xs i ≡ Some y) ⊎ ((i ≡ length xs) × (x ≡ y))
 more_by xs x y i true t e =
