@@ -2,16 +2,18 @@
 ghost use Rattle.std.specs.Prelude.{◌<◌};
 
 use crate::answers::answer_all;
+use crate::laws::{a_dropped_request_changes_nothing, each_line_is_handed_once};
 use crate::tower::{Tower, TowerBody, TowerEffect};
 use buffer_commands::{Action, Command, Setup};
 use buffer_machine::BufferMachine;
-use machine_laws::{Class, HasClients, HasSession, Hosted, Machine};
-use request_once::{Answer, Body};
+use irc_line::Name;
+use machine_laws::{Class, HasClients, HasSession, Hosted, Machine, Source};
+use request_once::{Answer, Body, each_request_takes_effect_once};
 use session_fence::{Fence, FenceCommand};
 use std::alloc::{AllocError, Global};
 use std::test::Fail;
-use upstream_claim::{Claims, ClaimsEffect};
-use wire_bytes::{Copied, Number, SessionId, Wire};
+use upstream_claim::{Claims, ClaimsEffect, each_hand_is_a_claim, each_line_is_claimed_once};
+use wire_bytes::{Copied, Number, Origin, SessionId, Wire};
 
 /// The client 1.1.1 attaches by its first request.
 const ATTACH: &[u8] =
@@ -50,61 +52,77 @@ fn bodies(alloc: Global, spelled: &[&[u8]]) -> Result<Vec<TowerBody>, Fail> {
     Ok(all)
 }
 
-/// The last digit of a number, and a space.
+/// Appends the last digit of a number.
 fn push_digit(out: &mut Vec<u8>, number: u64) -> Result<(), AllocError> {
-    out.push(b'0' + (number % 10) as u8)?;
+    Ok(out.push(b'0' + (number % 10) as u8)?)
+}
+
+/// Appends a word, a session's id and a space.
+fn push_session(out: &mut Vec<u8>, word: &[u8], id: SessionId) -> Result<(), AllocError> {
+    out.extend_from_slice(word)?;
+    push_digit(out, id.term())?;
+    out.push(b'.')?;
+    push_digit(out, id.attempt())?;
     Ok(out.push(b' ')?)
 }
 
-/// Appends a line that leaves, with its session's attempt.
-fn push_line(
-    out: &mut Vec<u8>,
-    word: &[u8],
-    id: SessionId,
-    line: &irc_line::Line,
-) -> Result<(), AllocError> {
-    out.extend_from_slice(word)?;
-    push_digit(out, id.attempt())?;
-    line.write_to(out)?;
-    Ok(out.push(b'\n')?)
-}
-
-/// Appends an effect as a line of text.
+/// Appends an effect.
 fn push_effect(out: &mut Vec<u8>, effect: &TowerEffect) -> Result<(), AllocError> {
     match Tower::class(effect) {
-        Class::To(_) => push_answer(out, effect),
-        Class::Hand(id, _, line) => push_line(out, b"hand ", id, line),
-        Class::Rejoin(id, line) => push_line(out, b"rejoin ", id, line),
-        Class::Nowhere => out.extend_from_slice(b"nowhere\n"),
+        Class::To(origin) => push_answer(out, origin, effect),
+        Class::Hand(id, number, line) => {
+            push_session(out, b"hand ", id)?;
+            push_digit(out, number)?;
+            out.push(b' ')?;
+            line.write_to(out)
+        }
+        Class::Rejoin(id, line) => {
+            push_session(out, b"rejoin ", id)?;
+            line.write_to(out)
+        }
+        Class::Nowhere => out.extend_from_slice(b"nowhere"),
     }
 }
 
-fn push_answer(out: &mut Vec<u8>, effect: &TowerEffect) -> Result<(), AllocError> {
+/// Appends what a client is answered.
+fn push_answer(out: &mut Vec<u8>, origin: Origin, effect: &TowerEffect) -> Result<(), AllocError> {
     match effect {
         Answer::Done(_, number) => {
             out.extend_from_slice(b"done ")?;
-            push_digit(out, *number)?;
-            Ok(out.push(b'\n')?)
+            push_digit(out, origin.node() as u64)?;
+            out.push(b'.')?;
+            push_digit(out, origin.boot())?;
+            out.push(b'.')?;
+            push_digit(out, origin.client())?;
+            out.push(b' ')?;
+            push_digit(out, *number)
         }
-        Answer::Effect(ClaimsEffect::Busy(_)) => out.extend_from_slice(b"busy\n"),
-        _ => out.extend_from_slice(b"another\n"),
+        _ => out.extend_from_slice(b"another"),
     }
 }
 
-fn push_effects(out: &mut Vec<u8>, effects: &[TowerEffect]) -> Result<(), AllocError> {
+/// Appends a line for each effect of the body at a place.
+fn push_effects(out: &mut Vec<u8>, place: u64, effects: &[TowerEffect]) -> Result<(), AllocError> {
     for effect in effects {
+        push_digit(out, place)?;
+        out.push(b' ')?;
         push_effect(out, effect)?;
+        out.push(b'\n')?;
     }
     Ok(())
 }
 
-/// What all bodies bring about, as text.
-fn answered(alloc: Global, bodies: &[TowerBody]) -> Result<Vec<u8>, Fail> {
-    let setup = Setup::plain(alloc)?;
-    let effects = answer_all(alloc, &setup, bodies)?;
+/// A tower to which these bodies came, and a line for each effect of each.
+fn answered(alloc: Global, bodies: &[TowerBody]) -> Result<(Tower, Vec<u8>), Fail> {
+    let mut tower = Tower::start(alloc, &Setup::plain(alloc)?)?;
     let mut out = Vec::new(alloc);
-    push_effects(&mut out, &effects)?;
-    Ok(out)
+    let mut place = 0u64;
+    for body in bodies {
+        place = place.wrapping_add(1);
+        let effects = tower.apply(alloc, place, body)?;
+        push_effects(&mut out, place, &effects)?;
+    }
+    Ok((tower, out))
 }
 
 #[test]
@@ -122,8 +140,10 @@ fn a_session_is_fenced_and_each_line_is_handed_once(rt: HostRuntime) -> Result<(
         CLAIM_LATER,
     ];
     let bodies = bodies(rt.alloc(), &spelled)?;
-    let text = b"rejoin 1 JOIN #x\ndone 1 \ndone 2 \nhand 1 PRIVMSG #x :hi\nrejoin 2 JOIN #x\n";
-    assert_eq!(rt; answered(rt.alloc(), &bodies)?.as_slice(), text.as_slice());
+    let (_, text) = answered(rt.alloc(), &bodies)?;
+    let want =
+        b"1 rejoin 1.1 JOIN #x\n2 done 1.1.1 1\n3 done 1.1.1 2\n4 hand 1.1 1 PRIVMSG #x :hi\n9 rejoin 1.2 JOIN #x\n";
+    assert_eq!(rt; text.as_slice(), want.as_slice());
     Ok(())
 }
 
@@ -233,5 +253,66 @@ fn claim_of_none(alloc: Global) -> Result<Option<u64>, Fail> {
 fn each_layer_stands_alone(rt: HostRuntime) -> Result<(), Fail> {
     assert!(rt; session_after(rt.alloc())? == Some(SessionId::new(1, 2)));
     assert_eq!(rt; claim_of_none(rt.alloc())?, None);
+    Ok(())
+}
+
+/// A tower to which these bodies came.
+fn tower_after(alloc: Global, spelled: &[&[u8]]) -> Result<Tower, Fail> {
+    let (tower, _) = answered(alloc, &bodies(alloc, spelled)?)?;
+    Ok(tower)
+}
+
+#[test]
+fn the_next_claim_is_of_the_first_line_that_waits(rt: HostRuntime) -> Result<(), Fail> {
+    let waiting = tower_after(rt.alloc(), &[OPENED, ATTACH, SAY])?;
+    assert_eq!(rt; waiting.next_claim(), Some(1));
+    let claimed = tower_after(rt.alloc(), &[OPENED, ATTACH, SAY, CLAIM])?;
+    assert_eq!(rt; claimed.next_claim(), None);
+    Ok(())
+}
+
+#[test]
+fn what_is_kept_is_played_without_emptying_it(rt: HostRuntime) -> Result<(), Fail> {
+    let tower = tower_after(rt.alloc(), &[OPENED, HEARD])?;
+    let name = Name::from_bytes(Vec::from_slice(rt.alloc(), b"#X")?).ok_or("name")?;
+    assert_eq!(rt; tower.playback(rt.alloc(), &name)?.len(), 3);
+    let played = tower.playback(rt.alloc(), &name)?;
+    let line = played.get(1).ok_or("line")?;
+    assert_eq!(rt;
+        line.spelling(),
+        b":a!b@c PRIVMSG #x :[22:13:20] w".as_slice()
+    );
+    Ok(())
+}
+
+#[test]
+fn the_bodies_of_a_session_are_made(rt: HostRuntime) -> Result<(), Fail> {
+    let id = SessionId::new(1, 1);
+    let mut out = Vec::new(rt.alloc());
+    Tower::opened(id).put(&mut out)?;
+    Tower::shut(id).put(&mut out)?;
+    Tower::claim(id, Number::new(1)).put(&mut out)?;
+    let want =
+        b"\0\0\x01\0\0\0\0\0\0\0\x01\0\0\0\0\0\0\0\x01\0\0\x02\0\0\0\0\0\0\0\x01\0\0\0\0\0\0\0\x01\0\x01\0\0\0\0\0\0\0\x01\0\0\0\0\0\0\0\x01\0\0\0\0\0\0\0\x01";
+    assert_eq!(rt; out.as_slice(), want.as_slice());
+    Ok(())
+}
+
+#[test]
+fn each_body_has_its_source(rt: HostRuntime) -> Result<(), Fail> {
+    let asked = Tower::source(&body(rt.alloc(), ATTACH)?);
+    assert!(rt; asked == Source::Client(Origin::new(1, 1, 1)));
+    assert!(rt; Tower::source(&Tower::node_gone(2, Number::new(5))) == Source::Node);
+    assert!(rt; Tower::source(&Tower::shut(SessionId::new(1, 1))) == Source::Leader);
+    Ok(())
+}
+
+#[test]
+fn the_laws_can_be_called(_rt: HostRuntime) -> Result<(), Fail> {
+    a_dropped_request_changes_nothing();
+    each_line_is_handed_once();
+    each_line_is_claimed_once::<Fence<BufferMachine>>();
+    each_hand_is_a_claim::<Fence<BufferMachine>>();
+    each_request_takes_effect_once::<Claims<Fence<BufferMachine>>>();
     Ok(())
 }
