@@ -1,6 +1,6 @@
 -- Each line is handed out once.
-use Rattle.std.proofs.Common.{◌≡◌, ◌≢◌, ℕ, ◌+◌, ◌-◌, ◌≤◌, Bool, true, false, List, [], ◌∷◌, ◌++◌, map, length, take, Some, None, refl, ap, ◌∙◌, sym, arith, inl, inr}
-use Rattle.std.specs.Prelude.{◌⊎◌, ◌==◌, nat_le, if◌then◌else◌, slice_get}
+use Rattle.std.proofs.Common.{◌≡◌, ◌≢◌, ℕ, ◌+◌, ◌-◌, ◌≤◌, Bool, true, false, List, [], ◌∷◌, ◌++◌, map, length, take, Some, refl, ap, ◌∙◌, sym, arith, inl, inr}
+use Rattle.std.specs.Prelude.{◌⊎◌, ◌==◌, nat_le, slice_get}
 use Rattle.std.proofs.lemmas.Bool.Decides.{nat_tests}
 use Rattle.irc_line.specs.Lines.{Parts}
 use Rattle.machine_laws.specs.Runs.{History}
@@ -16,12 +16,13 @@ use Rattle.upstream_claim.specs.Hands as below
 use Rattle.upstream_claim.specs.Numbered as lines
 use Rattle.upstream_claim.proofs.Sound as sound
 use Rattle.upstream_claim.proofs.Handing as handing
-use Rattle.upstream_claim.proofs.Waiting.{append_none}
+use Rattle.std.proofs.lemmas.List.{append-nil}
 use Rattle.request_once.specs.declared.body.Body.TheVariants.{Inner, Asked}
 use Rattle.request_once.specs.declared.answer.Answer.TheVariants as answer
 use Rattle.request_once.specs.Fresh as requests
 use Rattle.request_once.proofs.Requests.{plain-inner, plain-next, plain-skip}
-use Rattle.bouncer_tower.specs.Bodies.{TowerBody, TowerEffect, Claimed, client, fresh, outgoing, claimed, answers, sent, sessioned_effects, claimed_effects, hands}
+use Rattle.bouncer_tower.specs.Bodies.{TowerBody, Claimed, client, fresh, outgoing, claimed, answers, sent, sessioned_effects, claimed_effects, hands}
+use Rattle.irc_line.proofs.Numbers.{eq_of}
 
 -- what a layer below hands out
 hands-below : (es : List (ClaimsEffect (FenceEffect Effect))) → hands (map answer.Effect es) ≡ below.hands es
@@ -37,9 +38,6 @@ hands-refused o n was true e = rw e refl
 hands-refused o n was false e = rw e refl
 
 -- whether a request is the next of its origin
-is_next : (n m : ℕ) → (n == m) ≡ true → n ≡ m
-is_next n m e = grind (arith, nat_tests)
-
 is_not_next : (n m : ℕ) → (n == m) ≡ false → n ≢ m
 is_not_next n m e = grind (arith, nat_tests)
 
@@ -62,7 +60,7 @@ module _ (s : Settings) where
   comes-asked : (h : History TowerBody) (place : ℕ) (o : Origin) (n at : ℕ) (a : Action) (b : Bool) → (n == requests.last h o + 1) ≡ b → comes_to h place (Asked o n at a)
   unfolding fresh requests.answers
   comes-asked h place o n at a true e =
-      inl (client o at a, plain-next client h place o n at a (is_next _ _ e), rw e (hands-done (claimed_effects s (requests.plain client h) place (client o at a)) o n))
+      inl (client o at a, plain-next client h place o n at a (eq_of _ _ e), rw e (hands-done (claimed_effects s (requests.plain client h) place (client o at a)) o n))
   comes-asked h place o n at a false e =
       inr (plain-skip client h place o n at a (is_not_next _ _ e), rw e (hands-refused o n (requests.last h o) (nat_le n (requests.last h o)) refl))
 
@@ -74,7 +72,7 @@ module _ (s : Settings) where
   claims-by : (h : History TowerBody) (place : ℕ) (x : TowerBody) → comes_to h place x → claimed s ((place, x) ∷ h) ≡ claimed s h ++ map (λ k. k.0) (hands (answers s h place x))
   unfolding claimed
   claims-by h place x (inl c) = ap claimed_at c.1 ∙ (handing.hands_are_claims sessions.session (sessions.sent sent) (sessioned_effects s) (fresh h) place c.0 ∙ ap (λ k. claimed_at (fresh h) ++ map (λ p. p.0) k) (sym c.2))
-  claims-by h place x (inr c) = ap claimed_at c.0 ∙ (sym (append_none (claimed_at (fresh h))) ∙ ap (λ k. claimed_at (fresh h) ++ map (λ p. p.0) k) (sym c.1))
+  claims-by h place x (inr c) = ap claimed_at c.0 ∙ (sym (append-nil (claimed_at (fresh h))) ∙ ap (λ k. claimed_at (fresh h) ++ map (λ p. p.0) k) (sym c.1))
 
   lines-by : (h : History TowerBody) (place : ℕ) (x : TowerBody) → comes_to h place x → (i n : ℕ) (id : SessionId) (line : Parts) → slice_get (hands (answers s h place x)) i ≡ Some ((n, id), line) → slice_get (outgoing s h) (n - 1) ≡ Some line
   unfolding outgoing

@@ -1,9 +1,7 @@
 -- A request that is dropped is as if it had not come.
-use Rattle.std.proofs.Common.{◌≡◌, ℕ, false, List, ◌∷◌, ◌++◌, ap}
-use Rattle.irc_line.specs.Lines.{Parts}
+use Rattle.std.proofs.Common.{◌≡◌, ℕ, false, ◌∷◌, ◌++◌, ap}
 use Rattle.machine_laws.specs.Runs.{History}
 use Rattle.wire_bytes.specs.declared.origin.Origin.{Origin}
-use Rattle.wire_bytes.specs.declared.session_id.SessionId.{SessionId}
 use Rattle.buffer_commands.specs.Settings.{Settings}
 use Rattle.buffer_commands.specs.declared.command.Action.{Action}
 use Rattle.buffer_commands.specs.declared.command.Command.TheVariants as command

@@ -7,12 +7,9 @@ use Rattle.machine_laws.specs.declared.class.Class.{Class}
 use Rattle.machine_laws.specs.declared.class.Class.TheVariants.{To, Hand, Rejoin, Nowhere}
 use Rattle.machine_laws.specs.declared.class.Source.{Source}
 use Rattle.machine_laws.specs.declared.class.Source.TheVariants as source
-use Rattle.wire_bytes.specs.declared.origin.Origin.{Origin}
-use Rattle.wire_bytes.specs.declared.session_id.SessionId.{SessionId}
 use Rattle.buffer_commands.specs.Settings.{Settings}
 use Rattle.buffer_machine.specs.Buffers as buffers
 use Rattle.buffer_machine.specs.Held.{commands}
-use Rattle.buffer_commands.specs.declared.command.Action.{Action}
 use Rattle.buffer_commands.specs.declared.command.Command.{Command}
 use Rattle.buffer_commands.specs.declared.command.Command.TheVariants as command
 use Rattle.buffer_commands.specs.declared.effect.Effect.{Effect}

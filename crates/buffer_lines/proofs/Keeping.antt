@@ -1,11 +1,11 @@
 -- What is kept is what a ring of the present size keeps of what it kept before and of what comes in.
-use Rattle.std.proofs.Common.{◌≡◌, ℕ, ◌+◌, ◌-◌, ◌<◌, ◌≤◌, Bool, true, false, not, ◌&&◌, List, [], ◌∷◌, ◌++◌, length, refl, ap, ◌∙◌, sym, subst, arith, append_assoc, inl, inr, length-append}
+use Rattle.std.proofs.Common.{◌≡◌, ℕ, ◌+◌, ◌-◌, ◌<◌, Bool, true, false, not, ◌&&◌, List, [], ◌∷◌, ◌++◌, length, refl, ap, ◌∙◌, sym, subst, arith, append_assoc, inl, inr, length-append}
 use Rattle.std.specs.Prelude.{Option, Some, None, is_some, if◌then◌else◌, nat_lt, ◌⊎◌}
-use Rattle.std.proofs.lemmas.Bool.Decides.{nat_tests}
-use Rattle.std.proofs.lemmas.List.{drop-append-le, drop_all}
+use Rattle.std.proofs.lemmas.List.{drop-append-le, drop_all, append-nil}
 use Rattle.circular_buffer.specs.Buffer.{keep_last}
 use Rattle.buffer_lines.specs.Keeping.{if_kept, one_if, stored_by, stays, kept_since, kept}
 use Rattle.irc_line.proofs.Booleans.{and_both, and_left, and_right}
+use Rattle.irc_line.proofs.Numbers.{ge_of, lt_of, of_lt}
 
 true_or_false : (b : Bool) → (b ≡ true) ⊎ (b ≡ false)
 true_or_false true = inl refl
@@ -15,31 +15,18 @@ false_from : (b : Bool) → (b ≡ true → true ≡ false) → b ≡ false
 false_from true h = h refl
 false_from false h = refl
 
-lt_from_true : (m n : ℕ) → nat_lt m n ≡ true → m < n
-lt_from_true m n e = grind (arith, nat_tests)
-
-true_from_lt : (m n : ℕ) → m < n → nat_lt m n ≡ true
-true_from_lt m n e = grind (arith, nat_tests)
-
-le_from_false : (m n : ℕ) → nat_lt m n ≡ false → n ≤ m
-le_from_false m n e = grind (arith, nat_tests)
-
-append-nil : {K : Type 0} (xs : List K) → xs ++ [] ≡ xs
-append-nil [] = refl
-append-nil (x ∷ xs) = ap (λ ys. x ∷ ys) (append-nil xs)
-
-keep_last-nil : {K : Type 0} (n : ℕ) → keep_last {X = K} n [] ≡ []
+pub keep_last-nil : {K : Type 0} (n : ℕ) → keep_last {X = K} n [] ≡ []
 keep_last-nil {K} n = drop_all {X = K} (0 - n) [] (omega arith)
 
 -- one more at the end
 keep_last-more_by : {K : Type 0} (t n : ℕ) (xs : List K) (k : K) (b : Bool) → nat_lt t n ≡ b → keep_last (n - (t + 1)) xs ++ if_kept b (Some k) ≡ keep_last (n - t) (xs ++ k ∷ [])
 keep_last-more_by t n xs k true e =
-    let lt = lt_from_true t n e in
+    let lt = lt_of t n e in
     let len = length-append xs (k ∷ []) in
     let same : length (xs ++ k ∷ []) - (n - t) ≡ length xs - (n - (t + 1)) = omega arith in
     rw (same, drop-append-le (length xs - (n - (t + 1))) xs (k ∷ []) (omega arith))
 keep_last-more_by t n xs k false e =
-    let le = le_from_false t n e in
+    let le = ge_of t n e in
     let len = length-append xs (k ∷ []) in
     append-nil _ ∙ drop_all (length xs - (n - (t + 1))) xs (omega arith) ∙ sym (drop_all (length (xs ++ k ∷ []) - (n - t)) (xs ++ k ∷ []) (omega arith))
 
@@ -97,14 +84,14 @@ module _ {X K : Type 0} (stored : List X → X → Option K) (emptied : List X �
   unfolding stays
   stays-longer [] [] e h = h
   stays-longer [] (x ∷ m) e h =
-      let lt : stored_by stored emptied size (x ∷ m) e < size (x ∷ (m ++ e)) = lt_from_true _ _ (and_right _ _ h) in
-      true_from_lt _ _ (omega arith)
+      let lt : stored_by stored emptied size (x ∷ m) e < size (x ∷ (m ++ e)) = lt_of _ _ (and_right _ _ h) in
+      of_lt _ _ (omega arith)
   stays-longer (x ∷ l) m e h =
       let P : List X → Type 0 = λ k. (stays stored emptied size (l ++ m) e && not (emptied k x) && nat_lt (stored_by stored emptied size (x ∷ (l ++ m)) e) (size (x ∷ k))) ≡ true in
       let h' : P (l ++ (m ++ e)) = subst P (append_assoc l m e) h in
-      let lt : stored_by stored emptied size (x ∷ (l ++ m)) e < size (x ∷ (l ++ (m ++ e))) = lt_from_true _ _ (and_right _ _ h') in
+      let lt : stored_by stored emptied size (x ∷ (l ++ m)) e < size (x ∷ (l ++ (m ++ e))) = lt_of _ _ (and_right _ _ h') in
       let more : stored_by stored emptied size (x ∷ (l ++ m)) e ≡ stored_by stored emptied size (x ∷ l) (m ++ e) + stored_by stored emptied size m e = stored_by-append (x ∷ l) m e in
-      and_both _ _ (and_both _ _ (stays-longer l m e (and_left _ _ (and_left _ _ h'))) (and_right _ _ (and_left _ _ h'))) (true_from_lt _ _ (omega arith))
+      and_both _ _ (and_both _ _ (stays-longer l m e (and_left _ _ (and_left _ _ h'))) (and_right _ _ (and_left _ _ h'))) (of_lt _ _ (omega arith))
 
   dead : (l m e : List X) → stays stored emptied size l (m ++ e) ≡ false → kept_since stored emptied size (l ++ m) e ≡ []
   unfolding kept_since

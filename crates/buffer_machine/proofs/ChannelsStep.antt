@@ -19,7 +19,7 @@ use Rattle.buffer_machine.specs.Held.{IsSound, channel_held, held}
 use Rattle.buffer_machine.proofs.Lists.{map_at, map_through}
 use Rattle.buffer_machine.proofs.Names.{all-at}
 use Rattle.buffer_machine.proofs.Standing.{channels-more, channels-are}
-use Rattle.buffer_machine.proofs.Kept.{kept-fits, channel_stored}
+use Rattle.buffer_machine.proofs.Kept.{kept_fits, channel_stored}
 use Rattle.buffer_machine.proofs.Unknown.{removed-is}
 use Rattle.buffer_machine.proofs.Next.{next_channel, channel-next}
 use Rattle.buffer_machine.proofs.Found.{found-detached}
@@ -74,7 +74,7 @@ abbrev pub lines : Settings → List Command → List ℕ → List (ℕ × Parts
 lines s earlier c = kept s earlier (fold_name c)
 
 abbrev pub fits : (s : Settings) (earlier : List Command) (c : List ℕ) → length (kept s earlier (fold_name c)) ≤ size s (fold_name c) earlier
-fits s earlier c = kept-fits s earlier (fold_name c)
+fits s earlier c = kept_fits s earlier (fold_name c)
 
 -- ---- the commands of a client
 

@@ -22,7 +22,7 @@ use Rattle.buffer_machine.specs.Effects.{show_all, show_each, send_all, status, 
 use Rattle.buffer_machine.specs.Steps.{played, closed_out, others, shown_at_attach, sent_at_attach, answers, answers_attaching, answers_again, answers_joining, answers_parting, answers_detaching, answers_reattaching, answers_taking}
 use Rattle.buffer_machine.specs.Held.{IsSound, channel_held, target_held, held}
 use Rattle.buffer_machine.proofs.Folded.{query-key}
-use Rattle.buffer_machine.proofs.Lists.{append-nil, flat_map_at, flat_map_through, map_through}
+use Rattle.buffer_machine.proofs.Lists.{flat_map_at, flat_map_through, map_through}
 use Rattle.buffer_machine.proofs.Names.{all-at}
 use Rattle.buffer_machine.proofs.Standing.{queries-are, not_a_channel}
 use Rattle.buffer_machine.proofs.Unknown.{detached-unknown}
@@ -30,6 +30,7 @@ use Rattle.buffer_machine.proofs.Found.{channel_under, channel-found, found-deta
 use Rattle.buffer_machine.proofs.Playing.{playback-both, playback-channel, playback-query, asked-is, done-is}
 use Rattle.buffer_machine.proofs.ChannelsCome.{floor_now}
 use Rattle.irc_line.proofs.Booleans.{or_left_false, or_right_false}
+use Rattle.std.proofs.lemmas.List.{append-nil}
 
 -- ---- the parts of an answer, by whether the asker is attached
 

@@ -1,5 +1,5 @@
 -- A folded name begins as a channel's name where the name itself does.
-use Rattle.std.proofs.Common.{◌≡◌, ℕ, Bool, true, false, not, ◌&&◌, ◌||◌, List, [], ◌∷◌, length, refl, ◌∙◌, arith}
+use Rattle.std.proofs.Common.{◌≡◌, ℕ, Bool, true, false, ◌&&◌, ◌||◌, List, [], ◌∷◌, length, refl, ◌∙◌, arith, sym, ap}
 use Rattle.std.specs.Prelude.{◌==◌, nat_le}
 use Rattle.std.specs.List.{list_all}
 use Rattle.std.proofs.lemmas.Bool.Decides.{nat_tests}
@@ -7,8 +7,8 @@ use Rattle.std.proofs.lemmas.List.{length-map}
 use Rattle.irc_line.specs.Names.{fold_byte, fold_name, is_name, is_name_byte, is_channel}
 use Rattle.irc_line.specs.Keys.{at_key}
 use Rattle.irc_line.proofs.Booleans.{and_left, and_right, and_both, not_true}
-use Rattle.irc_line.proofs.SameBytes.{same_bytes-eq}
 use Rattle.buffer_machine.specs.Messages.{is_query_name}
+use Rattle.irc_line.proofs.Order.{key_is}
 
 folded-name_byte : (b : ℕ) → is_name_byte b ≡ true → is_name_byte (fold_byte b) ≡ true
 folded-name_byte b e = grind (arith, nat_tests)
@@ -49,3 +49,8 @@ channel-key name e = folded-channel name (name_of_channel name e) ∙ e
 
 pub query-key : (name : List ℕ) → is_query_name name ≡ true → is_channel (fold_name name) ≡ false
 query-key name e = folded-channel name (and_left _ _ e) ∙ not_true (is_channel name) (and_right (is_name name) _ e)
+
+-- a query has no channel's key
+pub query_apart : (key name : List ℕ) (b : Bool) → at_key key name ≡ b → is_channel key ≡ true → is_query_name name ≡ true → b ≡ false
+query_apart key name true e c q = sym c ∙ (ap is_channel (key_is key name e) ∙ query-key name q)
+query_apart key name false e c q = refl

@@ -5,7 +5,7 @@ use Rattle.buffer_targets.specs.Targets.{channel, target}
 use Rattle.irc_line.specs.Names.{fold_name, is_channel}
 use Rattle.buffer_commands.specs.Settings.{Settings}
 use Rattle.buffer_commands.specs.declared.command.Command.{Command}
-use Rattle.buffer_machine.specs.Buffers.{nick, nick_after, channels, queries, joined, detached, size}
+use Rattle.buffer_machine.specs.Buffers.{nick, nick_after, joined, size}
 use Rattle.std.specs.Prelude.{Some, if◌then◌else◌}
 use Rattle.irc_line.specs.Lines.{Parts}
 use Rattle.buffer_lines.specs.Stamps.{parameter, ring}
@@ -23,6 +23,8 @@ use Rattle.buffer_machine.proofs.Folded.{channel-key}
 use Rattle.buffer_machine.proofs.Kept.{kept-none, size-first}
 use Rattle.buffer_machine.proofs.Lists.{map_at}
 use Rattle.buffer_machine.proofs.Names.{all-at}
+use Rattle.buffer_machine.proofs.Standing.{channels-none, queries-none}
+use Rattle.buffer_machine.proofs.Unknown.{detached-none}
 
 nick-more : (s : Settings) (earlier : List Command) (x : Command) → nick_after (nick s earlier) x ≡ nick s (x ∷ earlier)
 unfolding nick
@@ -39,21 +41,9 @@ nick-none : (s : Settings) → nick s [] ≡ s.nick
 unfolding nick
 nick-none s = refl
 
-queries-none : (s : Settings) → queries s [] ≡ []
-unfolding queries
-queries-none s = refl
-
-channels-none : (s : Settings) → channels s [] ≡ s.channels
-unfolding channels
-channels-none s = refl
-
 joined-none : (s : Settings) (k : List ℕ) → joined s [] k ≡ false
 unfolding joined
 joined-none s k = refl
-
-detached-none : (s : Settings) (k : List ℕ) → detached s [] k ≡ false
-unfolding detached
-detached-none s k = refl
 
 first-channel : (s : Settings) (c : List ℕ) → is_channel c ≡ true → s.channel_size ≡ size s (fold_name c) []
 first-channel s c e = rw (size-first s (fold_name c), channel-key c e) refl

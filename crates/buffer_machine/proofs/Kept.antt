@@ -9,26 +9,23 @@ use Rattle.irc_line.proofs.Booleans.{and_right, and_false, or_false}
 use Rattle.irc_line.proofs.SameBytes.{same_bytes-eq}
 use Rattle.buffer_lines.specs.Keeping.{if_kept}
 use Rattle.buffer_lines.specs.Stamps.{parameter}
-use Rattle.buffer_lines.proofs.Keeping.{kept-more, kept-nil}
+use Rattle.buffer_lines.proofs.Keeping.{kept-more, kept-nil, keep_last-nil}
 use Rattle.buffer_commands.specs.Settings.{Settings}
 use Rattle.buffer_commands.specs.declared.command.Command.{Command}
 use Rattle.buffer_machine.specs.Messages.{has_command, is_storable, is_none_of, is_query_line, is_query_name, source}
 use Rattle.buffer_machine.specs.Buffers.{attached, nick, channels, is_known, size, first_size, size_after, said, aim, is_for, stored_where, stored, stored_query, query_aim, emptied, detached, kept, removes_target}
 use Rattle.buffer_machine.specs.Steps.{keeps}
 use Rattle.buffer_machine.specs.Held.{IsSound}
-use Rattle.buffer_machine.proofs.Folded.{query-key}
-use Rattle.buffer_machine.proofs.Lists.{append-nil}
+use Rattle.buffer_machine.proofs.Folded.{query_apart}
 use Rattle.buffer_machine.proofs.Names.{is_made_at}
 use Rattle.buffer_machine.proofs.Standing.{not_a_channel}
 use Rattle.irc_line.proofs.Order.{key_is}
+use Rattle.std.proofs.lemmas.List.{append-nil}
 
 -- ---- the last lines
 
 keep_last-all : {K : Type 0} (n : ℕ) (xs : List K) → length xs ≤ n → keep_last n xs ≡ xs
 keep_last-all n xs h = let e : length xs - n ≡ 0 = omega arith in rw e refl
-
-pub keep_last-nil : {K : Type 0} (n : ℕ) → keep_last {X = K} n [] ≡ []
-keep_last-nil {K} n = keep_last-all n [] (omega arith)
 
 length-keep_last : {K : Type 0} (n : ℕ) (xs : List K) → length (keep_last n xs) ≤ n
 length-keep_last n xs = rw length-drop (omega arith)
@@ -54,9 +51,9 @@ pub kept-none : (s : Settings) (t : List ℕ) → kept s [] t ≡ []
 unfolding kept
 kept-none s t = kept-nil (stored s t) (emptied s t) (size s t) true
 
-pub kept-fits : (s : Settings) (history : List Command) (t : List ℕ) → length (kept s history t) ≤ size s t history
-kept-fits s [] t = rw kept-none (omega arith)
-kept-fits s (x ∷ earlier) t = rw kept-next (length-keep_last (size s t (x ∷ earlier)) ((if emptied s t earlier x then [] else kept s earlier t) ++ if_kept true (stored s t earlier x)))
+pub kept_fits : (s : Settings) (history : List Command) (t : List ℕ) → length (kept s history t) ≤ size s t history
+kept_fits s [] t = rw kept-none (omega arith)
+kept_fits s (x ∷ earlier) t = rw kept-next (length-keep_last (size s t (x ∷ earlier)) ((if emptied s t earlier x then [] else kept s earlier t) ++ if_kept true (stored s t earlier x)))
 
 pub size-first : (s : Settings) (t : List ℕ) → size s t [] ≡ first_size s t
 unfolding size
@@ -82,11 +79,6 @@ key_apart cs k p false e i n = refl
 key_apart_too : (cs : List (List ℕ)) (k p : List ℕ) (b : Bool) → at_key k p ≡ b → is_in k cs ≡ false → is_in (fold_name p) cs ≡ true → b ≡ false
 key_apart_too cs k p true e n i = sym i ∙ (ap (λ key. is_in key cs) (sym (key_is k p e)) ∙ n)
 key_apart_too cs k p false e n i = refl
-
--- a channel's key is not that of a nick
-query_apart : (k q : List ℕ) (b : Bool) → at_key k q ≡ b → is_channel k ≡ true → is_query_name q ≡ true → b ≡ false
-query_apart k q true e c n = sym c ∙ (ap is_channel (key_is k q e) ∙ query-key q n)
-query_apart k q false e c n = refl
 
 query_for : (k : List ℕ) (own : List ℕ) (line : Parts) (b : Bool) → is_query_line own line ≡ b → is_channel k ≡ true → is_for k (if b then Some (source line) else None) ≡ false
 query_for k own line true e c = query_apart k (source line) (at_key k (source line)) refl c (and_right _ (is_query_name (source line)) e)

@@ -1,21 +1,6 @@
 -- Lists that a loop changes, and maps over lists.
-use Rattle.std.proofs.Common.{◌≡◌, ℕ, zero, suc, ◌+◌, ◌<◌, List, [], ◌∷◌, ◌++◌, map, take, drop, get_or, set, length, refl, ap, ◌∙◌, arith, add-one, append_assoc, sym}
+use Rattle.std.proofs.Common.{◌≡◌, List, [], ◌∷◌, ◌++◌, map, refl, ap, ◌∙◌, append_assoc, sym}
 use Rattle.std.specs.Prelude.{flat_map}
-
-map_step_suc : {A : Type 0} (f : A → A) (init : List A) (i : ℕ) (d y : A) → i < length init → y ≡ f (get_or (map f (take i init) ++ drop i init) i d)
-    → set (map f (take i init) ++ drop i init) i y ≡ map f (take (suc i) init) ++ drop (suc i) init
-map_step_suc f [] i d y h e = absurd (omega arith)
-map_step_suc f (a ∷ rest) zero d y h e = ap (λ x. x ∷ rest) e
-map_step_suc f (a ∷ rest) (suc i) d y h e = ap (λ xs. f a ∷ xs) (map_step_suc f rest i d y (omega arith) e)
-
--- one more element of a list that a loop changes
-pub map_step : {A : Type 0} (f : A → A) (xs init : List A) (i : ℕ) (d y : A) → xs ≡ map f (take i init) ++ drop i init → i < length init → y ≡ f (get_or xs i d)
-    → set xs i y ≡ map f (take (i + 1) init) ++ drop (i + 1) init
-map_step f xs init i d y e h v = rw (add-one, e) (map_step_suc f init i d y h (rw e at v))
-
-pub append-nil : {A : Type 0} (xs : List A) → xs ++ [] ≡ xs
-append-nil [] = refl
-append-nil (x ∷ xs) = ap (λ ys. x ∷ ys) (append-nil xs)
 
 map_at_by : {A B : Type 0} (f g : A → B) (all front xs : List A) → all ≡ front ++ xs
     → ((before : List A) (x : A) (after : List A) → all ≡ before ++ x ∷ after → f x ≡ g x) → map f xs ≡ map g xs

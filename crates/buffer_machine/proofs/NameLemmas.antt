@@ -10,14 +10,11 @@ use Rattle.irc_line.proofs.Booleans.{and_left, and_right, and_both}
 use Rattle.buffer_machine.specs.Messages.{has_command, is_by, is_own, is_query_line, is_query_name, own_prefix, source, word_bytes}
 use Rattle.buffer_machine.specs.declared.message.ChannelWord.{ChannelWord}
 use Rattle.buffer_machine.specs.declared.message.ChannelWord.TheVariants.{Join, Part, Names}
-
--- a name's byte may stand in a word
-word_byte : (b : ℕ) → is_name_byte b ≡ true → is_word_byte b ≡ true
-word_byte b e = and_left _ _ (and_left _ _ e)
+use Rattle.irc_line.proofs.Building.{name_word_byte}
 
 name_bytes-word : (name rest : List ℕ) → list_all is_name_byte name ≡ true → list_all is_word_byte rest ≡ true → list_all is_word_byte (name ++ rest) ≡ true
 name_bytes-word [] rest e f = f
-name_bytes-word (b ∷ name) rest e f = and_both _ _ (word_byte b (and_left _ _ e)) (name_bytes-word name rest (and_right _ _ e) f)
+name_bytes-word (b ∷ name) rest e f = and_both _ _ (name_word_byte b (and_left _ _ e)) (name_bytes-word name rest (and_right _ _ e) f)
 
 longer : (name rest : List ℕ) → nat_lt 0 (length rest) ≡ true → nat_lt 0 (length (name ++ rest)) ≡ true
 longer [] rest e = e

@@ -5,9 +5,8 @@ use Rattle.std.specs.List.{list_all}
 use Rattle.std.proofs.lemmas.Bool.Decides.{nat_tests}
 use Rattle.irc_line.specs.Names.{fold_name, same_bytes}
 use Rattle.irc_line.specs.Keys.{at_key, is_in, is_below, is_below_all, are_rising, put_in}
-use Rattle.irc_line.proofs.Booleans.{and_left, and_right, and_both, and_false, not_from, not_true, or_both_false, or_false, or_left_false, or_right_false, or_true}
-use Rattle.irc_line.proofs.SameBytes.{same_bytes-sym}
-use Rattle.irc_line.proofs.Order.{below-trans, own_key, at_key-sym, in-own, key_is}
+use Rattle.irc_line.proofs.Booleans.{and_left, and_right, and_both, and_false, not_true, or_left_false, or_right_false, or_true}
+use Rattle.irc_line.proofs.Order.{own_key, in-own, key_is}
 use Rattle.buffer_targets.specs.Targets.{newest}
 use Rattle.buffer_machine.specs.Buffers.{with_made, with_new}
 use Rattle.buffer_targets.proofs.Keys.{below_later}

@@ -14,14 +14,10 @@ use Rattle.buffer_machine.specs.Buffers.{channels, queries, targets, is_known, m
 use Rattle.buffer_machine.specs.Effects.{show_all, status}
 use Rattle.buffer_machine.specs.Steps.{played_of, first_some, target_of_key, played_or_status, done_or_status}
 use Rattle.buffer_machine.specs.Held.{Held, IsSound, held}
-use Rattle.buffer_machine.proofs.Names.{in-append, find-append, find-different}
-use Rattle.buffer_machine.proofs.Standing.{channels-rise, queries-differ}
+use Rattle.buffer_machine.proofs.Names.{find-append, find-different}
+use Rattle.buffer_machine.proofs.Standing.{channels-rise, queries-differ, known-both}
 use Rattle.buffer_machine.proofs.Found.{channel_under, target_under, channel-found, query-found}
 use Rattle.buffer_targets.specs.Places.{are_different}
-
-known-both : (s : Settings) (history : List Command) (k : List ℕ) → is_known s history k ≡ (is_in k (channels s history) || is_in k (queries s history))
-unfolding is_known targets
-known-both s history k = in-append k (channels s history) (queries s history)
 
 made-both : (s : Settings) (history : List Command) (k : List ℕ)
     → made_as s history k ≡ unwrap_or (if is_in k (channels s history) then find (at_key k) (channels s history) else find (at_key k) (queries s history)) k

@@ -5,8 +5,9 @@ use Rattle.circular_buffer.specs.Buffer.{keep_last}
 use Rattle.irc_line.specs.Lines.{Parts}
 use Rattle.buffer_lines.specs.Stamps.{ring}
 use Rattle.buffer_targets.specs.Targets.{TargetLines, channel, target, cleared, resized, pushed, over}
-use Rattle.buffer_machine.proofs.Kept.{next, next-quiet, keep_last-nil}
-use Rattle.buffer_machine.proofs.Lists.{append-nil}
+use Rattle.buffer_machine.proofs.Kept.{next, next-quiet}
+use Rattle.std.proofs.lemmas.List.{append-nil}
+use Rattle.buffer_lines.proofs.Keeping.{keep_last-nil}
 
 module _ (c : List ℕ) (ks : List (ℕ × Parts)) (n : ℕ) (fits : length ks ≤ n) where
   abbrev pub before : TargetLines

@@ -21,7 +21,7 @@ use Rattle.buffer_machine.specs.Held.{IsSound, target_held, held}
 use Rattle.buffer_machine.proofs.Lists.{map_at, map_through}
 use Rattle.buffer_machine.proofs.Names.{is_made_at, all-at, in-append, newest-all}
 use Rattle.buffer_machine.proofs.Standing.{queries-more, queries-are, queries-fit}
-use Rattle.buffer_machine.proofs.Kept.{kept-fits, line_if}
+use Rattle.buffer_machine.proofs.Kept.{kept_fits, line_if}
 use Rattle.buffer_machine.proofs.Next.{next_query, query-next, query-made}
 use Rattle.buffer_machine.proofs.Found.{found-known}
 use Rattle.buffer_machine.proofs.Pointwise.{if_map, map_id}
@@ -71,7 +71,7 @@ abbrev lines : Settings → List Command → List ℕ → List (ℕ × Parts)
 lines s earlier q = kept s earlier (fold_name q)
 
 abbrev fits : (s : Settings) (earlier : List Command) (q : List ℕ) → length (kept s earlier (fold_name q)) ≤ size s (fold_name q) earlier
-fits s earlier q = kept-fits s earlier (fold_name q)
+fits s earlier q = kept_fits s earlier (fold_name q)
 
 -- a command that does nothing to the queries
 quiet_queries : (s : Settings) → IsSound s → (earlier : List Command) (x : Command) → said (attached s earlier) (nick s earlier) x ≡ None

@@ -1,5 +1,5 @@
 -- What a reader can check the definitions by.
-use Rattle.std.proofs.Common.{◌≡◌, ℕ, ◌≤◌, Bool, true, false, not, ◌&&◌, ◌||◌, List, [], ◌∷◌, length, refl, ap, ◌∙◌, sym}
+use Rattle.std.proofs.Common.{◌≡◌, ℕ, Bool, true, false, not, ◌&&◌, ◌||◌, List, [], ◌∷◌, refl, ap, ◌∙◌, sym}
 use Rattle.std.specs.Prelude.{None, if◌then◌else◌, filter}
 use Rattle.irc_line.specs.Names.{fold_name, is_channel}
 use Rattle.irc_line.specs.Lines.{Parts}
@@ -18,14 +18,12 @@ use Rattle.buffer_machine.specs.Held.{Held, IsSound, held}
 use Rattle.buffer_machine.specs.Steps.{after, answers}
 use Rattle.buffer_machine.proofs.EffectsStep.{effects-step}
 use Rattle.buffer_machine.proofs.HeldStep.{held-step}
-use Rattle.buffer_machine.proofs.Kept.{kept-fits, kept-next, keep_last-nil}
+use Rattle.buffer_machine.proofs.Kept.{kept-next}
 use Rattle.buffer_machine.proofs.Playing.{played-held, played-is}
 use Rattle.irc_line.proofs.Booleans.{and_both}
+use Rattle.buffer_lines.proofs.Keeping.{keep_last-nil}
 
 -- ---- what is kept fits
-
-pub kept_fits : (s : Settings) (history : List Command) (t : List ℕ) → length (kept s history t) ≤ size s t history
-kept_fits s history t = kept-fits s history t
 
 -- ---- a detached channel
 

@@ -14,7 +14,7 @@ use Rattle.buffer_commands.specs.declared.command.Command.TheVariants.{Client, U
 use Rattle.buffer_machine.specs.Messages.{is_own, is_by, has_command, is_query_line, is_query_name, is_none_of, is_storable, source}
 use Rattle.buffer_machine.specs.Buffers.{attached, nick, channels, queries, made_by, with_made, is_removed, with_new, query_aim, stored_query, said, targets, is_known}
 use Rattle.buffer_machine.specs.Held.{IsSound}
-use Rattle.buffer_machine.proofs.Folded.{channel-key, query-key}
+use Rattle.buffer_machine.proofs.Folded.{channel-key, query_apart}
 use Rattle.buffer_machine.proofs.Names.{is_made_at, in-made, in-new, in-append, in-filter, all-filter, all-put, all-append, all-drop, rising-filter, rising-put, newest-length}
 use Rattle.irc_line.proofs.Order.{key_is}
 use Rattle.buffer_targets.specs.Places.{are_different}
@@ -60,7 +60,7 @@ pub channels-more : (s : Settings) (earlier : List Command) (x : Command)
 unfolding channels
 channels-more s earlier x = refl
 
-channels-none : (s : Settings) → channels s [] ≡ s.channels
+pub channels-none : (s : Settings) → channels s [] ≡ s.channels
 unfolding channels
 channels-none s = refl
 
@@ -108,7 +108,7 @@ pub queries-more : (s : Settings) (earlier : List Command) (x : Command) → que
 unfolding queries
 queries-more s earlier x = refl
 
-queries-none : (s : Settings) → queries s [] ≡ []
+pub queries-none : (s : Settings) → queries s [] ≡ []
 unfolding queries
 queries-none s = refl
 
@@ -162,10 +162,6 @@ no_channel_at : (k c : List ℕ) (b : Bool) → at_key k c ≡ b → is_channel 
 no_channel_at k c true e f g = absurd (let t : is_channel k ≡ true = ap is_channel (key_is k c e) ∙ channel-key c g in cc)
 no_channel_at k c false e f g = refl
 
-no_query_at : (k c : List ℕ) (b : Bool) → at_key k c ≡ b → is_channel k ≡ true → is_query_name c ≡ true → b ≡ false
-no_query_at k c true e f g = absurd (let t : is_channel k ≡ false = ap is_channel (key_is k c e) ∙ query-key c g in cc)
-no_query_at k c false e f g = refl
-
 -- no channel has a key that is no channel's
 no_channel : (k : List ℕ) (cs : List (List ℕ)) → is_channel k ≡ false → list_all is_channel cs ≡ true → is_in k cs ≡ false
 no_channel k [] e f = refl
@@ -176,7 +172,7 @@ no_channel k (c ∷ cs) e f =
 no_query : (k : List ℕ) (cs : List (List ℕ)) → is_channel k ≡ true → list_all is_query_name cs ≡ true → is_in k cs ≡ false
 no_query k [] e f = refl
 no_query k (c ∷ cs) e f =
-    or_both_false (at_key k c) (is_in k cs) (no_query_at k c (at_key k c) refl e (and_left (is_query_name c) _ f)) (no_query k cs e (and_right (is_query_name c) _ f))
+    or_both_false (at_key k c) (is_in k cs) (query_apart k c (at_key k c) refl e (and_left (is_query_name c) _ f)) (no_query k cs e (and_right (is_query_name c) _ f))
 
 pub not_a_channel : (s : Settings) → IsSound s → (history : List Command) (k : List ℕ) → is_channel k ≡ false → is_in k (channels s history) ≡ false
 not_a_channel s sound history k e = no_channel k (channels s history) e (channels-are s sound history)
@@ -184,7 +180,7 @@ not_a_channel s sound history k e = no_channel k (channels s history) e (channel
 pub not_a_query : (s : Settings) (history : List Command) (k : List ℕ) → is_channel k ≡ true → is_in k (queries s history) ≡ false
 not_a_query s history k e = no_query k (queries s history) e (queries-are s history)
 
-known-both : (s : Settings) (history : List Command) (t : List ℕ) → is_known s history t ≡ (is_in t (channels s history) || is_in t (queries s history))
+pub known-both : (s : Settings) (history : List Command) (t : List ℕ) → is_known s history t ≡ (is_in t (channels s history) || is_in t (queries s history))
 unfolding is_known targets
 known-both s history t = in-append t (channels s history) (queries s history)
 

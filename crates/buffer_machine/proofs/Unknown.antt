@@ -17,8 +17,9 @@ use Rattle.buffer_machine.specs.Buffers.{attached, nick, channels, queries, is_k
 use Rattle.buffer_machine.specs.Held.{IsSound}
 use Rattle.buffer_machine.proofs.Names.{is_made_at, newest-all, newest-last}
 use Rattle.buffer_machine.proofs.Standing.{known-next, known-channel, known-query, queries-more, queries-fit}
-use Rattle.buffer_machine.proofs.Kept.{next, next-nothing, keep_last-nil, kept-next, kept-none, size-first, size-more, stored-unknown, stored-query, line_if, not_storable}
+use Rattle.buffer_machine.proofs.Kept.{next, next-nothing, kept-next, kept-none, size-first, size-more, stored-unknown, stored-query, line_if, not_storable}
 use Rattle.irc_line.proofs.Order.{key_is}
+use Rattle.buffer_lines.proofs.Keeping.{keep_last-nil}
 
 -- ---- channels
 
@@ -54,7 +55,7 @@ not_detached_after os k (NodeGone n f) = refl
 not_detached_after os k Up = refl
 not_detached_after os k Down = refl
 
-detached-none : (s : Settings) (k : List ℕ) → detached s [] k ≡ false
+pub detached-none : (s : Settings) (k : List ℕ) → detached s [] k ≡ false
 unfolding detached
 detached-none s k = refl
 

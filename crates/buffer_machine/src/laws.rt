@@ -16,7 +16,7 @@ ghost use Rattle.buffer_machine.specs.Effects.{effects, shown};
 ghost use Rattle.buffer_machine.specs.Held.{IsSound, held};
 
 /// What a target keeps is at most its size.
-#[tactic(auto, using(crate::proofs::Readings::kept_fits))]
+#[tactic(auto, using(crate::proofs::Kept::kept_fits))]
 pub fn no_target_keeps_more_than_its_size()
     ensures { (s : Settings) (history : List Command) (t : List ℕ) → length (kept s history t) ≤ size s t history }
 {}

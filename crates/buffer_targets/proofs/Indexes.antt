@@ -1,5 +1,5 @@
 -- The places of names, in rising order of the names' keys.
-use Rattle.std.proofs.Common.{◌≡◌, ℕ, zero, suc, ◌+◌, ◌-◌, ◌<◌, ◌≤◌, Bool, true, false, ◌||◌, if◌then◌else◌, List, [], ◌∷◌, ◌++◌, map, get_or, take, drop, length, Result, refl, sym, ap, ◌∙◌, subst, arith}
+use Rattle.std.proofs.Common.{◌≡◌, ℕ, zero, suc, ◌+◌, ◌-◌, ◌<◌, ◌≤◌, Bool, true, false, if◌then◌else◌, List, [], ◌∷◌, ◌++◌, map, get_or, take, drop, length, Result, refl, sym, ap, ◌∙◌, subst, arith}
 use Rattle.std.specs.Prelude.{◌==◌, filter, nat_lt, nat_le}
 use Rattle.std.specs.List.{list_all, list_any, insert}
 use Rattle.std.specs.List.Sorted.{IsBinarySearchResult, IsSearchInRange}
@@ -9,33 +9,15 @@ use Rattle.std.proofs.lemmas.List.{get_or_append_left, get_or_push, get_or-drop,
 use Rattle.irc_line.specs.Names.{fold_name}
 use Rattle.irc_line.specs.Keys.{at_key, is_in}
 use Rattle.irc_line.proofs.Booleans.{and_left, and_right, and_both, not_from, not_true, or_both_false, or_first, or_left_false, or_right_false, or_second}
-use Rattle.irc_line.proofs.Order.{cases_of_or, eq_of, at_key-sym}
-use Rattle.irc_line.proofs.SameBytes.{same_bytes-sym}
+use Rattle.irc_line.proofs.Order.{cases_of_or, at_key-sym}
 use Rattle.buffer_targets.specs.Places.{IsPlace, IsGap, IsIndex, are_different, names_at, compared_at, lowered}
 use Rattle.buffer_targets.proofs.Rising.{none_at_gap, rising-insert, rising-filter}
 use Rattle.buffer_targets.proofs.Edits.{names-insert}
 use Rattle.buffer_targets.proofs.Search.{searched}
+use Rattle.irc_line.proofs.Numbers.{eq_of, gt_of, le_of, lt_of, of_eq, of_lt}
 
 abbrev name_at : List (List ℕ) → ℕ → List ℕ
 name_at names i = get_or names i []
-
-lt_of : (x y : ℕ) → nat_lt x y ≡ true → x < y
-lt_of x y e = grind (arith, nat_tests)
-
-of_lt : (x y : ℕ) → x < y → nat_lt x y ≡ true
-of_lt x y e = grind (arith, nat_tests)
-
-of_le : (x y : ℕ) → x ≤ y → nat_le x y ≡ true
-of_le x y e = grind (arith, nat_tests)
-
-le_of : (x y : ℕ) → nat_le x y ≡ true → x ≤ y
-le_of x y e = grind (arith, nat_tests)
-
-not_le_of : (x y : ℕ) → nat_le x y ≡ false → y < x
-not_le_of x y e = grind (arith, nat_tests)
-
-of_eq : (x y : ℕ) → x ≡ y → (x == y) ≡ true
-of_eq x y e = grind (arith, nat_tests)
 
 -- what a search of the index finds
 
@@ -202,7 +184,7 @@ lowered_in_range k n m (i ∷ places) s r =
 
 lowered_complete_step : (k x i : ℕ) (rest : List ℕ) (b : Bool) → nat_le k x ≡ b → (x == i + k) ≡ true → list_any (λ j. j == i) (map (λ j. j - k) (if b then x ∷ rest else rest)) ≡ true
 lowered_complete_step k x i rest true e h = or_first _ _ (of_eq (x - k) i (let s = eq_of x (i + k) h in omega arith))
-lowered_complete_step k x i rest false e h = absurd (let s = eq_of x (i + k) h in let l = not_le_of k x e in omega arith)
+lowered_complete_step k x i rest false e h = absurd (let s = eq_of x (i + k) h in let l = gt_of k x e in omega arith)
 
 lowered_complete_more : (k x i : ℕ) (rest : List ℕ) (b : Bool) → list_any (λ j. j == i) (map (λ j. j - k) rest) ≡ true → list_any (λ j. j == i) (map (λ j. j - k) (if b then x ∷ rest else rest)) ≡ true
 lowered_complete_more k x i rest true h = or_second (x - k == i) _ h

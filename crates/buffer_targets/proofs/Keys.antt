@@ -1,5 +1,5 @@
 -- Keys and their order, by the comparison of slices.
-use Rattle.std.proofs.Common.{◌≡◌, ℕ, Bool, true, false, Ordering, Less, Equal, Greater, List, [], ◌∷◌, refl, sym, ap, ◌∙◌, subst, arith}
+use Rattle.std.proofs.Common.{◌≡◌, ℕ, true, false, Ordering, Less, Equal, Greater, List, [], ◌∷◌, refl, sym, ap, ◌∙◌, subst, arith}
 use Rattle.std.specs.List.{list_all}
 use Rattle.std.specs.Ordering.{nat_cmp, is_lt, is_eq, ordering_reverse}
 use Rattle.std.specs.Cmp.Lexicographic.{slice_cmp}
@@ -8,8 +8,8 @@ use Rattle.std.proofs.lemmas.Cmp.{same_from_slice_cmp, nat_list_cmp_total}
 use Rattle.irc_line.specs.Names.{fold_name, same_bytes}
 use Rattle.irc_line.specs.Keys.{at_key, is_below, are_rising}
 use Rattle.irc_line.proofs.Booleans.{and_left, and_right, and_both, false_of}
-use Rattle.irc_line.proofs.Order.{below-trans, below-asym, below-irrefl, key_is}
-use Rattle.irc_line.proofs.SameBytes.{same_bytes-eq, same_bytes-sym}
+use Rattle.irc_line.proofs.Order.{below-trans, below-irrefl, key_is}
+use Rattle.irc_line.proofs.SameBytes.{same_bytes-sym}
 
 -- a comparison's answer, as a test
 pub less_is_below : (a b : List ℕ) (o : Ordering) → o ≡ slice_cmp nat_cmp a b → is_lt o ≡ is_below a b

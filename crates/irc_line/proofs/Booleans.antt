@@ -1,5 +1,5 @@
--- Tests that are true or false, and lists.
-use Rattle.std.proofs.Common.{◌≡◌, ℕ, Bool, true, false, not, ◌&&◌, ◌||◌, ◌⊎◌, List, [], ◌∷◌, ◌++◌, refl, sym, ap, inl, inr}
+-- Tests that are true or false.
+use Rattle.std.proofs.Common.{◌≡◌, Bool, true, false, not, ◌&&◌, ◌||◌, ◌⊎◌, refl, sym, inl, inr}
 pub use Rattle.std.proofs.Math.Bool.{and-false as and_false, and-true as and_true, or-false as or_false, or-true as or_true}
 pub use Rattle.std.proofs.lemmas.Bool.{and_from as and_both, or_from as or_both_false, or_left as or_first, or_right as or_second, not_from_false as not_from}
 
@@ -30,7 +30,3 @@ not_true false e = refl
 pub or_cases : (a b : Bool) → (a || b) ≡ true → (a ≡ true) ⊎ (b ≡ true)
 or_cases true b e = inl refl
 or_cases false b e = inr e
-
-pub append_nil : (s : List ℕ) → s ++ [] ≡ s
-append_nil [] = refl
-append_nil (x ∷ s) = ap (λ t. x ∷ t) (append_nil s)

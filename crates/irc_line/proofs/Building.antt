@@ -8,22 +8,15 @@ use Rattle.irc_line.specs.Names.{first_is, is_name, is_name_byte, is_channel, is
 use Rattle.irc_line.specs.Lines.{Parts, are_parameters, is_line, is_middle, is_prefix, is_upper_command, is_word, is_word_byte, parts}
 use Rattle.irc_line.specs.Grammar.{AreContent}
 use Rattle.irc_line.proofs.Booleans.{and_both, and_left, and_right}
+use Rattle.irc_line.proofs.Numbers.{le_of, of_le}
+use Rattle.irc_line.proofs.Words.{some_length}
 
-name_word_byte : (b : ℕ) → is_name_byte b ≡ true → is_word_byte b ≡ true
+pub name_word_byte : (b : ℕ) → is_name_byte b ≡ true → is_word_byte b ≡ true
 name_word_byte b h = grind (arith, nat_tests)
 
 name_word_bytes : (w : List ℕ) → list_all is_name_byte w ≡ true → list_all is_word_byte w ≡ true
 name_word_bytes [] h = refl
 name_word_bytes (x ∷ w) h = and_both (is_word_byte x) _ (name_word_byte x (and_left (is_name_byte x) _ h)) (name_word_bytes w (and_right (is_name_byte x) _ h))
-
-some_length : (x : ℕ) (w : List ℕ) → nat_lt 0 (length (x ∷ w)) ≡ true
-some_length x w = grind (arith, nat_tests)
-
-le_of : (m n : ℕ) → nat_le m n ≡ true → m ≤ n
-le_of m n h = grind (arith, nat_tests)
-
-few_from : (n : ℕ) → n ≤ 15 → nat_le n 15 ≡ true
-few_from n h = grind (arith, nat_tests)
 
 some_byte : (n : ℕ) → nat_le 1 n ≡ true → nat_lt 0 n ≡ true
 some_byte n h = grind (arith, nat_tests)
@@ -113,7 +106,7 @@ line_facts p h =
 pub line_made : (p : Parts) → Makes p → IsTrue (is_line p)
 unfolding is_line
 line_made p m =
-    and_both (is_prefix p.prefix && is_upper_command p.command && nat_le (length p.parameters) 15) _ (and_both (is_prefix p.prefix && is_upper_command p.command) _ (and_both (is_prefix p.prefix) _ m.prefix m.command) (few_from (length p.parameters) m.few)) m.parameters
+    and_both (is_prefix p.prefix && is_upper_command p.command && nat_le (length p.parameters) 15) _ (and_both (is_prefix p.prefix && is_upper_command p.command) _ (and_both (is_prefix p.prefix) _ m.prefix m.command) (of_le (length p.parameters) 15 m.few)) m.parameters
 
 -- a line with another prefix is a line
 pub line_with_prefix : (prefix : Option (List ℕ)) (p : Parts) → IsTrue (is_line p) → IsTrue (is_prefix prefix) → IsTrue (is_line (parts prefix p.command p.parameters))

@@ -9,8 +9,9 @@ use Rattle.irc_line.specs.Reading.{read, judged}
 use Rattle.irc_line.proofs.Grammar.{NoSpace, complete}
 use Rattle.irc_line.proofs.Building.{line_facts}
 use Rattle.irc_line.proofs.Judging.{judged_ok}
-use Rattle.irc_line.proofs.Booleans.{and_both, and_left, and_right, append_nil, not_from}
+use Rattle.irc_line.proofs.Booleans.{and_both, and_left, and_right, not_from}
 use Rattle.irc_line.proofs.Words.{content_both, word_holds, word_content, middle_holds, middle_content, command_holds}
+use Rattle.std.proofs.lemmas.List.{append-nil}
 
 or_false : (a b : Bool) → (a || b) ≡ false → (a ≡ false) × (b ≡ false)
 or_false true b e = cc
@@ -33,7 +34,7 @@ plain_middle command (x ∷ w) h =
 
 last_tail_by : (command last : List ℕ) (b : Bool) → has_colon command last ≡ b → IsTail (if b then 32 ∷ 58 ∷ last else 32 ∷ last) (last ∷ [])
 last_tail_by command last true e = trailing [] last refl
-last_tail_by command last false e = subst (λ t. IsTail (32 ∷ t) (last ∷ [])) (append_nil last) (middle [] last [] [] refl (plain_middle command last e) (none [] refl))
+last_tail_by command last false e = subst (λ t. IsTail (32 ∷ t) (last ∷ [])) (append-nil last) (middle [] last [] [] refl (plain_middle command last e) (none [] refl))
 
 tail_spelled : (command : List ℕ) (ps : List (List ℕ)) → are_parameters ps ≡ true → IsTail (spelled_parameters command ps) ps
 tail_spelled command [] h = none [] refl

@@ -8,7 +8,8 @@ use Rattle.irc_line.specs.Lines.{Parts, is_digit}
 use Rattle.irc_line.specs.Grammar.{is_space, AreSpaces, IsWord, IsMiddle, IsTail, none, trailing, middle, is_letter, is_command, upper, IsPrefix, IsLine}
 use Rattle.irc_line.specs.Reading.{skip_spaces, word_of, behind_word, parameters_from, parameters_of, read_command, read_prefix, read}
 use Rattle.irc_line.proofs.Parameters.{behind}
-use Rattle.irc_line.proofs.Booleans.{and_left, and_right, not_true, or_cases, not_from, and_both, append_nil}
+use Rattle.irc_line.proofs.Booleans.{and_left, and_right, not_true, or_cases, not_from, and_both}
+use Rattle.std.proofs.lemmas.List.{append-nil}
 
 -- nothing, or it begins with a space
 abbrev Ends : List ℕ → Type 0
@@ -202,7 +203,7 @@ tail_at_by spaces x v false c h n ih =
 
 -- the tail of a line, by what stands behind its first spaces
 tail_at : (spaces u : List ℕ) → AreSpaces spaces → NotSpaced u → ((r : List ℕ) → length r < length u → Ends r → IsTail r (parameters_of r)) → IsTail (32 ∷ (spaces ++ u)) (parameters_of u)
-tail_at spaces [] h n ih = subst (λ t. IsTail (32 ∷ t) []) (sym (append_nil spaces)) (none (32 ∷ spaces) h)
+tail_at spaces [] h n ih = subst (λ t. IsTail (32 ∷ t) []) (sym (append-nil spaces)) (none (32 ∷ spaces) h)
 tail_at spaces (x ∷ v) h n ih = tail_at_by spaces x v (x == 58) refl h n ih
 
 -- the tail of a line, by how long it is at most

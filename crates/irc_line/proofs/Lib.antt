@@ -1,4 +1,5 @@
 pub mod Booleans
+pub mod Numbers
 pub mod Parameters
 pub mod Grammar
 pub mod Words

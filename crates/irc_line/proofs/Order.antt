@@ -7,19 +7,11 @@ use Rattle.irc_line.specs.Names.{fold_name}
 use Rattle.irc_line.specs.Keys.{at_key, is_in, is_below, is_below_all, are_rising, put_in}
 use Rattle.irc_line.proofs.Booleans.{and_left, and_right, and_both, false_of, or_first, or_second}
 use Rattle.irc_line.proofs.SameBytes.{same_bytes-refl, same_bytes-eq, same_bytes-sym}
+use Rattle.irc_line.proofs.Numbers.{eq_of, lt_of, of_lt}
 
 pub cases_of_or : {P : Type 0} (a b : Bool) → (a || b) ≡ true → (a ≡ true → P) → (a ≡ false → b ≡ true → P) → P
 cases_of_or true b e f g = f refl
 cases_of_or false b e f g = g refl e
-
-pub eq_of : (x y : ℕ) → (x == y) ≡ true → x ≡ y
-eq_of x y e = grind (arith, nat_tests)
-
-lt_of : (x y : ℕ) → nat_lt x y ≡ true → x < y
-lt_of x y e = grind (arith, nat_tests)
-
-of_lt : (x y : ℕ) → x < y → nat_lt x y ≡ true
-of_lt x y e = grind (arith, nat_tests)
 
 of_eq : (x : ℕ) → (x == x) ≡ true
 of_eq x = grind (arith, nat_tests)

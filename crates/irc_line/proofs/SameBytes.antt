@@ -1,9 +1,9 @@
 -- The same bytes are one list.
 use Rattle.std.proofs.Common.{◌≡◌, ℕ, Bool, true, false, List, [], ◌∷◌, refl, ap, ◌∙◌, sym, arith, subst}
-use Rattle.std.specs.Prelude.{◌==◌}
 use Rattle.std.proofs.lemmas.Bool.Decides.{nat_tests}
 use Rattle.irc_line.specs.Names.{same_bytes}
 use Rattle.irc_line.proofs.Booleans.{and_left, and_right, and_both}
+use Rattle.irc_line.proofs.Numbers.{eq_of}
 
 -- what is not true is false
 pub false_from : (b : Bool) → (b ≡ true → false ≡ true) → false ≡ b
@@ -15,15 +15,12 @@ pub same_bytes-refl : (a : List ℕ) → same_bytes a a ≡ true
 same_bytes-refl [] = refl
 same_bytes-refl (x ∷ xs) = and_both _ _ (grind (arith, nat_tests)) (same_bytes-refl xs)
 
-eq_from_true : (x y : ℕ) → (x == y) ≡ true → x ≡ y
-eq_from_true x y e = grind (arith, nat_tests)
-
 pub same_bytes-eq : (a b : List ℕ) → same_bytes a b ≡ true → a ≡ b
 same_bytes-eq [] [] e = refl
 same_bytes-eq [] (y ∷ ys) e = cc
 same_bytes-eq (x ∷ xs) [] e = cc
 same_bytes-eq (x ∷ xs) (y ∷ ys) e =
-    ap (λ z. z ∷ xs) (eq_from_true x y (and_left _ _ e)) ∙ ap (λ zs. y ∷ zs) (same_bytes-eq xs ys (and_right _ _ e))
+    ap (λ z. z ∷ xs) (eq_of x y (and_left _ _ e)) ∙ ap (λ zs. y ∷ zs) (same_bytes-eq xs ys (and_right _ _ e))
 
 same_bytes-sym_by : (a b : List ℕ) (t : Bool) → same_bytes a b ≡ t → (same_bytes b a ≡ true → t ≡ true) → t ≡ same_bytes b a
 same_bytes-sym_by a b true e back = let same = same_bytes-eq a b e in subst (λ c. true ≡ same_bytes b c) (sym same) (sym (same_bytes-refl b))

@@ -89,7 +89,7 @@ word_content_bytes [] h = refl
 word_content_bytes (x ∷ w) h =
     and_both (is_content_byte x) _ (and_left (is_content_byte x) _ (and_left (is_word_byte x) _ h)) (word_content_bytes w (and_right (is_word_byte x) _ h))
 
-some_length : (x : ℕ) (w : List ℕ) → nat_lt 0 (length (x ∷ w)) ≡ true
+pub some_length : (x : ℕ) (w : List ℕ) → nat_lt 0 (length (x ∷ w)) ≡ true
 some_length x w = grind (arith, nat_tests)
 
 pub word_passes : (w : List ℕ) → IsWord w → AreContent w → is_word w ≡ true

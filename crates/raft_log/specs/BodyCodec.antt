@@ -1,13 +1,13 @@
 -- Bodies behind their length are a codec where the bodies are.
 use Rattle.std.proofs.Common.{◌≡◌, ℕ, ◌+◌, ◌^◌, ◌≤◌, ◌⊎◌, inl, inr, Bool, true, false, cond, eqb, List, ◌++◌, length, take, drop, Result, Ok, Err, refl, sym, ap, ◌∙◌, arith, append_assoc}
 use Rattle.std.specs.Int.{w32, to_be_bytes}
-use Rattle.std.proofs.Math.Seq.{drop-append_seam, take-add}
+use Rattle.std.proofs.Math.Seq.{take-add}
 use Rattle.std.proofs.lemmas.Bool.{eqb-true, eq-eqb}
 use Rattle.std.proofs.lemmas.List.{length-append, length-take, length-drop}
 use Rattle.wire_bytes.specs.declared.wire_fault.WireFault.{WireFault}
 use Rattle.wire_bytes.specs.declared.wire_fault.WireFault.TheVariants.{Bad}
 use Rattle.wire_bytes.specs.Fields.{Reading, behind}
-use Rattle.wire_bytes.specs.Codecs.{IsCodec, goes_on-ok, goes_on-bad, behind-ok, behind-bad, AreBytes-drop}
+use Rattle.wire_bytes.specs.Codecs.{IsCodec, goes_on-ok, goes_on-bad, behind-ok, behind-bad, AreBytes-drop, value_is, behind-front}
 use Rattle.wire_bytes.specs.FieldCodecs.{number-codec, wide32}
 use Rattle.raft_log.specs.Spellings.{body_length, ending_at, measured, spelled_measured, FitsMeasured}
 
@@ -19,9 +19,6 @@ read x n = Ok (x, n)
 
 abbrev refused : {X : Type 0} → ℕ → Result (X × ℕ) WireFault
 refused p = Err (Bad p)
-
-value_is : {X : Type 0} (r s : X × ℕ) → ◌≡◌ {A = Result (X × ℕ) WireFault} (Ok r) (Ok s) → r ≡ s
-value_is r s e = cc
 
 place_is : {X : Type 0} (a b : ℕ) → refused {X = X} a ≡ refused b → a ≡ b
 place_is a b e = cc
@@ -43,10 +40,6 @@ refused_by {X} r p false e = sym (place_is {X = X} 0 p e)
 ending-bad : {X : Type 0} (end : ℕ) (r : Result (X × ℕ) WireFault) (p : ℕ) → ending_at end r ≡ Err (Bad p) → (r ≡ Err (Bad p)) ⊎ (p ≡ 0)
 ending-bad end (Ok r) p e = inr (refused_by r p (eqb r.1 end) e)
 ending-bad end (Err d) p e = inl cc
-
-behind-front : {X : Type 0} (reading : Reading X) (front rest : List ℕ) (y : X) (k : ℕ) → reading rest ≡ Ok (y, k) → behind (length front) reading (front ++ rest) ≡ Ok (y, length front + k)
-unfolding behind
-behind-front reading front rest y k e = rw (drop-append_seam front rest, e) refl
 
 -- A value behind its length is a codec where the value is.
 pub measured-codec : {X : Type 0} (spelled : X → List ℕ) (fits : X → Type 0) (taken : Reading X) → IsCodec spelled fits taken → IsCodec (spelled_measured spelled) (FitsMeasured fits spelled) (measured taken)

@@ -1,6 +1,6 @@
 -- How one more body changes what is kept.
 use Rattle.std.proofs.Common.{◌≡◌, ℕ, ◌+◌, ◌<◌, ◌≤◌, ◌≢◌, Bool, true, false, List, [], ◌∷◌, ◌++◌, map, refl, ap, ◌∙◌, sym, arith}
-use Rattle.std.specs.Prelude.{if◌then◌else◌, ◌==◌, nat_le}
+use Rattle.std.specs.Prelude.{if◌then◌else◌}
 use Rattle.std.proofs.lemmas.Bool.Decides.{nat_tests}
 use Rattle.wire_bytes.specs.declared.origin.Origin.{Origin}
 use Rattle.machine_laws.specs.Runs.{History}
@@ -8,18 +8,7 @@ use Rattle.request_once.specs.declared.body.Body.{Body}
 use Rattle.request_once.specs.declared.body.Body.TheVariants.{Inner, Asked}
 use Rattle.request_once.specs.declared.answer.Answer.TheVariants.{Effect, Done, Repeat, Gap}
 use Rattle.request_once.specs.Fresh.{same_origin, asked, fresh, last, plain, answers}
-
-is_next : (m n : ℕ) → m ≡ n → (m == n) ≡ true
-is_next m n e = grind (arith, nat_tests)
-
-is_not_next : (m n : ℕ) → m ≢ n → (m == n) ≡ false
-is_not_next m n e = grind (arith, nat_tests)
-
-is_repeat : (m n : ℕ) → m ≤ n → nat_le m n ≡ true
-is_repeat m n e = grind (arith, nat_tests)
-
-is_gap : (m n : ℕ) → n < m → nat_le m n ≡ false
-is_gap m n e = grind (arith, nat_tests)
+use Rattle.irc_line.proofs.Numbers.{of_eq, of_gt, of_le, of_ne}
 
 pub last-nil : (C A : Type 0) (o : Origin) → last {C = C} {A = A} [] o ≡ 0
 unfolding last fresh
@@ -36,11 +25,11 @@ module _ {C A : Type 0} where
 
   fresh-next : (earlier : History (Body C A)) (place : ℕ) (o : Origin) (n at : ℕ) (a : A) → n ≡ last earlier o + 1 → fresh ((place, Asked o n at a) ∷ earlier) ≡ (place, Asked o n at a) ∷ fresh earlier
   unfolding last fresh
-  fresh-next earlier place o n at a e = rw (is_next n (asked o (fresh earlier) + 1) e)
+  fresh-next earlier place o n at a e = rw (of_eq n (asked o (fresh earlier) + 1) e)
 
   fresh-skip : (earlier : History (Body C A)) (place : ℕ) (o : Origin) (n at : ℕ) (a : A) → n ≢ last earlier o + 1 → fresh ((place, Asked o n at a) ∷ earlier) ≡ fresh earlier
   unfolding last fresh
-  fresh-skip earlier place o n at a e = rw (is_not_next n (asked o (fresh earlier) + 1) e)
+  fresh-skip earlier place o n at a e = rw (of_ne n (asked o (fresh earlier) + 1) e)
 
   pub last-skip : (earlier : History (Body C A)) (place : ℕ) (o : Origin) (n at : ℕ) (a : A) (p : Origin) → n ≢ last earlier o + 1 → last ((place, Asked o n at a) ∷ earlier) p ≡ last earlier p
   unfolding last
@@ -71,19 +60,19 @@ module _ {C A : Type 0} where
 
       pub answers-next : (earlier : History (Body C A)) (place : ℕ) (o : Origin) (n at : ℕ) (a : A) → n ≡ last earlier o + 1 → answers client effects earlier place (Asked o n at a) ≡ map Effect (effects (plain client earlier) place (client o at a)) ++ Done o n ∷ []
       unfolding answers
-      answers-next earlier place o n at a e = rw (is_next n (last earlier o + 1) e)
+      answers-next earlier place o n at a e = rw (of_eq n (last earlier o + 1) e)
 
       pub answers-repeat : (earlier : History (Body C A)) (place : ℕ) (o : Origin) (n at : ℕ) (a : A) → n ≤ last earlier o → answers client effects earlier place (Asked o n at a) ≡ Repeat o (last earlier o) ∷ []
       unfolding answers
       answers-repeat earlier place o n at a e =
           let ne : n ≢ last earlier o + 1 = omega arith in
-          rw (is_not_next n (last earlier o + 1) ne, is_repeat n (last earlier o) e)
+          rw (of_ne n (last earlier o + 1) ne, of_le n (last earlier o) e)
 
       pub answers-gap : (earlier : History (Body C A)) (place : ℕ) (o : Origin) (n at : ℕ) (a : A) → last earlier o + 1 < n → answers client effects earlier place (Asked o n at a) ≡ Gap o (last earlier o + 1) ∷ []
       unfolding answers
       answers-gap earlier place o n at a e =
           let ne : n ≢ last earlier o + 1 = omega arith in
-          rw (is_not_next n (last earlier o + 1) ne, is_gap n (last earlier o) (omega arith))
+          rw (of_ne n (last earlier o + 1) ne, of_gt n (last earlier o) (omega arith))
 
 pub same_origin-is : (p o : Origin) → same_origin p o ≡ true → p ≡ o
 same_origin-is p o e =

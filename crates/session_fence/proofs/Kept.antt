@@ -1,7 +1,6 @@
 -- What is kept of the sessions follows what came.
-use Rattle.std.proofs.Common.{◌≡◌, ℕ, ◌+◌, Bool, true, false, [], ◌∷◌, Option, Some, None, refl, ap, ◌∙◌, sym, arith}
+use Rattle.std.proofs.Common.{◌≡◌, ℕ, ◌+◌, Bool, true, false, [], ◌∷◌, Option, Some, None, refl, ap, ◌∙◌, sym}
 use Rattle.std.specs.Prelude.{◌&&◌, ◌||◌, ◌==◌, if◌then◌else◌, Result, Ok, Err, OnOk}
-use Rattle.std.proofs.lemmas.Bool.Decides.{nat_tests}
 use Rattle.machine_laws.specs.Runs.{History}
 use Rattle.machine_laws.specs.Sessions.{same_session, is_that}
 use Rattle.wire_bytes.specs.declared.session_id.SessionId.{SessionId}
@@ -12,10 +11,8 @@ use Rattle.session_fence.specs.declared.session.Session.TheVariants.{Never, InFo
 use Rattle.session_fence.specs.Sessions.{is_new, greatest, was_opened, was_shut, unless_shut, session, lines_taken, given, commands}
 use Rattle.session_fence.specs.States.{top_of, now_of, taken_of, next_of, IsKept}
 use Rattle.session_fence.proofs.Ids.{same-is, same-itself, same-turned, below-not_same, new-above, that-is}
-use Rattle.irc_line.proofs.Booleans.{and_false, and_left, and_right, or_both_false, or_left_false, or_right_false, or_true}
-
-true_not_false : true ≡ false → ⊥
-true_not_false e = cc
+use Rattle.irc_line.proofs.Booleans.{and_false, and_left, and_right, or_both_false, or_right_false, or_true}
+use Rattle.irc_line.proofs.Numbers.{eq_of}
 
 is_some_not_none : {A : Type 0} (x : A) → Some x ≡ None → ⊥
 is_some_not_none x e = cc
@@ -97,9 +94,6 @@ module _ {C L : Type 0} where
 over_by : (a b : Bool) (i : SessionId) → None ≡ (if b then None else Some i) → None ≡ (if a || b then None else Some i)
 over_by a true i k = rw (or_true a)
 over_by a false i k = absurd (is_some_not_none i (sym k))
-
-same_number : (n m : ℕ) → (n == m) ≡ true → n ≡ m
-same_number n m e = grind (arith, nat_tests)
 
 some_is : (a b : SessionId) → Some a ≡ Some b → a ≡ b
 some_is a b e = cc
@@ -194,7 +188,7 @@ module _ {C L : Type 0} where
       let f : (is_that (session h) id && n == lines_taken h id + 1) ≡ true = sym (next-kept q h id n k) ∙ e in
       let t : is_that (now_of q) id ≡ true = and_left _ _ e in
       let i : now_of q ≡ Some id = that-is (now_of q) id t in
-      let m : n ≡ lines_taken h id + 1 = same_number n _ (and_right (is_that (session h) id) _ f) in
+      let m : n ≡ lines_taken h id + 1 = eq_of n _ (and_right (is_that (session h) id) _ f) in
       record { top = top-now q id i ∙ k.top; now = sym i ∙ k.now; taken = λ j j_is. counted id j n h m f (some_is id j j_is) }
 
   -- what is kept after a command

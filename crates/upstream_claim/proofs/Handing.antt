@@ -1,9 +1,7 @@
 -- The lines that are handed out are those of the claims that take effect.
-use Rattle.std.proofs.Common.{◌≡◌, ℕ, zero, suc, ◌+◌, ◌-◌, ◌<◌, ◌≤◌, Bool, true, false, List, [], ◌∷◌, ◌++◌, map, length, take, get_or, Option, Some, None, refl, ap, ◌∙◌, sym, arith}
-use Rattle.std.specs.Prelude.{◌&&◌, ◌==◌, nat_lt, nat_le, if◌then◌else◌, slice_get}
-use Rattle.std.proofs.lemmas.Bool.Decides.{nat_tests}
-use Rattle.std.proofs.lemmas.List.{take-append-le}
-use Rattle.std.proofs.lemmas.Option.{slice_get_past}
+use Rattle.std.proofs.Common.{◌≡◌, ℕ, zero, suc, ◌+◌, ◌-◌, ◌≤◌, Bool, true, false, List, [], ◌∷◌, ◌++◌, map, length, take, Option, Some, None, refl, ap, ◌∙◌, sym, arith}
+use Rattle.std.specs.Prelude.{◌==◌, nat_lt, if◌then◌else◌, slice_get}
+use Rattle.std.proofs.lemmas.List.{append-nil}
 use Rattle.irc_line.specs.Lines.{Parts}
 use Rattle.machine_laws.specs.Runs.{History}
 use Rattle.machine_laws.specs.Sessions.{is_that}
@@ -14,8 +12,8 @@ use Rattle.upstream_claim.specs.declared.command.ClaimsCommand.TheVariants.{Inne
 use Rattle.upstream_claim.specs.declared.effect.ClaimsEffect.{ClaimsEffect}
 use Rattle.upstream_claim.specs.Hands.{Handed, hands}
 use Rattle.upstream_claim.specs.Numbered.{Numbered, room, lines_of, answer, answered, room_left, handed, is_next, is_taken, with_claim, plain, numbered, numbered_after, answers_by, answers, outgoing, claimed}
-use Rattle.upstream_claim.proofs.Waiting.{append_none, same_number}
-use Rattle.upstream_claim.proofs.Sound.{at_most, none_not_some}
+use Rattle.upstream_claim.proofs.Sound.{none_not_some}
+use Rattle.irc_line.proofs.Numbers.{eq_of, le_of}
 use Rattle.irc_line.proofs.Booleans.{and_left, and_right}
 
 -- what is numbered and what waits hands out nothing
@@ -47,11 +45,11 @@ module _ (E : Type 0) where
       → (if b then with_claim q id n else q).claimed ≡ q.claimed ++ map (λ k. k.0) (hands {E = E} (if b then handed id n (slice_get q.outgoing (n - 1)) else []))
   claims-taken now q id n true e =
       let t : is_next q n ≡ true = and_right (is_that now id) _ e in
-      let a : n ≡ length q.claimed + 1 = same_number n _ (and_left _ _ t) in
-      let b : n ≤ length q.outgoing = at_most n _ (and_right (n == length q.claimed + 1) _ t) in
+      let a : n ≡ length q.claimed + 1 = eq_of n _ (and_left _ _ t) in
+      let b : n ≤ length q.outgoing = le_of n _ (and_right (n == length q.claimed + 1) _ t) in
       let there : slice_get q.outgoing (n - 1) ≡ None → ⊥ = λ f. let l : length q.outgoing ≤ n - 1 = line_there q.outgoing (n - 1) f in omega arith in
       one_hand E q.claimed id n (slice_get q.outgoing (n - 1)) there
-  claims-taken now q id n false e = sym (append_none q.claimed)
+  claims-taken now q id n false e = sym (append-nil q.claimed)
 
   -- what is handed out is the line of its number
   handed-line : (out : List Parts) (id : SessionId) (m : ℕ) (o : Option Parts) → o ≡ slice_get out (m - 1) → (i n : ℕ) (other : SessionId) (line : Parts)
@@ -84,7 +82,7 @@ stay-taken q id m false = take_all q.outgoing
 module _ {C E : Type 0} (session : History C → Option SessionId) (sends : E → Option (Origin × Parts)) (effects : History C → ℕ → C → List E) where
   claims-after : (q : Numbered) (below : History C) (place : ℕ) (x : ClaimsCommand C)
       → (numbered_after session sends effects q below place x).claimed ≡ q.claimed ++ map (λ k. k.0) (hands (answers_by session sends effects q below place x))
-  claims-after q below place (Inner c) = let h : hands (answered sends (room q) (effects below place c)) ≡ [] = no_hands sends (room q) (effects below place c) in rw h (sym (append_none q.claimed))
+  claims-after q below place (Inner c) = let h : hands (answered sends (room q) (effects below place c)) ≡ [] = no_hands sends (room q) (effects below place c) in rw h (sym (append-nil q.claimed))
   claims-after q below place (Claim id n) = claims-taken E (session below) q id n (is_taken (session below) q id n) refl
 
   lines-after : (q : Numbered) (below : History C) (place : ℕ) (x : ClaimsCommand C) (i n : ℕ) (id : SessionId) (line : Parts)

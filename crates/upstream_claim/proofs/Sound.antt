@@ -1,7 +1,6 @@
 -- Each line is claimed once.
 use Rattle.std.proofs.Common.{◌≡◌, ℕ, zero, suc, ◌+◌, ◌-◌, ◌<◌, ◌≤◌, Bool, true, false, List, [], ◌∷◌, ◌++◌, length, take, get_or, Option, Some, None, refl, ap, ◌∙◌, sym, arith, inl, inr}
-use Rattle.std.specs.Prelude.{◌⊎◌, ◌&&◌, ◌==◌, nat_lt, nat_le, if◌then◌else◌, slice_get}
-use Rattle.std.proofs.lemmas.Bool.Decides.{nat_tests}
+use Rattle.std.specs.Prelude.{◌⊎◌, ◌==◌, nat_lt, if◌then◌else◌, slice_get}
 use Rattle.std.proofs.lemmas.List.{length-append, get_or_append_left}
 use Rattle.std.proofs.Math.Seq.{get_or-append_seam}
 use Rattle.std.proofs.lemmas.Option.{slice_get_within, slice_get_read, get_or_from_slice_get}
@@ -13,30 +12,21 @@ use Rattle.wire_bytes.specs.declared.session_id.SessionId.{SessionId}
 use Rattle.upstream_claim.specs.declared.command.ClaimsCommand.{ClaimsCommand}
 use Rattle.upstream_claim.specs.declared.command.ClaimsCommand.TheVariants.{Inner, Claim}
 use Rattle.upstream_claim.specs.Numbered.{Numbered, room, lines_of, is_next, is_taken, with_claim, plain, numbered, numbered_after, outgoing, claimed}
-use Rattle.upstream_claim.proofs.Waiting.{same_number, is_more}
 use Rattle.irc_line.proofs.Booleans.{and_left, and_right}
-
-is_not_more : (m n : ℕ) → nat_lt m n ≡ false → n ≤ m
-is_not_more m n e = grind (arith, nat_tests)
-
-pub at_most : (n m : ℕ) → nat_le n m ≡ true → n ≤ m
-at_most n m e = grind (arith, nat_tests)
+use Rattle.irc_line.proofs.Numbers.{eq_of, ge_of, le_of, lt_of}
 
 pub none_not_some : {A : Type 0} (x : A) → None ≡ Some x → ⊥
 none_not_some x e = cc
 
-true_not_false : true ≡ false → ⊥
-true_not_false e = cc
-
 more_by : {X : Type 0} (xs : List X) (x y : X) (i : ℕ) (b : Bool) → nat_lt i (length xs) ≡ b → slice_get (xs ++ x ∷ []) i ≡ Some y → (slice_get xs i ≡ Some y) ⊎ ((i ≡ length xs) × (x ≡ y))
 more_by xs x y i true t e =
-    let lt : i < length xs = is_more i (length xs) t in
+    let lt : i < length xs = lt_of i (length xs) t in
     let g : y ≡ get_or xs i y = sym (get_or_from_slice_get (xs ++ x ∷ []) i y y e) ∙ get_or_append_left xs (x ∷ []) y i lt in
     inl (slice_get_read xs (length xs) i y refl lt g)
 more_by xs x y i false t e =
     let w : i < length (xs ++ x ∷ []) = slice_get_within (xs ++ x ∷ []) i y e in
     let l : length (xs ++ x ∷ []) ≡ length xs + 1 = length-append xs (x ∷ []) in
-    let ge : length xs ≤ i = is_not_more i (length xs) t in
+    let ge : length xs ≤ i = ge_of i (length xs) t in
     let i_is : i ≡ length xs = omega arith in
     let g : get_or (xs ++ x ∷ []) (length xs) y ≡ y = ap (λ k. get_or (xs ++ x ∷ []) k y) (sym i_is) ∙ get_or_from_slice_get (xs ++ x ∷ []) i y y e in
     inr (i_is, sym (get_or-append_seam xs x [] y) ∙ g)
@@ -79,8 +69,8 @@ sound-claim q id m s e le =
 sound-taken : (now : Option SessionId) (q : Numbered) (id : SessionId) (m : ℕ) (b : Bool) → is_taken now q id m ≡ b → IsSound q → IsSound (if b then with_claim q id m else q)
 sound-taken now q id m true e s =
     let n : is_next q m ≡ true = and_right (is_that now id) _ e in
-    let a : m ≡ length q.claimed + 1 = same_number m _ (and_left _ _ n) in
-    let b : m ≤ length q.outgoing = at_most m _ (and_right (m == length q.claimed + 1) _ n) in
+    let a : m ≡ length q.claimed + 1 = eq_of m _ (and_left _ _ n) in
+    let b : m ≤ length q.outgoing = le_of m _ (and_right (m == length q.claimed + 1) _ n) in
     sound-claim q id m s a b
 sound-taken now q id m false e s = s
 

@@ -2,7 +2,7 @@
 use Rattle.std.proofs.Common.{◌≡◌, ℕ, zero, suc, ◌+◌, ◌-◌, ◌<◌, ◌≤◌, Bool, true, false, List, [], ◌∷◌, ◌++◌, length, take, drop, get_or, Option, Some, None, refl, ap, ◌∙◌, sym, arith, append_assoc, inl, inr}
 use Rattle.std.specs.Prelude.{◌⊎◌, ◌&&◌, ◌==◌, nat_lt, nat_le, if◌then◌else◌, is_some, slice_get, Result, Ok, Err, OnOk}
 use Rattle.std.proofs.lemmas.Bool.Decides.{nat_tests}
-use Rattle.std.proofs.lemmas.List.{length-append, length-drop, drop-append-le, drop-drop, get_or-drop}
+use Rattle.std.proofs.lemmas.List.{length-append, length-drop, drop-append-le, drop-drop, get_or-drop, append-nil}
 use Rattle.std.proofs.lemmas.Option.{slice_get_within, slice_get_read, get_or_from_slice_get}
 use Rattle.irc_line.specs.Lines.{Parts}
 use Rattle.wire_bytes.specs.declared.origin.Origin.{Origin}
@@ -10,10 +10,8 @@ use Rattle.wire_bytes.specs.declared.session_id.SessionId.{SessionId}
 use Rattle.upstream_claim.specs.declared.effect.ClaimsEffect.{ClaimsEffect}
 use Rattle.upstream_claim.specs.Numbered.{Numbered, room, line_of, lines_of, answer, answered, room_left, is_next, handed, with_claim}
 use Rattle.upstream_claim.specs.States.{IsKept, space, handed_next, claimed_next}
-
-pub append_none : {A : Type 0} (xs : List A) → xs ++ [] ≡ xs
-append_none [] = refl
-append_none (x ∷ xs) = ap (λ ys. x ∷ ys) (append_none xs)
+use Rattle.irc_line.proofs.Numbers.{eq_of, lt_of, of_eq, of_ge, of_gt, of_le, of_lt}
+use Rattle.upstream_claim.proofs.Sound.{none_not_some}
 
 take_none : {A : Type 0} (n : ℕ) → take {A = A} n [] ≡ []
 take_none zero = refl
@@ -22,7 +20,7 @@ take_none (suc n) = refl
 -- ---- one more effect
 
 some-room : (ws : List Parts) (l : Parts) (n : ℕ) → space ws ≡ n → space (ws ++ take n (l ∷ [])) ≡ n - 1
-some-room ws l zero e = ap (λ (xs : List Parts). space xs) (append_none ws) ∙ e
+some-room ws l zero e = ap (λ (xs : List Parts). space xs) (append-nil ws) ∙ e
 some-room ws l (suc n) e =
     let t : take n [] ≡ [] = take_none {A = Parts} n in
     let k : length (ws ++ l ∷ take n []) ≡ length ws + 1 = rw t (length-append ws (l ∷ [])) in
@@ -30,7 +28,7 @@ some-room ws l (suc n) e =
 
 -- the room after a line that is sent
 pub room-after : (ws : List Parts) (o : Option (Origin × Parts)) → space (ws ++ take (space ws) (line_of o)) ≡ room_left (space ws) o
-room-after ws None = ap (λ (xs : List Parts). space (ws ++ xs)) (take_none (space ws)) ∙ ap (λ (xs : List Parts). space xs) (append_none ws)
+room-after ws None = ap (λ (xs : List Parts). space (ws ++ xs)) (take_none (space ws)) ∙ ap (λ (xs : List Parts). space xs) (append-nil ws)
 room-after ws (Some p) = some-room ws p.1 (space ws) refl
 
 take-split : (l : Parts) (n : ℕ) (rest : List Parts) → take n ((l ∷ []) ++ rest) ≡ take n (l ∷ []) ++ take (n - 1) rest
@@ -71,9 +69,6 @@ more-kept n m ws new xs q e f k =
       waiting = f ∙ (ap (λ x. ws ++ take x xs) r ∙ (ap (λ (x : List Parts). x ++ take (room q) xs) k.waiting ∙ sym (drop-append-le (length q.claimed) q.outgoing (take (room q) xs) k.within)));
     }
 
-none_not_some : {A : Type 0} (x : A) → None ≡ Some x → ⊥
-none_not_some x e = cc
-
 chosen : {A : Type 0} (b : Bool) (o : Option A) (x : A) → (if b then o else None) ≡ Some x → (b ≡ true) × (o ≡ Some x)
 chosen true o x e = (refl, e)
 chosen false o x e = absurd (none_not_some x e)
@@ -81,18 +76,6 @@ chosen false o x e = absurd (none_not_some x e)
 refused : {A : Type 0} (b : Bool) (o : Option A) → (if b then o else None) ≡ None → (b ≡ false) ⊎ (o ≡ None)
 refused true o e = inr e
 refused false o e = inl refl
-
-pub same_number : (n m : ℕ) → (n == m) ≡ true → n ≡ m
-same_number n m e = grind (arith, nat_tests)
-
-is_that_number : (n m : ℕ) → n ≡ m → (n == m) ≡ true
-is_that_number n m e = grind (arith, nat_tests)
-
-is_at_most : (n m : ℕ) → n ≤ m → nat_le n m ≡ true
-is_at_most n m e = grind (arith, nat_tests)
-
-is_past : (n m : ℕ) → m < n → nat_le n m ≡ false
-is_past n m e = grind (arith, nat_tests)
 
 none_by : (ws : List Parts) {c o : ℕ} → slice_get ws 0 ≡ None → length ws ≡ o - c → o ≤ c
 none_by [] e f = omega arith
@@ -115,17 +98,17 @@ none-waits n ws q k e = none_by ws e (ap length k.waiting ∙ length-drop (lengt
 pub found-next : (n : ℕ) (ws : List Parts) (q : Numbered) (m : ℕ) (l : Parts) → IsKept n ws q → (if m == n + 1 then slice_get ws 0 else None) ≡ Some l → (is_next q m ≡ true) × (slice_get q.outgoing (m - 1) ≡ Some l)
 found-next n ws q m l k e =
     let c = chosen (m == n + 1) (slice_get ws 0) l e in
-    let m_is : m ≡ n + 1 = same_number m (n + 1) c.0 in
+    let m_is : m ≡ n + 1 = eq_of m (n + 1) c.0 in
     let count = k.count in
     let at : slice_get q.outgoing (length q.claimed) ≡ Some l = first-waits n ws q l k c.1 in
     let w : length q.claimed < length q.outgoing = slice_get_within _ _ l at in
-    let a : (m == length q.claimed + 1) ≡ true = is_that_number m _ (omega arith) in
-    let b : nat_le m (length q.outgoing) ≡ true = is_at_most m _ (omega arith) in
+    let a : (m == length q.claimed + 1) ≡ true = of_eq m _ (omega arith) in
+    let b : nat_le m (length q.outgoing) ≡ true = of_le m _ (omega arith) in
     let p : m - 1 ≡ length q.claimed = omega arith in
     (rw (a, b), ap (slice_get q.outgoing) p ∙ at)
 
 past : (c o m : ℕ) (b : Bool) → (m == c + 1) ≡ b → o ≤ c → ((m == c + 1) && nat_le m o) ≡ false
-past c o m true e w = let m_is : m ≡ c + 1 = same_number m (c + 1) e in let f : nat_le m o ≡ false = is_past m o (omega arith) in rw (e, f)
+past c o m true e w = let m_is : m ≡ c + 1 = eq_of m (c + 1) e in let f : nat_le m o ≡ false = of_gt m o (omega arith) in rw (e, f)
 past c o m false e w = rw e
 
 by_refused : (n : ℕ) (ws : List Parts) (q : Numbered) (m : ℕ) → IsKept n ws q → ((m == n + 1) ≡ false) ⊎ (slice_get ws 0 ≡ None) → is_next q m ≡ false
@@ -159,26 +142,17 @@ claim-by None n m k ws new q id h e f g =
     let p = found-none n ws q m h (sym e) in
     (rw (p, f, g) h, rw p refl)
 
-pub is_more : (m n : ℕ) → nat_lt m n ≡ true → m < n
-is_more m n e = grind (arith, nat_tests)
-
 is_none : (n : ℕ) → nat_lt 0 n ≡ false → n ≡ 0
 is_none n e = grind (arith, nat_tests)
 
-is_below : (m n : ℕ) → m < n → nat_lt m n ≡ true
-is_below m n e = grind (arith, nat_tests)
-
-is_not_below : (m n : ℕ) → n ≤ m → nat_lt m n ≡ false
-is_not_below m n e = grind (arith, nat_tests)
-
 next_by : (n c o w : ℕ) (b : Bool) → nat_lt 0 w ≡ b → n ≡ c → w ≡ o - c → (if nat_lt 0 w then Some (n + 1) else None) ≡ (if nat_lt c o then Some (c + 1) else None)
 next_by n c o w true t e f =
-    let p : 0 < w = is_more 0 w t in
-    let q : nat_lt c o ≡ true = is_below c o (omega arith) in
+    let p : 0 < w = lt_of 0 w t in
+    let q : nat_lt c o ≡ true = of_lt c o (omega arith) in
     rw (t, q) (ap (λ (x : ℕ). Some (x + 1)) e)
 next_by n c o w false t e f =
     let p : w ≡ 0 = is_none w t in
-    let q : nat_lt c o ≡ false = is_not_below c o (omega arith) in
+    let q : nat_lt c o ≡ false = of_ge c o (omega arith) in
     rw (t, q) refl
 
 -- the number of the line that is to be claimed next

@@ -3,7 +3,7 @@ use Rattle.std.specs.Prelude.{ℕ, List, [], ◌∷◌, ◌++◌}
 use Rattle.irc_line.specs.Lines.{Parts}
 use Rattle.wire_bytes.specs.declared.session_id.SessionId.{SessionId}
 use Rattle.upstream_claim.specs.declared.effect.ClaimsEffect.{ClaimsEffect}
-use Rattle.upstream_claim.specs.declared.effect.ClaimsEffect.TheVariants.{Inner, Busy, Hand}
+use Rattle.upstream_claim.specs.declared.effect.ClaimsEffect.TheVariants.{Hand}
 
 -- a line that is handed out: its claim, which is number and session, and itself
 abbrev pub Handed : Type 0

@@ -34,7 +34,7 @@ pair x y = (x, y)
 abbrev refused : {X : Type 0} → WireFault → Result (X × ℕ) WireFault
 refused e = Err e
 
-value_is : {X : Type 0} (r s : X × ℕ) → ◌≡◌ {A = Result (X × ℕ) WireFault} (Ok r) (Ok s) → r ≡ s
+pub value_is : {X : Type 0} (r s : X × ℕ) → ◌≡◌ {A = Result (X × ℕ) WireFault} (Ok r) (Ok s) → r ≡ s
 value_is r s e = cc
 
 ok_or_bad : {X : Type 0} (r : X × ℕ) (d : WireFault) → ◌≡◌ {A = Result (X × ℕ) WireFault} (Ok r) (Err d) → ⊥
@@ -75,7 +75,7 @@ unfolding behind
 behind-bad n reading input p e = moved-bad n (reading (drop n input)) p e
 
 -- what stands behind a front that was spelled
-behind-front : {X : Type 0} (reading : Reading X) (front rest : List ℕ) (y : X) (k : ℕ) → reading rest ≡ Ok (y, k) → behind (length front) reading (front ++ rest) ≡ Ok (y, length front + k)
+pub behind-front : {X : Type 0} (reading : Reading X) (front rest : List ℕ) (y : X) (k : ℕ) → reading rest ≡ Ok (y, k) → behind (length front) reading (front ++ rest) ≡ Ok (y, length front + k)
 unfolding behind
 behind-front reading front rest y k e = rw (drop-append_seam front rest, e) refl
 

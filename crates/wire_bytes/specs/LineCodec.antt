@@ -1,6 +1,5 @@
 -- A line is a codec.
-use Rattle.std.proofs.Common.{length, ◌≡◌, ◌<◌, ℕ, Bool, true, false, cond, eqb, List, [], ◌∷◌, Some, None, Result, Ok, Err, refl, sym, ap, ◌∙◌, arith}
-use Rattle.std.proofs.lemmas.Bool.{eqb-true}
+use Rattle.std.proofs.Common.{length, ◌≡◌, ◌<◌, ℕ, Bool, true, false, cond, List, Some, None, Result, Ok, Err, refl, sym, ap, ◌∙◌, arith}
 use Rattle.irc_line.specs.Names.{same_bytes}
 use Rattle.irc_line.specs.Lines.{Parts, spelling}
 use Rattle.irc_line.specs.Reading.{judged}
@@ -9,27 +8,14 @@ use Rattle.irc_line.proofs.Judging.{judged_line, judged_is}
 use Rattle.irc_line.proofs.Canonical.{spelling_judged}
 use Rattle.wire_bytes.specs.Contents.{FitsLine, canonical, spelled_line, line}
 use Rattle.wire_bytes.specs.Codecs.{IsCodec}
-use Rattle.wire_bytes.specs.FieldCodecs.{content-codec, both_true, sized_some}
-
-same_bytes-self : (bytes : List ℕ) → same_bytes bytes bytes ≡ true
-same_bytes-self [] = refl
-same_bytes-self (b ∷ bytes) = grind (arith, same_bytes-self bytes)
-
-same_bytes-true : (a b : List ℕ) → same_bytes a b ≡ true → a ≡ b
-same_bytes-true [] [] h = refl
-same_bytes-true [] (y ∷ ys) h = absurd cc
-same_bytes-true (x ∷ xs) [] h = absurd cc
-same_bytes-true (x ∷ xs) (y ∷ ys) h =
-    let t = both_true (eqb x y) (same_bytes xs ys) h in
-    let head : x ≡ y = eqb-true x y t.0 in
-    let tail = same_bytes-true xs ys t.1 in
-    cc
+use Rattle.wire_bytes.specs.FieldCodecs.{content-codec, sized_some}
+use Rattle.irc_line.proofs.SameBytes.{same_bytes-refl, same_bytes-eq}
 
 abbrev read_as : Parts → Result Parts LineFault
 read_as p = Ok p
 
 canonical_by : (bytes : List ℕ) (q p : Parts) (b : Bool) → same_bytes (spelling q) bytes ≡ b → cond b (Some q) None ≡ Some p → (q ≡ p) × (bytes ≡ spelling q)
-canonical_by bytes q p true h e = (cc, sym (same_bytes-true (spelling q) bytes h))
+canonical_by bytes q p true h e = (cc, sym (same_bytes-eq (spelling q) bytes h))
 canonical_by bytes q p false h e = absurd cc
 
 canonical_is : (bytes : List ℕ) (r : Result Parts LineFault) (p : Parts) → canonical bytes r ≡ Some p → (r ≡ Ok p) × (bytes ≡ spelling p)
@@ -52,5 +38,5 @@ unfolding line spelled_line
 line_is_codec =
     content-codec spelling FitsLine (λ bytes. canonical bytes (judged bytes))
     (λ p h. omega (arith, h.1))
-    (λ p h. ap (canonical (spelling p)) (spelling_judged p h.0 h.1) ∙ ap (λ (b : Bool). cond b (Some p) None) (same_bytes-self (spelling p)))
+    (λ p h. ap (canonical (spelling p)) (spelling_judged p h.0 h.1) ∙ ap (λ (b : Bool). cond b (Some p) None) (same_bytes-refl (spelling p)))
     (λ bytes p e. let c = canonical_is bytes (judged bytes) p e in (line_fits bytes p c.0, c.1))
