@@ -114,6 +114,9 @@ set_of p = SetBuffer p.0 p.1
 abbrev pub set_buffer_taken : Reading Action
 set_buffer_taken = through set_of (both name buffer_size)
 
+abbrev pub pass_taken : Reading Action
+pass_taken = through Pass line
+
 -- what may stand behind each kind byte
 abbrev pub action_cases : List (ℕ × Reading Action)
 action_cases =
@@ -130,7 +133,7 @@ action_cases =
     ∷ (11, done ClearQueries)
     ∷ (12, done ClearAll)
     ∷ (13, set_buffer_taken)
-    ∷ (14, through Pass line)
+    ∷ (14, pass_taken)
     ∷ []
 
 -- the action at the front of an input

@@ -2,7 +2,8 @@
 ghost use Rattle.std.specs.Prelude.{◌≡◌, ◌≢◌, ◌≤◌, ◌++◌, length, is_ok, if◌then◌else◌, IfOk, IfErr, IsTrue, Ok, Err};
 ghost use Rattle.irc_line.specs.Names.{is_name, is_text};
 ghost use Rattle.wire_bytes.specs.Contents.{sized};
-ghost use Rattle.buffer_commands.specs.Spellings.{FitsAction, spelled_verb};
+ghost use Rattle.wire_bytes.specs.Fields.{behind};
+ghost use Rattle.buffer_commands.specs.Spellings.{FitsAction, spelled_verb, say_taken, set_buffer_taken, pass_taken};
 
 use crate::buffer_size::BufferSize;
 use crate::channel_name::ChannelName;
@@ -92,12 +93,7 @@ impl Wire for Action {
             [] => Err(WireFault::Short),
             [1, ..] => Ok((Action::Attach, 1)),
             [2, ..] => Ok((Action::Leave, 1)),
-            [3, ..] => {
-                let (((verb, target), text), end) = take_behind::<((Verb, Name), Text)>(
-                    alloc, input, 1,
-                )?;
-                Ok((Action::Say(verb, target, text), end))
-            }
+            [3, ..] => take_say(alloc, input),
             [4, ..] => {
                 let (channel, end) = take_behind::<ChannelName>(alloc, input, 1)?;
                 Ok((Action::Join(channel), end))
@@ -125,14 +121,8 @@ impl Wire for Action {
             [10, ..] => Ok((Action::ClearChannels, 1)),
             [11, ..] => Ok((Action::ClearQueries, 1)),
             [12, ..] => Ok((Action::ClearAll, 1)),
-            [13, ..] => {
-                let ((target, size), end) = take_behind::<(Name, BufferSize)>(alloc, input, 1)?;
-                Ok((Action::SetBuffer(target, size), end))
-            }
-            [14, ..] => {
-                let (line, end) = take_behind::<WireLine>(alloc, input, 1)?;
-                Ok((Action::Pass(line), end))
-            }
+            [13, ..] => take_set_buffer(alloc, input),
+            [14, ..] => take_pass(alloc, input),
             _ => Err(WireFault::Bad(0)),
         }
     }
@@ -154,4 +144,37 @@ fn put_said(out: &mut Vec<u8>, verb: Verb, target: &Name, text: &Text) -> Result
     put_two(out, &verb, target)?;
     let outcome = text.put(out);
     undo(out, len, outcome)
+}
+
+/// A Say behind its kind byte.
+#[tactic(auto, using(wire_bytes::proofs::Steps::composed))]
+fn take_say(alloc: Global, input: &[u8]) -> Result<(Action, usize), WireFault>
+    requires { 1 ≤ length input.now }
+    ensures ok { IfOk result (λ r. behind 1 say_taken input.now ≡ Ok (r.0, r.1)) }
+    ensures err { IfErr result (λ e. e ≢ WireFault.Memory → behind 1 say_taken input.now ≡ Err e) }
+{
+    let (((verb, target), text), end) = take_behind::<((Verb, Name), Text)>(alloc, input, 1)?;
+    Ok((Action::Say(verb, target, text), end))
+}
+
+/// A SetBuffer behind its kind byte.
+#[tactic(auto, using(wire_bytes::proofs::Steps::composed))]
+fn take_set_buffer(alloc: Global, input: &[u8]) -> Result<(Action, usize), WireFault>
+    requires { 1 ≤ length input.now }
+    ensures ok { IfOk result (λ r. behind 1 set_buffer_taken input.now ≡ Ok (r.0, r.1)) }
+    ensures err { IfErr result (λ e. e ≢ WireFault.Memory → behind 1 set_buffer_taken input.now ≡ Err e) }
+{
+    let ((target, size), end) = take_behind::<(Name, BufferSize)>(alloc, input, 1)?;
+    Ok((Action::SetBuffer(target, size), end))
+}
+
+/// A Pass behind its kind byte.
+#[tactic(auto, using(wire_bytes::proofs::Steps::composed))]
+fn take_pass(alloc: Global, input: &[u8]) -> Result<(Action, usize), WireFault>
+    requires { 1 ≤ length input.now }
+    ensures ok { IfOk result (λ r. behind 1 pass_taken input.now ≡ Ok (r.0, r.1)) }
+    ensures err { IfErr result (λ e. e ≢ WireFault.Memory → behind 1 pass_taken input.now ≡ Err e) }
+{
+    let (line, end) = take_behind::<WireLine>(alloc, input, 1)?;
+    Ok((Action::Pass(line), end))
 }

@@ -147,11 +147,20 @@ fn channels_keep_their_last_lines(rt: HostRuntime) -> Result<(), Fail> {
         told(alloc, &channels)?.as_slice(),
         b"+#A=246 +#b=78 ".as_slice()
     );
+    Ok(())
+}
+
+#[test]
+fn channels_are_emptied_where_they_are_shown_or_named(rt: HostRuntime) -> Result<(), Fail> {
+    let alloc = rt.alloc();
+    let mut channels = Channels::new(alloc, &[], 2)?;
+    join_all(&mut channels, alloc, &["#b", "#A"])?;
+    store_all(&mut channels, alloc, &[("#a", "1"), ("#b", "2")])?;
     channels.set_detached_at(b"#a", true);
     channels.clear_open();
     assert_eq!(rt;
         told(alloc, &channels)?.as_slice(),
-        b"+-#A=246 +#b= ".as_slice()
+        b"+-#A=1 +#b= ".as_slice()
     );
     channels.clear_at(b"#a");
     store_all(&mut channels, alloc, &[("#a", "6"), ("#b", "7")])?;
@@ -197,6 +206,18 @@ fn queries_stand_in_the_order_of_their_making(rt: HostRuntime) -> Result<(), Fai
     );
     assert!(rt; queries.find(b"al{").is_some());
     assert!(rt; queries.find(b"wiz").is_none());
+    Ok(())
+}
+
+#[test]
+fn queries_keep_their_last_lines(rt: HostRuntime) -> Result<(), Fail> {
+    let alloc = rt.alloc();
+    let mut queries = Queries::new(alloc);
+    store_in_queries(
+        &mut queries,
+        alloc,
+        &[("Bob", "7"), ("al[", "4"), ("x", "6"), ("bob", "8")],
+    )?;
     queries.resize_at(b"bob", 1)?;
     queries.clear_at(b"al{");
     assert_eq!(rt;
