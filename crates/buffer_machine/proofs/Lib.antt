@@ -21,3 +21,4 @@ pub mod HeldStep
 pub mod Shows
 pub mod Marks
 pub mod Readings
+pub mod Attached

@@ -9,7 +9,7 @@ ghost use Rattle.buffer_targets.specs.Targets.{channel_of_key};
 
 use crate::buffers::Buffers;
 use crate::channel_answers::{answer_detach, answer_join, answer_part, answer_reattach};
-use crate::clients::{is_attached, may_attach};
+use crate::clients::Clients;
 use crate::lines::{channel_of, has_command};
 use crate::message::{DONE, NO_SUCH_TARGET, SIZE_IS_PAST, bare_message, own_message};
 use crate::showing::{
@@ -58,7 +58,7 @@ fn answer_client(
 ) -> Result<Vec<Effect>, AllocError>
     ensures { IfOk result (λ v. v.items ≡ answers setup.now floor (held_of buffers.now) (Command.Client origin 0 action.now)) }
 {
-    let attached = is_attached(&buffers.clients, origin);
+    let attached = buffers.clients.is_attached(origin);
     match action {
         Action::Attach => answer_attach(setup, floor, buffers, alloc, origin),
         Action::Leave => close_out(&buffers.clients, alloc, origin),
@@ -92,12 +92,12 @@ fn answer_attach(
 ) -> Result<Vec<Effect>, AllocError>
     ensures { IfOk result (λ v. v.items ≡ answers_attaching setup.now floor (held_of buffers.now) origin) }
 {
-    if !may_attach(&buffers.clients, floor, origin) {
+    if !buffers.clients.may_attach(floor, origin) {
         return close_out(&buffers.clients, alloc, origin);
     }
     let mut effects = Vec::new(alloc);
     if !setup.many_clients() {
-        close_all(&mut effects, &buffers.clients)?;
+        close_all(&mut effects, buffers.clients.as_slice())?;
     }
     let channels = buffers.channels.as_slice();
     let queries = buffers.queries.as_slice();
@@ -109,11 +109,11 @@ fn answer_attach(
 }
 
 /// A client that is not attached is closed.
-fn close_out(clients: &[Origin], alloc: Global, origin: Origin) -> Result<Vec<Effect>, AllocError>
-    ensures { IfOk result (λ v. v.items ≡ closed_out origin clients.now) }
+fn close_out(clients: &Clients, alloc: Global, origin: Origin) -> Result<Vec<Effect>, AllocError>
+    ensures { IfOk result (λ v. v.items ≡ closed_out origin clients.now.order.items) }
 {
     let mut effects = Vec::new(alloc);
-    if !is_attached(clients, origin) {
+    if !clients.is_attached(origin) {
         effects.push(Effect::Close(origin))?;
     }
     Ok(effects)
@@ -144,7 +144,7 @@ fn show_said(
     name: &Name,
     text: &Text,
 ) -> Result<Vec<Effect>, AllocError>
-    ensures { IfOk result (λ v. v.items ≡ (if is_channel name.now && not (is_detached (channel_of_key (fold_name name.now) buffers.now.channels)) then show_each (others origin buffers.now.clients.items) (own_said buffers.now.nick verb name.now text.now ∷ []) else [])) }
+    ensures { IfOk result (λ v. v.items ≡ (if is_channel name.now && not (is_detached (channel_of_key (fold_name name.now) buffers.now.channels)) then show_each (others origin buffers.now.clients.order.items) (own_said buffers.now.nick verb name.now text.now ∷ []) else [])) }
 {
     if !name.is_channel() || is_detached_at(buffers, alloc, name.as_bytes())? {
         return Ok(Vec::new(alloc));
@@ -161,11 +161,17 @@ fn show_others(
     origin: Origin,
     line: &Line,
 ) -> Result<Vec<Effect>, AllocError>
-    ensures { IfOk result (λ v. v.items ≡ show_each (others origin buffers.now.clients.items) (line.now ∷ [])) }
+    ensures { IfOk result (λ v. v.items ≡ show_each (others origin buffers.now.clients.order.items) (line.now ∷ [])) }
 {
     let shown = Shown::of_line(alloc, line)?;
     let mut effects = Vec::new(alloc);
-    show_to_others(&mut effects, alloc, &buffers.clients, origin, &shown)?;
+    show_to_others(
+        &mut effects,
+        alloc,
+        buffers.clients.as_slice(),
+        origin,
+        &shown,
+    )?;
     Ok(effects)
 }
 
@@ -264,6 +270,6 @@ fn answer_line(buffers: &Buffers, alloc: Global, line: &Line) -> Result<Vec<Effe
         return Ok(effects);
     }
     let lines = vec![in alloc; Shown::of_line(alloc, line)?]?;
-    show_to_all(&mut effects, alloc, &buffers.clients, &lines)?;
+    show_to_all(&mut effects, alloc, buffers.clients.as_slice(), &lines)?;
     Ok(effects)
 }

@@ -11,7 +11,7 @@ ghost use Rattle.buffer_targets.specs.Targets.{at_channel, at_query, channel_of_
 
 use crate::answers::MOST_LINES;
 use crate::buffers::Buffers;
-use crate::clients::{is_attached, may_attach, remove, remove_below};
+use crate::clients::Clients;
 use crate::lines::{is_new_nick, is_own, is_own_kick, is_query_line, may_store, source_of};
 use crate::message::own_message;
 use buffer_commands::{Action, BufferSize, Command, Setup, Verb, WireLine};
@@ -36,7 +36,7 @@ pub fn change(
         }
         Command::Upstream(at, line) => take(setup, buffers, alloc, *at, line),
         Command::NodeGone(node, boot) => {
-            remove_below(&mut buffers.clients, *node, *boot);
+            buffers.clients.remove_below(*node, *boot);
             Ok(())
         }
         Command::Up => Ok(()),
@@ -59,11 +59,11 @@ fn change_for(
 ) -> Result<(), AllocError>
     ensures { OnOk result (held_of buffers.new ≡ after setup.now floor (held_of buffers.old) (Command.Client origin at action.now)) }
 {
-    let attached = is_attached(&buffers.clients, origin);
+    let attached = buffers.clients.is_attached(origin);
     match action {
         Action::Attach => attach(setup, floor, buffers, origin),
         Action::Leave => {
-            remove(&mut buffers.clients, origin);
+            buffers.clients.remove(origin);
             Ok(())
         }
         Action::Say(verb, name, text) if attached => {
@@ -97,13 +97,13 @@ fn attach(
 ) -> Result<(), AllocError>
     ensures { OnOk result (held_of buffers.new ≡ after setup.now floor (held_of buffers.old) (Command.Client origin 0 Action.Attach)) }
 {
-    if !may_attach(&buffers.clients, floor, origin) {
+    if !buffers.clients.may_attach(floor, origin) {
         return Ok(());
     }
     if !setup.many_clients() {
         buffers.clients.clear();
     }
-    buffers.clients.push(origin)?;
+    buffers.clients.attach(origin)?;
     if setup.clears_channels() {
         buffers.channels.clear_open();
     }
@@ -156,7 +156,7 @@ fn store_in_channel(
     at: Moment,
     line: &Line,
 ) -> Result<(), AllocError>
-    ensures { OnOk result (held_of buffers.new ≡ holding buffers.old.nick buffers.old.clients.items (channels_storing setup.now (held_of buffers.old) (Some (at, line.now))) buffers.old.queries) }
+    ensures { OnOk result (held_of buffers.new ≡ holding buffers.old.nick buffers.old.clients.order.items (channels_storing setup.now (held_of buffers.old) (Some (at, line.now))) buffers.old.queries) }
 {
     if !may_store(line) {
         return Ok(());
@@ -178,7 +178,7 @@ fn store_in_query(
     at: Moment,
     line: &Line,
 ) -> Result<(), AllocError>
-    ensures { OnOk result (held_of buffers.new ≡ holding buffers.old.nick buffers.old.clients.items buffers.old.channels (queries_storing setup.now (held_of buffers.old) (Some (at, line.now)))) }
+    ensures { OnOk result (held_of buffers.new ≡ holding buffers.old.nick buffers.old.clients.order.items buffers.old.channels (queries_storing setup.now (held_of buffers.old) (Some (at, line.now)))) }
 {
     if !may_store(line) || is_known(&buffers.channels, alloc, line.parameter(0))? {
         return Ok(());
@@ -228,8 +228,8 @@ fn query_of(alloc: Global, line: &Line, nick: &[u8]) -> Result<Option<Name>, All
 }
 
 /// Whether lines are kept now by targets that playing empties, or not: it does not, or nobody is attached.
-fn keeps_now(clears: bool, clients: &[Origin]) -> bool
-    ensures { result ≡ keeps clears clients.now }
+fn keeps_now(clears: bool, clients: &Clients) -> bool
+    ensures { result ≡ keeps clears clients.now.order.items }
 {
     !clears || clients.is_empty()
 }
@@ -322,7 +322,7 @@ fn empty_played(
 
 /// Empties a target.
 fn clear(buffers: &mut Buffers, alloc: Global, name: &Name) -> Result<(), AllocError>
-    ensures { OnOk result (held_of buffers.new ≡ holding buffers.old.nick buffers.old.clients.items (at_channel (fold_name name.now) (over cleared) buffers.old.channels) (at_query (fold_name name.now) cleared buffers.old.queries)) }
+    ensures { OnOk result (held_of buffers.new ≡ holding buffers.old.nick buffers.old.clients.order.items (at_channel (fold_name name.now) (over cleared) buffers.old.channels) (at_query (fold_name name.now) cleared buffers.old.queries)) }
 {
     let key = fold_name(alloc, name.as_bytes())?;
     buffers.channels.clear_at(&key);
@@ -369,7 +369,7 @@ fn take_line(
     at: Moment,
     line: &Line,
 ) -> Result<(), AllocError>
-    ensures { OnOk result (held_of buffers.new ≡ holding (nick_after buffers.old.nick (Command.Upstream at line.now)) buffers.old.clients.items (channels_taking setup.now (held_of buffers.old) at line.now) (queries_storing setup.now (held_of buffers.old) (Some (at, line.now)))) }
+    ensures { OnOk result (held_of buffers.new ≡ holding (nick_after buffers.old.nick (Command.Upstream at line.now)) buffers.old.clients.order.items (channels_taking setup.now (held_of buffers.old) at line.now) (queries_storing setup.now (held_of buffers.old) (Some (at, line.now)))) }
 {
     store_in_query(setup, buffers, alloc, at, line)?;
     take_for_channel(setup, buffers, alloc, at, line)?;
@@ -386,7 +386,7 @@ fn take_for_channel(
     at: Moment,
     line: &Line,
 ) -> Result<(), AllocError>
-    ensures { OnOk result (held_of buffers.new ≡ holding buffers.old.nick buffers.old.clients.items (channels_taking setup.now (held_of buffers.old) at line.now) buffers.old.queries) }
+    ensures { OnOk result (held_of buffers.new ≡ holding buffers.old.nick buffers.old.clients.order.items (channels_taking setup.now (held_of buffers.old) at line.now) buffers.old.queries) }
 {
     let nick = buffers.nick.as_bytes();
     if is_own(line, b"JOIN", nick) {

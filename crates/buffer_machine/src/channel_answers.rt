@@ -121,7 +121,7 @@ pub fn answer_reattach(
 /// All are shown that a channel is left.
 #[tactic(auto, using(crate::proofs::Shows::show_one_is))]
 fn show_left(buffers: &Buffers, alloc: Global, channel: &Channel) -> Result<Vec<Effect>, AllocError>
-    ensures { IfOk result (λ v. v.items ≡ show_each buffers.now.clients.items (own_line buffers.now.nick (codes "PART") channel.now.target.name ∷ [])) }
+    ensures { IfOk result (λ v. v.items ≡ show_each buffers.now.clients.order.items (own_line buffers.now.nick (codes "PART") channel.now.target.name ∷ [])) }
 {
     let line = own_channel(
         alloc,
@@ -131,7 +131,7 @@ fn show_left(buffers: &Buffers, alloc: Global, channel: &Channel) -> Result<Vec<
     )?;
     let lines = vec![in alloc; line]?;
     let mut effects = Vec::new(alloc);
-    show_to_all(&mut effects, alloc, &buffers.clients, &lines)?;
+    show_to_all(&mut effects, alloc, buffers.clients.as_slice(), &lines)?;
     Ok(effects)
 }
 
@@ -170,11 +170,11 @@ fn show_joined(
     alloc: Global,
     channel: &Channel,
 ) -> Result<Vec<Effect>, AllocError>
-    ensures { IfOk result (λ v. v.items ≡ show_each buffers.now.clients.items (own_line buffers.now.nick (codes "JOIN") channel.now.target.name ∷ played setup.now.offset channel.now.target)) }
+    ensures { IfOk result (λ v. v.items ≡ show_each buffers.now.clients.order.items (own_line buffers.now.nick (codes "JOIN") channel.now.target.name ∷ played setup.now.offset channel.now.target)) }
 {
     let lines = lines_again(setup, &buffers.nick, alloc, channel)?;
     let mut effects = Vec::new(alloc);
-    show_to_all(&mut effects, alloc, &buffers.clients, &lines)?;
+    show_to_all(&mut effects, alloc, buffers.clients.as_slice(), &lines)?;
     Ok(effects)
 }
 

@@ -1,32 +1,119 @@
-//! The clients that are attached, in order of attaching.
-ghost use Rattle.std.specs.Prelude.{◌≡◌, ◌&&◌, ◌==◌, not, nat_lt, filter};
-ghost use Rattle.buffer_machine.specs.Messages.{is_among, same_origin};
+//! The clients that are attached.
+ghost use Rattle.std.specs.Prelude.{◌≡◌, ◌&&◌, ◌==◌, ◌++◌, ◌∷◌, [], not, false, nat_lt, filter, OnOk, OnErr};
+ghost use Rattle.std.specs.BTreeSet.{contains};
+ghost use Rattle.wire_bytes.specs.declared.origin.Origin.{Origin};
+ghost use Rattle.buffer_machine.specs.Messages.{is_among, is_none_of, same_origin};
 ghost use Rattle.buffer_machine.specs.Buffers.{can_attach};
 
+use std::alloc::{AllocError, Global};
+use std::collections::BTreeSet;
 use wire_bytes::{Number, Origin};
 
-pub fn is_attached(clients: &[Origin], origin: Origin) -> bool
-    ensures { result ≡ is_among origin clients.now }
-{
-    clients.iter().any(|client| origin == *client)
+/// The clients that are attached, in order of attaching, and again as a set in which one is looked up.
+#[derive(Drop)]
+pub struct Clients {
+    pub order: Vec<Origin>,
+    set: BTreeSet<Origin>,
+    ghost same: { (o : Origin) → contains (⟦<Origin as Ord>⟧.cmp) set o ≡ is_among o order.items },
 }
 
-/// Whether an Attach is taken, where this is the floor of its client's node.
-pub fn may_attach(clients: &[Origin], floor: u64, origin: Origin) -> bool
-    ensures { result ≡ can_attach floor clients.now origin }
-{
-    !is_attached(clients, origin) && floor <= origin.boot()
+impl Clients {
+    pub fn new(alloc: Global) -> Clients
+        ensures { result.order.items ≡ [] }
+    {
+        Clients {
+            order: Vec::new(alloc),
+            set: BTreeSet::new(alloc),
+        }
+    }
+
+    /// In order of attaching.
+    pub fn as_slice(&self) -> &[Origin]
+        ensures { result.now ≡ self.now.order.items }
+    {
+        self.order.as_slice()
+    }
+
+    pub fn is_empty(&self) -> bool
+        ensures { result ≡ is_none_of self.now.order.items }
+    {
+        self.order.is_empty()
+    }
+
+    /// Found in a logarithm of the clients.
+    pub fn is_attached(&self, origin: Origin) -> bool
+        ensures { result ≡ is_among origin self.now.order.items }
+    {
+        self.set.contains(&origin)
+    }
+
+    /// Whether an Attach is taken, where this is the floor of its client's node.
+    pub fn may_attach(&self, floor: u64, origin: Origin) -> bool
+        ensures { result ≡ can_attach floor self.now.order.items origin }
+    {
+        !self.is_attached(origin) && floor <= origin.boot()
+    }
+
+    /// One more, behind all others. A refused call changes nothing.
+    pub fn attach(&mut self, origin: Origin) -> Result<(), AllocError>
+        requires { is_among origin self.old.order.items ≡ false }
+        ensures ok { OnOk result (self.new.order.items ≡ self.old.order.items ++ origin ∷ []) }
+        ensures err { OnErr result (self.new.order.items ≡ self.old.order.items) }
+    {
+        self.order.push(origin)?;
+        match self.set.insert(origin) {
+            Ok(_) => Ok(()),
+            Err(_) => {
+                self.order.pop();
+                Err(AllocError)
+            }
+        }
+    }
+
+    pub fn clear(&mut self)
+        ensures { self.new.order.items ≡ [] }
+    {
+        self.order.clear();
+        self.set.clear();
+    }
+
+    pub fn remove(&mut self, origin: Origin)
+        ensures { self.new.order.items ≡ filter (λ x. not (same_origin origin x)) self.old.order.items }
+    {
+        self.order.retain(|client| !(origin == *client));
+        take_out(&mut self.set, origin);
+    }
+
+    /// Removes the clients of a node's runs below this one.
+    pub fn remove_below(&mut self, node: u8, floor: Number)
+        ensures { self.new.order.items ≡ filter (λ x. not (x.0 == node && nat_lt x.1 floor)) self.old.order.items }
+    {
+        remove_from(&mut self.order, node, floor);
+        remove_from_set(&mut self.set, node, floor);
+    }
 }
 
-pub fn remove(clients: &mut Vec<Origin>, origin: Origin)
-    ensures { clients.new.items ≡ filter (λ x. not (same_origin origin x)) clients.old.items }
+fn take_out(clients: &mut BTreeSet<Origin>, origin: Origin)
+    ensures { (o : Origin) → contains (⟦<Origin as Ord>⟧.cmp) clients.new o ≡ (not (same_origin origin o) && contains (⟦<Origin as Ord>⟧.cmp) clients.old o) }
 {
-    clients.retain(|client| !(origin == *client));
+    clients.remove(&origin);
 }
 
-/// Removes the clients of a node's runs below this one.
-pub fn remove_below(clients: &mut Vec<Origin>, node: u8, floor: Number)
+/// Whether a client is of a node's runs below this one.
+fn is_gone(client: Origin, node: u8, floor: Number) -> bool
+    ensures { result ≡ (client.0 == node && nat_lt client.1 floor) }
+{
+    client.node() == node && client.boot() < floor.value()
+}
+
+fn remove_from(clients: &mut Vec<Origin>, node: u8, floor: Number)
     ensures { clients.new.items ≡ filter (λ x. not (x.0 == node && nat_lt x.1 floor)) clients.old.items }
 {
-    clients.retain(|client| !(client.node() == node && client.boot() < floor.value()));
+    clients.retain(|client| !is_gone(*client, node, floor));
+}
+
+fn remove_from_set(clients: &mut BTreeSet<Origin>, node: u8, floor: Number)
+    ensures { clients.new.keys ≡ filter (λ x. not (x.0 == node && nat_lt x.1 floor)) clients.old.keys }
+{
+    clients.retain(|client| !is_gone(*client, node, floor));
 }

@@ -10,6 +10,7 @@ ghost use Rattle.buffer_machine.specs.Steps.{beginning, played_of, target_of_key
 
 use crate::answers::target_at;
 use crate::buffers::Buffers;
+use crate::clients::Clients;
 use crate::floors::Floors;
 use crate::step::step;
 use buffer_commands::{Action, Command, Effect, Setup};
@@ -131,7 +132,7 @@ fn new_buffers(alloc: Global, setup: &Setup) -> Result<Buffers, AllocError>
 {
     Ok(Buffers {
         nick: setup.nick().copy(alloc)?,
-        clients: Vec::new(alloc),
+        clients: Clients::new(alloc),
         channels: Channels::new(alloc, setup.channels(), setup.channel_size())?,
         queries: Queries::new(alloc),
     })

@@ -1,0 +1,46 @@
+-- What a list and a set have once some of them are gone.
+use Rattle.std.proofs.Common.{◌≡◌, ℕ, Bool, true, false, not, ◌&&◌, ◌||◌, List, [], ◌∷◌, refl, sym, ap, ◌∙◌, arith}
+use Rattle.std.specs.Prelude.{if◌then◌else◌, filter}
+use Rattle.std.specs.List.{list_any}
+use Rattle.std.proofs.lemmas.Bool.Decides.{nat_tests}
+use Rattle.irc_line.proofs.Booleans.{and_false}
+use Rattle.wire_bytes.specs.declared.origin.Origin.{Origin}
+use Rattle.buffer_machine.specs.Messages.{is_among, same_origin}
+
+pub same_origin-is : (p o : Origin) → same_origin p o ≡ true → p ≡ o
+same_origin-is p o e =
+    let e0 : p.0 ≡ o.0 = grind (arith, nat_tests) in
+    let e1 : p.1 ≡ o.1 = grind (arith, nat_tests) in
+    let e2 : p.2 ≡ o.2 = grind (arith, nat_tests) in
+    let f : ℕ → ℕ → ℕ → Origin = λ x y z. (x, y, z) in
+    ap (λ x. f x p.1 p.2) e0 ∙ ap (λ y. f o.0 y p.2) e1 ∙ ap (λ z. f o.0 o.1 z) e2
+
+any_step : {A : Type 0} (same : A → A → Bool) (p : A → Bool) (q x : A) (xs : List A) (s k : Bool) → same q x ≡ s → (s ≡ true → p q ≡ k)
+    → list_any (same q) (filter p xs) ≡ (p q && list_any (same q) xs) → list_any (same q) (if k then x ∷ filter p xs else filter p xs) ≡ (p q && (s || list_any (same q) xs))
+any_step same p q x xs true true e g ih = rw (e, g refl) refl
+any_step same p q x xs true false e g ih = ih ∙ rw (g refl) refl
+any_step same p q x xs false true e g ih = rw e ih
+any_step same p q x xs false false e g ih = ih
+
+-- one is among those that stay where it is among all and stays
+pub any-filter : {A : Type 0} (same : A → A → Bool) → ((a b : A) → same a b ≡ true → a ≡ b) → (p : A → Bool) (q : A) (xs : List A)
+    → list_any (same q) (filter p xs) ≡ (p q && list_any (same q) xs)
+any-filter same is p q [] = sym (and_false (p q))
+any-filter same is p q (x ∷ xs) = any_step same p q x xs (same q x) (p x) refl (λ e. ap p (is q x e)) (any-filter same is p q xs)
+
+-- who is found by a test once one is taken out of a list, where the test finds as the list has before
+pub removed-one : {now was : Origin → Bool} {kept : List Origin} (items : List Origin) (o : Origin) → ((q : Origin) → now q ≡ (not (same_origin o q) && was q)) → ((q : Origin) → was q ≡ is_among q items)
+    → kept ≡ filter (λ x. not (same_origin o x)) items → (q : Origin) → now q ≡ is_among q kept
+removed-one items o e w k q =
+    e q
+    ∙ (ap (λ b. not (same_origin o q) && b) (w q)
+    ∙ sym (ap (is_among q) k ∙ any-filter same_origin same_origin-is (λ x. not (same_origin o x)) q items))
+
+-- and once those that do not stay are taken out of both
+pub removed-all : {same : Origin → Origin → Bool} {left kept : List Origin} (keys items : List Origin) → ((q : Origin) → list_any (same q) keys ≡ is_among q items) → ((a b : Origin) → same a b ≡ true → same_origin a b ≡ true)
+    → (p : Origin → Bool) → left ≡ filter p keys → kept ≡ filter p items → (q : Origin) → list_any (same q) left ≡ is_among q kept
+removed-all {same} {left} {kept} keys items e is p l k q =
+    ap (list_any (same q)) l
+    ∙ (any-filter same (λ a b f. same_origin-is a b (is a b f)) p q keys
+    ∙ (ap (λ b. p q && b) (e q)
+    ∙ sym (ap (is_among q) k ∙ any-filter same_origin same_origin-is p q items)))

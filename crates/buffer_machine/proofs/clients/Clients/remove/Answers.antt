@@ -1,0 +1,15 @@
+use Rattle.std.proofs.Common.{rules, not, arith}
+use Rattle.std.proofs.lemmas.Bool.Decides.{nat_tests}
+use Rattle.std.proofs.lemmas.Fn.{filter_same}
+use Rattle.buffer_machine.specs.Messages.{same_origin}
+use Rattle.buffer_machine.proofs.Attached.{removed-one}
+use Rattle.buffer_machine.proofs.clients.Clients.remove.Goals as goal
+
+pub returns : goal.returns
+returns c = filter_same _ (λ x. not (same_origin c.args.origin x)) _ (λ x b q r. search rules) _ _ c.retain.ensures.filtered
+
+pub invariant_of-self : goal.invariant_of-self
+invariant_of-self c = record {
+  same =
+      removed-one c.args.self.now.order.items c.args.origin c.take_out.ensures c.args.self.now.same (filter_same _ (λ x. not (same_origin c.args.origin x)) _ (λ x b q r. search rules) _ _ c.retain.ensures.filtered);
+}
