@@ -1,19 +1,12 @@
 -- What a list and a set have once some of them are gone.
-use Rattle.std.proofs.Common.{◌≡◌, ℕ, Bool, true, false, not, ◌&&◌, ◌||◌, List, [], ◌∷◌, refl, sym, ap, ◌∙◌, arith}
+use Rattle.std.proofs.Common.{◌≡◌, Bool, true, false, not, ◌&&◌, ◌||◌, List, [], ◌∷◌, refl, sym, ap, ◌∙◌}
 use Rattle.std.specs.Prelude.{if◌then◌else◌, filter}
 use Rattle.std.specs.List.{list_any}
-use Rattle.std.proofs.lemmas.Bool.Decides.{nat_tests}
 use Rattle.irc_line.proofs.Booleans.{and_false}
 use Rattle.wire_bytes.specs.declared.origin.Origin.{Origin}
-use Rattle.buffer_machine.specs.Messages.{is_among, same_origin}
-
-pub same_origin-is : (p o : Origin) → same_origin p o ≡ true → p ≡ o
-same_origin-is p o e =
-    let e0 : p.0 ≡ o.0 = grind (arith, nat_tests) in
-    let e1 : p.1 ≡ o.1 = grind (arith, nat_tests) in
-    let e2 : p.2 ≡ o.2 = grind (arith, nat_tests) in
-    let f : ℕ → ℕ → ℕ → Origin = λ x y z. (x, y, z) in
-    ap (λ x. f x p.1 p.2) e0 ∙ ap (λ y. f o.0 y p.2) e1 ∙ ap (λ z. f o.0 o.1 z) e2
+use Rattle.machine_laws.specs.Origins.{same_origin}
+use Rattle.buffer_machine.specs.Messages.{is_among}
+use Rattle.machine_laws.proofs.Origins.{same_origin-is}
 
 any_step : {A : Type 0} (same : A → A → Bool) (p : A → Bool) (q x : A) (xs : List A) (s k : Bool) → same q x ≡ s → (s ≡ true → p q ≡ k)
     → list_any (same q) (filter p xs) ≡ (p q && list_any (same q) xs) → list_any (same q) (if k then x ∷ filter p xs else filter p xs) ≡ (p q && (s || list_any (same q) xs))

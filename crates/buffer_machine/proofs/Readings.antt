@@ -11,7 +11,8 @@ use Rattle.buffer_commands.specs.declared.command.Action.TheVariants.{Attach, Le
 use Rattle.buffer_commands.specs.declared.command.Command.{Command}
 use Rattle.buffer_commands.specs.declared.command.Command.TheVariants.{Client, Upstream, NodeGone, Up, Down}
 use Rattle.buffer_commands.specs.declared.effect.Effect.TheVariants.{Close}
-use Rattle.buffer_machine.specs.Messages.{channel_of, is_among, same_origin}
+use Rattle.machine_laws.specs.Origins.{same_origin}
+use Rattle.buffer_machine.specs.Messages.{channel_of, is_among}
 use Rattle.buffer_machine.specs.Buffers.{floor, is_attach, is_taken, attached, nick, detached, is_known, stored, emptied, clears, plays, kept, size, playback}
 use Rattle.buffer_machine.specs.Effects.{shown, effects}
 use Rattle.buffer_machine.specs.Held.{Held, IsSound, held}

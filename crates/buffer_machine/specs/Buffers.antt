@@ -14,7 +14,8 @@ use Rattle.buffer_commands.specs.declared.command.Action.{Action}
 use Rattle.buffer_commands.specs.declared.command.Action.TheVariants.{Attach, Leave, Say, Join, Part, Detach, Reattach, Play, Clear, ClearChannels, ClearQueries, ClearAll, SetBuffer}
 use Rattle.buffer_commands.specs.declared.command.Command.{Command}
 use Rattle.buffer_commands.specs.declared.command.Command.TheVariants.{Client, Upstream, NodeGone, Down}
-use Rattle.buffer_machine.specs.Messages.{is_among, is_none_of, is_storable, is_own, is_own_kick, is_new_nick, is_query_line, source, own_said, same_origin}
+use Rattle.machine_laws.specs.Origins.{same_origin}
+use Rattle.buffer_machine.specs.Messages.{is_among, is_none_of, is_storable, is_own, is_own_kick, is_new_nick, is_query_line, source, own_said}
 
 -- Who is attached
 

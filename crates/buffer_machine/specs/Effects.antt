@@ -12,7 +12,8 @@ use Rattle.buffer_commands.specs.declared.command.Command.{Command}
 use Rattle.buffer_commands.specs.declared.command.Command.TheVariants.{Client, Upstream, Up}
 use Rattle.buffer_commands.specs.declared.effect.Effect.{Effect}
 use Rattle.buffer_commands.specs.declared.effect.Effect.TheVariants.{Close, Show, Send, Rejoin}
-use Rattle.buffer_machine.specs.Messages.{is_among, same_origin, has_command, channel_of, bare, own_line, own_said, verb_word}
+use Rattle.machine_laws.specs.Origins.{same_origin}
+use Rattle.buffer_machine.specs.Messages.{is_among, has_command, channel_of, bare, own_line, own_said, verb_word}
 use Rattle.buffer_machine.specs.Buffers.{floor, can_attach, is_taken, attached, nick, channels, queries, is_known, joined, detached, is_past, playback}
 
 abbrev pub show_all : Origin → List Parts → List Effect

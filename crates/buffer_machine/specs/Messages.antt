@@ -4,14 +4,12 @@ use Rattle.std.specs.List.{list_any, take_while}
 use Rattle.irc_line.specs.Names.{same_bytes, same_name, first_is, is_name, is_channel}
 use Rattle.irc_line.specs.Lines.{Parts}
 use Rattle.buffer_lines.specs.Stamps.{begins_with, action_mark, line_of, parameter}
+use Rattle.machine_laws.specs.Origins.{same_origin}
 use Rattle.wire_bytes.specs.declared.origin.Origin.{Origin}
 use Rattle.buffer_commands.specs.declared.command.Verb.{Verb}
 use Rattle.buffer_commands.specs.declared.command.Verb.TheVariants.{Privmsg, Notice}
 use Rattle.buffer_machine.specs.declared.message.ChannelWord.{ChannelWord}
 use Rattle.buffer_machine.specs.declared.message.ChannelWord.TheVariants.{Join, Part, Names}
-
-abbrev pub same_origin : Origin → Origin → Bool
-same_origin a b = a.0 == b.0 && a.1 == b.1 && a.2 == b.2
 
 abbrev pub is_among : Origin → List Origin → Bool
 is_among o os = list_any (same_origin o) os

@@ -11,7 +11,8 @@ use Rattle.buffer_commands.specs.declared.command.Command.{Command}
 use Rattle.buffer_commands.specs.declared.command.Command.TheVariants.{Client, Upstream, NodeGone, Up, Down}
 use Rattle.buffer_commands.specs.declared.effect.Effect.{Effect}
 use Rattle.buffer_commands.specs.declared.effect.Effect.TheVariants.{Close, Send, Rejoin}
-use Rattle.buffer_machine.specs.Messages.{is_among, is_none_of, same_origin, is_storable, is_own, is_own_kick, is_query_line, source, has_command, channel_of, bare, own_line, own_said, verb_word}
+use Rattle.machine_laws.specs.Origins.{same_origin}
+use Rattle.buffer_machine.specs.Messages.{is_among, is_none_of, is_storable, is_own, is_own_kick, is_query_line, source, has_command, channel_of, bare, own_line, own_said, verb_word}
 use Rattle.buffer_machine.specs.Buffers.{attached_after, can_attach, is_past, nick_after, said}
 use Rattle.buffer_machine.specs.Effects.{if_some, show_all, show_each, status}
 use Rattle.buffer_machine.specs.Held.{Held, holding}

@@ -2,7 +2,8 @@
 ghost use Rattle.std.specs.Prelude.{◌≡◌, ◌&&◌, ◌==◌, ◌++◌, ◌∷◌, [], not, false, nat_lt, filter, OnOk, OnErr};
 ghost use Rattle.std.specs.BTreeSet.{contains};
 ghost use Rattle.wire_bytes.specs.declared.origin.Origin.{Origin};
-ghost use Rattle.buffer_machine.specs.Messages.{is_among, is_none_of, same_origin};
+ghost use Rattle.machine_laws.specs.Origins.{same_origin};
+ghost use Rattle.buffer_machine.specs.Messages.{is_among, is_none_of};
 ghost use Rattle.buffer_machine.specs.Buffers.{can_attach};
 
 use std::alloc::{AllocError, Global};
@@ -56,7 +57,6 @@ impl Clients {
 
     /// One more, behind all others. A refused call changes nothing.
     pub fn attach(&mut self, origin: Origin) -> Result<(), AllocError>
-        requires { is_among origin self.old.order.items ≡ false }
         ensures ok { OnOk result (self.new.order.items ≡ self.old.order.items ++ origin ∷ []) }
         ensures err { OnErr result (self.new.order.items ≡ self.old.order.items) }
     {

@@ -1,14 +1,15 @@
 -- How one more body changes what is kept.
 use Rattle.std.proofs.Common.{◌≡◌, ℕ, ◌+◌, ◌<◌, ◌≤◌, ◌≢◌, Bool, true, false, List, [], ◌∷◌, ◌++◌, map, refl, ap, ◌∙◌, sym, arith}
 use Rattle.std.specs.Prelude.{if◌then◌else◌}
-use Rattle.std.proofs.lemmas.Bool.Decides.{nat_tests}
 use Rattle.wire_bytes.specs.declared.origin.Origin.{Origin}
 use Rattle.machine_laws.specs.Runs.{History}
 use Rattle.request_once.specs.declared.body.Body.{Body}
 use Rattle.request_once.specs.declared.body.Body.TheVariants.{Inner, Asked}
 use Rattle.request_once.specs.declared.answer.Answer.TheVariants.{Effect, Done, Repeat, Gap}
-use Rattle.request_once.specs.Fresh.{same_origin, asked, fresh, last, plain, answers}
+use Rattle.machine_laws.specs.Origins.{same_origin}
+use Rattle.request_once.specs.Fresh.{asked, fresh, last, plain, answers}
 use Rattle.irc_line.proofs.Numbers.{of_eq, of_gt, of_le, of_ne}
+use Rattle.machine_laws.proofs.Origins.{same_origin-is}
 
 pub last-nil : (C A : Type 0) (o : Origin) → last {C = C} {A = A} [] o ≡ 0
 unfolding last fresh
@@ -73,14 +74,6 @@ module _ {C A : Type 0} where
       answers-gap earlier place o n at a e =
           let ne : n ≢ last earlier o + 1 = omega arith in
           rw (of_ne n (last earlier o + 1) ne, of_gt n (last earlier o) (omega arith))
-
-pub same_origin-is : (p o : Origin) → same_origin p o ≡ true → p ≡ o
-same_origin-is p o e =
-    let e0 : p.0 ≡ o.0 = grind (arith, nat_tests) in
-    let e1 : p.1 ≡ o.1 = grind (arith, nat_tests) in
-    let e2 : p.2 ≡ o.2 = grind (arith, nat_tests) in
-    let f : ℕ → ℕ → ℕ → Origin = λ x y z. (x, y, z) in
-    ap (λ x. f x p.1 p.2) e0 ∙ ap (λ y. f o.0 y p.2) e1 ∙ ap (λ z. f o.0 o.1 z) e2
 
 numbers-next_by : {C A : Type 0} (earlier : History (Body C A)) (o p : Origin) (n was : ℕ) (b : Bool) → same_origin p o ≡ b → n ≡ last earlier o + 1 → was ≡ last earlier p
     → (if b then n else was) ≡ (if b then last earlier p + 1 else last earlier p)

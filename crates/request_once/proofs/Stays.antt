@@ -6,8 +6,9 @@ use Rattle.wire_bytes.specs.declared.origin.Origin.{Origin}
 use Rattle.machine_laws.specs.Runs.{History}
 use Rattle.request_once.specs.declared.body.Body.{Body}
 use Rattle.request_once.specs.declared.body.Body.TheVariants.{Inner, Asked}
-use Rattle.request_once.specs.Fresh.{same_origin, asked, stays, if_stays, fresh, plain, plain_one, times}
-use Rattle.request_once.proofs.Requests.{same_origin-is}
+use Rattle.machine_laws.specs.Origins.{same_origin}
+use Rattle.request_once.specs.Fresh.{asked, stays, if_stays, fresh, plain, plain_one, times}
+use Rattle.machine_laws.proofs.Origins.{same_origin-is}
 
 -- the requests of a number past the last one's, by whether one more is of that origin
 past_by : (b : Bool) (k n m t : ℕ) → m ≡ k + 1 → (if b then k + 1 else k) < n → (k < n → t ≡ 0) → (if b && m == n then t + 1 else t) ≡ 0

@@ -1,14 +1,12 @@
 -- Requests that are numbered by their client. A history has each body with its place, the newest first.
 use Rattle.std.specs.Prelude.{◌≡◌, ℕ, ◌+◌, Bool, true, false, ◌&&◌, if◌then◌else◌, ◌==◌, nat_le, List, [], ◌∷◌, ◌++◌, map, Option, unwrap_or}
 use Rattle.machine_laws.specs.Runs.{History}
+use Rattle.machine_laws.specs.Origins.{same_origin}
 use Rattle.wire_bytes.specs.declared.origin.Origin.{Origin}
 use Rattle.request_once.specs.declared.body.Body.{Body}
 use Rattle.request_once.specs.declared.body.Body.TheVariants.{Inner, Asked}
 use Rattle.request_once.specs.declared.answer.Answer.{Answer}
 use Rattle.request_once.specs.declared.answer.Answer.TheVariants.{Effect, Done, Repeat, Gap}
-
-abbrev pub same_origin : Origin → Origin → Bool
-same_origin a b = a.0 == b.0 && a.1 == b.1 && a.2 == b.2
 
 module _ {C A : Type 0} where
   abbrev pub is_asked_by : Origin → Body C A → Bool

@@ -1,7 +1,6 @@
-use Rattle.std.proofs.Common.{rules, not, arith}
-use Rattle.std.proofs.lemmas.Bool.Decides.{nat_tests}
+use Rattle.std.proofs.Common.{rules, not}
 use Rattle.std.proofs.lemmas.Fn.{filter_same}
-use Rattle.buffer_machine.specs.Messages.{same_origin}
+use Rattle.machine_laws.specs.Origins.{same_origin}
 use Rattle.buffer_machine.proofs.Attached.{removed-one}
 use Rattle.buffer_machine.proofs.clients.Clients.remove.Goals as goal
 

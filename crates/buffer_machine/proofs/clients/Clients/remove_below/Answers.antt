@@ -1,6 +1,5 @@
-use Rattle.std.proofs.Common.{rules, not, ◌&&◌, arith}
+use Rattle.std.proofs.Common.{rules, not, ◌&&◌}
 use Rattle.std.specs.Prelude.{◌==◌, nat_lt}
-use Rattle.std.proofs.lemmas.Bool.Decides.{nat_tests}
 use Rattle.buffer_machine.proofs.Attached.{removed-all}
 use Rattle.buffer_machine.proofs.clients.Clients.remove_below.Goals as goal
 
