@@ -12,6 +12,7 @@ impl Wire for Name {
     ghost use Rattle.std.specs.Prelude.{IsTrue};
     ghost use Rattle.irc_line.specs.Names.{is_name};
     ghost use Rattle.wire_bytes.specs.Contents.{sized, name};
+    ghost use Rattle.wire_bytes.specs.Wants.{once_whole};
     ghost use Rattle.wire_bytes.specs.FieldCodecs.{name_is_codec};
 
     ghost spelled = { sized };
@@ -19,6 +20,8 @@ impl Wire for Name {
     ghost fits = { λ v. IsTrue (is_name v) };
 
     ghost taken = { name };
+
+    ghost wants = { once_whole name };
 
     fn put(&self, out: &mut Vec<u8>) -> Result<(), AllocError> {
         put_sized(out, self.as_bytes())
@@ -40,11 +43,7 @@ impl Wire for Name {
         }
     }
 
-    ghost read_back = { name_is_codec.read_back };
-
-    ghost one_spelling = { name_is_codec.one_spelling };
-
-    ghost bad_within = { name_is_codec.bad_within };
+    ghost is_codec = { name_is_codec };
 }
 
 /// Two bytes of length and the bytes, which are one field.
@@ -52,6 +51,7 @@ impl Wire for Text {
     ghost use Rattle.std.specs.Prelude.{IsTrue};
     ghost use Rattle.irc_line.specs.Names.{is_text};
     ghost use Rattle.wire_bytes.specs.Contents.{sized, text};
+    ghost use Rattle.wire_bytes.specs.Wants.{once_whole};
     ghost use Rattle.wire_bytes.specs.FieldCodecs.{text_is_codec};
 
     ghost spelled = { sized };
@@ -59,6 +59,8 @@ impl Wire for Text {
     ghost fits = { λ v. IsTrue (is_text v) };
 
     ghost taken = { text };
+
+    ghost wants = { once_whole text };
 
     fn put(&self, out: &mut Vec<u8>) -> Result<(), AllocError> {
         put_sized(out, self.as_bytes())
@@ -80,16 +82,13 @@ impl Wire for Text {
         }
     }
 
-    ghost read_back = { text_is_codec.read_back };
-
-    ghost one_spelling = { text_is_codec.one_spelling };
-
-    ghost bad_within = { text_is_codec.bad_within };
+    ghost is_codec = { text_is_codec };
 }
 
 /// Two bytes of length, 1 to 511, and the canonical spelling; any other spelling of a line is refused.
 impl Wire for Line {
-    ghost use Rattle.wire_bytes.specs.Contents.{spelled_line, FitsLine, line};
+    ghost use Rattle.std.specs.Prelude.{is_ok};
+    ghost use Rattle.wire_bytes.specs.Contents.{spelled_line, sized_bytes, FitsLine, line};
     ghost use Rattle.wire_bytes.specs.LineCodec.{line_is_codec};
 
     ghost spelled = { spelled_line };
@@ -97,6 +96,8 @@ impl Wire for Line {
     ghost fits = { FitsLine };
 
     ghost taken = { line };
+
+    ghost wants = { λ input. is_ok (sized_bytes input) };
 
     #[tactic(auto, unfolding(crate::specs::Contents::sized, crate::specs::Contents::spelled_line))]
     fn put(&self, out: &mut Vec<u8>) -> Result<(), AllocError> {
@@ -129,9 +130,5 @@ impl Wire for Line {
         }
     }
 
-    ghost read_back = { line_is_codec.read_back };
-
-    ghost one_spelling = { line_is_codec.one_spelling };
-
-    ghost bad_within = { line_is_codec.bad_within };
+    ghost is_codec = { line_is_codec };
 }
