@@ -12,3 +12,5 @@ pub mod Splitting
 pub mod Items
 pub mod SameBytes
 pub mod Order
+pub mod Tails
+pub mod Comparisons

@@ -64,9 +64,13 @@ is_line p = is_prefix p.prefix && is_upper_command p.command && nat_le (length p
 abbrev pub is_spoken : List ℕ → Bool
 is_spoken command = same_bytes command (codes "PRIVMSG") || same_bytes command (codes "NOTICE") || same_bytes command (codes "TOPIC")
 
+-- no word could be this parameter, or it would be read as a trailing one
+abbrev pub is_trailing : List ℕ → Bool
+is_trailing last = length last == 0 || first_is 58 last || list_any (λ b. b == 32) last
+
 -- whether the last parameter has a colon before it
 abbrev pub has_colon : List ℕ → List ℕ → Bool
-has_colon command last = length last == 0 || first_is 58 last || list_any (λ b. b == 32) last || is_spoken command
+has_colon command last = is_trailing last || is_spoken command
 
 -- the last parameter of a command, with the space before it
 abbrev pub spelled_last : List ℕ → List ℕ → List ℕ

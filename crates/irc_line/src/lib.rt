@@ -2,6 +2,7 @@
 #![tactic(auto)]
 
 mod bytes;
+mod comparing;
 mod draft;
 mod fault;
 mod fold;
@@ -9,12 +10,15 @@ mod item;
 pub mod laws;
 mod line;
 mod name;
+
 mod reading;
 mod spelling;
 mod splitter;
 #[cfg(test)]
 mod tests;
+mod tail;
 mod text;
+mod word;
 
 pub use bytes::is_same;
 pub use fault::LineFault;

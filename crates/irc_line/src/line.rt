@@ -118,7 +118,7 @@ impl Line {
     }
 }
 
-fn copied_prefix(alloc: Global, prefix: Option<&[u8]>) -> Result<Option<Vec<u8>>, AllocError>
+pub(crate) fn copied_prefix(alloc: Global, prefix: Option<&[u8]>) -> Result<Option<Vec<u8>>, AllocError>
     ensures { IfOk result (λ p. option_map (λ v. v.items) p ≡ option_map (λ x. x.now) prefix.entry) }
 {
     match prefix {

@@ -1,7 +1,7 @@
 //! The canonical spelling of a line (RFC 2812, 2.3.1).
 ghost use Rattle.std.specs.Prelude.{◌≡◌, ◌+◌, ◌++◌, ◌∷◌, [], length, map, min, take, vec_capacity, vec_len, ◌<◌, ◌≤◌, OnErr, OnOk};
 ghost use Rattle.std.specs.Option.{option_map};
-ghost use Rattle.irc_line.specs.Lines.{cut_spelling, has_colon, is_spoken, parts, spelled_last, spelled_parameters, spelled_prefix, spelling};
+ghost use Rattle.irc_line.specs.Lines.{cut_spelling, has_colon, is_spoken, is_trailing, parts, spelled_last, spelled_parameters, spelled_prefix, spelling};
 
 use crate::Line;
 use crate::bytes::{begins_with, has_space, is_same};
@@ -158,7 +158,7 @@ pub fn spelling_len<P: AsSlice<u8>>(
     front.saturating_add(parameters_len(command, parameters))
 }
 
-fn prefix_len(prefix: Option<&[u8]>) -> usize
+pub fn prefix_len(prefix: Option<&[u8]>) -> usize
     ensures { result ≡ length (spelled_prefix (option_map (λ x. x.now) prefix.entry)) }
 {
     match prefix {
@@ -192,7 +192,14 @@ fn last_len(command: &[u8], last: &[u8]) -> usize
 fn needs_colon(command: &[u8], last: &[u8]) -> bool
     ensures { result ≡ has_colon command.now last.now }
 {
-    last.is_empty() || begins_with(last, b':') || has_space(last) || is_spoken_word(command)
+    is_a_trailing(last) || is_spoken_word(command)
+}
+
+/// Whether this parameter can only be a trailing one.
+pub fn is_a_trailing(last: &[u8]) -> bool
+    ensures { result ≡ is_trailing last.now }
+{
+    last.is_empty() || begins_with(last, b':') || has_space(last)
 }
 
 /// Whether the command's last parameter always has a colon before it.
