@@ -16,7 +16,7 @@ pub fn each_request_takes_effect_once<M: HasClients>()
     ensures dropped { (later earlier : History (Body M.Command M.Action)) (place : ℕ) (origin : Origin)
         (number at : ℕ) (action : M.Action) → stays (fresh earlier) (Body.Asked origin number at action) ≡ false
         → plain M.client (later ++ (place, Body.Asked origin number at action) ∷ earlier)
-            ≡ plain M.client (later ++ earlier) }
+        ≡ plain M.client (later ++ earlier) }
 {}
 
 /// Over a whole list, the requests of an origin and number are answered `Done` as often as they stay: at most once.

@@ -64,13 +64,7 @@ impl<M: HasClients> Machine for Once<M> {
         if self.spoilt {
             return Err(ApplyFault::Spoilt);
         }
-        let result = step(
-            self.alloc,
-            &mut self.machine,
-            &mut self.last,
-            place,
-            body,
-        );
+        let result = step(self.alloc, &mut self.machine, &mut self.last, place, body);
         if result.is_err() {
             self.spoilt = true;
         }

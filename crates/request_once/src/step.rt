@@ -52,7 +52,7 @@ fn ask<M: HasClients>(
         → M.stands machine.old s (plain M.client earlier)
         → HasNumbers (get (⟦<Origin as Ord>⟧.cmp) last.old) earlier
         → OnOk result (M.stands machine.new s (plain M.client ((place, Body.Asked origin number at action.now) ∷ earlier))
-            × HasNumbers (get (⟦<Origin as Ord>⟧.cmp) last.new) ((place, Body.Asked origin number at action.now) ∷ earlier)) }
+        × HasNumbers (get (⟦<Origin as Ord>⟧.cmp) last.new) ((place, Body.Asked origin number at action.now) ∷ earlier)) }
     ensures effects { (s : M.Setup) (earlier : History (Body M.Command M.Action))
         → M.stands machine.old s (plain M.client earlier)
         → HasNumbers (get (⟦<Origin as Ord>⟧.cmp) last.old) earlier
@@ -91,7 +91,7 @@ pub fn step<M: HasClients>(
         → M.stands machine.old s (plain M.client earlier)
         → HasNumbers (get (⟦<Origin as Ord>⟧.cmp) last.old) earlier
         → OnOk result (M.stands machine.new s (plain M.client ((place, body.now) ∷ earlier))
-            × HasNumbers (get (⟦<Origin as Ord>⟧.cmp) last.new) ((place, body.now) ∷ earlier)) }
+        × HasNumbers (get (⟦<Origin as Ord>⟧.cmp) last.new) ((place, body.now) ∷ earlier)) }
     ensures effects { (s : M.Setup) (earlier : History (Body M.Command M.Action))
         → M.stands machine.old s (plain M.client earlier)
         → HasNumbers (get (⟦<Origin as Ord>⟧.cmp) last.old) earlier

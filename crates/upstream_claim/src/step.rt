@@ -84,7 +84,7 @@ pub fn step<M: HasSession>(
     ensures kept { (s : M.Setup) (below : History M.Command) (q : Numbered) → M.stands machine.old s below
         → IsKept unclaimed.old.count unclaimed.old.lines.items q
         → OnOk result (IsKept unclaimed.new.count unclaimed.new.lines.items
-            (numbered_after M.session M.sends (M.effects s) q below place command.now)) }
+        (numbered_after M.session M.sends (M.effects s) q below place command.now)) }
     ensures fault { IfErr result (λ e. e ≡ ApplyFault.Memory) }
     ensures whole { OnOk result (M.spoilt machine.new ≡ false) }
 {

@@ -25,17 +25,6 @@ pub fn take_byte(input: &[u8], least: u8, most: u8) -> Result<(u8, usize), WireF
     }
 }
 
-/// The kind byte at the front of an input. Short where there is none.
-pub fn take_kind(input: &[u8]) -> Result<u8, WireFault>
-    ensures ok { IfOk result (λ kind. input.now ≡ kind ∷ drop 1 input.now) }
-    ensures err { IfErr result (λ e. (e ≡ WireFault.Short) × (input.now ≡ [])) }
-{
-    match input {
-        [] => Err(WireFault::Short),
-        [kind, ..] => Ok(*kind),
-    }
-}
-
 /// A number in two bytes, the highest first. Short where they are not there, Bad where it is past the limit.
 #[tactic(auto, unfolding(crate::specs::Fields::number_to))]
 pub fn take_u16(input: &[u8], most: u16) -> Result<(u16, usize), WireFault>
