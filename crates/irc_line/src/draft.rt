@@ -7,8 +7,8 @@ ghost use Rattle.irc_line.specs.Reading.{judged_parts};
 
 use crate::comparing::{behind_prefix, behind_upper};
 use crate::line::copied_prefix;
-use crate::tail::{are_spelled, built_parameters, tail_size};
 use crate::spelling::prefix_len;
+use crate::tail::{are_spelled, built_parameters, tail_size};
 use crate::word::upper_byte;
 use crate::{Line, LineFault};
 use std::alloc::{AllocError, Global};

@@ -65,7 +65,11 @@ pub fn compare_names(a: &[u8], b: &[u8]) -> Ordering
     ensures { result ≡ slice_cmp nat_cmp (fold_name a.now) (fold_name b.now) }
 {
     match a {
-        [] => if b.is_empty() { Ordering::Equal } else { Ordering::Less },
+        [] => if b.is_empty() {
+            Ordering::Equal
+        } else {
+            Ordering::Less
+        },
         [first, a @ ..] => match b {
             [] => Ordering::Greater,
             [second, b @ ..] => match folded_byte(*first).cmp(&folded_byte(*second)) {

@@ -11,13 +11,14 @@ mod item;
 pub mod laws;
 mod line;
 mod name;
-
 mod reading;
 mod spelling;
 mod splitter;
 #[cfg(test)]
-mod tests;
+mod stream_tests;
 mod tail;
+#[cfg(test)]
+mod tests;
 mod text;
 mod word;
 

@@ -52,15 +52,11 @@ pub fn write_parts(
     command: &[u8],
     parameters: &[&[u8]],
 ) -> Result<(), AllocError>
-    ensures ok {
-        OnOk result (out.new.items ≡ out.old.items ++
-            spelled_parts prefix.entry command.now (map (λ x. x.now) parameters.now))
-    }
+    ensures ok { OnOk result (out.new.items ≡ out.old.items ++
+        spelled_parts prefix.entry command.now (map (λ x. x.now) parameters.now)) }
     ensures err { OnErr result (out.new.items ≡ out.old.items) }
-    ensures full {
-        OnErr result (LacksRoom out.old
-            (length (spelled_parts prefix.entry command.now (map (λ x. x.now) parameters.now))))
-    }
+    ensures full { OnErr result (LacksRoom out.old
+        (length (spelled_parts prefix.entry command.now (map (λ x. x.now) parameters.now)))) }
     ensures capacity { vec_capacity out.old ≤ vec_capacity out.new }
 {
     write_spelling(out, prefix, command, parameters)
@@ -72,15 +68,11 @@ fn write_spelling<P: AsSlice<u8>>(
     command: &[u8],
     parameters: &[P],
 ) -> Result<(), AllocError>
-    ensures ok {
-        OnOk result (out.new.items ≡ out.old.items ++
-            spelled_parts prefix.entry command.now (map P.items parameters.now))
-    }
+    ensures ok { OnOk result (out.new.items ≡ out.old.items ++
+        spelled_parts prefix.entry command.now (map P.items parameters.now)) }
     ensures err { OnErr result (out.new.items ≡ out.old.items) }
-    ensures full {
-        OnErr result (LacksRoom out.old
-            (length (spelled_parts prefix.entry command.now (map P.items parameters.now))))
-    }
+    ensures full { OnErr result (LacksRoom out.old
+        (length (spelled_parts prefix.entry command.now (map P.items parameters.now)))) }
     ensures capacity { vec_capacity out.old ≤ vec_capacity out.new }
 {
     let before = out.len();
@@ -99,15 +91,11 @@ fn push_spelling<P: AsSlice<u8>>(
     command: &[u8],
     parameters: &[P],
 ) -> Result<(), AllocError>
-    ensures ok {
-        OnOk result (out.new.items ≡ out.old.items ++
-            spelled_parts prefix.entry command.now (map P.items parameters.now))
-    }
+    ensures ok { OnOk result (out.new.items ≡ out.old.items ++
+        spelled_parts prefix.entry command.now (map P.items parameters.now)) }
     ensures err { OnErr result (take (length out.old.items) out.new.items ≡ out.old.items) }
-    ensures full {
-        OnErr result (LacksRoom out.old
-            (length (spelled_parts prefix.entry command.now (map P.items parameters.now))))
-    }
+    ensures full { OnErr result (LacksRoom out.old
+        (length (spelled_parts prefix.entry command.now (map P.items parameters.now)))) }
     ensures capacity { vec_capacity out.old ≤ vec_capacity out.new }
 {
     push_prefix(out, prefix)?;
@@ -116,13 +104,9 @@ fn push_spelling<P: AsSlice<u8>>(
 }
 
 fn push_prefix(out: &mut Vec<u8>, prefix: Option<&[u8]>) -> Result<(), AllocError>
-    ensures ok {
-        OnOk result (out.new.items ≡ out.old.items ++ spelled_prefix (lent_prefix prefix.entry))
-    }
+    ensures ok { OnOk result (out.new.items ≡ out.old.items ++ spelled_prefix (lent_prefix prefix.entry)) }
     ensures err { OnErr result (take (length out.old.items) out.new.items ≡ out.old.items) }
-    ensures full {
-        OnErr result (LacksRoom out.old (length (spelled_prefix (lent_prefix prefix.entry))))
-    }
+    ensures full { OnErr result (LacksRoom out.old (length (spelled_prefix (lent_prefix prefix.entry)))) }
     ensures capacity { vec_capacity out.old ≤ vec_capacity out.new }
 {
     if let Some(prefix) = prefix {
@@ -138,15 +122,11 @@ fn push_parameters<P: AsSlice<u8>>(
     command: &[u8],
     parameters: &[P],
 ) -> Result<(), AllocError>
-    ensures ok {
-        OnOk result (out.new.items ≡ out.old.items ++
-            spelled_parameters command.now (map P.items parameters.now))
-    }
+    ensures ok { OnOk result (out.new.items ≡ out.old.items ++
+        spelled_parameters command.now (map P.items parameters.now)) }
     ensures err { OnErr result (take (length out.old.items) out.new.items ≡ out.old.items) }
-    ensures full {
-        OnErr result (LacksRoom out.old
-            (length (spelled_parameters command.now (map P.items parameters.now))))
-    }
+    ensures full { OnErr result (LacksRoom out.old
+        (length (spelled_parameters command.now (map P.items parameters.now)))) }
     ensures capacity { vec_capacity out.old ≤ vec_capacity out.new }
 {
     match parameters {
@@ -180,10 +160,8 @@ pub fn spelling_len<P: AsSlice<u8>>(
     command: &[u8],
     parameters: &[P],
 ) -> usize
-    ensures {
-        result ≡
-            min (length (spelled_parts prefix.entry command.now (map P.items parameters.now))) usize.MAX
-    }
+    ensures { result ≡
+        min (length (spelled_parts prefix.entry command.now (map P.items parameters.now))) usize.MAX }
 {
     let front = prefix_len(prefix).saturating_add(command.len());
     front.saturating_add(parameters_len(command, parameters))
@@ -199,10 +177,8 @@ pub fn prefix_len(prefix: Option<&[u8]>) -> usize
 }
 
 fn parameters_len<P: AsSlice<u8>>(command: &[u8], parameters: &[P]) -> usize
-    ensures {
-        result ≡
-            min (length (spelled_parameters command.now (map P.items parameters.now))) usize.MAX
-    }
+    ensures { result ≡
+        min (length (spelled_parameters command.now (map P.items parameters.now))) usize.MAX }
 {
     match parameters {
         [] => 0,

@@ -81,10 +81,8 @@ impl Splitter {
 
 /// What stands before the first LF, and what follows it.
 fn at_line_feed(bytes: &[u8]) -> Option<(&[u8], &[u8])>
-    ensures {
-        MatchOption result (HasNoLineFeed bytes.now)
-            (λ t. IsCutAtLineFeed bytes.now t.0.now t.1.now)
-    }
+    ensures { MatchOption result (HasNoLineFeed bytes.now)
+        (λ t. IsCutAtLineFeed bytes.now t.0.now t.1.now) }
 {
     match line_feed_place(bytes) {
         None => None,

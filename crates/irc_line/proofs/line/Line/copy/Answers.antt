@@ -1,6 +1,6 @@
-use Rattle.std.proofs.Common.{rules, ◌≡◌, ℕ, map, sym}
+use Rattle.std.proofs.Common.{rules, ◌≡◌, map}
 use Rattle.std.specs.Prelude.{IsTrue}
-use Rattle.irc_line.specs.Lines.{held_parts, held_prefix, is_line, parts, Parts}
+use Rattle.irc_line.specs.Lines.{held_parts, held_prefix, is_line}
 use Rattle.irc_line.proofs.Clones.{same_vectors_cloned}
 use Rattle.std.proofs.lemmas.Grind.{common_steps}
 use Rattle.irc_line.proofs.line.Line.copy.Goals as goal
