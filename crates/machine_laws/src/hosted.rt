@@ -92,11 +92,7 @@ pub trait Hosted: Machine {
         ensures { (s : Self.Setup) (earlier : History Self.Command) → Self.stands self.now s earlier → result ≡ next_claim s earlier };
 
     /// What is played of a target; nothing of one that is not known. Nothing is emptied.
-    fn playback(
-        &self,
-        alloc: Global,
-        target: &Self::Target,
-    ) -> Result<Vec<Self::Played>, AllocError>
+    fn playback(&self, target: &Self::Target) -> Result<Vec<Self::Played>, AllocError>
         ensures { (s : Self.Setup) (earlier : History Self.Command) → Self.stands self.now s earlier → IfOk result (λ v. v.items ≡ playback s earlier target.now) };
 
     /// Where an effect goes. Takes no memory.
