@@ -22,7 +22,8 @@ pub fn the_faults_have_an_order()
     ensures no_command { (s : List ℕ) → IsClean s → SaysNothing s → HasFault s LineFault.NoCommand }
     ensures too_many_parameters { (s : List ℕ) (p : Parts) → Says s p → 15 < length p.parameters →
         HasFault s LineFault.TooManyParameters }
-    ensures spelled_too_long { (s : List ℕ) (p : Parts) → Says s p → HasFew p → 511 < length (spelling p) →
+    ensures spelled_too_long { (s : List ℕ) (p : Parts) → Says s p → HasFew p →
+        511 < length (spelling p) →
         HasFault s LineFault.TooLong }
     ensures line { (s : List ℕ) (p : Parts) → Says s p → HasFew p → IsShort p → HasLine s p }
 {}
@@ -33,13 +34,15 @@ pub fn the_spelling_reads_back()
     ensures read_back { (p : Parts) → IsTrue (is_line p) → IsShort p → HasLine (spelling p) p }
     ensures is_a_line { (content : List ℕ) (p : Parts) → HasLine content p → IsTrue (is_line p) }
     ensures fits { (content : List ℕ) (p : Parts) → HasLine content p → IsShort p }
-    ensures one_line { (p q : Parts) → IsTrue (is_line p) → IsTrue (is_line q) → spelling p ≡ spelling q → p ≡ q }
+    ensures one_line { (p q : Parts) → IsTrue (is_line p) → IsTrue (is_line q) →
+        spelling p ≡ spelling q → p ≡ q }
 {}
 
 /// The values of `Line` are what contents can say: what the grammar gives of a content within 15
 /// parameters is one, and each is said by its canonical spelling, of any length.
 pub fn a_line_is_what_a_content_says()
-    ensures given { (s : List ℕ) (p : Parts) → IsLine s p → AreContent s → HasFew p → IsTrue (is_line p) }
+    ensures given { (s : List ℕ) (p : Parts) → IsLine s p → AreContent s → HasFew p →
+        IsTrue (is_line p) }
     ensures said { (p : Parts) → IsTrue (is_line p) → IsLine (spelling p) p }
     ensures content { (p : Parts) → IsTrue (is_line p) → AreContent (spelling p) }
     ensures few { (p : Parts) → IsTrue (is_line p) → HasFew p }
@@ -50,7 +53,8 @@ pub fn a_line_is_what_a_content_says()
 pub fn the_items_are_what_line_feeds_end()
     ensures none { (s : List ℕ) → HasNoLineFeed s → (items s ≡ []) × (unended s ≡ s) }
     ensures one { (ended rest : List ℕ) → HasNoLineFeed ended → ItemsAreOfBoth ended rest }
-    ensures left { (ended rest : List ℕ) → HasNoLineFeed ended → unended (ended ++ 10 ∷ rest) ≡ unended rest }
+    ensures left { (ended rest : List ℕ) → HasNoLineFeed ended →
+        unended (ended ++ 10 ∷ rest) ≡ unended rest }
     ensures cut { (fed more : List ℕ) → IsCutAnywhere fed more }
 {}
 
@@ -59,13 +63,15 @@ pub fn the_items_are_what_line_feeds_end()
 /// content.
 pub fn an_item_is_what_its_content_is()
     ensures with_return { (content : List ℕ) → without_return (content ++ 13 ∷ []) ≡ content }
-    ensures without_return { (s : List ℕ) (b : ℕ) → ¬ (b ≡ 13) → without_return (s ++ b ∷ []) ≡ s ++ b ∷ [] }
+    ensures without_return { (s : List ℕ) (b : ℕ) → ¬ (b ≡ 13) →
+        without_return (s ++ b ∷ []) ≡ s ++ b ∷ [] }
     ensures empty { (ended : List ℕ) → without_return ended ≡ [] → ended_items ended ≡ [] }
     ensures some { (ended : List ℕ) → 0 < length (without_return ended) →
         ended_items ended ≡ content_item (without_return ended) ∷ [] }
     ensures too_long { (content : List ℕ) → 510 < length content →
         content_item content ≡ Item.Refused LineFault.TooLong }
-    ensures got { (s : List ℕ) (p : Parts) → length s ≤ 510 → HasLine s p → content_item s ≡ Item.Got p }
+    ensures got { (s : List ℕ) (p : Parts) → length s ≤ 510 → HasLine s p →
+        content_item s ≡ Item.Got p }
     ensures refused { (s : List ℕ) (e : LineFault) → length s ≤ 510 → HasFault s e →
         content_item s ≡ Item.Refused e }
     ensures not_memory { (s : List ℕ) → ¬ (content_item s ≡ Item.Refused LineFault.Memory) }

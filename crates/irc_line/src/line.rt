@@ -52,7 +52,8 @@ impl Line {
     ) -> Result<Line, AllocError>
         requires prefix { IsTrue (is_prefix (lent_prefix prefix)) }
         requires command { IsTrue (is_upper_command command.now) }
-        ensures { IfOk result (λ l. l ≡ message (lent_prefix prefix.entry) command.now target.now text.now) }
+        ensures { IfOk result (λ l. l ≡
+            message (lent_prefix prefix.entry) command.now target.now text.now) }
     {
         let prefix = copied_prefix(alloc, prefix)?;
         let command = Vec::from_slice(alloc, command)?;

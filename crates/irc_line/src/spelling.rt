@@ -104,9 +104,11 @@ fn push_spelling<P: AsSlice<u8>>(
 }
 
 fn push_prefix(out: &mut Vec<u8>, prefix: Option<&[u8]>) -> Result<(), AllocError>
-    ensures ok { OnOk result (out.new.items ≡ out.old.items ++ spelled_prefix (lent_prefix prefix.entry)) }
+    ensures ok { OnOk result (out.new.items ≡ out.old.items ++
+        spelled_prefix (lent_prefix prefix.entry)) }
     ensures err { OnErr result (take (length out.old.items) out.new.items ≡ out.old.items) }
-    ensures full { OnErr result (LacksRoom out.old (length (spelled_prefix (lent_prefix prefix.entry)))) }
+    ensures full { OnErr result (LacksRoom out.old (length (spelled_prefix
+        (lent_prefix prefix.entry)))) }
     ensures capacity { vec_capacity out.old ≤ vec_capacity out.new }
 {
     if let Some(prefix) = prefix {
@@ -160,8 +162,8 @@ pub fn spelling_len<P: AsSlice<u8>>(
     command: &[u8],
     parameters: &[P],
 ) -> usize
-    ensures { result ≡
-        min (length (spelled_parts prefix.entry command.now (map P.items parameters.now))) usize.MAX }
+    ensures { let all = spelled_parts prefix.entry command.now (map P.items parameters.now) in
+        result ≡ min (length all) usize.MAX }
 {
     let front = prefix_len(prefix).saturating_add(command.len());
     front.saturating_add(parameters_len(command, parameters))
