@@ -1,6 +1,6 @@
 -- How bytes are compared with a list in parts.
 use Rattle.std.proofs.Common.{◌≡◌, ◌≢◌, ℕ, Bool, true, false, ◌&&◌, List, [], ◌∷◌, ◌++◌, refl, ap, sym, ◌∙◌}
-use Rattle.std.specs.Prelude.{◌==◌, if◌then◌else◌, Option, Some, None, option_map, MatchOption, IfNone}
+use Rattle.std.specs.Prelude.{◌==◌, if◌then◌else◌, Option, Some, None, option_map, MatchOption}
 use Rattle.std.proofs.Common.{Bor}
 use Rattle.irc_line.specs.Names.{same_bytes}
 use Rattle.irc_line.specs.Lines.{Parts, spelled_prefix, spelled_parameters, spelling}

@@ -1,6 +1,6 @@
 -- The first parameter of a text, and what stands behind it.
-use Rattle.std.proofs.Common.{◌≡◌, ◌≢◌, ℕ, ◌-◌, Bool, true, false, List, [], ◌∷◌, take, drop, get_or, length, refl, ap, sym, ◌∙◌, arith, ◌≤◌, ◌<◌}
-use Rattle.std.specs.Prelude.{◌==◌, if◌then◌else◌}
+use Rattle.std.proofs.Common.{◌≡◌, ◌≢◌, ℕ, ◌-◌, Bool, true, false, List, [], ◌∷◌, take, drop, get_or, length, refl, ap, sym, ◌∙◌, arith, ◌≤◌}
+use Rattle.std.specs.Prelude.{if◌then◌else◌}
 use Rattle.std.proofs.lemmas.List.{take_rest}
 use Rattle.irc_line.specs.Grammar.{is_space}
 use Rattle.irc_line.specs.Reading.{IsFirstParameter, skip_spaces, word_of, behind_word, parameters_from, parameters_of}

@@ -1,7 +1,7 @@
 //! How bytes are compared with a spelling in place.
 ghost use Rattle.std.specs.Prelude.{◌≡◌, map, option_map};
 ghost use Rattle.irc_line.specs.Names.{same_bytes};
-ghost use Rattle.irc_line.specs.Lines.{spelled_prefix};
+ghost use Rattle.irc_line.specs.Lines.{lent_prefix, spelled_prefix};
 ghost use Rattle.irc_line.specs.Grammar.{upper};
 ghost use Rattle.irc_line.specs.Comparing.{behind};
 
@@ -16,7 +16,7 @@ pub fn behind<'a>(front: &[u8], bytes: &'a [u8]) -> Option<&'a [u8]>
 
 /// What stands behind the canonical spelling of a prefix, where the bytes begin with it.
 pub fn behind_prefix<'a>(prefix: Option<&[u8]>, bytes: &'a [u8]) -> Option<&'a [u8]>
-    ensures { option_map (λ x. x.now) result ≡ behind (spelled_prefix (option_map (λ x. x.now) prefix.entry)) bytes.now }
+    ensures { lent_prefix result ≡ behind (spelled_prefix (lent_prefix prefix.entry)) bytes.now }
 {
     match prefix {
         None => Some(bytes),

@@ -7,14 +7,15 @@ ghost use Rattle.irc_line.specs.Reading.{judged_parts};
 
 use crate::comparing::{behind_prefix, behind_upper};
 use crate::line::copied_prefix;
-use crate::tail::{are_spelled, built_parameters, tail_size};
 use crate::spelling::prefix_len;
+use crate::tail::{are_spelled, built_parameters, tail_size};
 use crate::word::upper_byte;
 use crate::{Line, LineFault};
 use std::alloc::{AllocError, Global};
 use std::marker::Model;
 
-/// What a content says: its prefix, its command in the letters that stand there, and what stands behind the command.
+/// What a content says: its prefix, its command in the letters that stand there,
+/// and what stands behind the command.
 #[derive(Drop)]
 pub struct Draft<'a> {
     pub prefix: Option<&'a [u8]>,
@@ -23,19 +24,19 @@ pub struct Draft<'a> {
 }
 
 impl<'a> Model for Draft<'a> {
-    ghost use Rattle.std.specs.Option.{option_map};
-    ghost use Rattle.irc_line.specs.Lines.{Parts, parts_code};
+    ghost use Rattle.irc_line.specs.Lines.{Parts, lent_prefix, parts_code};
     ghost use Rattle.irc_line.specs.Reading.{drafted};
 
     ghost Value = { Parts };
 
     ghost coded = { parts_code };
 
-    ghost view = { λ d. drafted (option_map (λ x. x.now) d.prefix) d.command.now d.tail.now };
+    ghost view = { λ d. drafted (lent_prefix d.prefix) d.command.now d.tail.now };
 }
 
 impl<'a> Draft<'a> {
-    /// Whether the draft is within a line's limits: 15 parameters, and 511 bytes of canonical spelling.
+    /// Whether the draft is within a line's limits: 15 parameters, and 511 bytes of
+    /// canonical spelling.
     #[tactic(auto, unfolding(crate::specs::Lines::spelling))]
     pub fn check_limits(&self) -> Result<(), LineFault>
         ensures ok { OnOk result (judged_parts (Some self.now) ≡ Ok self.now) }

@@ -1,6 +1,6 @@
 //! How a content is read (RFC 2812, 2.3.1).
 ghost use Rattle.std.specs.Prelude.{◌≡◌, ◌≢◌, IfOk, IfErr, IsOk, IsSome, OnErr, Ok, Err, not, position};
-ghost use Rattle.std.specs.Option.{option_map};
+ghost use Rattle.irc_line.specs.Lines.{lent_prefix};
 ghost use Rattle.irc_line.specs.Names.{is_content_byte};
 ghost use Rattle.irc_line.specs.Reading.{canonical, judged, read_command, read_prefix};
 
@@ -26,7 +26,9 @@ impl Line {
         Ok(draft.build(alloc)?)
     }
 
-    /// The line of which these bytes are the canonical spelling; none where they are another spelling or no line.
+    /// The line of which these bytes are the canonical spelling; none where they are another
+    /// spelling or no line.
+    ///
     /// It is refused only where they are that spelling and no memory is left to build the line.
     pub fn from_spelling(alloc: Global, bytes: &[u8]) -> Result<Option<Line>, AllocError>
         ensures ok { IfOk result (λ l. l ≡ canonical bytes.now (judged bytes.now)) }
@@ -89,7 +91,7 @@ fn draft_of(text: &[u8]) -> Option<Draft<'_>>
 
 /// The draft of what stands behind a prefix.
 fn draft_behind<'a>(prefix: Option<&'a [u8]>, text: &'a [u8]) -> Option<Draft<'a>>
-    ensures { result ≡ read_command (option_map (λ x. x.now) prefix.entry) text.now }
+    ensures { result ≡ read_command (lent_prefix prefix.entry) text.now }
 {
     let (command, tail) = split_word(text);
     if is_a_command(command) {

@@ -14,7 +14,8 @@ use std::alloc::{AllocError, Global};
 
 /// The first parameter, and what stands behind it; none where there are only spaces.
 pub fn next_parameter(text: &[u8]) -> Option<(&[u8], &[u8])>
-    ensures { MatchOption result (parameters_of text.now ≡ []) (λ t. IsFirstParameter text.now t.0.now t.1.now) }
+    ensures { MatchOption result (parameters_of text.now ≡ [])
+        (λ t. IsFirstParameter text.now t.0.now t.1.now) }
 {
     match without_spaces(text) {
         [] => None,
@@ -89,9 +90,10 @@ pub fn are_spelled(command: &[u8], text: &[u8], bytes: &[u8]) -> bool
     }
 }
 
-/// Whether these bytes are the canonical spelling of a parameter and of those in the text behind it.
+/// Whether these bytes are the canonical spelling of a parameter and of those in the text behind.
 fn are_spelled_from(command: &[u8], parameter: &[u8], text: &[u8], bytes: &[u8]) -> bool
-    ensures { result ≡ same_bytes (spelled_behind command.now (parameter.now ∷ parameters_of text.now)) bytes.now }
+    ensures { result ≡
+        same_bytes (spelled_behind command.now (parameter.now ∷ parameters_of text.now)) bytes.now }
 {
     match next_parameter(text) {
         None => is_last_spelled(command, parameter, bytes),
@@ -132,5 +134,7 @@ fn needs_colon(command: &[u8], last: &[u8]) -> bool
 fn is_spoken_word(command: &[u8]) -> bool
     ensures { result ≡ is_spoken (map upper command.now) }
 {
-    is_in_upper(command, b"PRIVMSG") || is_in_upper(command, b"NOTICE") || is_in_upper(command, b"TOPIC")
+    is_in_upper(command, b"PRIVMSG")
+        || is_in_upper(command, b"NOTICE")
+        || is_in_upper(command, b"TOPIC")
 }

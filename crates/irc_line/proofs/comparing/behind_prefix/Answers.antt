@@ -1,5 +1,5 @@
-use Rattle.std.proofs.Common.{◌≡◌, ℕ, List, [], ◌∷◌, ◌++◌, ap, sym, ◌∙◌}
-use Rattle.std.specs.Prelude.{Some, None, Option}
+use Rattle.std.proofs.Common.{◌≡◌, [], ◌∷◌, ◌++◌, sym, ◌∙◌}
+use Rattle.std.specs.Prelude.{Some, None}
 use Rattle.irc_line.specs.Comparing.{behind}
 use Rattle.irc_line.proofs.Comparisons.{front_some, front_none}
 use Rattle.irc_line.proofs.comparing.behind_prefix.Goals as goal

@@ -1,4 +1,4 @@
-use Rattle.std.proofs.Common.{◌≡◌, ℕ, List, sym, ◌∙◌, ◌∷◌}
+use Rattle.std.proofs.Common.{sym, ◌∙◌, ◌∷◌}
 use Rattle.irc_line.proofs.Comparisons.{same_none, same_some}
 use Rattle.irc_line.specs.Comparing.{spelled_behind}
 use Rattle.irc_line.specs.Reading.{parameters_of}

@@ -1,4 +1,4 @@
-use Rattle.std.proofs.Common.{rules, arith}
+use Rattle.std.proofs.Common.{arith}
 use Rattle.irc_line.proofs.Tails.{no_parameter, trailing_parameter, word_parameter}
 use Rattle.irc_line.proofs.tail.next_parameter.Goals as goal
 
