@@ -14,6 +14,7 @@ abbrev pub Handed : Type 0
 Handed = (ℕ × SessionId) × Parts
 
 module _ {E : Type 0} where
+  -- the line that an effect hands out
   abbrev pub hand_of : ClaimsEffect E → List Handed
   hand_of (Hand id n line) = ((n, id), line) ∷ []
   hand_of _ = []
