@@ -4,6 +4,7 @@
 mod channel;
 mod channels;
 mod index;
+mod order;
 mod queries;
 mod target;
 #[cfg(test)]

@@ -18,6 +18,7 @@ use wire_bytes::Origin;
 /// The last numbers are kept for good, in a map by origin.
 #[derive(Drop)]
 pub struct Once<M: HasClients> {
+    alloc: Global,
     machine: M,
     last: BTreeMap<Origin, u64>,
     spoilt: bool,
@@ -27,7 +28,9 @@ pub struct Once<M: HasClients> {
 impl<M: HasClients> Once<M> {
     /// The machine below.
     pub fn machine(&self) -> &M
-        ensures { (s : M.Setup) (earlier : History (Body M.Command M.Action)) → ⟦<Once<M> as Machine>⟧.stands self.now s earlier → M.stands result.now s (plain M.client earlier) }
+        ensures { (s : M.Setup) (earlier : History (Body M.Command M.Action))
+            → ⟦<Once<M> as Machine>⟧.stands self.now s earlier
+            → M.stands result.now s (plain M.client earlier) }
     {
         &self.machine
     }
@@ -40,7 +43,8 @@ impl<M: HasClients> Machine for Once<M> {
 
     type Effect = Answer<M::Effect>;
 
-    ghost stands = { λ m s earlier. M.stands m.machine s (plain M.client earlier) × HasNumbers (get (⟦<Origin as Ord>⟧.cmp) m.last) earlier × (m.spoilt ≡ false) };
+    ghost stands = { λ m s earlier. M.stands m.machine s (plain M.client earlier)
+        × HasNumbers (get (⟦<Origin as Ord>⟧.cmp) m.last) earlier × (m.spoilt ≡ false) };
 
     ghost effects = { λ s earlier place x. answers M.client (M.effects s) earlier place x };
 
@@ -48,6 +52,7 @@ impl<M: HasClients> Machine for Once<M> {
 
     fn start(alloc: Global, setup: &M::Setup) -> Result<Self, AllocError> {
         Ok(Once {
+            alloc,
             machine: M::start(alloc, setup)?,
             last: BTreeMap::new(alloc),
             spoilt: false,
@@ -56,14 +61,13 @@ impl<M: HasClients> Machine for Once<M> {
 
     fn apply(
         &mut self,
-        alloc: Global,
         place: u64,
         body: &Body<M::Command, M::Action>,
     ) -> Result<Vec<Answer<M::Effect>>, ApplyFault> {
         if self.spoilt {
             return Err(ApplyFault::Spoilt);
         }
-        let result = step(&mut self.machine, &mut self.last, alloc, place, body);
+        let result = step(self.alloc, &mut self.machine, &mut self.last, place, body);
         if result.is_err() {
             self.spoilt = true;
         }

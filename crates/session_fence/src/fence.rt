@@ -18,6 +18,7 @@ use wire_bytes::{Moment, Number, Origin, SessionId};
 /// any other session says changes nothing.
 #[derive(Drop)]
 pub struct Fence<M: HasLines> {
+    alloc: Global,
     machine: M,
     session: Session,
     spoilt: bool,
@@ -27,7 +28,9 @@ pub struct Fence<M: HasLines> {
 impl<M: HasLines> Fence<M> {
     /// The machine below.
     pub fn machine(&self) -> &M
-        ensures { (s : M.Setup) (earlier : History (FenceCommand M.Command M.Line)) → ⟦<Fence<M> as Machine>⟧.stands self.now s earlier → M.stands result.now s (plain M.up M.down M.heard earlier) }
+        ensures { (s : M.Setup) (earlier : History (FenceCommand M.Command M.Line))
+            → ⟦<Fence<M> as Machine>⟧.stands self.now s earlier
+            → M.stands result.now s (plain M.up M.down M.heard earlier) }
     {
         &self.machine
     }
@@ -40,14 +43,17 @@ impl<M: HasLines> Machine for Fence<M> {
 
     type Effect = FenceEffect<M::Effect>;
 
-    ghost stands = { λ m s earlier. M.stands m.machine s (plain M.up M.down M.heard earlier) × IsKept m.session earlier × (m.spoilt ≡ false) };
+    ghost stands = { λ m s earlier. M.stands m.machine s (plain M.up M.down M.heard earlier)
+        × IsKept m.session earlier × (m.spoilt ≡ false) };
 
-    ghost effects = { λ s earlier place x. answers M.up M.down M.heard M.rejoined (M.effects s) earlier place x };
+    ghost effects = { λ s earlier place x. answers M.up M.down M.heard M.rejoined
+        (M.effects s) earlier place x };
 
     ghost spoilt = { λ m. m.spoilt };
 
     fn start(alloc: Global, setup: &M::Setup) -> Result<Self, AllocError> {
         Ok(Fence {
+            alloc,
             machine: M::start(alloc, setup)?,
             session: Session::Never,
             spoilt: false,
@@ -56,14 +62,19 @@ impl<M: HasLines> Machine for Fence<M> {
 
     fn apply(
         &mut self,
-        alloc: Global,
         place: u64,
         command: &FenceCommand<M::Command, M::Line>,
     ) -> Result<Vec<FenceEffect<M::Effect>>, ApplyFault> {
         if self.spoilt {
             return Err(ApplyFault::Spoilt);
         }
-        let result = step(&mut self.machine, &mut self.session, alloc, place, command);
+        let result = step(
+            self.alloc,
+            &mut self.machine,
+            &mut self.session,
+            place,
+            command,
+        );
         if result.is_err() {
             self.spoilt = true;
         }

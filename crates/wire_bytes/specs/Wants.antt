@@ -20,6 +20,10 @@ abbrev pub wants_next : {X : Type 0} → Result (X × ℕ) WireFault → Wants �
 wants_next (Ok r) wants input = wants (drop r.1 input)
 wants_next (Err e) wants input = false
 
+-- a value behind another that is held in place
+abbrev pub wants_behind : {X : Type 0} → Reading X → Wants → Wants
+wants_behind reading wants input = wants_next (reading input) wants input
+
 -- the first of two values, or the second behind the first
 abbrev pub wants_both : {X : Type 0} → Wants → Reading X → Wants → Wants
 wants_both first reading second input = first input || wants_next (reading input) second input

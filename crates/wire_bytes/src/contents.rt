@@ -1,10 +1,11 @@
 ghost use Rattle.std.specs.Prelude.{◌≡◌, ◌≢◌, IfOk, IfErr, IsOk, Ok, Err};
 ghost use Rattle.wire_bytes.specs.Contents.{FitsLine, sized_bytes, name, text, line};
+ghost use Rattle.wire_bytes.specs.Reads.{Reads, Refuses};
 
 use crate::fields::{put_sized, take_byte, take_sized, undo};
 use crate::wire::Wire;
 use crate::wire_fault::WireFault;
-use irc_line::{Line, LineFault, Name, Text, is_a_name, is_a_text, is_same};
+use irc_line::{Line, Name, Text, is_a_name, is_a_text};
 use std::alloc::{AllocError, Global};
 
 /// Two bytes of length and the bytes, which are one field.
@@ -28,11 +29,7 @@ impl Wire for Name {
     }
 
     #[tactic(auto, unfolding(crate::specs::Contents::name))]
-    fn take(alloc: Global, input: &[u8]) -> Result<(Self, usize), WireFault>
-        ensures ok { IfOk result (λ r. name input.now ≡ Ok (r.0, r.1)) }
-        ensures err { IfErr result (λ e. e ≢ WireFault.Memory → name input.now ≡ Err e) }
-        ensures memory { IfErr result (λ e. e ≡ WireFault.Memory → IsOk (name input.now)) }
-    {
+    fn take(alloc: Global, input: &[u8]) -> Result<(Self, usize), WireFault> {
         let bytes = take_sized(input)?;
         if !is_a_name(bytes) {
             return Err(WireFault::Bad(0));
@@ -67,11 +64,7 @@ impl Wire for Text {
     }
 
     #[tactic(auto, unfolding(crate::specs::Contents::text))]
-    fn take(alloc: Global, input: &[u8]) -> Result<(Self, usize), WireFault>
-        ensures ok { IfOk result (λ r. text input.now ≡ Ok (r.0, r.1)) }
-        ensures err { IfErr result (λ e. e ≢ WireFault.Memory → text input.now ≡ Err e) }
-        ensures memory { IfErr result (λ e. e ≡ WireFault.Memory → IsOk (text input.now)) }
-    {
+    fn take(alloc: Global, input: &[u8]) -> Result<(Self, usize), WireFault> {
         let bytes = take_sized(input)?;
         if !is_a_text(bytes) {
             return Err(WireFault::Bad(0));
@@ -87,8 +80,8 @@ impl Wire for Text {
 
 /// Two bytes of length, 1 to 511, and the canonical spelling; any other spelling of a line is refused.
 impl Wire for Line {
-    ghost use Rattle.std.specs.Prelude.{is_ok};
-    ghost use Rattle.wire_bytes.specs.Contents.{spelled_line, sized_bytes, FitsLine, line};
+    ghost use Rattle.wire_bytes.specs.Contents.{spelled_line, FitsLine, line};
+    ghost use Rattle.wire_bytes.specs.Wants.{once_whole};
     ghost use Rattle.wire_bytes.specs.LineCodec.{line_is_codec};
 
     ghost spelled = { spelled_line };
@@ -97,7 +90,7 @@ impl Wire for Line {
 
     ghost taken = { line };
 
-    ghost wants = { λ input. is_ok (sized_bytes input) };
+    ghost wants = { once_whole line };
 
     #[tactic(auto, unfolding(crate::specs::Contents::sized, crate::specs::Contents::spelled_line))]
     fn put(&self, out: &mut Vec<u8>) -> Result<(), AllocError> {
@@ -109,24 +102,15 @@ impl Wire for Line {
 
     #[tactic(auto, using(crate::specs::LineCodec::line_fits), unfolding(crate::specs::Contents::line))]
     fn take(alloc: Global, input: &[u8]) -> Result<(Self, usize), WireFault>
-        ensures ok { IfOk result (λ r. line input.now ≡ Ok (r.0, r.1)) }
-        ensures err { IfErr result (λ e. e ≢ WireFault.Memory → line input.now ≡ Err e) }
-        ensures memory { IfErr result (λ e. e ≡ WireFault.Memory → IsOk (sized_bytes input.now)) }
+        ensures ok { Reads result line input.now }
+        ensures err { Refuses result line input.now }
+        ensures memory { IfErr result (λ e. e ≡ WireFault.Memory → IsOk (line input.now)) }
         ensures fits { IfOk result (λ r. FitsLine r.0) }
     {
         let bytes = take_sized(input)?;
-        match Line::parse(alloc, bytes) {
-            Err(LineFault::Memory) => Err(WireFault::Memory),
-            Err(_) => Err(WireFault::Bad(0)),
-            Ok(line) => {
-                let mut spelling = Vec::new(alloc);
-                line.write_to(&mut spelling)?;
-                if is_same(spelling.as_slice(), bytes) {
-                    Ok((line, 2 + bytes.len()))
-                } else {
-                    Err(WireFault::Bad(0))
-                }
-            }
+        match Line::from_spelling(alloc, bytes)? {
+            None => Err(WireFault::Bad(0)),
+            Some(line) => Ok((line, 2 + bytes.len())),
         }
     }
 
