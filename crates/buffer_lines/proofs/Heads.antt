@@ -2,9 +2,9 @@
 use Rattle.std.proofs.Common.{◌≡◌, ℕ, ◌/◌, ◌%◌, length, Bool, true, false, ◌||◌, List, [], ◌∷◌, ◌++◌, refl, append_assoc}
 use Rattle.std.specs.Prelude.{Option, ◌==◌}
 use Rattle.std.specs.List.{list_any}
-use Rattle.irc_line.specs.Lines.{Parts, spelling, has_colon, is_spoken}
-use Rattle.irc_line.specs.Names.{first_is}
-use Rattle.buffer_lines.specs.Stamps.{timed, stamp, two_digits, stamped, second_of_day, begins_with, action_mark, parameter}
+use Rattle.irc_line.specs.Lines.{Parts, parameter, spelling, has_colon, is_spoken}
+use Rattle.irc_line.specs.Names.{action_mark, begins_with, first_is}
+use Rattle.buffer_lines.specs.Stamps.{timed, stamp, two_digits, stamped, second_of_day}
 use Rattle.buffer_lines.specs.Heads.{head}
 use Rattle.irc_line.proofs.Booleans.{or_first, or_true}
 
@@ -37,8 +37,8 @@ unfolding stamped
 stamped_space_by offset moment text true e = rw e refl
 stamped_space_by offset moment text false e = rw e (time_space (second_of_day offset moment) text)
 
-pub spelling_timed : (offset : ℕ) (k : ℕ × Parts) → spelling (timed offset k) ≡ head (k.1.prefix) (k.1.command) (parameter 1 (k.1)) ++ stamped offset k.0 (parameter 2 (k.1))
+pub spelling_timed : (offset : ℕ) (k : ℕ × Parts) → spelling (timed offset k) ≡ head (k.1.prefix) (k.1.command) (parameter 0 (k.1)) ++ stamped offset k.0 (parameter 1 (k.1))
 unfolding timed
 spelling_timed offset k =
-    spelling_colon (k.1.prefix) (k.1.command) (parameter 1 (k.1)) (stamped offset k.0 (parameter 2 (k.1)))
-    (colon_space (k.1.command) (stamped offset k.0 (parameter 2 (k.1))) (stamped_space_by offset k.0 (parameter 2 (k.1)) (begins_with (parameter 2 (k.1)) action_mark) refl))
+    spelling_colon (k.1.prefix) (k.1.command) (parameter 0 (k.1)) (stamped offset k.0 (parameter 1 (k.1)))
+    (colon_space (k.1.command) (stamped offset k.0 (parameter 1 (k.1))) (stamped_space_by offset k.0 (parameter 1 (k.1)) (begins_with (parameter 1 (k.1)) action_mark) refl))

@@ -1,6 +1,7 @@
 -- Where the time stands in a text.
 use Rattle.std.proofs.Common.{◌≡◌, ℕ, true, false, List, ◌++◌, drop, refl}
-use Rattle.buffer_lines.specs.Stamps.{stamp, second_of_day, stamped, begins_with, action_mark}
+use Rattle.irc_line.specs.Names.{action_mark, begins_with}
+use Rattle.buffer_lines.specs.Stamps.{stamp, second_of_day, stamped}
 
 pub stamped_action : (offset moment : ℕ) (text : List ℕ) → begins_with text action_mark ≡ true
     → stamped offset moment text ≡ action_mark ++ stamp (second_of_day offset moment) ++ drop 8 text

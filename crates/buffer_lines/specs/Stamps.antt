@@ -1,9 +1,11 @@
 -- The time of day of a kept line, and where it stands in the line.
-use Rattle.std.specs.Prelude.{ℕ, ◌+◌, ◌*◌, ◌/◌, ◌%◌, ◌-◌, Bool, if◌then◌else◌, List, [], ◌∷◌, ◌++◌, drop, take, length, codes, map, Some, unwrap_or, slice_get, refl}
+use Rattle.std.specs.Prelude.{ℕ, ◌+◌, ◌*◌, ◌/◌, ◌%◌, if◌then◌else◌, List, [], ◌∷◌, ◌++◌, drop, codes, map, refl}
 use Rattle.std.specs.Coded.{Coded, code_by, coded×, coded_list, coded_ℕ}
-use Rattle.irc_line.specs.Lines.{Parts, parts_code}
-use Rattle.irc_line.specs.Names.{same_bytes}
+use Rattle.circular_buffer.specs.Buffer.{keep_last}
+use Rattle.irc_line.specs.Lines.{Parts, line_of, parameter, parts_code, spelling}
+use Rattle.irc_line.specs.Names.{action_mark, begins_with}
 
+-- a number below 100 in two digits
 abbrev pub two_digits : ℕ → List ℕ
 two_digits n = (48 + n / 10) ∷ (48 + n % 10) ∷ []
 
@@ -16,12 +18,6 @@ stamp second =
 abbrev pub second_of_day : ℕ → ℕ → ℕ
 second_of_day offset moment = (moment + 60 * (offset + 1)) % 86400
 
-abbrev pub action_mark : List ℕ
-action_mark = 1 ∷ codes "ACTION "
-
-abbrev pub begins_with : List ℕ → List ℕ → Bool
-begins_with text mark = same_bytes (take (length mark) text) mark
-
 -- the text with the time before it, in an ACTION behind its mark
 unfoldable pub stamped : ℕ → ℕ → List ℕ → List ℕ
 stamped offset moment text =
@@ -29,18 +25,12 @@ stamped offset moment text =
     then action_mark ++ stamp (second_of_day offset moment) ++ drop 8 text
     else stamp (second_of_day offset moment) ++ text
 
--- parameter i, from 1; no bytes where there is none
-abbrev pub parameter : ℕ → Parts → List ℕ
-parameter i line = unwrap_or (slice_get line.parameters (i - 1)) []
-
-abbrev pub line_of : List ℕ → List ℕ → List (List ℕ) → Parts
-line_of prefix command parameters = record { prefix = Some prefix; command = command; parameters = parameters }
-
 -- a kept line with its time
 unfoldable pub timed : ℕ → ℕ × Parts → Parts
 timed offset k =
-    record (k.1) { parameters = parameter 1 (k.1) ∷ stamped offset k.0 (parameter 2 (k.1)) ∷ [] }
+    record (k.1) { parameters = parameter 0 (k.1) ∷ stamped offset k.0 (parameter 1 (k.1)) ∷ [] }
 
+-- a line before or behind a playback
 abbrev pub frame : List ℕ → List ℕ → Parts
 frame target text = line_of (codes "***!bouncer@local") (codes "PRIVMSG") (target ∷ text ∷ [])
 
@@ -55,11 +45,30 @@ pub record Ring : Type 0 where
   pub lines : List (ℕ × Parts)
   pub size : ℕ
 
+-- the ring of these lines and this size
 abbrev pub ring : List (ℕ × Parts) → ℕ → Ring
 ring lines size = record { lines = lines; size = size }
 
+-- a line with its moment is stored as a pair
 abbrev pub line_code : Coded (ℕ × Parts)
 line_code = coded× coded_ℕ parts_code
 
+-- and a ring as the pair of its fields
 abbrev pub ring_code : Coded Ring
 ring_code = code_by (List (ℕ × Parts) × ℕ) (coded× (coded_list line_code) coded_ℕ) (λ r. (r.lines, r.size)) (λ p. ring p.0 p.1) (λ _. refl)
+
+-- a ring of another size, of which the last lines are kept
+abbrev pub of_size : ℕ → Ring → Ring
+of_size size r = ring (keep_last size r.lines) size
+
+-- a ring with one more line, of which the last ones are kept
+abbrev pub with_line : ℕ × Parts → Ring → Ring
+with_line line r = ring (keep_last r.size (r.lines ++ line ∷ [])) r.size
+
+-- what is shown of lines that are played
+abbrev pub shown_timed : ℕ → List (ℕ × Parts) → List (List ℕ)
+shown_timed offset ks = map (λ k. spelling (timed offset k)) ks
+
+-- what is shown of a playback
+abbrev pub shown_framed : ℕ → List ℕ → List (ℕ × Parts) → List (List ℕ)
+shown_framed offset target ks = map spelling (framed offset target ks)

@@ -1,6 +1,6 @@
 //! What stands before the text of a line of two parameters.
 ghost use Rattle.std.specs.Prelude.{◌≡◌, ◌++◌, OnOk};
-ghost use Rattle.std.specs.Option.{option_map};
+ghost use Rattle.irc_line.specs.Lines.{lent_prefix};
 ghost use Rattle.buffer_lines.specs.Heads.{head};
 
 use std::alloc::AllocError;
@@ -13,7 +13,10 @@ pub(crate) fn push_head(
     command: &[u8],
     target: &[u8],
 ) -> Result<(), AllocError>
-    ensures { OnOk result (out.new.items ≡ out.old.items ++ head (option_map (λ p. p.now) prefix.entry) command.now target.now) }
+    ensures {
+        OnOk result (out.new.items ≡ out.old.items ++
+            head (lent_prefix prefix.entry) command.now target.now)
+    }
 {
     if let Some(prefix) = prefix {
         out.push(b':')?;

@@ -1,7 +1,6 @@
-ghost use Rattle.std.specs.Prelude.{◌≡◌, ◌==◌, [], ◌∷◌, ◌++◌, length, map, codes, IfOk, OnOk, OnErr};
-ghost use Rattle.circular_buffer.specs.Buffer.{keep_last};
+ghost use Rattle.std.specs.Prelude.{◌≡◌, ◌≤◌, [], ◌++◌, codes, IfOk, IsOk, OnOk, OnErr};
 ghost use Rattle.irc_line.specs.Lines.{spelling};
-ghost use Rattle.buffer_lines.specs.Stamps.{frame, framed, ring, timed};
+ghost use Rattle.buffer_lines.specs.Stamps.{frame, of_size, ring, shown_framed, shown_timed, with_line};
 
 use crate::kept_line::KeptLine;
 use crate::offset::Offset;
@@ -13,6 +12,7 @@ use std::marker::Model;
 /// The last lines of one target, the oldest first, and how many of them may be kept.
 #[derive(Drop)]
 pub struct LineRing {
+    alloc: Global,
     lines: HeapCircularBuffer<KeptLine>,
     size: usize,
 }
@@ -36,6 +36,7 @@ impl LineRing {
         ensures { IfOk result (λ r. r ≡ ring [] size) }
     {
         Ok(LineRing {
+            alloc,
             lines: HeapCircularBuffer::with_capacity(alloc, size)?,
             size,
         })
@@ -43,11 +44,12 @@ impl LineRing {
 
     /// Adds a line, and lets the oldest go where there is no room.
     pub fn push(&mut self, line: KeptLine)
-        ensures { self.new ≡ ring (keep_last self.old.size (self.old.lines ++ line ∷ [])) self.old.size }
+        ensures { self.new ≡ with_line line self.old }
     {
         if self.size == 0 {
             return;
         }
+        // The buffer may have more room than the size: it does not let the oldest go by itself.
         if self.lines.len() == self.size {
             self.lines.pop_front();
         }
@@ -55,11 +57,13 @@ impl LineRing {
     }
 
     /// Keeps from now on at most so many lines, and lets the oldest ones go that are too many.
-    /// A refused call changes nothing.
+    /// A refused call changes nothing; a size that is not larger is never refused.
     pub fn set_size(&mut self, size: usize) -> Result<(), AllocError>
-        ensures ok { OnOk result (self.new ≡ ring (keep_last size self.old.lines) size) }
+        ensures ok { OnOk result (self.new ≡ of_size size self.old) }
         ensures err { OnErr result (self.new ≡ self.old) }
+        ensures smaller { size ≤ self.old.size → IsOk result }
     {
+        // Room comes first: a refused call has let no line go.
         if size > self.lines.capacity() {
             self.lines.resize(size)?;
         }
@@ -75,23 +79,12 @@ impl LineRing {
         self.lines.clear();
     }
 
-    /// Whether no line is kept.
-    pub fn is_empty(&self) -> bool
-        ensures { result ≡ (length self.now.lines == 0) }
+    /// The kept lines with their times, between the two frame lines of their target; nothing where
+    /// none is kept.
+    pub fn play(&self, offset: Offset, target: &[u8]) -> Result<Vec<Shown>, AllocError>
+        ensures { IfOk result (λ v. v.items ≡ shown_framed offset target.now self.now.lines) }
     {
-        self.lines.is_empty()
-    }
-
-    /// The kept lines with their times, between the two frame lines of their target; nothing where none is kept.
-    pub fn play(
-        &self,
-        alloc: Global,
-        offset: Offset,
-        target: &[u8],
-    ) -> Result<Vec<Shown>, AllocError>
-        ensures { IfOk result (λ v. v.items ≡ map spelling (framed offset target.now self.now.lines)) }
-    {
-        played(alloc, offset, target, &self.lines)
+        played(self.alloc, offset, target, &self.lines)
     }
 }
 
@@ -103,14 +96,14 @@ fn played(
     target: &[u8],
     lines: &HeapCircularBuffer<KeptLine>,
 ) -> Result<Vec<Shown>, AllocError>
-    ensures { IfOk result (λ v. v.items ≡ map spelling (framed offset target.now lines.now.items)) }
+    ensures { IfOk result (λ v. v.items ≡ shown_framed offset target.now lines.now.items) }
 {
     if lines.is_empty() {
         return Ok(Vec::new(alloc));
     }
     let mut all = Vec::with_capacity(alloc, lines.len().saturating_add(2))?;
     all.push(frame_line(alloc, target, b"Buffer Playback...")?)?;
-    push_played(&mut all, alloc, offset, lines)?;
+    push_played(&mut all, offset, lines)?;
     all.push(frame_line(alloc, target, b"Playback Complete.")?)?;
     Ok(all)
 }
@@ -118,12 +111,12 @@ fn played(
 /// Appends what is shown of kept lines.
 fn push_played(
     all: &mut Vec<Shown>,
-    alloc: Global,
     offset: Offset,
     lines: &HeapCircularBuffer<KeptLine>,
 ) -> Result<(), AllocError>
-    ensures { OnOk result (all.new.items ≡ all.old.items ++ map (λ k. spelling (timed offset k)) lines.now.items) }
+    ensures { OnOk result (all.new.items ≡ all.old.items ++ shown_timed offset lines.now.items) }
 {
+    let alloc = *all.allocator();
     for line in lines.iter() {
         all.push(line.played(alloc, offset)?)?;
     }
@@ -158,10 +151,8 @@ mod tests {
     #[test]
     fn plays_one_line_between_its_frame_lines(rt: HostRuntime) -> Result<(), Fail> {
         let mut ring = LineRing::new(rt.alloc(), 50)?;
-        assert!(rt; ring.is_empty());
         ring.push(kept(rt.alloc(), b":a!b@c PRIVMSG #x :hi", 0)?);
-        assert!(rt; !ring.is_empty());
-        let played = ring.play(rt.alloc(), Offset::default(), b"#x")?;
+        let played = ring.play(Offset::default(), b"#x")?;
         assert_eq!(rt; played.len(), 3);
         assert_eq!(rt;
             played[0].spelling(),
@@ -176,7 +167,7 @@ mod tests {
             b":***!bouncer@local PRIVMSG #x :Playback Complete.".as_slice()
         );
         ring.clear();
-        assert!(rt; ring.play(rt.alloc(), Offset::default(), b"#x")?.is_empty());
+        assert!(rt; ring.play(Offset::default(), b"#x")?.is_empty());
         Ok(())
     }
 
@@ -186,7 +177,7 @@ mod tests {
         ring.push(kept(rt.alloc(), b":a!b@c PRIVMSG #x :one", 0)?);
         ring.push(kept(rt.alloc(), b":a!b@c PRIVMSG #x :two", 1)?);
         ring.push(kept(rt.alloc(), b":a!b@c PRIVMSG #x :three", 2)?);
-        let played = ring.play(rt.alloc(), Offset::default(), b"#x")?;
+        let played = ring.play(Offset::default(), b"#x")?;
         assert_eq!(rt; played.len(), 4);
         assert_eq!(rt;
             played[1].spelling(),
@@ -208,7 +199,7 @@ mod tests {
         ring.set_size(1)?;
         ring.set_size(50)?;
         ring.push(kept(rt.alloc(), b":a!b@c PRIVMSG #x :four", 3)?);
-        let played = ring.play(rt.alloc(), Offset::default(), b"#x")?;
+        let played = ring.play(Offset::default(), b"#x")?;
         assert_eq!(rt; played.len(), 4);
         assert_eq!(rt;
             played[1].spelling(),
@@ -225,10 +216,10 @@ mod tests {
     fn shows_the_time_of_the_offset(rt: HostRuntime) -> Result<(), Fail> {
         let mut ring = LineRing::new(rt.alloc(), 1)?;
         ring.push(kept(rt.alloc(), b"NOTICE #x hi", 0)?);
-        let ahead = ring.play(rt.alloc(), Offset::new(1439 + 60), b"#x")?;
+        let ahead = ring.play(Offset::new(1439 + 60), b"#x")?;
         assert_eq!(rt; ahead.len(), 3);
         assert_eq!(rt; ahead[1].spelling(), b"NOTICE #x :[23:13:20] hi".as_slice());
-        let behind = ring.play(rt.alloc(), Offset::new(1439 - 60), b"#x")?;
+        let behind = ring.play(Offset::new(1439 - 60), b"#x")?;
         assert_eq!(rt; behind.len(), 3);
         assert_eq!(rt;
             behind[1].spelling(),
@@ -241,7 +232,7 @@ mod tests {
     fn shows_the_time_behind_the_mark_of_an_action(rt: HostRuntime) -> Result<(), Fail> {
         let mut ring = LineRing::new(rt.alloc(), 1)?;
         ring.push(kept(rt.alloc(), b":a!b@c PRIVMSG #x :\x01ACTION waves\x01", 0)?);
-        let played = ring.play(rt.alloc(), Offset::default(), b"#x")?;
+        let played = ring.play(Offset::default(), b"#x")?;
         assert_eq!(rt; played.len(), 3);
         assert_eq!(rt;
             played[1].spelling(),

@@ -1,6 +1,5 @@
 ghost use Rattle.std.specs.Prelude.{◌≡◌, map, IfOk};
-ghost use Rattle.std.specs.Option.{option_map};
-ghost use Rattle.irc_line.specs.Lines.{parts, spelling};
+ghost use Rattle.irc_line.specs.Lines.{spelled_parts, spelling};
 
 use irc_line::{Line, write_parts};
 use std::alloc::{AllocError, Global};
@@ -41,7 +40,10 @@ impl Shown {
         command: &[u8],
         parameters: &[&[u8]],
     ) -> Result<Shown, AllocError>
-        ensures { IfOk result (λ s. s ≡ spelling (parts (option_map (λ x. x.now) prefix.entry) command.now (map (λ x. x.now) parameters.now))) }
+        ensures {
+            IfOk result (λ s. s ≡
+                spelled_parts prefix.entry command.now (map (λ x. x.now) parameters.now))
+        }
     {
         let mut bytes = Vec::with_capacity(alloc, SHORT_LINE)?;
         write_parts(&mut bytes, prefix, command, parameters)?;

@@ -1,16 +1,14 @@
 //! The time of day that stands before a played text.
-ghost use Rattle.std.specs.Prelude.{◌≡◌, ◌+◌, ◌/◌, ◌%◌, ◌<◌, ◌++◌, OnOk, drop, take};
+ghost use Rattle.std.specs.Prelude.{◌≡◌, ◌+◌, ◌/◌, ◌%◌, ◌<◌, ◌++◌, OnOk, drop};
 ghost use Rattle.jiff_core.specs.Time.{time_seconds};
-ghost use Rattle.buffer_lines.specs.Stamps.{stamp, second_of_day, stamped, begins_with, action_mark};
+ghost use Rattle.buffer_lines.specs.Stamps.{stamp, second_of_day, stamped};
 
 use crate::offset::Offset;
+use irc_line::{ACTION_MARK, is_action};
 use jiff::civil::Time;
 use jiff::{Timestamp, tz};
 use std::alloc::AllocError;
 use wire_bytes::Moment;
-
-/// What an ACTION begins with.
-const ACTION_MARK: &[u8] = b"\x01ACTION ";
 
 /// How many bytes `push_stamped` adds to a text.
 pub(crate) const STAMP_LEN: usize = 11;
@@ -90,24 +88,6 @@ fn ones(n: u8) -> u8
     ensures { result ≡ 48 + n % 10 }
 {
     b'0' + n % 10
-}
-
-/// Whether a text is an ACTION.
-fn is_action(text: &[u8]) -> bool
-    ensures { result ≡ begins_with text.now action_mark }
-{
-    irc_line::is_same(front(text, ACTION_MARK.len()), ACTION_MARK)
-}
-
-/// The first bytes of a text.
-fn front(text: &[u8], count: usize) -> &[u8]
-    ensures { result.now ≡ take count text.now }
-{
-    if text.len() < count {
-        text
-    } else {
-        &text[..count]
-    }
 }
 
 /// What stands from a place on.

@@ -161,7 +161,7 @@ space_is b e = grind (arith, nat_tests)
 colon_is : (b : ℕ) → (b == 58) ≡ true → b ≡ 58
 colon_is b e = grind (arith, nat_tests)
 
-abbrev NotSpaced : List ℕ → Type 0
+abbrev pub NotSpaced : List ℕ → Type 0
 NotSpaced [] = Unit {0}
 NotSpaced (b ∷ s) = is_space b ≡ false
 
@@ -169,7 +169,7 @@ skipped_by : (b : ℕ) (s : List ℕ) (v : Bool) → is_space b ≡ v → NotSpa
 skipped_by b s true e h = h
 skipped_by b s false e h = e
 
-skipped : (s : List ℕ) → NotSpaced (skip_spaces s)
+pub skipped : (s : List ℕ) → NotSpaced (skip_spaces s)
 skipped [] = tt
 skipped (b ∷ s) = skipped_by b s (is_space b) refl (skipped s)
 
@@ -177,7 +177,7 @@ length_behind_by : (b : ℕ) (s : List ℕ) (v : Bool) → length (behind_word s
 length_behind_by b s true h = omega arith
 length_behind_by b s false h = omega arith
 
-length_behind : (s : List ℕ) → length (behind_word s) ≤ length s
+pub length_behind : (s : List ℕ) → length (behind_word s) ≤ length s
 length_behind [] = omega arith
 length_behind (b ∷ s) = length_behind_by b s (is_space b) (length_behind s)
 
@@ -185,7 +185,7 @@ length_skip_by : (b : ℕ) (s : List ℕ) (v : Bool) → length (skip_spaces s) 
 length_skip_by b s true h = omega arith
 length_skip_by b s false h = omega arith
 
-length_skip : (s : List ℕ) → length (skip_spaces s) ≤ length s
+pub length_skip : (s : List ℕ) → length (skip_spaces s) ≤ length s
 length_skip [] = omega arith
 length_skip (b ∷ s) = length_skip_by b s (is_space b) (length_skip s)
 

@@ -66,7 +66,8 @@ long_by : (content : List ℕ) (b : Bool) → (judged content ≡ Err Memory →
 long_by content true n h = cc
 long_by content false n h = item_by (judged content) n h
 
-not_memory : (content : List ℕ) → judged content ≡ Err Memory → ⊥
+-- want of memory is no judgement of a content
+pub not_memory : (content : List ℕ) → judged content ≡ Err Memory → ⊥
 unfolding judged
 not_memory content h = judged_by content (position is_bad content) (nat_lt 511 (length content)) h
 

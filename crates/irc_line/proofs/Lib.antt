@@ -12,3 +12,6 @@ pub mod Splitting
 pub mod Items
 pub mod SameBytes
 pub mod Order
+pub mod Tails
+pub mod Comparisons
+pub mod Clones

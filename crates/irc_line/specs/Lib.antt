@@ -4,3 +4,4 @@ pub mod Grammar
 pub mod Reading
 pub mod Splitting
 pub mod Keys
+pub mod Comparing

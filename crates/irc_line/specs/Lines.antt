@@ -1,6 +1,9 @@
 -- Lines (RFC 2812, 2.3.1): what a line says, and its one canonical spelling.
-use Rattle.std.specs.Prelude.{ℕ, Bool, true, not, ◌&&◌, ◌||◌, if◌then◌else◌, ◌==◌, nat_le, nat_lt, List, [], ◌∷◌, ◌++◌, length, take, Option, Some, None, refl, codes}
+use Rattle.std.specs.Prelude.{◌<◌, ◌+◌, map, unwrap_or, slice_get, vec_capacity, vec_len, ℕ, Bool, true, not, ◌&&◌, ◌||◌, if◌then◌else◌, ◌==◌, nat_le, nat_lt, List, [], ◌∷◌, ◌++◌, length, take, Option, Some, None, refl, codes}
 use Rattle.std.specs.List.{list_all, list_any}
+use Rattle.std.specs.Global.{Vec}
+use Rattle.std.specs.Option.{option_map}
+use Rattle.std.specs.Borrow.{Bor}
 use Rattle.std.specs.Coded.{Coded, code_by, coded×, coded_list, coded_option, coded_ℕ}
 use Rattle.irc_line.specs.Names.{first_is, is_content_byte, same_bytes}
 
@@ -18,6 +21,30 @@ parts_code =
 -- the record of these parts
 abbrev pub parts : Option (List ℕ) → List ℕ → List (List ℕ) → Parts
 parts prefix command parameters = record { prefix = prefix; command = command; parameters = parameters }
+
+-- a parameter, the first at 0; no bytes where there is none
+abbrev pub parameter : ℕ → Parts → List ℕ
+parameter i line = unwrap_or (slice_get line.parameters i) []
+
+-- a line with this prefix
+abbrev pub line_of : List ℕ → List ℕ → List (List ℕ) → Parts
+line_of prefix command parameters = parts (Some prefix) command parameters
+
+-- a command to a target with a text
+abbrev pub message : Option (List ℕ) → List ℕ → List ℕ → List ℕ → Parts
+message prefix command target text = parts prefix command (target ∷ text ∷ [])
+
+-- the bytes that a prefix in memory holds, where there is one
+abbrev pub held_prefix : Option (Vec ℕ) → Option (List ℕ)
+held_prefix prefix = option_map (λ v. v.items) prefix
+
+-- the parts that vectors hold
+abbrev pub held_parts : Option (Vec ℕ) → Vec ℕ → Vec (Vec ℕ) → Parts
+held_parts prefix command parameters = parts (held_prefix prefix) command.items (map (λ v. v.items) parameters.items)
+
+-- the bytes that a prefix points to, where there is one
+abbrev pub lent_prefix : Option (Bor (List ℕ)) → Option (List ℕ)
+lent_prefix prefix = option_map (λ x. x.now) prefix
 
 -- What a line may say
 
@@ -64,9 +91,13 @@ is_line p = is_prefix p.prefix && is_upper_command p.command && nat_le (length p
 abbrev pub is_spoken : List ℕ → Bool
 is_spoken command = same_bytes command (codes "PRIVMSG") || same_bytes command (codes "NOTICE") || same_bytes command (codes "TOPIC")
 
+-- no word could be this parameter, or it would be read as a trailing one
+abbrev pub is_trailing : List ℕ → Bool
+is_trailing last = length last == 0 || first_is 58 last || list_any (λ b. b == 32) last
+
 -- whether the last parameter has a colon before it
 abbrev pub has_colon : List ℕ → List ℕ → Bool
-has_colon command last = length last == 0 || first_is 58 last || list_any (λ b. b == 32) last || is_spoken command
+has_colon command last = is_trailing last || is_spoken command
 
 -- the last parameter of a command, with the space before it
 abbrev pub spelled_last : List ℕ → List ℕ → List ℕ
@@ -86,6 +117,14 @@ spelled_prefix (Some prefix) = 58 ∷ (prefix ++ 32 ∷ [])
 -- the canonical spelling of parts
 unfoldable pub spelling : Parts → List ℕ
 spelling p = spelled_prefix p.prefix ++ p.command ++ spelled_parameters p.command p.parameters
+
+-- the canonical spelling of a prefix that is pointed to, a command and parameters
+abbrev pub spelled_parts : Option (Bor (List ℕ)) → List ℕ → List (List ℕ) → List ℕ
+spelled_parts prefix command parameters = spelling (parts (lent_prefix prefix) command parameters)
+
+-- a vector has no room for so many more items
+abbrev pub LacksRoom : {A : Type 0} → Vec A → ℕ → Type 0
+LacksRoom out n = vec_capacity out < vec_len out + n
 
 -- what a line is cut to where it leaves: the first 510 bytes of its spelling, with CR LF
 abbrev pub cut_spelling : Parts → List ℕ

@@ -1,5 +1,5 @@
 -- Names, how they are folded (RFC 2812, 2.2 and 2.3.1), and texts.
-use Rattle.std.specs.Prelude.{ℕ, ◌+◌, Bool, true, false, not, ◌&&◌, ◌||◌, if◌then◌else◌, ◌==◌, nat_le, List, [], ◌∷◌, map, length}
+use Rattle.std.specs.Prelude.{◌≡◌, IsTrue, codes, take, ℕ, ◌+◌, Bool, true, false, not, ◌&&◌, ◌||◌, if◌then◌else◌, ◌==◌, nat_le, List, [], ◌∷◌, map, length}
 use Rattle.std.specs.List.{list_all}
 
 -- A to Z become a to z, [ \ ] become { | }, and ~ becomes ^
@@ -34,14 +34,30 @@ abbrev pub first_is : ℕ → List ℕ → Bool
 first_is b [] = false
 first_is b (x ∷ xs) = x == b
 
+-- the bytes begin with these
+abbrev pub begins_with : List ℕ → List ℕ → Bool
+begins_with bytes front = same_bytes (take (length front) bytes) front
+
 -- 1 to 64 bytes, the first not a colon
 unfoldable pub is_name : List ℕ → Bool
 is_name name = nat_le 1 (length name) && nat_le (length name) 64 && list_all is_name_byte name && not (first_is 58 name)
 
+-- the first byte is #, &, + or !
+abbrev pub has_channel_mark : List ℕ → Bool
+has_channel_mark name = first_is 35 name || first_is 38 name || first_is 43 name || first_is 33 name
+
 -- a name that begins with #, &, + or !
 unfoldable pub is_channel : List ℕ → Bool
-is_channel name = is_name name && (first_is 35 name || first_is 38 name || first_is 43 name || first_is 33 name)
+is_channel name = is_name name && has_channel_mark name
 
 -- at most 510 bytes, none of them NUL, CR or LF
 unfoldable pub is_text : List ℕ → Bool
 is_text text = nat_le (length text) 510 && list_all is_content_byte text
+
+-- what an ACTION begins with: the byte 1, and its word with a space
+abbrev pub action_mark : List ℕ
+action_mark = 1 ∷ codes "ACTION "
+
+-- these are the bytes that were tested, and they passed
+abbrev pub IsPassed : (List ℕ → Bool) → List ℕ → List ℕ → Type 0
+IsPassed test bytes given = (given ≡ bytes) × IsTrue (test bytes)

@@ -1,8 +1,8 @@
 -- How a content is read from its front, and which fault it has.
-use Rattle.std.specs.Prelude.{ℕ, Bool, true, false, not, if◌then◌else◌, ◌==◌, nat_lt, List, [], ◌∷◌, length, Option, Some, None, Result, Ok, Err, map, position}
-use Rattle.irc_line.specs.Names.{is_content_byte}
+use Rattle.std.specs.Prelude.{◌≡◌, ◌<◌, ◌≤◌, ℕ, Bool, true, false, not, if◌then◌else◌, ◌==◌, nat_lt, List, [], ◌∷◌, length, Option, Some, None, Result, Ok, Err, map, position}
+use Rattle.irc_line.specs.Names.{is_content_byte, same_bytes}
 use Rattle.irc_line.specs.Lines.{Parts, spelling}
-use Rattle.irc_line.specs.Grammar.{is_space, is_command, upper}
+use Rattle.irc_line.specs.Grammar.{AreContent, IsLine, is_space, is_command, upper}
 use Rattle.irc_line.specs.declared.fault.LineFault.{LineFault}
 use Rattle.irc_line.specs.declared.fault.LineFault.TheVariants.{TooLong, NoCommand, BadByte, TooManyParameters}
 
@@ -32,10 +32,18 @@ parameters_from false (x ∷ s) =
 abbrev pub parameters_of : List ℕ → List (List ℕ)
 parameters_of s = parameters_from false s
 
+-- these are the first parameter of a text and what stands behind it, which is shorter
+pub record IsFirstParameter (text first behind : List ℕ) : Type 0 where
+  pub whole : parameters_of text ≡ first ∷ parameters_of behind
+  pub shorter : length behind < length text
+
+-- the parts of a prefix, of a command in any letters and of what stands behind it
+abbrev pub drafted : Option (List ℕ) → List ℕ → List ℕ → Parts
+drafted prefix word tail = record { prefix = prefix; command = map upper word; parameters = parameters_of tail }
+
 -- the parts of what stands behind a prefix, where it begins with a command
 abbrev pub read_command : Option (List ℕ) → List ℕ → Option Parts
-read_command prefix s =
-    if is_command (word_of s) then Some (record { prefix = prefix; command = map upper (word_of s); parameters = parameters_of (behind_word s) }) else None
+read_command prefix s = if is_command (word_of s) then Some (drafted prefix (word_of s) (behind_word s)) else None
 
 -- the parts of what does not begin with a space
 abbrev pub read_prefix : List ℕ → Option Parts
@@ -63,3 +71,36 @@ judged_bytes (Some place) content = Err (BadByte place)
 -- the parts of a content, or its first fault
 unfoldable pub judged : List ℕ → Result Parts LineFault
 judged content = if nat_lt 511 (length content) then Err TooLong else judged_bytes (position (λ b. not (is_content_byte b)) content) content
+
+-- what was read of these bytes, where they are its canonical spelling
+abbrev pub canonical : List ℕ → Result Parts LineFault → Option Parts
+canonical bytes (Ok p) = if same_bytes (spelling p) bytes then Some p else None
+canonical bytes (Err e) = None
+
+-- a content's first fault
+abbrev pub HasFault : List ℕ → LineFault → Type 0
+HasFault content fault = judged content ≡ Err fault
+
+-- a content's line
+abbrev pub HasLine : List ℕ → Parts → Type 0
+HasLine content p = judged content ≡ Ok p
+
+-- at most 511 bytes, none of them NUL, CR or LF
+abbrev pub IsClean : List ℕ → Type 0
+IsClean content = (length content ≤ 511) × AreContent content
+
+-- a clean content that the grammar reads as these parts
+abbrev pub Says : List ℕ → Parts → Type 0
+Says content p = IsClean content × IsLine content p
+
+-- a content that the grammar does not read
+abbrev pub SaysNothing : List ℕ → Type 0
+SaysNothing content = (p : Parts) → ¬ IsLine content p
+
+-- a line's 15 parameters at most
+abbrev pub HasFew : Parts → Type 0
+HasFew p = length p.parameters ≤ 15
+
+-- a canonical spelling of at most 511 bytes
+abbrev pub IsShort : Parts → Type 0
+IsShort p = length (spelling p) ≤ 511

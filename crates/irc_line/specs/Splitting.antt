@@ -1,5 +1,5 @@
 -- How a stream of bytes is split into lines (RFC 2812, 2.3): a LF ends a content, and one CR before it is dropped.
-use Rattle.std.specs.Prelude.{◌≡◌, ℕ, Bool, true, not, if◌then◌else◌, ◌==◌, nat_lt, List, [], ◌∷◌, ◌++◌, length, take, flat_map, Result, Ok, Err}
+use Rattle.std.specs.Prelude.{◌≡◌, ◌<◌, ℕ, Bool, true, not, if◌then◌else◌, ◌==◌, nat_lt, List, [], ◌∷◌, ◌++◌, length, take, flat_map, Result, Ok, Err}
 use Rattle.std.specs.List.{list_all}
 use Rattle.irc_line.specs.Lines.{Parts}
 use Rattle.irc_line.specs.Reading.{judged}
@@ -77,3 +77,31 @@ unended bytes = unended_from [] bytes
 -- what a splitter holds once it was fed these bytes: what follows the last LF, up to its 512th byte (a content's 510 and CR, and one more)
 unfoldable pub Stands : List ℕ → List ℕ → Type 0
 Stands held fed = held ≡ take 512 (unended fed)
+
+-- a splitter that held the first comes to hold the last by these bytes, whatever it was fed before
+abbrev pub StandsBehind : List ℕ → List ℕ → List ℕ → Type 0
+StandsBehind held bytes after = (fed : List ℕ) → Stands held fed → Stands after (fed ++ bytes)
+
+-- these are the items that the bytes bring, whatever was fed before
+abbrev pub BringsItems : List ℕ → List ℕ → List Item → Type 0
+BringsItems held bytes got = (fed : List ℕ) → Stands held fed → items fed ++ got ≡ items (fed ++ bytes)
+
+-- some bytes with no LF, of which some are still to be held
+abbrev pub HoldsMore : List ℕ → List ℕ → Type 0
+HoldsMore held bytes = HasNoLineFeed bytes → (length held < 512) × (0 < length bytes)
+
+-- the items of a LF, of what is held and stands before it, and of what follows
+abbrev pub items_at : List ℕ → List ℕ → List ℕ → List Item
+items_at held ended rest = ended_items (take 512 (held ++ ended)) ++ items_from [] rest
+
+-- these bytes stand before the first LF and behind it
+abbrev pub IsCutAtLineFeed : List ℕ → List ℕ → List ℕ → Type 0
+IsCutAtLineFeed bytes ended rest = HasNoLineFeed ended × (bytes ≡ ended ++ 10 ∷ rest)
+
+-- bytes before and behind the first LF, and their LF, bring the items of both
+abbrev pub ItemsAreOfBoth : List ℕ → List ℕ → Type 0
+ItemsAreOfBoth ended rest = items (ended ++ 10 ∷ rest) ≡ ended_items ended ++ items rest
+
+-- however bytes are cut, their items are those of the first, then those of the second behind what the first leave
+abbrev pub IsCutAnywhere : List ℕ → List ℕ → Type 0
+IsCutAnywhere fed more = (items (fed ++ more) ≡ items fed ++ items (unended fed ++ more)) × (unended (fed ++ more) ≡ unended (unended fed ++ more))

@@ -1,54 +1,84 @@
-ghost use Rattle.std.specs.Prelude.{◌≡◌, IsTrue, Err, Ok, OnOk, IfErr, Some};
-ghost use Rattle.irc_line.specs.Lines.{is_line};
+//! What a content says, as slices of it: all is judged before anything is built.
+ghost use Rattle.std.specs.Prelude.{◌≡◌, Err, IfErr, IfOk, IsTrue, Ok, OnOk, Some, map};
+ghost use Rattle.irc_line.specs.Names.{same_bytes};
+ghost use Rattle.irc_line.specs.Lines.{is_line, spelling};
+ghost use Rattle.irc_line.specs.Grammar.{upper};
 ghost use Rattle.irc_line.specs.Reading.{judged_parts};
 
-use crate::spelling::spelling_len;
+use crate::comparing::{behind_prefix, behind_upper};
+use crate::line::copied_prefix;
+use crate::spelling::prefix_len;
+use crate::tail::{are_spelled, built_parameters, tail_size};
+use crate::word::upper_byte;
 use crate::{Line, LineFault};
+use std::alloc::{AllocError, Global};
 use std::marker::Model;
 
-/// What a content says, before its limits are checked.
+/// What a content says: its prefix, its command in the letters that stand there,
+/// and what stands behind the command.
 #[derive(Drop)]
-pub struct Draft {
-    pub prefix: Option<Vec<u8>>,
-    pub command: Vec<u8>,
-    pub parameters: Vec<Vec<u8>>,
+pub struct Draft<'a> {
+    pub prefix: Option<&'a [u8]>,
+    pub command: &'a [u8],
+    pub tail: &'a [u8],
 }
 
-impl Model for Draft {
-    ghost use Rattle.std.specs.Prelude.{map};
-    ghost use Rattle.std.specs.Option.{option_map};
-    ghost use Rattle.irc_line.specs.Lines.{Parts, parts, parts_code};
+impl<'a> Model for Draft<'a> {
+    ghost use Rattle.irc_line.specs.Lines.{Parts, lent_prefix, parts_code};
+    ghost use Rattle.irc_line.specs.Reading.{drafted};
 
     ghost Value = { Parts };
 
     ghost coded = { parts_code };
 
-    ghost view = { λ d. parts (option_map (λ v. v.items) d.prefix) d.command.items (map (λ v. v.items) d.parameters.items) };
+    ghost view = { λ d. drafted (lent_prefix d.prefix) d.command.now d.tail.now };
 }
 
-impl Draft {
-    /// Whether the draft is within a line's limits: 15 parameters, and 511 bytes of canonical spelling.
+impl<'a> Draft<'a> {
+    /// Whether the draft is within a line's limits: 15 parameters, and 511 bytes of
+    /// canonical spelling.
+    #[tactic(auto, unfolding(crate::specs::Lines::spelling))]
     pub fn check_limits(&self) -> Result<(), LineFault>
         ensures ok { OnOk result (judged_parts (Some self.now) ≡ Ok self.now) }
         ensures err { IfErr result (λ e. judged_parts (Some self.now) ≡ Err e) }
     {
-        if self.parameters.len() > 15 {
+        let size = tail_size(self.command, self.tail);
+        if size.parameters > 15 {
             return Err(LineFault::TooManyParameters);
         }
-        let prefix = match &self.prefix {
-            None => None,
-            Some(prefix) => Some(prefix.as_slice()),
-        };
-        if spelling_len(prefix, self.command.as_slice(), self.parameters.as_slice()) > 511 {
+        let front = prefix_len(self.prefix).saturating_add(self.command.len());
+        if front.saturating_add(size.spelled) > 511 {
             return Err(LineFault::TooLong);
         }
         Ok(())
     }
 
-    pub fn into_line(self) -> Line
-        requires { IsTrue (is_line self) }
-        ensures { result ≡ self }
+    /// Whether these bytes are the draft's canonical spelling.
+    pub fn is_spelled(&self, bytes: &[u8]) -> bool
+        ensures { result ≡ same_bytes (spelling self.now) bytes.now }
     {
-        Line::new(self.prefix, self.command, self.parameters)
+        let Some(bytes) = behind_prefix(self.prefix, bytes) else {
+            return false;
+        };
+        match behind_upper(self.command, bytes) {
+            None => false,
+            Some(bytes) => are_spelled(self.command, self.tail, bytes),
+        }
     }
+
+    pub fn build(&self, alloc: Global) -> Result<Line, AllocError>
+        requires { IsTrue (is_line self.now) }
+        ensures { IfOk result (λ l. l ≡ self.now) }
+    {
+        let prefix = copied_prefix(alloc, self.prefix)?;
+        let command = in_upper_case(alloc, self.command)?;
+        let parameters = built_parameters(alloc, self.tail)?;
+        Ok(Line::new(prefix, command, parameters))
+    }
+}
+
+fn in_upper_case(alloc: Global, word: &[u8]) -> Result<Vec<u8>, AllocError>
+    ensures { IfOk result (λ v. v.items ≡ map upper word.now) }
+{
+    word.iter().map(|b| upper_byte(*b)).collect(alloc)
 }

@@ -1,9 +1,12 @@
-//! How names are compared (RFC 2812, 2.2).
+//! The casemapping of names: how they are compared (RFC 2812, 2.2).
 ghost use Rattle.std.specs.Prelude.{◌≡◌, IfOk};
+ghost use Rattle.std.specs.Cmp.Lexicographic.{slice_cmp};
+ghost use Rattle.std.specs.Ordering.{nat_cmp};
 ghost use Rattle.irc_line.specs.Names.{fold_byte, fold_name, same_name};
 ghost use Rattle.irc_line.specs.Keys.{is_below};
 
 use std::alloc::{AllocError, Global};
+use std::cmp::Ordering;
 
 fn folded_byte(byte: u8) -> u8
     ensures { result ≡ fold_byte byte }
@@ -41,7 +44,8 @@ pub fn is_same_name(a: &[u8], b: &[u8]) -> bool
     true
 }
 
-/// Whether one name comes before another: by their first folded bytes that differ, or as the shorter one where there are none.
+/// Whether one name comes before another: by their first folded bytes that differ,
+/// or as the shorter one where there are none.
 pub fn is_name_below(a: &[u8], b: &[u8]) -> bool
     ensures { result ≡ is_below (fold_name a.now) (fold_name b.now) }
 {
@@ -53,4 +57,25 @@ pub fn is_name_below(a: &[u8], b: &[u8]) -> bool
         }
     }
     a.len() < b.len()
+}
+
+/// How one name compares with another, in the order of `is_name_below`: `Equal` where they are
+/// the same name.
+pub fn compare_names(a: &[u8], b: &[u8]) -> Ordering
+    ensures { result ≡ slice_cmp nat_cmp (fold_name a.now) (fold_name b.now) }
+{
+    match a {
+        [] => if b.is_empty() {
+            Ordering::Equal
+        } else {
+            Ordering::Less
+        },
+        [first, a @ ..] => match b {
+            [] => Ordering::Greater,
+            [second, b @ ..] => match folded_byte(*first).cmp(&folded_byte(*second)) {
+                Ordering::Equal => compare_names(a, b),
+                order => order,
+            },
+        },
+    }
 }

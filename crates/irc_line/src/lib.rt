@@ -1,7 +1,9 @@
-//! Lines and names of IRC: their grammar, how a content is read, and the one canonical spelling of a line.
+//! Lines and names of IRC: their grammar, how a content is read, and the one canonical spelling
+//! of a line.
 #![tactic(auto)]
 
 mod bytes;
+mod comparing;
 mod draft;
 mod fault;
 mod fold;
@@ -13,15 +15,19 @@ mod reading;
 mod spelling;
 mod splitter;
 #[cfg(test)]
+mod stream_tests;
+mod tail;
+#[cfg(test)]
 mod tests;
 mod text;
+mod word;
 
 pub use bytes::is_same;
 pub use fault::LineFault;
-pub use fold::{fold_name, is_name_below, is_same_name};
+pub use fold::{compare_names, fold_name, is_name_below, is_same_name};
 pub use item::Item;
 pub use line::Line;
 pub use name::{Name, is_a_name, is_channel_name};
 pub use spelling::write_parts;
 pub use splitter::Splitter;
-pub use text::{Text, is_a_text};
+pub use text::{ACTION_MARK, Text, is_a_text, is_action};

@@ -1,12 +1,12 @@
-ghost use Rattle.std.specs.Prelude.{◌≡◌, ◌∷◌, [], map, length, unwrap_or, slice_get, IfOk, IfSome, IsTrue};
-ghost use Rattle.std.specs.Option.{option_map};
-ghost use Rattle.irc_line.specs.Lines.{Parts, is_line, is_prefix, is_upper_command, parts};
+ghost use Rattle.std.specs.Prelude.{◌≡◌, map, length, IfOk, IsTrue};
+ghost use Rattle.irc_line.specs.Lines.{held_parts, held_prefix, is_line, is_prefix, is_upper_command, lent_prefix, message, parameter};
 
 use crate::{Name, Text};
 use std::alloc::{AllocError, Global};
 use std::marker::Model;
 
-/// A line, by what it says (RFC 2812, 2.3.1): an optional prefix, a command and at most 15 parameters.
+/// A line, by what it says (RFC 2812, 2.3.1): an optional prefix, a command and at most
+/// 15 parameters.
 ///
 /// A line that was read has at most 511 bytes; one that was built may have more.
 #[derive(Drop)]
@@ -17,24 +17,23 @@ pub struct Line {
 }
 
 impl Model for Line {
-    ghost use Rattle.std.specs.Prelude.{map, IsTrue};
-    ghost use Rattle.std.specs.Option.{option_map};
-    ghost use Rattle.irc_line.specs.Lines.{Parts, parts, parts_code, is_line};
+    ghost use Rattle.std.specs.Prelude.{IsTrue};
+    ghost use Rattle.irc_line.specs.Lines.{Parts, held_parts, parts_code, is_line};
 
     ghost Value = { Parts };
 
     ghost coded = { parts_code };
 
-    ghost view = { λ l. parts (option_map (λ v. v.items) l.prefix) l.command.items (map (λ v. v.items) l.parameters.items) };
+    ghost view = { λ l. held_parts l.prefix l.command l.parameters };
 
-    ghost invariant = { λ l. IsTrue (is_line (parts (option_map (λ v. v.items) l.prefix) l.command.items (map (λ v. v.items) l.parameters.items))) };
+    ghost invariant = { λ l. IsTrue (is_line (held_parts l.prefix l.command l.parameters)) };
 }
 
 impl Line {
     /// The line of these parts.
     pub fn new(prefix: Option<Vec<u8>>, command: Vec<u8>, parameters: Vec<Vec<u8>>) -> Line
-        requires { IsTrue (is_line (parts (option_map (λ v. v.items) prefix) command.items (map (λ v. v.items) parameters.items))) }
-        ensures { result ≡ parts (option_map (λ v. v.items) prefix) command.items (map (λ v. v.items) parameters.items) }
+        requires { IsTrue (is_line (held_parts prefix command parameters)) }
+        ensures { result ≡ held_parts prefix command parameters }
     {
         Line {
             prefix,
@@ -51,9 +50,10 @@ impl Line {
         target: &Name,
         text: &Text,
     ) -> Result<Line, AllocError>
-        requires prefix { IsTrue (is_prefix (option_map (λ x. x.now) prefix)) }
+        requires prefix { IsTrue (is_prefix (lent_prefix prefix)) }
         requires command { IsTrue (is_upper_command command.now) }
-        ensures { IfOk result (λ l. l ≡ parts (option_map (λ x. x.now) prefix.entry) command.now (target.now ∷ text.now ∷ [])) }
+        ensures { IfOk result (λ l. l ≡
+            message (lent_prefix prefix.entry) command.now target.now text.now) }
     {
         let prefix = copied_prefix(alloc, prefix)?;
         let command = Vec::from_slice(alloc, command)?;
@@ -66,7 +66,7 @@ impl Line {
 
     /// The prefix, without its colon, where there is one.
     pub fn prefix(&self) -> Option<&[u8]>
-        ensures value { option_map (λ x. x.now) result ≡ self.now.prefix }
+        ensures value { lent_prefix result ≡ self.now.prefix }
         ensures line { IsTrue (is_line self.now) }
     {
         match &self.prefix {
@@ -92,7 +92,7 @@ impl Line {
 
     /// A parameter, from 0; no bytes where there is none.
     pub fn parameter(&self, i: usize) -> &[u8]
-        ensures value { result.now ≡ unwrap_or (slice_get self.now.parameters i) [] }
+        ensures value { result.now ≡ parameter i self.now }
         ensures line { IsTrue (is_line self.now) }
     {
         match self.parameters.get(i) {
@@ -113,26 +113,19 @@ impl Line {
         Ok(Line {
             prefix: copied_prefix(alloc, self.prefix())?,
             command: Vec::from_slice(alloc, &self.command)?,
-            parameters: copied_parameters(alloc, &self.parameters)?,
+            parameters: self.parameters.clone()?,
         })
     }
 }
 
-fn copied_prefix(alloc: Global, prefix: Option<&[u8]>) -> Result<Option<Vec<u8>>, AllocError>
-    ensures { IfOk result (λ p. option_map (λ v. v.items) p ≡ option_map (λ x. x.now) prefix.entry) }
+pub(crate) fn copied_prefix(
+    alloc: Global,
+    prefix: Option<&[u8]>,
+) -> Result<Option<Vec<u8>>, AllocError>
+    ensures { IfOk result (λ p. held_prefix p ≡ lent_prefix prefix.entry) }
 {
     match prefix {
         None => Ok(None),
         Some(prefix) => Ok(Some(Vec::from_slice(alloc, prefix)?)),
     }
-}
-
-fn copied_parameters(alloc: Global, parameters: &[Vec<u8>]) -> Result<Vec<Vec<u8>>, AllocError>
-    ensures { IfOk result (λ v. map (λ p. p.items) v.items ≡ map (λ p. p.items) parameters.now) }
-{
-    let mut all = Vec::new(alloc);
-    for parameter in parameters {
-        all.push(Vec::from_slice(alloc, parameter)?)?;
-    }
-    Ok(all)
 }

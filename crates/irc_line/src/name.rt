@@ -1,13 +1,13 @@
-ghost use Rattle.std.specs.Prelude.{◌≡◌, ◌||◌, false, IfOk, IsTrue, MatchOption};
+ghost use Rattle.std.specs.Prelude.{◌≡◌, false, IfOk, IsTrue, MatchOption};
 ghost use Rattle.std.specs.List.{list_all};
-ghost use Rattle.irc_line.specs.Names.{first_is, is_channel, is_name, is_name_byte};
+ghost use Rattle.irc_line.specs.Names.{IsPassed, has_channel_mark, is_channel, is_name, is_name_byte};
 
 use crate::bytes::{begins_with, is_allowed};
 use std::alloc::{AllocError, Global};
 use std::marker::Model;
 
-/// The name of a channel or of a nick: 1 to 64 bytes, none of them NUL, CR, LF, space, comma or byte 7,
-/// the first not a colon.
+/// The name of a channel or of a nick: 1 to 64 bytes, none of them NUL, CR, LF, space, comma or
+/// byte 7, the first not a colon.
 #[derive(Drop)]
 pub struct Name {
     bytes: Vec<u8>,
@@ -27,7 +27,7 @@ impl Model for Name {
 impl Name {
     /// The name of these bytes, where they are one.
     pub fn from_bytes(bytes: Vec<u8>) -> Option<Name>
-        ensures { MatchOption result (is_name bytes.items ≡ false) (λ n. (n ≡ bytes.items) × IsTrue (is_name bytes.items)) }
+        ensures { MatchOption result (is_name bytes.items ≡ false) (IsPassed is_name bytes.items) }
     {
         if is_a_name(bytes.as_slice()) {
             Some(Name { bytes })
@@ -79,7 +79,8 @@ pub fn is_a_name(bytes: &[u8]) -> bool
     1 <= bytes.len() && bytes.len() <= 64 && all_may_name(bytes) && !begins_with(bytes, b':')
 }
 
-/// Whether these bytes are a channel's name: a name that begins with `#`, `&`, `+` or `!` (RFC 2812, 1.3).
+/// Whether these bytes are a channel's name: a name that begins with `#`, `&`, `+` or `!`
+/// (RFC 2812, 1.3).
 #[tactic(auto, unfolding(crate::specs::Names::is_channel))]
 pub fn is_channel_name(bytes: &[u8]) -> bool
     ensures { result ≡ is_channel bytes.now }
@@ -88,7 +89,7 @@ pub fn is_channel_name(bytes: &[u8]) -> bool
 }
 
 fn begins_as_channel(bytes: &[u8]) -> bool
-    ensures { result ≡ (first_is 35 bytes.now || first_is 38 bytes.now || first_is 43 bytes.now || first_is 33 bytes.now) }
+    ensures { result ≡ has_channel_mark bytes.now }
 {
     begins_with(bytes, b'#')
         || begins_with(bytes, b'&')

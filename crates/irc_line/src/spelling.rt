@@ -1,7 +1,6 @@
 //! The canonical spelling of a line (RFC 2812, 2.3.1).
-ghost use Rattle.std.specs.Prelude.{◌≡◌, ◌+◌, ◌++◌, ◌∷◌, [], length, map, min, take, vec_capacity, vec_len, ◌<◌, ◌≤◌, OnErr, OnOk};
-ghost use Rattle.std.specs.Option.{option_map};
-ghost use Rattle.irc_line.specs.Lines.{cut_spelling, has_colon, is_spoken, parts, spelled_last, spelled_parameters, spelled_prefix, spelling};
+ghost use Rattle.std.specs.Prelude.{◌≡◌, ◌+◌, ◌++◌, ◌∷◌, [], length, map, min, take, vec_capacity, ◌≤◌, OnErr, OnOk};
+ghost use Rattle.irc_line.specs.Lines.{cut_spelling, LacksRoom, has_colon, is_spoken, is_trailing, lent_prefix, spelled_last, spelled_parameters, spelled_parts, spelled_prefix, spelling};
 
 use crate::Line;
 use crate::bytes::{begins_with, has_space, is_same};
@@ -9,11 +8,12 @@ use std::alloc::AllocError;
 use std::convert::AsSlice;
 
 impl Line {
-    /// Appends the canonical spelling, without CR LF. It is refused only where room is missing and no memory is left.
+    /// Appends the canonical spelling, without CR LF. It is refused only where room is missing
+    /// and no memory is left.
     pub fn write_to(&self, out: &mut Vec<u8>) -> Result<(), AllocError>
         ensures ok { OnOk result (out.new.items ≡ out.old.items ++ spelling self.now) }
         ensures err { OnErr result (out.new.items ≡ out.old.items) }
-        ensures full { OnErr result (vec_capacity out.old < vec_len out.old + length (spelling self.now)) }
+        ensures full { OnErr result (LacksRoom out.old (length (spelling self.now))) }
         ensures capacity { vec_capacity out.old ≤ vec_capacity out.new }
     {
         write_spelling(out, self.prefix(), self.command(), self.parameters())
@@ -24,7 +24,7 @@ impl Line {
     pub fn write_cut(&self, out: &mut Vec<u8>) -> Result<(), AllocError>
         ensures ok { OnOk result (out.new.items ≡ out.old.items ++ cut_spelling self.now) }
         ensures err { OnErr result (out.new.items ≡ out.old.items) }
-        ensures full { OnErr result (vec_capacity out.old < vec_len out.old + length (spelling self.now) + 2) }
+        ensures full { OnErr result (LacksRoom out.old (length (spelling self.now) + 2)) }
         ensures capacity { vec_capacity out.old ≤ vec_capacity out.new }
     {
         let before = out.len();
@@ -52,9 +52,11 @@ pub fn write_parts(
     command: &[u8],
     parameters: &[&[u8]],
 ) -> Result<(), AllocError>
-    ensures ok { OnOk result (out.new.items ≡ out.old.items ++ spelling (parts (option_map (λ x. x.now) prefix.entry) command.now (map (λ x. x.now) parameters.now))) }
+    ensures ok { OnOk result (out.new.items ≡ out.old.items ++
+        spelled_parts prefix.entry command.now (map (λ x. x.now) parameters.now)) }
     ensures err { OnErr result (out.new.items ≡ out.old.items) }
-    ensures full { OnErr result (vec_capacity out.old < vec_len out.old + length (spelling (parts (option_map (λ x. x.now) prefix.entry) command.now (map (λ x. x.now) parameters.now)))) }
+    ensures full { OnErr result (LacksRoom out.old
+        (length (spelled_parts prefix.entry command.now (map (λ x. x.now) parameters.now)))) }
     ensures capacity { vec_capacity out.old ≤ vec_capacity out.new }
 {
     write_spelling(out, prefix, command, parameters)
@@ -66,9 +68,11 @@ fn write_spelling<P: AsSlice<u8>>(
     command: &[u8],
     parameters: &[P],
 ) -> Result<(), AllocError>
-    ensures ok { OnOk result (out.new.items ≡ out.old.items ++ spelling (parts (option_map (λ x. x.now) prefix.entry) command.now (map P.items parameters.now))) }
+    ensures ok { OnOk result (out.new.items ≡ out.old.items ++
+        spelled_parts prefix.entry command.now (map P.items parameters.now)) }
     ensures err { OnErr result (out.new.items ≡ out.old.items) }
-    ensures full { OnErr result (vec_capacity out.old < vec_len out.old + length (spelling (parts (option_map (λ x. x.now) prefix.entry) command.now (map P.items parameters.now)))) }
+    ensures full { OnErr result (LacksRoom out.old
+        (length (spelled_parts prefix.entry command.now (map P.items parameters.now)))) }
     ensures capacity { vec_capacity out.old ≤ vec_capacity out.new }
 {
     let before = out.len();
@@ -87,9 +91,11 @@ fn push_spelling<P: AsSlice<u8>>(
     command: &[u8],
     parameters: &[P],
 ) -> Result<(), AllocError>
-    ensures ok { OnOk result (out.new.items ≡ out.old.items ++ spelling (parts (option_map (λ x. x.now) prefix.entry) command.now (map P.items parameters.now))) }
+    ensures ok { OnOk result (out.new.items ≡ out.old.items ++
+        spelled_parts prefix.entry command.now (map P.items parameters.now)) }
     ensures err { OnErr result (take (length out.old.items) out.new.items ≡ out.old.items) }
-    ensures full { OnErr result (vec_capacity out.old < vec_len out.old + length (spelling (parts (option_map (λ x. x.now) prefix.entry) command.now (map P.items parameters.now)))) }
+    ensures full { OnErr result (LacksRoom out.old
+        (length (spelled_parts prefix.entry command.now (map P.items parameters.now)))) }
     ensures capacity { vec_capacity out.old ≤ vec_capacity out.new }
 {
     push_prefix(out, prefix)?;
@@ -98,9 +104,11 @@ fn push_spelling<P: AsSlice<u8>>(
 }
 
 fn push_prefix(out: &mut Vec<u8>, prefix: Option<&[u8]>) -> Result<(), AllocError>
-    ensures ok { OnOk result (out.new.items ≡ out.old.items ++ spelled_prefix (option_map (λ x. x.now) prefix.entry)) }
+    ensures ok { OnOk result (out.new.items ≡ out.old.items ++
+        spelled_prefix (lent_prefix prefix.entry)) }
     ensures err { OnErr result (take (length out.old.items) out.new.items ≡ out.old.items) }
-    ensures full { OnErr result (vec_capacity out.old < vec_len out.old + length (spelled_prefix (option_map (λ x. x.now) prefix.entry))) }
+    ensures full { OnErr result (LacksRoom out.old (length (spelled_prefix
+        (lent_prefix prefix.entry)))) }
     ensures capacity { vec_capacity out.old ≤ vec_capacity out.new }
 {
     if let Some(prefix) = prefix {
@@ -116,9 +124,11 @@ fn push_parameters<P: AsSlice<u8>>(
     command: &[u8],
     parameters: &[P],
 ) -> Result<(), AllocError>
-    ensures ok { OnOk result (out.new.items ≡ out.old.items ++ spelled_parameters command.now (map P.items parameters.now)) }
+    ensures ok { OnOk result (out.new.items ≡ out.old.items ++
+        spelled_parameters command.now (map P.items parameters.now)) }
     ensures err { OnErr result (take (length out.old.items) out.new.items ≡ out.old.items) }
-    ensures full { OnErr result (vec_capacity out.old < vec_len out.old + length (spelled_parameters command.now (map P.items parameters.now))) }
+    ensures full { OnErr result (LacksRoom out.old
+        (length (spelled_parameters command.now (map P.items parameters.now)))) }
     ensures capacity { vec_capacity out.old ≤ vec_capacity out.new }
 {
     match parameters {
@@ -135,7 +145,7 @@ fn push_parameters<P: AsSlice<u8>>(
 fn push_last(out: &mut Vec<u8>, command: &[u8], last: &[u8]) -> Result<(), AllocError>
     ensures ok { OnOk result (out.new.items ≡ out.old.items ++ spelled_last command.now last.now) }
     ensures err { OnErr result (take (length out.old.items) out.new.items ≡ out.old.items) }
-    ensures full { OnErr result (vec_capacity out.old < vec_len out.old + length (spelled_last command.now last.now)) }
+    ensures full { OnErr result (LacksRoom out.old (length (spelled_last command.now last.now))) }
     ensures capacity { vec_capacity out.old ≤ vec_capacity out.new }
 {
     out.push(b' ')?;
@@ -152,14 +162,15 @@ pub fn spelling_len<P: AsSlice<u8>>(
     command: &[u8],
     parameters: &[P],
 ) -> usize
-    ensures { result ≡ min (length (spelling (parts (option_map (λ x. x.now) prefix.entry) command.now (map P.items parameters.now)))) usize.MAX }
+    ensures { let all = spelled_parts prefix.entry command.now (map P.items parameters.now) in
+        result ≡ min (length all) usize.MAX }
 {
     let front = prefix_len(prefix).saturating_add(command.len());
     front.saturating_add(parameters_len(command, parameters))
 }
 
-fn prefix_len(prefix: Option<&[u8]>) -> usize
-    ensures { result ≡ length (spelled_prefix (option_map (λ x. x.now) prefix.entry)) }
+pub fn prefix_len(prefix: Option<&[u8]>) -> usize
+    ensures { result ≡ length (spelled_prefix (lent_prefix prefix.entry)) }
 {
     match prefix {
         None => 0,
@@ -168,7 +179,8 @@ fn prefix_len(prefix: Option<&[u8]>) -> usize
 }
 
 fn parameters_len<P: AsSlice<u8>>(command: &[u8], parameters: &[P]) -> usize
-    ensures { result ≡ min (length (spelled_parameters command.now (map P.items parameters.now))) usize.MAX }
+    ensures { result ≡
+        min (length (spelled_parameters command.now (map P.items parameters.now))) usize.MAX }
 {
     match parameters {
         [] => 0,
@@ -192,7 +204,14 @@ fn last_len(command: &[u8], last: &[u8]) -> usize
 fn needs_colon(command: &[u8], last: &[u8]) -> bool
     ensures { result ≡ has_colon command.now last.now }
 {
-    last.is_empty() || begins_with(last, b':') || has_space(last) || is_spoken_word(command)
+    is_a_trailing(last) || is_spoken_word(command)
+}
+
+/// Whether this parameter can only be a trailing one.
+pub fn is_a_trailing(last: &[u8]) -> bool
+    ensures { result ≡ is_trailing last.now }
+{
+    last.is_empty() || begins_with(last, b':') || has_space(last)
 }
 
 /// Whether the command's last parameter always has a colon before it.

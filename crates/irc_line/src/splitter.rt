@@ -1,6 +1,7 @@
 //! How a stream of bytes is split into lines (RFC 2812, 2.3).
-ghost use Rattle.std.specs.Prelude.{◌≡◌, ◌<◌, ◌≤◌, ◌++◌, ◌∷◌, List, ℕ, [], length, take, position, IfOk, OnOk, OnErr, MatchOption};
-ghost use Rattle.irc_line.specs.Splitting.{HasNoLineFeed, Stands, is_line_feed, content_item, items, ended_items, items_from, unended_from, without_return};
+ghost use Rattle.std.specs.Prelude.{◌≡◌, ◌<◌, ◌≤◌, ◌++◌, [], length, take, position, IfOk, OnOk, OnErr, MatchOption};
+ghost use Rattle.irc_line.specs.Splitting.{BringsItems, HasNoLineFeed, HoldsMore, IsCutAtLineFeed, Stands, StandsBehind};
+ghost use Rattle.irc_line.specs.Splitting.{is_line_feed, content_item, ended_items, items_at, items_from, unended_from, without_return};
 
 use crate::{Item, Line, LineFault};
 use std::alloc::{AllocError, Global};
@@ -8,12 +9,13 @@ use std::marker::Model;
 
 /// Splits bytes that come in pieces, however they are cut, into items.
 ///
-/// A LF ends a content, one CR before it is dropped, and an empty content gives nothing. A content of
-/// more than 510 bytes is refused once, at its LF. What follows the last LF gives nothing yet.
+/// A LF ends a content, one CR before it is dropped, and an empty content gives nothing. A content
+/// of more than 510 bytes is refused once, at its LF. What follows the last LF gives nothing yet.
 #[derive(Drop)]
 pub struct Splitter {
     alloc: Global,
-    /// The bytes since the last LF, up to the 512th, which tells that they are too many even with a CR.
+    /// The bytes since the last LF, up to the 512th, which tells that they are too many even with
+    /// a CR.
     held: Vec<u8>,
 }
 
@@ -39,13 +41,13 @@ impl Splitter {
         }
     }
 
-    /// The items of the contents that these bytes end. Where no memory is left the splitter is as before;
-    /// none is asked for what follows the last LF past the 512th byte.
+    /// The items of the contents that these bytes end. Where no memory is left the splitter is as
+    /// before; none is asked for what follows the last LF past the 512th byte.
     pub fn feed(&mut self, bytes: &[u8]) -> Result<Vec<Item>, AllocError>
-        ensures stands { (fed : List ℕ) → Stands self.old fed → OnOk result (Stands self.new (fed ++ bytes.now)) }
-        ensures items { (fed : List ℕ) → Stands self.old fed → IfOk result (λ got. items fed ++ got.items ≡ items (fed ++ bytes.now)) }
+        ensures stands { OnOk result (StandsBehind self.old bytes.now self.new) }
+        ensures items { IfOk result (λ got. BringsItems self.old bytes.now got.items) }
         ensures err { OnErr result (self.new ≡ self.old) }
-        ensures memory { OnErr result (HasNoLineFeed bytes.now → (length self.old < 512) × (0 < length bytes.now)) }
+        ensures memory { OnErr result (HoldsMore self.old bytes.now) }
     {
         match at_line_feed(bytes) {
             None => {
@@ -60,9 +62,10 @@ impl Splitter {
         }
     }
 
-    /// What a LF gives, between what stands before it and the rest: the items, and the bytes that are then held.
+    /// What a LF gives, between what stands before it and the rest: the items, and the bytes that
+    /// are then held.
     fn split(&self, ended: &[u8], rest: &[u8]) -> Result<(Vec<Item>, Vec<u8>), AllocError>
-        ensures items { IfOk result (λ t. t.0.items ≡ ended_items (take 512 (self.now ++ ended.now)) ++ items_from [] rest.now) }
+        ensures items { IfOk result (λ t. t.0.items ≡ items_at self.now ended.now rest.now) }
         ensures held { IfOk result (λ t. t.1.items ≡ take 512 (unended_from [] rest.now)) }
         ensures bound { IfOk result (λ t. length t.1.items ≤ 512) }
     {
@@ -78,7 +81,8 @@ impl Splitter {
 
 /// What stands before the first LF, and what follows it.
 fn at_line_feed(bytes: &[u8]) -> Option<(&[u8], &[u8])>
-    ensures { MatchOption result (HasNoLineFeed bytes.now) (λ t. HasNoLineFeed t.0.now × (bytes.now ≡ t.0.now ++ 10 ∷ t.1.now)) }
+    ensures { MatchOption result (HasNoLineFeed bytes.now)
+        (λ t. IsCutAtLineFeed bytes.now t.0.now t.1.now) }
 {
     match line_feed_place(bytes) {
         None => None,

@@ -1,9 +1,10 @@
 //! What lines say, by examples.
 use crate::{
-    Item, Line, LineFault, Name, Splitter, Text, fold_name, is_channel_name, is_name_below,
-    is_same_name, write_parts,
+    Line, LineFault, Name, Text, compare_names, fold_name, is_action, is_channel_name,
+    is_name_below, is_same_name, write_parts,
 };
 use std::alloc::Global;
+use std::cmp::Ordering;
 use std::test::Fail;
 
 fn spelled(alloc: Global, content: &str) -> Result<Vec<u8>, Fail> {
@@ -34,6 +35,38 @@ fn a_line_is_spelled_in_one_way(rt: HostRuntime) -> Result<(), Fail> {
     ] {
         let out = spelled(alloc, content)?;
         assert_eq!(rt; out.as_slice(), want.as_bytes());
+    }
+    Ok(())
+}
+
+#[test]
+fn a_line_comes_from_its_spelling_alone(rt: HostRuntime) -> Result<(), Fail> {
+    let alloc = rt.alloc();
+    for (bytes, is_spelling) in [
+        ("PING b", true),
+        (":s 001 me Hello", true),
+        ("PRIVMSG #x :", true),
+        ("PRIVMSG #x :word", true),
+        ("PING", true),
+        ("ping b", false),
+        ("PING  b", false),
+        ("PING b ", false),
+        (" PING b", false),
+        (":s  PING b", false),
+        ("PING :b", false),
+        ("PRIVMSG #x word", false),
+        ("12 b", false),
+        ("", false),
+    ] {
+        match Line::from_spelling(alloc, bytes.as_bytes())? {
+            None => assert!(rt; !is_spelling, "{bytes}"),
+            Some(line) => {
+                let mut out = Vec::new(alloc);
+                line.write_to(&mut out)?;
+                assert!(rt; is_spelling, "{bytes}");
+                assert_eq!(rt; out.as_slice(), bytes.as_bytes());
+            }
+        }
     }
     Ok(())
 }
@@ -120,6 +153,12 @@ fn names_are_in_order(rt: HostRuntime) -> Result<(), Fail> {
         ("#z", "#[", true),
     ] {
         assert_eq!(rt; is_name_below(a.as_bytes(), b.as_bytes()), want);
+        let order = compare_names(a.as_bytes(), b.as_bytes());
+        assert_eq!(rt; order == Ordering::Less, want);
+        assert_eq!(rt;
+            order == Ordering::Equal,
+            is_same_name(a.as_bytes(), b.as_bytes())
+        );
     }
     Ok(())
 }
@@ -178,6 +217,7 @@ fn messages_are_built(rt: HostRuntime) -> Result<(), Fail> {
         b":me!bouncer@local PRIVMSG #x :hi".as_slice()
     );
     assert!(rt; target.is_channel());
+    assert!(rt; is_action(b"\x01ACTION waves\x01") && !is_action(b"\x01ACTIONS"));
     out.clear();
     write_parts(&mut out, None, b"CAP", &[b"*".as_slice(), b"LS", b""])?;
     assert_eq!(rt; out.as_slice(), b"CAP * LS :".as_slice());
@@ -191,81 +231,5 @@ fn faults_are_told(rt: HostRuntime) -> Result<(), Fail> {
         told.as_str(),
         "a byte that no line may hold stands at 3; a line has no command"
     );
-    Ok(())
-}
-
-/// Adds the front of a content, `a` up to this length, and an end.
-fn fed_content(out: &mut Vec<u8>, front: &[u8], len: usize, end: &[u8]) -> Result<(), Fail> {
-    out.extend_from_slice(front)?;
-    for _ in front.len()..len {
-        out.push(b'a')?;
-    }
-    out.extend_from_slice(end)?;
-    Ok(())
-}
-
-/// Adds each item: a line's canonical spelling or its fault's letter, and a LF.
-fn tell_items(out: &mut Vec<u8>, items: &[Item]) -> Result<(), Fail> {
-    for item in items {
-        match item {
-            Item::Got(line) => line.write_to(out)?,
-            Item::Refused(LineFault::TooLong) => out.push(b'L')?,
-            Item::Refused(LineFault::BadByte(_)) => out.push(b'B')?,
-            Item::Refused(_) => out.push(b'N')?,
-        }
-        out.push(b'\n')?;
-    }
-    Ok(())
-}
-
-/// What is told of the items of bytes that are fed piece by piece.
-fn told_in_pieces(alloc: Global, pieces: &[&[u8]]) -> Result<Vec<u8>, Fail> {
-    let mut splitter = Splitter::new(alloc);
-    let mut told = Vec::new(alloc);
-    for piece in pieces {
-        tell_items(&mut told, &splitter.feed(*piece)?)?;
-    }
-    Ok(told)
-}
-
-#[test]
-fn a_stream_is_split_however_it_is_cut(rt: HostRuntime) -> Result<(), Fail> {
-    let alloc = rt.alloc();
-    let mut bytes = Vec::new(alloc);
-    let mut want = Vec::new(alloc);
-    fed_content(&mut bytes, b"PRIVMSG #x :", 510, b"\r\n")?;
-    fed_content(&mut want, b"PRIVMSG #x :", 510, b"\n")?;
-    fed_content(&mut bytes, b"PRIVMSG #x :", 511, b"\r\n")?;
-    bytes.extend_from_slice(b"PING  b\n")?;
-    want.extend_from_slice(b"L\nPING b\n")?;
-    let whole = told_in_pieces(alloc, &[bytes.as_slice()])?;
-    assert_eq!(rt; whole.as_slice(), want.as_slice());
-    for cut in 0..bytes.len() {
-        let (front, rest) = bytes.as_slice().split_at(cut);
-        let told = told_in_pieces(alloc, &[front, rest])?;
-        assert_eq!(rt; told.as_slice(), want.as_slice(), "{cut}");
-    }
-    let mut splitter = Splitter::new(alloc);
-    let mut told = Vec::new(alloc);
-    for byte in &bytes {
-        tell_items(&mut told, &splitter.feed(&[*byte])?)?;
-    }
-    assert_eq!(rt; told.as_slice(), want.as_slice());
-    Ok(())
-}
-
-#[test]
-fn a_stream_has_empty_contents_and_faults(rt: HostRuntime) -> Result<(), Fail> {
-    let alloc = rt.alloc();
-    for (bytes, want) in [
-        ("\n\r\n\n", ""),
-        ("PING a\rb\r\n", "B\n"),
-        ("PING a\r\r\n", "B\n"),
-        ("   \r\n12\nPING b\r\n", "N\nN\nPING b\n"),
-        ("PING b", ""),
-    ] {
-        let told = told_in_pieces(alloc, &[bytes.as_bytes()])?;
-        assert_eq!(rt; told.as_slice(), want.as_bytes());
-    }
     Ok(())
 }

@@ -1,8 +1,8 @@
 ghost use Rattle.std.specs.Prelude.{◌≡◌, false, IfOk, IsTrue, MatchOption};
 ghost use Rattle.std.specs.List.{list_all};
-ghost use Rattle.irc_line.specs.Names.{is_content_byte, is_text};
+ghost use Rattle.irc_line.specs.Names.{IsPassed, action_mark, begins_with, is_content_byte, is_text};
 
-use crate::bytes::is_allowed;
+use crate::bytes::{is_allowed, is_same};
 use std::alloc::{AllocError, Global};
 use std::marker::Model;
 
@@ -26,7 +26,7 @@ impl Model for Text {
 impl Text {
     /// The text of these bytes, where they are one.
     pub fn from_bytes(bytes: Vec<u8>) -> Option<Text>
-        ensures { MatchOption result (is_text bytes.items ≡ false) (λ t. (t ≡ bytes.items) × IsTrue (is_text bytes.items)) }
+        ensures { MatchOption result (is_text bytes.items ≡ false) (IsPassed is_text bytes.items) }
     {
         if is_a_text(bytes.as_slice()) {
             Some(Text { bytes })
@@ -63,4 +63,14 @@ pub fn is_a_text(bytes: &[u8]) -> bool
     ensures { result ≡ is_text bytes.now }
 {
     bytes.len() <= 510 && all_allowed(bytes)
+}
+
+/// What an ACTION begins with.
+pub const ACTION_MARK: &[u8] = b"\x01ACTION ";
+
+/// Whether a text is an ACTION.
+pub fn is_action(text: &[u8]) -> bool
+    ensures { result ≡ begins_with text.now action_mark }
+{
+    text.len() >= ACTION_MARK.len() && is_same(&text[..ACTION_MARK.len()], ACTION_MARK)
 }

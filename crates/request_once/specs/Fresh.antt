@@ -73,3 +73,13 @@ HasNumbers numbers bodies = (o : Origin) → unwrap_or (numbers o) 0 ≡ last bo
 -- the numbers after one more of an origin
 abbrev pub IsNoted : (Origin → Option ℕ) → (Origin → Option ℕ) → Origin → ℕ → Type 0
 IsNoted old new origin number = (o : Origin) → unwrap_or (new o) 0 ≡ (if same_origin o origin then number else unwrap_or (old o) 0)
+
+-- an answer says that the request of this origin and number took effect
+abbrev pub is_done : {E : Type 0} → Origin → ℕ → Answer E → Bool
+is_done o n (Done p m) = same_origin o p && m == n
+is_done o n _ = false
+
+-- how many answers say so
+abbrev pub dones : {E : Type 0} → Origin → ℕ → List (Answer E) → ℕ
+dones o n [] = 0
+dones o n (e ∷ es) = if is_done o n e then dones o n es + 1 else dones o n es

@@ -1,20 +1,33 @@
 -- Bodies as bytes: a kind byte, 0 for a command of the machine below and 1 for a numbered request, and what it has.
 use Rattle.std.specs.Prelude.{ℕ, List, [], ◌∷◌, ◌++◌}
 use Rattle.wire_bytes.specs.Fields.{Reading, through, both, choice}
+use Rattle.wire_bytes.specs.Wants.{Wants, wants_behind, wants_choice}
 use Rattle.wire_bytes.specs.Values.{spelled_origin, spelled_number, FitsOrigin, FitsNumber, FitsMoment, origin, number, moment}
 use Rattle.wire_bytes.specs.declared.origin.Origin.{Origin}
 use Rattle.request_once.specs.declared.body.Body.{Body}
 use Rattle.request_once.specs.declared.body.Body.TheVariants.{Inner, Asked}
+
+-- a request: its origin, its number, its moment and its action
+abbrev pub spelled_asked : {A : Type 0} → (A → List ℕ) → Origin → ℕ → ℕ → A → List ℕ
+spelled_asked action o n at a = ((spelled_origin o ++ spelled_number n) ++ spelled_number at) ++ action a
+
+-- a request wants memory for its action alone
+abbrev pub asked_wants : Wants → Wants
+asked_wants action = wants_behind (both (both origin number) moment) action
+
+-- which inputs may want memory: a command below does, and a request
+abbrev pub body_wants : Wants → Wants → Wants
+body_wants command action = wants_choice ((0, command) ∷ (1, asked_wants action) ∷ [])
 
 module _ {C A : Type 0} where
   abbrev pub body_kind : Body C A → ℕ
   body_kind (Inner c) = 0
   body_kind (Asked o n at a) = 1
 
-  -- origin, number, moment, action
+  -- what stands behind the kind byte
   abbrev pub spelled_parts : (C → List ℕ) → (A → List ℕ) → Body C A → List ℕ
   spelled_parts command action (Inner c) = command c
-  spelled_parts command action (Asked o n at a) = ((spelled_origin o ++ spelled_number n) ++ spelled_number at) ++ action a
+  spelled_parts command action (Asked o n at a) = spelled_asked action o n at a
 
   abbrev pub spelled_body : (C → List ℕ) → (A → List ℕ) → Body C A → List ℕ
   spelled_body command action body = body_kind body ∷ spelled_parts command action body

@@ -1,9 +1,7 @@
 //! What comes to a machine whose requests are numbered.
-ghost use Rattle.std.specs.Prelude.{◌≡◌, ◌≢◌, ◌≤◌, ◌++◌, length, IfOk, IfErr, Ok, Err, is_ok, if◌then◌else◌};
-ghost use Rattle.wire_bytes.specs.Fields.{behind};
-ghost use Rattle.wire_bytes.specs.Codecs.{codec};
-ghost use Rattle.wire_bytes.specs.Values.{spelled_origin, spelled_number};
-ghost use Rattle.request_once.specs.Spelling.{spelled_body, FitsBody, body_taken, inner_taken, asked_taken};
+ghost use Rattle.std.specs.Prelude.{◌≡◌, ◌≢◌, ◌<◌, ◌≤◌, ◌+◌, drop, length, vec_capacity, vec_len, IfOk, IfErr, IsTrue, OnErr, Ok, Err};
+ghost use Rattle.wire_bytes.specs.Fields.{appended, behind};
+ghost use Rattle.request_once.specs.Spelling.{FitsBody, asked_taken, asked_wants, body_taken, body_wants, inner_taken, spelled_asked, spelled_body};
 ghost use Rattle.request_once.specs.BodyCodec.{body_is_codec};
 
 use std::alloc::{AllocError, Global};
@@ -40,6 +38,8 @@ impl<C: Wire, A: Wire> Wire for Body<C, A> {
 
     ghost taken = { body_taken C.taken A.taken };
 
+    ghost wants = { body_wants C.wants A.wants };
+
     fn put(&self, out: &mut Vec<u8>) -> Result<(), AllocError> {
         let len = out.len();
         match self {
@@ -65,11 +65,7 @@ impl<C: Wire, A: Wire> Wire for Body<C, A> {
         }
     }
 
-    ghost read_back = { (body_is_codec C.spelled C.fits C.taken A.spelled A.fits A.taken (codec C.spelled C.fits C.taken C.read_back C.one_spelling C.bad_within) (codec A.spelled A.fits A.taken A.read_back A.one_spelling A.bad_within)).read_back };
-
-    ghost one_spelling = { (body_is_codec C.spelled C.fits C.taken A.spelled A.fits A.taken (codec C.spelled C.fits C.taken C.read_back C.one_spelling C.bad_within) (codec A.spelled A.fits A.taken A.read_back A.one_spelling A.bad_within)).one_spelling };
-
-    ghost bad_within = { (body_is_codec C.spelled C.fits C.taken A.spelled A.fits A.taken (codec C.spelled C.fits C.taken C.read_back C.one_spelling C.bad_within) (codec A.spelled A.fits A.taken A.read_back A.one_spelling A.bad_within)).bad_within };
+    ghost is_codec = { body_is_codec C.spelled C.fits C.taken A.spelled A.fits A.taken C.is_codec A.is_codec };
 }
 
 /// Appends what a request has, behind its kind byte, or leaves the items as they were.
@@ -81,7 +77,9 @@ fn put_asked<A: Wire>(
     action: &A,
 ) -> Result<(), AllocError>
     requires { A.fits action.now }
-    ensures { out.new.items ≡ (if is_ok result then out.old.items ++ (((spelled_origin origin ++ spelled_number number) ++ spelled_number at) ++ A.spelled action.now) else out.old.items) }
+    ensures items { out.new.items ≡ appended result out.old.items (spelled_asked A.spelled origin number at action.now) }
+    ensures full { OnErr result (vec_capacity out.old < vec_len out.old + length (spelled_asked A.spelled origin number at action.now)) }
+    ensures capacity { vec_capacity out.old ≤ vec_capacity out.new }
 {
     let len = out.len();
     ((origin, number), at).put(out)?;
@@ -97,6 +95,7 @@ fn take_inner<C: Wire, A: Wire>(
     requires { 1 ≤ length input.now }
     ensures ok { IfOk result (λ r. behind 1 (inner_taken {A = A} C.taken) input.now ≡ Ok (r.0, r.1)) }
     ensures err { IfErr result (λ e. e ≢ WireFault.Memory → behind 1 (inner_taken {A = A} C.taken) input.now ≡ Err e) }
+    ensures memory { IfErr result (λ e. e ≡ WireFault.Memory → IsTrue (C.wants (drop 1 input.now))) }
 {
     let (command, end) = take_behind::<C>(alloc, input, 1)?;
     Ok((Body::Inner(command), end))
@@ -110,6 +109,7 @@ fn take_asked<C: Wire, A: Wire>(
     requires { 1 ≤ length input.now }
     ensures ok { IfOk result (λ r. behind 1 (asked_taken A.taken) input.now ≡ Ok (r.0, r.1)) }
     ensures err { IfErr result (λ e. e ≢ WireFault.Memory → behind 1 (asked_taken {C = C} A.taken) input.now ≡ Err e) }
+    ensures memory { IfErr result (λ e. e ≡ WireFault.Memory → IsTrue (asked_wants A.wants (drop 1 input.now))) }
 {
     let ((((origin, number), at), action), end) = take_behind::<(((Origin, Number), Moment), A)>(
         alloc, input, 1,

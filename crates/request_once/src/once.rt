@@ -18,6 +18,7 @@ use wire_bytes::Origin;
 /// The last numbers are kept for good, in a map by origin.
 #[derive(Drop)]
 pub struct Once<M: HasClients> {
+    alloc: Global,
     machine: M,
     last: BTreeMap<Origin, u64>,
     spoilt: bool,
@@ -48,6 +49,7 @@ impl<M: HasClients> Machine for Once<M> {
 
     fn start(alloc: Global, setup: &M::Setup) -> Result<Self, AllocError> {
         Ok(Once {
+            alloc,
             machine: M::start(alloc, setup)?,
             last: BTreeMap::new(alloc),
             spoilt: false,
@@ -56,14 +58,19 @@ impl<M: HasClients> Machine for Once<M> {
 
     fn apply(
         &mut self,
-        alloc: Global,
         place: u64,
         body: &Body<M::Command, M::Action>,
     ) -> Result<Vec<Answer<M::Effect>>, ApplyFault> {
         if self.spoilt {
             return Err(ApplyFault::Spoilt);
         }
-        let result = step(&mut self.machine, &mut self.last, alloc, place, body);
+        let result = step(
+            self.alloc,
+            &mut self.machine,
+            &mut self.last,
+            place,
+            body,
+        );
         if result.is_err() {
             self.spoilt = true;
         }

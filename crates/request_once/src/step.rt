@@ -6,7 +6,7 @@ ghost use Rattle.request_once.specs.Fresh.{plain, answers, HasNumbers, IsNoted};
 
 use crate::answer::Answer;
 use crate::body::Body;
-use machine_laws::{ApplyFault, HasClients};
+use machine_laws::{ApplyFault, HasClients, single};
 use std::alloc::{AllocError, Global};
 use std::collections::BTreeMap;
 use wire_bytes::{Moment, Number, Origin};
@@ -16,15 +16,6 @@ fn passed_on<E: Drop>(alloc: Global, effects: Vec<E>) -> Result<Vec<Answer<E>>, 
     ensures { IfOk result (λ v. v.items ≡ map Answer.Effect effects.items) }
 {
     effects.into_iter().map(Answer::Effect).collect(alloc)
-}
-
-/// A list of one answer.
-fn just<E: Drop>(alloc: Global, answer: Answer<E>) -> Result<Vec<Answer<E>>, AllocError>
-    ensures { IfOk result (λ v. v.items ≡ answer ∷ []) }
-{
-    let mut answers = Vec::new(alloc);
-    answers.push(answer)?;
-    Ok(answers)
 }
 
 /// The number of an origin's last request that took effect, 0 without one.
@@ -45,44 +36,76 @@ fn note(last: &mut BTreeMap<Origin, u64>, origin: Origin, number: u64) -> Result
     Ok(())
 }
 
-/// What a body does to the machine below and to the numbers of the last requests.
-pub fn step<M: HasClients>(
+/// A request: the next of its origin is applied and noted, and any other changes nothing.
+fn ask<M: HasClients>(
+    alloc: Global,
     machine: &mut M,
     last: &mut BTreeMap<Origin, u64>,
+    place: u64,
+    origin: Origin,
+    number: Number,
+    at: Moment,
+    action: &M::Action,
+) -> Result<Vec<Answer<M::Effect>>, ApplyFault>
+    requires { M.spoilt machine.old ≡ false }
+    ensures stands { (s : M.Setup) (earlier : History (Body M.Command M.Action))
+        → M.stands machine.old s (plain M.client earlier)
+        → HasNumbers (get (⟦<Origin as Ord>⟧.cmp) last.old) earlier
+        → OnOk result (M.stands machine.new s (plain M.client ((place, Body.Asked origin number at action.now) ∷ earlier))
+            × HasNumbers (get (⟦<Origin as Ord>⟧.cmp) last.new) ((place, Body.Asked origin number at action.now) ∷ earlier)) }
+    ensures effects { (s : M.Setup) (earlier : History (Body M.Command M.Action))
+        → M.stands machine.old s (plain M.client earlier)
+        → HasNumbers (get (⟦<Origin as Ord>⟧.cmp) last.old) earlier
+        → IfOk result (λ es. es.items ≡ answers M.client (M.effects s) earlier place (Body.Asked origin number at action.now)) }
+    ensures fault { IfErr result (λ e. e ≡ ApplyFault.Memory) }
+    ensures whole { OnOk result (M.spoilt machine.new ≡ false) }
+{
+    let was = last_of(last, &origin);
+    let number = number.value();
+    if number <= was {
+        return Ok(single(alloc, Answer::Repeat(origin, was))?);
+    }
+    if number - was > 1 {
+        return Ok(single(alloc, Answer::Gap(origin, was + 1))?);
+    }
+    let command = M::client(alloc, origin, at, action)?;
+    let effects = machine.apply(place, &command)?;
+    let mut answers = passed_on(alloc, effects)?;
+    answers
+        .push(Answer::Done(origin, number))
+        .map_err(AllocError::from)?;
+    note(last, origin, number)?;
+    Ok(answers)
+}
+
+/// What a body does to the machine below and to the numbers of the last requests.
+pub fn step<M: HasClients>(
     alloc: Global,
+    machine: &mut M,
+    last: &mut BTreeMap<Origin, u64>,
     place: u64,
     body: &Body<M::Command, M::Action>,
 ) -> Result<Vec<Answer<M::Effect>>, ApplyFault>
     requires { M.spoilt machine.old ≡ false }
-    ensures stands { (s : M.Setup) (earlier : History (Body M.Command M.Action)) → M.stands machine.old s (plain M.client earlier) → HasNumbers (get (⟦<Origin as Ord>⟧.cmp) last.old) earlier
-        → OnOk result (M.stands machine.new s (plain M.client ((place, body.now) ∷ earlier)) × HasNumbers (get (⟦<Origin as Ord>⟧.cmp) last.new) ((place, body.now) ∷ earlier)) }
-    ensures effects { (s : M.Setup) (earlier : History (Body M.Command M.Action)) → M.stands machine.old s (plain M.client earlier) → HasNumbers (get (⟦<Origin as Ord>⟧.cmp) last.old) earlier
+    ensures stands { (s : M.Setup) (earlier : History (Body M.Command M.Action))
+        → M.stands machine.old s (plain M.client earlier)
+        → HasNumbers (get (⟦<Origin as Ord>⟧.cmp) last.old) earlier
+        → OnOk result (M.stands machine.new s (plain M.client ((place, body.now) ∷ earlier))
+            × HasNumbers (get (⟦<Origin as Ord>⟧.cmp) last.new) ((place, body.now) ∷ earlier)) }
+    ensures effects { (s : M.Setup) (earlier : History (Body M.Command M.Action))
+        → M.stands machine.old s (plain M.client earlier)
+        → HasNumbers (get (⟦<Origin as Ord>⟧.cmp) last.old) earlier
         → IfOk result (λ es. es.items ≡ answers M.client (M.effects s) earlier place body.now) }
     ensures fault { IfErr result (λ e. e ≡ ApplyFault.Memory) }
     ensures whole { OnOk result (M.spoilt machine.new ≡ false) }
 {
     match body {
         Body::Inner(command) => {
-            let effects = machine.apply(alloc, place, command)?;
+            let effects = machine.apply(place, command)?;
             Ok(passed_on(alloc, effects)?)
         }
         Body::Asked(origin, number, at, action) => {
-            let was = last_of(last, origin);
-            let number = number.value();
-            if number <= was {
-                return Ok(just(alloc, Answer::Repeat(*origin, was))?);
-            }
-            if number - was > 1 {
-                return Ok(just(alloc, Answer::Gap(*origin, was + 1))?);
-            }
-            let command = M::client(alloc, *origin, *at, action)?;
-            let effects = machine.apply(alloc, place, &command)?;
-            let mut answers = passed_on(alloc, effects)?;
-            answers
-                .push(Answer::Done(*origin, number))
-                .map_err(AllocError::from)?;
-            note(last, *origin, number)?;
-            Ok(answers)
+            ask(alloc, machine, last, place, *origin, *number, *at, action)
         }
     }
 }

@@ -1,5 +1,5 @@
 -- Sessions with upstream that follow one another. A history has each command with its place, the newest first.
-use Rattle.std.specs.Prelude.{ℕ, ◌+◌, Bool, true, false, ◌&&◌, ◌||◌, if◌then◌else◌, ◌==◌, nat_lt, List, [], ◌∷◌, map, Option, Some, None, is_some}
+use Rattle.std.specs.Prelude.{ℕ, zero, suc, ◌+◌, Bool, true, false, ◌&&◌, ◌||◌, if◌then◌else◌, ◌==◌, nat_lt, List, [], ◌∷◌, ◌++◌, map, Option, Some, None, is_some}
 use Rattle.irc_line.specs.Lines.{Parts}
 use Rattle.machine_laws.specs.Runs.{History, came_at, effects_at}
 use Rattle.machine_laws.specs.Sessions.{same_session, is_that}
@@ -18,6 +18,11 @@ is_below a b = nat_lt a.0 b.0 || a.0 == b.0 && nat_lt a.1 b.1
 abbrev pub is_new : Option SessionId → SessionId → Bool
 is_new None id = true
 is_new (Some top) id = is_below top id
+
+-- the numbers from 1 to this one
+abbrev pub numbers_to : ℕ → List ℕ
+numbers_to zero = []
+numbers_to (suc n) = numbers_to n ++ suc n ∷ []
 
 -- an effect below that joins a channel again does so for this session
 abbrev pub for_session : {E : Type 0} → SessionId → E → Option Parts → FenceEffect E
@@ -83,6 +88,17 @@ module _ {C L : Type 0} where
   lines_taken [] id = 0
   lines_taken (x ∷ earlier) id =
       if is_line_of id x.1 && is_next (session earlier) (lines_taken earlier) x.1 then lines_taken earlier id + 1 else lines_taken earlier id
+
+  -- the number of a line in its session
+  abbrev pub number_of : FenceCommand C L → ℕ
+  number_of (Heard id n at l) = n
+  number_of _ = 0
+
+  -- the numbers of the lines of a session that were taken, in the order in which they came
+  unfoldable pub numbers_taken : History (FenceCommand C L) → SessionId → List ℕ
+  numbers_taken [] id = []
+  numbers_taken (x ∷ earlier) id =
+      if is_line_of id x.1 && is_next (session earlier) (lines_taken earlier) x.1 then numbers_taken earlier id ++ number_of x.1 ∷ [] else numbers_taken earlier id
 
   module _ (up down : C) (heard : ℕ → L → C) where
     -- The commands of the machine below that a command gives, in order: a new session is up, the one before it down first; the session in force

@@ -1,10 +1,23 @@
 -- Commands as bytes: a kind byte, 0 for a command of the machine below, 1 for a session that is opened, 2 for one that is shut, 3 for a line of a session, and what it has.
 use Rattle.std.specs.Prelude.{ℕ, List, [], ◌∷◌, ◌++◌}
 use Rattle.wire_bytes.specs.Fields.{Reading, through, both, choice}
+use Rattle.wire_bytes.specs.Wants.{Wants, wants_behind, wants_choice}
 use Rattle.wire_bytes.specs.Values.{spelled_session, spelled_number, FitsSession, FitsNumber, FitsMoment, session, number, moment}
 use Rattle.wire_bytes.specs.declared.session_id.SessionId.{SessionId}
 use Rattle.session_fence.specs.declared.command.FenceCommand.{FenceCommand}
 use Rattle.session_fence.specs.declared.command.FenceCommand.TheVariants.{Inner, Opened, Shut, Heard}
+
+-- a line of a session: the session, its number in it, its moment and itself
+abbrev pub spelled_heard : {L : Type 0} → (L → List ℕ) → SessionId → ℕ → ℕ → L → List ℕ
+spelled_heard line id n at l = ((spelled_session id ++ spelled_number n) ++ spelled_number at) ++ line l
+
+-- a line of a session wants memory for itself alone
+abbrev pub heard_wants : Wants → Wants
+heard_wants line = wants_behind (both (both session number) moment) line
+
+-- which inputs may want memory: a command below does, and the line of a session
+abbrev pub command_wants : Wants → Wants → Wants
+command_wants command line = wants_choice ((0, command) ∷ (3, heard_wants line) ∷ [])
 
 module _ {C L : Type 0} where
   abbrev pub command_kind : FenceCommand C L → ℕ
@@ -13,12 +26,12 @@ module _ {C L : Type 0} where
   command_kind (Shut id) = 2
   command_kind (Heard id n at l) = 3
 
-  -- the session and, of a line, its number, its moment and itself
+  -- what stands behind the kind byte
   abbrev pub spelled_parts : (C → List ℕ) → (L → List ℕ) → FenceCommand C L → List ℕ
   spelled_parts command line (Inner c) = command c
   spelled_parts command line (Opened id) = spelled_session id
   spelled_parts command line (Shut id) = spelled_session id
-  spelled_parts command line (Heard id n at l) = ((spelled_session id ++ spelled_number n) ++ spelled_number at) ++ line l
+  spelled_parts command line (Heard id n at l) = spelled_heard line id n at l
 
   abbrev pub spelled_command : (C → List ℕ) → (L → List ℕ) → FenceCommand C L → List ℕ
   spelled_command command line x = command_kind x ∷ spelled_parts command line x

@@ -1,13 +1,15 @@
--- What is kept of the sessions, and what it stands for.
-use Rattle.std.specs.Prelude.{◌≡◌, ℕ, ◌+◌, ◌&&◌, ◌==◌, if◌then◌else◌, Option, Some, None}
-use Rattle.machine_laws.specs.Runs.{History}
+-- What is kept of the sessions, and what it stands for. These are the machine's inner steps, which need not be believed.
+use Rattle.std.specs.Prelude.{◌≡◌, ℕ, ◌+◌, ◌&&◌, ◌==◌, if◌then◌else◌, List, map, Option, Some, None}
+use Rattle.irc_line.specs.Lines.{Parts}
+use Rattle.machine_laws.specs.Runs.{History, effects_at}
 use Rattle.machine_laws.specs.Sessions.{is_that}
 use Rattle.wire_bytes.specs.declared.session_id.SessionId.{SessionId}
 use Rattle.session_fence.specs.declared.command.FenceCommand.{FenceCommand}
 use Rattle.session_fence.specs.declared.command.FenceCommand.TheVariants.{Inner, Opened, Shut, Heard}
+use Rattle.session_fence.specs.declared.effect.FenceEffect.{FenceEffect}
 use Rattle.session_fence.specs.declared.session.Session.{Session}
 use Rattle.session_fence.specs.declared.session.Session.TheVariants.{Never, InForce, Over}
-use Rattle.session_fence.specs.Sessions.{is_new, greatest, session, lines_taken}
+use Rattle.session_fence.specs.Sessions.{is_new, given, labelled, greatest, session, lines_taken}
 
 -- the greatest id that was opened
 abbrev pub top_of : Session → Option SessionId
@@ -33,6 +35,15 @@ next_of q (Inner c) = q
 next_of q (Opened id) = if is_new (top_of q) id then InForce id 0 else q
 next_of q (Shut id) = if is_that (now_of q) id then Over id else q
 next_of q (Heard id n at l) = if is_that (now_of q) id && n == taken_of q + 1 then InForce id n else q
+
+module _ {C L : Type 0} (up down : C) (heard : ℕ → L → C) where
+  -- the commands of the machine below that a command gives, by what is kept
+  abbrev pub given_by : Session → FenceCommand C L → List C
+  given_by q x = given up down heard (top_of q) (now_of q) (λ _. taken_of q) x
+
+  -- what a command brings about at a place, by what is kept and what came below
+  abbrev pub brought_by : {S E : Type 0} → (E → Option Parts) → (S → History C → ℕ → C → List E) → Session → ℕ → FenceCommand C L → S → History C → List (FenceEffect E)
+  brought_by rejoined effects q place x s below = map (labelled rejoined x) (effects_at (effects s) place (given_by q x) below)
 
 -- what is kept stands for what came
 pub record IsKept {C L : Type 0} (q : Session) (h : History (FenceCommand C L)) : Type 0 where

@@ -1,9 +1,7 @@
 //! What comes to a machine whose sessions follow one another.
-ghost use Rattle.std.specs.Prelude.{◌≡◌, ◌≢◌, ◌≤◌, ◌++◌, length, IfOk, IfErr, Ok, Err, is_ok, if◌then◌else◌};
-ghost use Rattle.wire_bytes.specs.Fields.{behind};
-ghost use Rattle.wire_bytes.specs.Codecs.{codec};
-ghost use Rattle.wire_bytes.specs.Values.{spelled_session, spelled_number};
-ghost use Rattle.session_fence.specs.Spelling.{spelled_command, FitsCommand, command_taken, inner_taken, opened_taken, shut_taken, heard_taken};
+ghost use Rattle.std.specs.Prelude.{◌≡◌, ◌≢◌, ◌<◌, ◌≤◌, ◌+◌, drop, length, vec_capacity, vec_len, IfOk, IfErr, IsTrue, OnErr, Ok, Err};
+ghost use Rattle.wire_bytes.specs.Fields.{appended, behind};
+ghost use Rattle.session_fence.specs.Spelling.{FitsCommand, command_taken, command_wants, heard_taken, heard_wants, inner_taken, opened_taken, shut_taken, spelled_command, spelled_heard};
 ghost use Rattle.session_fence.specs.CommandCodec.{command_is_codec};
 
 use std::alloc::{AllocError, Global};
@@ -46,6 +44,8 @@ impl<C: Wire, L: Wire> Wire for FenceCommand<C, L> {
 
     ghost taken = { command_taken C.taken L.taken };
 
+    ghost wants = { command_wants C.wants L.wants };
+
     fn put(&self, out: &mut Vec<u8>) -> Result<(), AllocError> {
         let len = out.len();
         match self {
@@ -83,11 +83,7 @@ impl<C: Wire, L: Wire> Wire for FenceCommand<C, L> {
         }
     }
 
-    ghost read_back = { (command_is_codec C.spelled C.fits C.taken L.spelled L.fits L.taken (codec C.spelled C.fits C.taken C.read_back C.one_spelling C.bad_within) (codec L.spelled L.fits L.taken L.read_back L.one_spelling L.bad_within)).read_back };
-
-    ghost one_spelling = { (command_is_codec C.spelled C.fits C.taken L.spelled L.fits L.taken (codec C.spelled C.fits C.taken C.read_back C.one_spelling C.bad_within) (codec L.spelled L.fits L.taken L.read_back L.one_spelling L.bad_within)).one_spelling };
-
-    ghost bad_within = { (command_is_codec C.spelled C.fits C.taken L.spelled L.fits L.taken (codec C.spelled C.fits C.taken C.read_back C.one_spelling C.bad_within) (codec L.spelled L.fits L.taken L.read_back L.one_spelling L.bad_within)).bad_within };
+    ghost is_codec = { command_is_codec C.spelled C.fits C.taken L.spelled L.fits L.taken C.is_codec L.is_codec };
 }
 
 /// Appends what a line of a session has, behind its kind byte, or leaves the items as they were.
@@ -99,7 +95,9 @@ fn put_heard<L: Wire>(
     line: &L,
 ) -> Result<(), AllocError>
     requires { L.fits line.now }
-    ensures { out.new.items ≡ (if is_ok result then out.old.items ++ (((spelled_session id ++ spelled_number number) ++ spelled_number at) ++ L.spelled line.now) else out.old.items) }
+    ensures items { out.new.items ≡ appended result out.old.items (spelled_heard L.spelled id number at line.now) }
+    ensures full { OnErr result (vec_capacity out.old < vec_len out.old + length (spelled_heard L.spelled id number at line.now)) }
+    ensures capacity { vec_capacity out.old ≤ vec_capacity out.new }
 {
     let len = out.len();
     ((id, number), at).put(out)?;
@@ -116,6 +114,7 @@ fn take_inner<C: Wire, L: Wire>(
     requires { 1 ≤ length input.now }
     ensures ok { IfOk result (λ r. behind 1 (inner_taken {L = L} C.taken) input.now ≡ Ok (r.0, r.1)) }
     ensures err { IfErr result (λ e. e ≢ WireFault.Memory → behind 1 (inner_taken {L = L} C.taken) input.now ≡ Err e) }
+    ensures memory { IfErr result (λ e. e ≡ WireFault.Memory → IsTrue (C.wants (drop 1 input.now))) }
 {
     let (command, end) = take_behind::<C>(alloc, input, 1)?;
     Ok((FenceCommand::Inner(command), end))
@@ -130,6 +129,7 @@ fn take_opened<C: Drop, L: Drop>(
     requires { 1 ≤ length input.now }
     ensures ok { IfOk result (λ r. behind 1 (opened_taken {C = C} {L = L}) input.now ≡ Ok (r.0, r.1)) }
     ensures err { IfErr result (λ e. e ≢ WireFault.Memory → behind 1 (opened_taken {C = C} {L = L}) input.now ≡ Err e) }
+    ensures memory { IfErr result (λ e. e ≢ WireFault.Memory) }
 {
     let (id, end) = take_behind::<SessionId>(alloc, input, 1)?;
     Ok((FenceCommand::Opened(id), end))
@@ -144,6 +144,7 @@ fn take_shut<C: Drop, L: Drop>(
     requires { 1 ≤ length input.now }
     ensures ok { IfOk result (λ r. behind 1 (shut_taken {C = C} {L = L}) input.now ≡ Ok (r.0, r.1)) }
     ensures err { IfErr result (λ e. e ≢ WireFault.Memory → behind 1 (shut_taken {C = C} {L = L}) input.now ≡ Err e) }
+    ensures memory { IfErr result (λ e. e ≢ WireFault.Memory) }
 {
     let (id, end) = take_behind::<SessionId>(alloc, input, 1)?;
     Ok((FenceCommand::Shut(id), end))
@@ -158,6 +159,7 @@ fn take_heard<C: Drop, L: Wire>(
     requires { 1 ≤ length input.now }
     ensures ok { IfOk result (λ r. behind 1 (heard_taken {C = C} L.taken) input.now ≡ Ok (r.0, r.1)) }
     ensures err { IfErr result (λ e. e ≢ WireFault.Memory → behind 1 (heard_taken {C = C} L.taken) input.now ≡ Err e) }
+    ensures memory { IfErr result (λ e. e ≡ WireFault.Memory → IsTrue (heard_wants L.wants (drop 1 input.now))) }
 {
     let ((((id, number), at), line), end) = take_behind::<(((SessionId, Number), Moment), L)>(
         alloc, input, 1,

@@ -18,6 +18,7 @@ use wire_bytes::{Moment, Number, Origin, SessionId};
 /// any other session says changes nothing.
 #[derive(Drop)]
 pub struct Fence<M: HasLines> {
+    alloc: Global,
     machine: M,
     session: Session,
     spoilt: bool,
@@ -48,6 +49,7 @@ impl<M: HasLines> Machine for Fence<M> {
 
     fn start(alloc: Global, setup: &M::Setup) -> Result<Self, AllocError> {
         Ok(Fence {
+            alloc,
             machine: M::start(alloc, setup)?,
             session: Session::Never,
             spoilt: false,
@@ -56,14 +58,19 @@ impl<M: HasLines> Machine for Fence<M> {
 
     fn apply(
         &mut self,
-        alloc: Global,
         place: u64,
         command: &FenceCommand<M::Command, M::Line>,
     ) -> Result<Vec<FenceEffect<M::Effect>>, ApplyFault> {
         if self.spoilt {
             return Err(ApplyFault::Spoilt);
         }
-        let result = step(&mut self.machine, &mut self.session, alloc, place, command);
+        let result = step(
+            self.alloc,
+            &mut self.machine,
+            &mut self.session,
+            place,
+            command,
+        );
         if result.is_err() {
             self.spoilt = true;
         }

@@ -4,9 +4,11 @@
 mod command;
 mod effect;
 mod fence;
+mod laws;
 mod session;
 mod step;
 
 pub use command::FenceCommand;
 pub use effect::FenceEffect;
 pub use fence::Fence;
+pub use laws::each_line_is_heard_once_and_in_order;

@@ -1,8 +1,8 @@
 //! What a command does to the machine below and to what is kept of the sessions.
-ghost use Rattle.std.specs.Prelude.{◌≡◌, [], map, IfOk, IfErr, OnOk, false, if◌then◌else◌, ◌∷◌};
-ghost use Rattle.machine_laws.specs.Runs.{History, came_at, effects_at};
-ghost use Rattle.session_fence.specs.Sessions.{for_session, given, labelled};
-ghost use Rattle.session_fence.specs.States.{next_of, now_of, taken_of, top_of};
+ghost use Rattle.std.specs.Prelude.{◌≡◌, ◌∷◌, [], map, IfOk, IfErr, OnOk, false};
+ghost use Rattle.machine_laws.specs.Runs.{Brings, Moves, effects_at};
+ghost use Rattle.session_fence.specs.Sessions.{for_session};
+ghost use Rattle.session_fence.specs.States.{brought_by, given_by, next_of};
 
 use crate::command::FenceCommand;
 use crate::effect::FenceEffect;
@@ -42,123 +42,124 @@ fn all_for_session<M: HasLines>(
         .collect(alloc)
 }
 
-/// Word to the machine below that there is no session.
-fn go_down<M: HasLines>(
-    machine: &mut M,
-    alloc: Global,
-    place: u64,
-) -> Result<Vec<M::Effect>, ApplyFault>
-    requires { M.spoilt machine.old ≡ false }
-    ensures stands { (s : M.Setup) (below : History M.Command) → M.stands machine.old s below → OnOk result (M.stands machine.new s ((place, M.down) ∷ below)) }
-    ensures effects { (s : M.Setup) (below : History M.Command) → M.stands machine.old s below → IfOk result (λ es. es.items ≡ M.effects s below place M.down) }
-    ensures fault { IfErr result (λ e. e ≡ ApplyFault.Memory) }
-    ensures whole { OnOk result (M.spoilt machine.new ≡ false) }
-{
-    let down = M::down();
-    machine.apply(alloc, place, &down)
-}
-
-/// Word to the machine below that there is a session.
-fn go_up<M: HasLines>(
-    machine: &mut M,
-    alloc: Global,
-    place: u64,
-) -> Result<Vec<M::Effect>, ApplyFault>
-    requires { M.spoilt machine.old ≡ false }
-    ensures stands { (s : M.Setup) (below : History M.Command) → M.stands machine.old s below → OnOk result (M.stands machine.new s ((place, M.up) ∷ below)) }
-    ensures effects { (s : M.Setup) (below : History M.Command) → M.stands machine.old s below → IfOk result (λ es. es.items ≡ M.effects s below place M.up) }
-    ensures fault { IfErr result (λ e. e ≡ ApplyFault.Memory) }
-    ensures whole { OnOk result (M.spoilt machine.new ≡ false) }
-{
-    let up = M::up();
-    machine.apply(alloc, place, &up)
-}
-
 /// Word to the machine below that there is a new session, where one was before.
-fn go_down_and_up<M: HasLines>(
-    machine: &mut M,
-    alloc: Global,
-    place: u64,
-) -> Result<Vec<M::Effect>, ApplyFault>
+fn go_down_and_up<M: HasLines>(machine: &mut M, place: u64) -> Result<Vec<M::Effect>, ApplyFault>
     requires { M.spoilt machine.old ≡ false }
-    ensures stands { (s : M.Setup) (below : History M.Command) → M.stands machine.old s below → OnOk result (M.stands machine.new s (came_at place (M.down ∷ M.up ∷ []) below)) }
-    ensures effects { (s : M.Setup) (below : History M.Command) → M.stands machine.old s below → IfOk result (λ es. es.items ≡ effects_at (M.effects s) place (M.down ∷ M.up ∷ []) below) }
+    ensures stands { Moves (M.stands machine.old) (M.stands machine.new) result place (M.down ∷ M.up ∷ []) }
+    ensures effects { Brings (M.stands machine.old) result (λ v. v.items) (λ s below. effects_at (M.effects s) place (M.down ∷ M.up ∷ []) below) }
     ensures fault { IfErr result (λ e. e ≡ ApplyFault.Memory) }
     ensures whole { OnOk result (M.spoilt machine.new ≡ false) }
 {
-    let mut effects = go_down(machine, alloc, place)?;
-    let mut of_up = go_up(machine, alloc, place)?;
+    let (down, up) = (M::down(), M::up());
+    let mut effects = machine.apply(place, &down)?;
+    let mut of_up = machine.apply(place, &up)?;
     effects.append(&mut of_up)?;
     Ok(effects)
 }
 
-/// The line of a session, to the machine below.
-fn hear<M: HasLines>(
-    machine: &mut M,
+/// A session is opened: it is up, and the one before it down first. One that is not above all earlier ones is nothing.
+fn open<M: HasLines>(
     alloc: Global,
+    machine: &mut M,
+    session: &mut Session,
     place: u64,
-    at: Moment,
-    line: &M::Line,
-) -> Result<Vec<M::Effect>, ApplyFault>
+    id: SessionId,
+) -> Result<Vec<FenceEffect<M::Effect>>, ApplyFault>
     requires { M.spoilt machine.old ≡ false }
-    ensures stands { (s : M.Setup) (below : History M.Command) → M.stands machine.old s below → OnOk result (M.stands machine.new s ((place, M.heard at line.now) ∷ below)) }
-    ensures effects { (s : M.Setup) (below : History M.Command) → M.stands machine.old s below → IfOk result (λ es. es.items ≡ M.effects s below place (M.heard at line.now)) }
+    ensures session { OnOk result (session.new ≡ next_of {C = M.Command} {L = M.Line} session.old (FenceCommand.Opened id)) }
+    ensures stands { Moves (M.stands machine.old) (M.stands machine.new) result place (given_by M.up M.down M.heard session.old (FenceCommand.Opened id)) }
+    ensures effects { Brings (M.stands machine.old) result (λ v. v.items) (brought_by M.up M.down M.heard M.rejoined M.effects session.old place (FenceCommand.Opened id)) }
     ensures fault { IfErr result (λ e. e ≡ ApplyFault.Memory) }
     ensures whole { OnOk result (M.spoilt machine.new ≡ false) }
 {
+    if !session.is_new(id) {
+        return Ok(Vec::new(alloc));
+    }
+    let effects = if session.now().is_some() {
+        go_down_and_up(machine, place)?
+    } else {
+        let up = M::up();
+        machine.apply(place, &up)?
+    };
+    *session = Session::InForce(id, Number::new(0));
+    Ok(all_for_session::<M>(alloc, id, effects)?)
+}
+
+/// The session in force is shut: it is down. Any other is nothing.
+fn shut<M: HasLines>(
+    alloc: Global,
+    machine: &mut M,
+    session: &mut Session,
+    place: u64,
+    id: SessionId,
+) -> Result<Vec<FenceEffect<M::Effect>>, ApplyFault>
+    requires { M.spoilt machine.old ≡ false }
+    ensures session { OnOk result (session.new ≡ next_of {C = M.Command} {L = M.Line} session.old (FenceCommand.Shut id)) }
+    ensures stands { Moves (M.stands machine.old) (M.stands machine.new) result place (given_by M.up M.down M.heard session.old (FenceCommand.Shut id)) }
+    ensures effects { Brings (M.stands machine.old) result (λ v. v.items) (brought_by M.up M.down M.heard M.rejoined M.effects session.old place (FenceCommand.Shut id)) }
+    ensures fault { IfErr result (λ e. e ≡ ApplyFault.Memory) }
+    ensures whole { OnOk result (M.spoilt machine.new ≡ false) }
+{
+    if !session.is_now(id) {
+        return Ok(Vec::new(alloc));
+    }
+    let down = M::down();
+    let effects = machine.apply(place, &down)?;
+    *session = Session::Over(id);
+    Ok(passed_on(alloc, effects)?)
+}
+
+/// The line of a session, to the machine below where it is the next of the session in force.
+fn hear<M: HasLines>(
+    alloc: Global,
+    machine: &mut M,
+    session: &mut Session,
+    place: u64,
+    id: SessionId,
+    number: Number,
+    at: Moment,
+    line: &M::Line,
+) -> Result<Vec<FenceEffect<M::Effect>>, ApplyFault>
+    requires { M.spoilt machine.old ≡ false }
+    ensures session { OnOk result (session.new ≡ next_of {C = M.Command} session.old (FenceCommand.Heard id number at line.now)) }
+    ensures stands { Moves (M.stands machine.old) (M.stands machine.new) result place (given_by M.up M.down M.heard session.old (FenceCommand.Heard id number at line.now)) }
+    ensures effects { Brings (M.stands machine.old) result (λ v. v.items) (brought_by M.up M.down M.heard M.rejoined M.effects session.old place (FenceCommand.Heard id number at line.now)) }
+    ensures fault { IfErr result (λ e. e ≡ ApplyFault.Memory) }
+    ensures whole { OnOk result (M.spoilt machine.new ≡ false) }
+{
+    if !session.is_next(id, number) {
+        return Ok(Vec::new(alloc));
+    }
     let command = M::heard(alloc, at, line)?;
-    machine.apply(alloc, place, &command)
+    let effects = machine.apply(place, &command)?;
+    *session = Session::InForce(id, number);
+    Ok(passed_on(alloc, effects)?)
 }
 
 /// What a command does to the machine below and to what is kept of the sessions.
 pub fn step<M: HasLines>(
+    alloc: Global,
     machine: &mut M,
     session: &mut Session,
-    alloc: Global,
     place: u64,
     command: &FenceCommand<M::Command, M::Line>,
 ) -> Result<Vec<FenceEffect<M::Effect>>, ApplyFault>
     requires { M.spoilt machine.old ≡ false }
     ensures session { OnOk result (session.new ≡ next_of session.old command.now) }
-    ensures stands { (s : M.Setup) (below : History M.Command) → M.stands machine.old s below
-        → OnOk result (M.stands machine.new s (came_at place (given M.up M.down M.heard (top_of session.old) (now_of session.old) (λ _. taken_of session.old) command.now) below)) }
-    ensures effects { (s : M.Setup) (below : History M.Command) → M.stands machine.old s below
-        → IfOk result (λ es. es.items ≡ map (labelled M.rejoined command.now) (effects_at (M.effects s) place (given M.up M.down M.heard (top_of session.old) (now_of session.old) (λ _. taken_of session.old) command.now) below)) }
+    ensures stands { Moves (M.stands machine.old) (M.stands machine.new) result place (given_by M.up M.down M.heard session.old command.now) }
+    ensures effects { Brings (M.stands machine.old) result (λ v. v.items) (brought_by M.up M.down M.heard M.rejoined M.effects session.old place command.now) }
     ensures fault { IfErr result (λ e. e ≡ ApplyFault.Memory) }
     ensures whole { OnOk result (M.spoilt machine.new ≡ false) }
 {
     match command {
         FenceCommand::Inner(command) => {
-            let effects = machine.apply(alloc, place, command)?;
+            let effects = machine.apply(place, command)?;
             Ok(passed_on(alloc, effects)?)
         }
-        FenceCommand::Opened(id) => {
-            if !session.is_new(*id) {
-                return Ok(Vec::new(alloc));
-            }
-            let effects = if session.now().is_some() {
-                go_down_and_up(machine, alloc, place)?
-            } else {
-                go_up(machine, alloc, place)?
-            };
-            *session = Session::InForce(*id, Number::new(0));
-            Ok(all_for_session::<M>(alloc, *id, effects)?)
-        }
-        FenceCommand::Shut(id) => {
-            if !session.is_now(*id) {
-                return Ok(Vec::new(alloc));
-            }
-            let effects = go_down(machine, alloc, place)?;
-            *session = Session::Over(*id);
-            Ok(passed_on(alloc, effects)?)
-        }
+        FenceCommand::Opened(id) => open(alloc, machine, session, place, *id),
+        FenceCommand::Shut(id) => shut(alloc, machine, session, place, *id),
         FenceCommand::Heard(id, number, at, line) => {
-            if !session.is_next(*id, *number) {
-                return Ok(Vec::new(alloc));
-            }
-            let effects = hear(machine, alloc, place, *at, line)?;
-            *session = Session::InForce(*id, *number);
-            Ok(passed_on(alloc, effects)?)
+            hear(alloc, machine, session, place, *id, *number, *at, line)
         }
     }
 }

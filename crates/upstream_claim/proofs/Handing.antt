@@ -1,18 +1,18 @@
 -- The lines that are handed out are those of the claims that take effect.
-use Rattle.std.proofs.Common.{◌≡◌, ℕ, zero, suc, ◌+◌, ◌-◌, ◌≤◌, Bool, true, false, List, [], ◌∷◌, ◌++◌, map, length, take, Option, Some, None, refl, ap, ◌∙◌, sym, arith}
+use Rattle.std.proofs.Common.{◌≡◌, ℕ, zero, suc, ◌+◌, ◌-◌, ◌≤◌, Bool, true, false, List, [], ◌∷◌, ◌++◌, map, length, take, Option, Some, None, refl, ap, ◌∙◌, sym, append_assoc, arith}
 use Rattle.std.specs.Prelude.{◌==◌, nat_lt, if◌then◌else◌, slice_get}
 use Rattle.std.proofs.lemmas.List.{append-nil}
 use Rattle.irc_line.specs.Lines.{Parts}
-use Rattle.machine_laws.specs.Runs.{History}
+use Rattle.machine_laws.specs.Runs.{History, all_effects}
 use Rattle.machine_laws.specs.Sessions.{is_that}
 use Rattle.wire_bytes.specs.declared.origin.Origin.{Origin}
 use Rattle.wire_bytes.specs.declared.session_id.SessionId.{SessionId}
 use Rattle.upstream_claim.specs.declared.command.ClaimsCommand.{ClaimsCommand}
 use Rattle.upstream_claim.specs.declared.command.ClaimsCommand.TheVariants.{Inner, Claim}
 use Rattle.upstream_claim.specs.declared.effect.ClaimsEffect.{ClaimsEffect}
-use Rattle.upstream_claim.specs.Hands.{Handed, hands}
+use Rattle.upstream_claim.specs.Hands.{Handed, hand_of, hands}
 use Rattle.upstream_claim.specs.Numbered.{Numbered, room, lines_of, answer, answered, room_left, handed, is_next, is_taken, with_claim, plain, numbered, numbered_after, answers_by, answers, outgoing, claimed}
-use Rattle.upstream_claim.proofs.Sound.{none_not_some}
+use Rattle.upstream_claim.proofs.Sound.{claims_once, none_not_some}
 use Rattle.irc_line.proofs.Numbers.{eq_of, le_of}
 use Rattle.irc_line.proofs.Booleans.{and_left, and_right}
 
@@ -109,3 +109,39 @@ module _ {C E : Type 0} (session : History C → Option SessionId) (sends : E �
   pub lines_stay : (h : History (ClaimsCommand C)) (place : ℕ) (x : ClaimsCommand C) → take (length (outgoing session sends effects h)) (outgoing session sends effects ((place, x) ∷ h)) ≡ outgoing session sends effects h
   unfolding outgoing numbered
   lines_stay h place x = stay-after (numbered session sends effects h) (plain h) place x
+
+-- ---- over a whole list
+
+pub hands_append : {E : Type 0} (xs ys : List (ClaimsEffect E)) → hands (xs ++ ys) ≡ hands xs ++ hands ys
+hands_append [] ys = refl
+hands_append (x ∷ xs) ys = ap (λ (hs : List Handed). hand_of x ++ hs) (hands_append xs ys) ∙ sym (append_assoc (hand_of x) (hands xs) (hands ys))
+
+map_append : (xs ys : List Handed) → map (λ k. k.0) (xs ++ ys) ≡ map (λ k. k.0) xs ++ map (λ k. k.0) ys
+map_append [] ys = refl
+map_append (x ∷ xs) ys = ap (λ zs. x.0 ∷ zs) (map_append xs ys)
+
+-- the claim of what was handed out
+claim_at : (hs : List Handed) (i : ℕ) (claim : ℕ × SessionId) (line : Parts) → slice_get hs i ≡ Some (claim, line) → slice_get (map (λ k. k.0) hs) i ≡ Some claim
+claim_at [] i claim line e = absurd (none_not_some _ e)
+claim_at (h ∷ hs) zero claim line e =
+    let same : h ≡ (claim, line) = same_some e in
+    ap (λ (x : Handed). Some x.0) same
+claim_at (h ∷ hs) (suc i) claim line e = claim_at hs i claim line e
+
+module _ {C E : Type 0} (session : History C → Option SessionId) (sends : E → Option (Origin × Parts)) (effects : History C → ℕ → C → List E) where
+  -- all that is handed out is the claims that took effect
+  pub all_hands_are_claims : (h : History (ClaimsCommand C)) → map (λ k. k.0) (hands (all_effects (answers session sends effects) h)) ≡ claimed session sends effects h
+  unfolding claimed numbered
+  all_hands_are_claims [] = refl
+  all_hands_are_claims (x ∷ h) =
+      ap (map (λ k. k.0)) (hands_append (all_effects (answers session sends effects) h) (answers session sends effects h x.0 x.1))
+      ∙ (map_append (hands (all_effects (answers session sends effects) h)) (hands (answers session sends effects h x.0 x.1))
+      ∙ (ap (λ cs. cs ++ map (λ k. k.0) (hands (answers session sends effects h x.0 x.1))) (all_hands_are_claims h) ∙ sym (hands_are_claims session sends effects h x.0 x.1)))
+
+  -- no number is handed out twice
+  pub hands_differ : (h : History (ClaimsCommand C)) (i j n : ℕ) (one other : SessionId) (line another : Parts) → slice_get (hands (all_effects (answers session sends effects) h)) i ≡ Some ((n, one), line)
+      → slice_get (hands (all_effects (answers session sends effects) h)) j ≡ Some ((n, other), another) → i ≡ j
+  hands_differ h i j n one other line another e f =
+      let a : slice_get (claimed session sends effects h) i ≡ Some (n, one) = ap (λ (cs : List (ℕ × SessionId)). slice_get cs i) (sym (all_hands_are_claims h)) ∙ claim_at _ i (n, one) line e in
+      let b : slice_get (claimed session sends effects h) j ≡ Some (n, other) = ap (λ (cs : List (ℕ × SessionId)). slice_get cs j) (sym (all_hands_are_claims h)) ∙ claim_at _ j (n, other) another f in
+      claims_once session sends effects h i j n one other a b

@@ -1,10 +1,15 @@
 -- Commands as bytes: a kind byte, 0 for a command of the machine below and 1 for a claim, and what it has.
 use Rattle.std.specs.Prelude.{ℕ, List, [], ◌∷◌, ◌++◌}
 use Rattle.wire_bytes.specs.Fields.{Reading, through, both, choice}
+use Rattle.wire_bytes.specs.Wants.{Wants, wants_choice}
 use Rattle.wire_bytes.specs.Values.{spelled_session, spelled_number, FitsSession, FitsNumber, session, number}
 use Rattle.wire_bytes.specs.declared.session_id.SessionId.{SessionId}
 use Rattle.upstream_claim.specs.declared.command.ClaimsCommand.{ClaimsCommand}
 use Rattle.upstream_claim.specs.declared.command.ClaimsCommand.TheVariants.{Inner, Claim}
+
+-- which inputs may want memory: a command below does, a claim does not
+abbrev pub command_wants : Wants → Wants
+command_wants command = wants_choice ((0, command) ∷ [])
 
 module _ {C : Type 0} where
   abbrev pub command_kind : ClaimsCommand C → ℕ

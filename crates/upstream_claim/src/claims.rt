@@ -18,6 +18,7 @@ use wire_bytes::{Moment, Number, Origin};
 /// A claimed line is let go: only those that wait are kept, and how many were claimed.
 #[derive(Drop)]
 pub struct Claims<M: HasSession> {
+    alloc: Global,
     machine: M,
     unclaimed: Unclaimed,
     spoilt: bool,
@@ -56,6 +57,7 @@ impl<M: HasSession> Machine for Claims<M> {
 
     fn start(alloc: Global, setup: &M::Setup) -> Result<Self, AllocError> {
         Ok(Claims {
+            alloc,
             machine: M::start(alloc, setup)?,
             unclaimed: Unclaimed::new(alloc),
             spoilt: false,
@@ -64,7 +66,6 @@ impl<M: HasSession> Machine for Claims<M> {
 
     fn apply(
         &mut self,
-        alloc: Global,
         place: u64,
         command: &ClaimsCommand<M::Command>,
     ) -> Result<Vec<ClaimsEffect<M::Effect>>, ApplyFault> {
@@ -72,9 +73,9 @@ impl<M: HasSession> Machine for Claims<M> {
             return Err(ApplyFault::Spoilt);
         }
         let result = step(
+            self.alloc,
             &mut self.machine,
             &mut self.unclaimed,
-            alloc,
             place,
             command,
         );

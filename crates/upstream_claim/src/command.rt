@@ -1,8 +1,7 @@
 //! What comes to a machine whose lines for upstream are claimed.
-ghost use Rattle.std.specs.Prelude.{◌≡◌, ◌≢◌, ◌≤◌, ◌++◌, length, IfOk, IfErr, Ok, Err, is_ok, if◌then◌else◌};
+ghost use Rattle.std.specs.Prelude.{◌≡◌, ◌≢◌, ◌≤◌, drop, length, IfOk, IfErr, IsTrue, Ok, Err};
 ghost use Rattle.wire_bytes.specs.Fields.{behind};
-ghost use Rattle.wire_bytes.specs.Codecs.{codec};
-ghost use Rattle.upstream_claim.specs.Spelling.{spelled_command, FitsCommand, command_taken, inner_taken, claim_taken};
+ghost use Rattle.upstream_claim.specs.Spelling.{FitsCommand, claim_taken, command_taken, command_wants, inner_taken, spelled_command};
 ghost use Rattle.upstream_claim.specs.CommandCodec.{command_is_codec};
 
 use std::alloc::{AllocError, Global};
@@ -33,6 +32,8 @@ impl<C: Wire> Wire for ClaimsCommand<C> {
 
     ghost taken = { command_taken C.taken };
 
+    ghost wants = { command_wants C.wants };
+
     fn put(&self, out: &mut Vec<u8>) -> Result<(), AllocError> {
         let len = out.len();
         match self {
@@ -58,11 +59,7 @@ impl<C: Wire> Wire for ClaimsCommand<C> {
         }
     }
 
-    ghost read_back = { (command_is_codec C.spelled C.fits C.taken (codec C.spelled C.fits C.taken C.read_back C.one_spelling C.bad_within)).read_back };
-
-    ghost one_spelling = { (command_is_codec C.spelled C.fits C.taken (codec C.spelled C.fits C.taken C.read_back C.one_spelling C.bad_within)).one_spelling };
-
-    ghost bad_within = { (command_is_codec C.spelled C.fits C.taken (codec C.spelled C.fits C.taken C.read_back C.one_spelling C.bad_within)).bad_within };
+    ghost is_codec = { command_is_codec C.spelled C.fits C.taken C.is_codec };
 }
 
 /// The command below, behind a kind byte.
@@ -71,6 +68,7 @@ fn take_inner<C: Wire>(alloc: Global, input: &[u8]) -> Result<(ClaimsCommand<C>,
     requires { 1 ≤ length input.now }
     ensures ok { IfOk result (λ r. behind 1 (inner_taken C.taken) input.now ≡ Ok (r.0, r.1)) }
     ensures err { IfErr result (λ e. e ≢ WireFault.Memory → behind 1 (inner_taken C.taken) input.now ≡ Err e) }
+    ensures memory { IfErr result (λ e. e ≡ WireFault.Memory → IsTrue (C.wants (drop 1 input.now))) }
 {
     let (command, end) = take_behind::<C>(alloc, input, 1)?;
     Ok((ClaimsCommand::Inner(command), end))
@@ -82,6 +80,7 @@ fn take_claim<C: Drop>(alloc: Global, input: &[u8]) -> Result<(ClaimsCommand<C>,
     requires { 1 ≤ length input.now }
     ensures ok { IfOk result (λ r. behind 1 (claim_taken {C = C}) input.now ≡ Ok (r.0, r.1)) }
     ensures err { IfErr result (λ e. e ≢ WireFault.Memory → behind 1 (claim_taken {C = C}) input.now ≡ Err e) }
+    ensures memory { IfErr result (λ e. e ≢ WireFault.Memory) }
 {
     let ((id, number), end) = take_behind::<(SessionId, Number)>(alloc, input, 1)?;
     Ok((ClaimsCommand::Claim(id, number), end))

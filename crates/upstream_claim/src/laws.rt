@@ -3,7 +3,7 @@ ghost use Rattle.std.specs.Prelude.{◌≡◌, ◌≤◌, ◌+◌, ◌-◌, ◌�
 ghost use Rattle.irc_line.specs.Lines.{Parts};
 ghost use Rattle.machine_laws.specs.Runs.{History};
 ghost use Rattle.wire_bytes.specs.declared.session_id.SessionId.{SessionId};
-ghost use Rattle.upstream_claim.specs.Hands.{hands};
+ghost use Rattle.upstream_claim.specs.Hands.{handed_over, hands};
 ghost use Rattle.upstream_claim.specs.Numbered.{answers, claimed, outgoing};
 
 use crate::command::ClaimsCommand;
@@ -31,4 +31,15 @@ pub fn each_hand_is_a_claim<M: HasSession>()
         → slice_get (hands (answers M.session M.sends (M.effects s) h place x)) i ≡ Some ((n, id), line) → slice_get (outgoing M.session M.sends (M.effects s) h) (n - 1) ≡ Some line }
     ensures stay { (s : M.Setup) (h : History (ClaimsCommand M.Command)) (place : ℕ) (x : ClaimsCommand M.Command)
         → take (length (outgoing M.session M.sends (M.effects s) h)) (outgoing M.session M.sends (M.effects s) ((place, x) ∷ h)) ≡ outgoing M.session M.sends (M.effects s) h }
+{}
+
+/// Over a whole list, the lines that are handed out are those of the claims that took effect, in order: no number is
+/// handed out twice.
+#[tactic(auto, using(crate::proofs::Handing::all_hands_are_claims, crate::proofs::Handing::hands_differ))]
+pub fn no_number_is_handed_out_twice<M: HasSession>()
+    ensures claims { (s : M.Setup) (h : History (ClaimsCommand M.Command))
+        → map (λ k. k.0) (handed_over M.session M.sends (M.effects s) h) ≡ claimed M.session M.sends (M.effects s) h }
+    ensures once { (s : M.Setup) (h : History (ClaimsCommand M.Command)) (i j n : ℕ) (one other : SessionId) (line another : Parts)
+        → slice_get (handed_over M.session M.sends (M.effects s) h) i ≡ Some ((n, one), line)
+        → slice_get (handed_over M.session M.sends (M.effects s) h) j ≡ Some ((n, other), another) → i ≡ j }
 {}

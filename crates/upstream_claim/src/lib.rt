@@ -12,4 +12,4 @@ mod unclaimed;
 pub use claims::Claims;
 pub use command::ClaimsCommand;
 pub use effect::ClaimsEffect;
-pub use laws::{each_hand_is_a_claim, each_line_is_claimed_once};
+pub use laws::{each_hand_is_a_claim, each_line_is_claimed_once, no_number_is_handed_out_twice};

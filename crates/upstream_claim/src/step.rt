@@ -7,7 +7,7 @@ ghost use Rattle.upstream_claim.specs.States.{IsKept, claimed_next, handed_next,
 use crate::command::ClaimsCommand;
 use crate::effect::ClaimsEffect;
 use crate::unclaimed::Unclaimed;
-use machine_laws::{ApplyFault, HasSession};
+use machine_laws::{ApplyFault, HasSession, single};
 use std::alloc::{AllocError, Global};
 use wire_bytes::{Number, SessionId};
 
@@ -36,8 +36,8 @@ fn answer_one<M: HasSession>(
 
 /// Numbers the lines that effects send, as far as there is room for them.
 fn answer_all<M: HasSession>(
-    unclaimed: &mut Unclaimed,
     alloc: Global,
+    unclaimed: &mut Unclaimed,
     effects: Vec<M::Effect>,
 ) -> Result<Vec<ClaimsEffect<M::Effect>>, AllocError>
     ensures answers { IfOk result (λ v. v.items ≡ answered M.sends (space unclaimed.old.lines.items) effects.items) }
@@ -51,19 +51,10 @@ fn answer_all<M: HasSession>(
     Ok(answers)
 }
 
-/// A list of one effect.
-fn just<E: Drop>(alloc: Global, effect: E) -> Result<Vec<E>, AllocError>
-    ensures { IfOk result (λ v. v.items ≡ effect ∷ []) }
-{
-    let mut effects = Vec::new(alloc);
-    effects.push(effect)?;
-    Ok(effects)
-}
-
 /// The line of a number, where it is the one to be claimed next, handed out by a session.
 fn hand<E: Drop>(
-    unclaimed: &mut Unclaimed,
     alloc: Global,
+    unclaimed: &mut Unclaimed,
     id: SessionId,
     number: Number,
 ) -> Result<Vec<ClaimsEffect<E>>, AllocError>
@@ -71,36 +62,40 @@ fn hand<E: Drop>(
     ensures kept { (q : Numbered) → IsKept unclaimed.old.count unclaimed.old.lines.items q → IsKept unclaimed.new.count unclaimed.new.lines.items (claimed_next q id number) }
 {
     match unclaimed.claim(number) {
-        Some(line) => just(alloc, ClaimsEffect::Hand(id, number.value(), line)),
+        Some(line) => single(alloc, ClaimsEffect::Hand(id, number.value(), line)),
         None => Ok(Vec::new(alloc)),
     }
 }
 
 /// What a command does to the machine below and to the lines that wait to be claimed.
 pub fn step<M: HasSession>(
+    alloc: Global,
     machine: &mut M,
     unclaimed: &mut Unclaimed,
-    alloc: Global,
     place: u64,
     command: &ClaimsCommand<M::Command>,
 ) -> Result<Vec<ClaimsEffect<M::Effect>>, ApplyFault>
     requires { M.spoilt machine.old ≡ false }
-    ensures stands { (s : M.Setup) (below : History M.Command) → M.stands machine.old s below → OnOk result (M.stands machine.new s (with_command place command.now below)) }
-    ensures effects { (s : M.Setup) (below : History M.Command) (q : Numbered) → M.stands machine.old s below → IsKept unclaimed.old.count unclaimed.old.lines.items q
+    ensures stands { (s : M.Setup) (below : History M.Command) → M.stands machine.old s below
+        → OnOk result (M.stands machine.new s (with_command place command.now below)) }
+    ensures effects { (s : M.Setup) (below : History M.Command) (q : Numbered) → M.stands machine.old s below
+        → IsKept unclaimed.old.count unclaimed.old.lines.items q
         → IfOk result (λ v. v.items ≡ answers_by M.session M.sends (M.effects s) q below place command.now) }
-    ensures kept { (s : M.Setup) (below : History M.Command) (q : Numbered) → M.stands machine.old s below → IsKept unclaimed.old.count unclaimed.old.lines.items q
-        → OnOk result (IsKept unclaimed.new.count unclaimed.new.lines.items (numbered_after M.session M.sends (M.effects s) q below place command.now)) }
+    ensures kept { (s : M.Setup) (below : History M.Command) (q : Numbered) → M.stands machine.old s below
+        → IsKept unclaimed.old.count unclaimed.old.lines.items q
+        → OnOk result (IsKept unclaimed.new.count unclaimed.new.lines.items
+            (numbered_after M.session M.sends (M.effects s) q below place command.now)) }
     ensures fault { IfErr result (λ e. e ≡ ApplyFault.Memory) }
     ensures whole { OnOk result (M.spoilt machine.new ≡ false) }
 {
     match command {
         ClaimsCommand::Inner(command) => {
-            let effects = machine.apply(alloc, place, command)?;
-            Ok(answer_all::<M>(unclaimed, alloc, effects)?)
+            let effects = machine.apply(place, command)?;
+            Ok(answer_all::<M>(alloc, unclaimed, effects)?)
         }
         ClaimsCommand::Claim(id, number) => {
             if machine.session() == Some(*id) {
-                Ok(hand(unclaimed, alloc, *id, *number)?)
+                Ok(hand(alloc, unclaimed, *id, *number)?)
             } else {
                 Ok(Vec::new(alloc))
             }

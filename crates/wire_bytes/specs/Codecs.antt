@@ -1,4 +1,4 @@
--- Codecs: what is spelled is read, what is read is spelled so, and how codecs are composed.
+-- Codecs: what is spelled is read, what is read is spelled so. How they are composed need not be believed: these are lemmas.
 use Rattle.std.proofs.Common.{◌≡◌, ℕ, ◌+◌, ◌<◌, ◌≤◌, ◌⊎◌, inl, inr, Bool, true, false, cond, eqb, List, [], ◌∷◌, ◌++◌, length, take, drop, Option, Some, None, Result, Ok, Err, IsTrue, refl, sym, ap, subst, ◌∙◌, append_assoc, arith, add-zero}
 use Rattle.std.specs.Prelude.{is_some}
 use Rattle.std.proofs.Math.Seq.{drop-append_seam, take-add}
@@ -8,18 +8,13 @@ use Rattle.wire_bytes.specs.declared.wire_fault.WireFault.{WireFault}
 use Rattle.wire_bytes.specs.declared.wire_fault.WireFault.TheVariants.{Short, Bad, Memory}
 use Rattle.wire_bytes.specs.Fields.{AreBytes, Reading, done, moved, behind, goes_on, ◌>>=◌, through, both, tested, only, reading_of, chosen, choice}
 
--- the values that fit have one spelling each, which is read again, whatever follows it
+-- the values that fit have one spelling each, which is read again, whatever follows it; a refused field begins within the
+-- input, and what an input gives is never want of memory
 pub record IsCodec {X : Type 0} (spelled : X → List ℕ) (fits : X → Type 0) (taken : Reading X) : Type 0 where
   pub read_back : (v : X) (rest : List ℕ) → fits v → taken (spelled v ++ rest) ≡ Ok (v, length (spelled v))
   pub one_spelling : (input : List ℕ) (v : X) (n : ℕ) → AreBytes input → taken input ≡ Ok (v, n) → fits v × (take n input ≡ spelled v) × (n ≤ length input)
   pub bad_within : (input : List ℕ) (place : ℕ) → AreBytes input → taken input ≡ Err (Bad place) → place < length input
-
--- a codec by its three laws
-abbrev pub codec : {X : Type 0} (spelled : X → List ℕ) (fits : X → Type 0) (taken : Reading X)
-    → ((v : X) (rest : List ℕ) → fits v → taken (spelled v ++ rest) ≡ Ok (v, length (spelled v)))
-    → ((input : List ℕ) (v : X) (n : ℕ) → AreBytes input → taken input ≡ Ok (v, n) → fits v × (take n input ≡ spelled v) × (n ≤ length input))
-    → ((input : List ℕ) (place : ℕ) → AreBytes input → taken input ≡ Err (Bad place) → place < length input) → IsCodec spelled fits taken
-codec spelled fits taken back one within = record { read_back = back; one_spelling = one; bad_within = within }
+  pub no_memory : (input : List ℕ) → AreBytes input → taken input ≡ Err Memory → ⊥
 
 pub AreBytes-drop : (n : ℕ) (bytes : List ℕ) → AreBytes bytes → AreBytes (drop n bytes)
 AreBytes-drop n bytes h i = rw get_or-drop (h (n + i))
@@ -53,6 +48,22 @@ pub goes_on-bad : {X Y : Type 0} (r : Result (X × ℕ) WireFault) (next : X →
     → goes_on r next ≡ Err (Bad p) → (r ≡ Err (Bad p)) ⊎ ((x : X × ℕ) × (r ≡ Ok x) × (next x.0 x.1 ≡ Err (Bad p)))
 goes_on-bad (Ok x) next p e = inr (x, refl, e)
 goes_on-bad (Err d) next p e = inl cc
+
+-- want of memory came from the first reading, or from the one behind it
+pub goes_on-memory : {X Y : Type 0} (r : Result (X × ℕ) WireFault) (next : X → ℕ → Result (Y × ℕ) WireFault)
+    → goes_on r next ≡ Err Memory → (r ≡ Err Memory) ⊎ ((x : X × ℕ) × (r ≡ Ok x) × (next x.0 x.1 ≡ Err Memory))
+goes_on-memory (Ok x) next e = inr (x, refl, e)
+goes_on-memory (Err d) next e = inl cc
+
+moved-memory : {X : Type 0} (n : ℕ) (r : Result (X × ℕ) WireFault) → moved n r ≡ Err Memory → r ≡ Err Memory
+moved-memory n (Ok r) e = absurd cc
+moved-memory n (Err Short) e = absurd cc
+moved-memory n (Err (Bad p)) e = absurd cc
+moved-memory n (Err Memory) e = refl
+
+pub behind-memory : {X : Type 0} (n : ℕ) (reading : Reading X) (input : List ℕ) → behind n reading input ≡ Err Memory → reading (drop n input) ≡ Err Memory
+unfolding behind
+behind-memory n reading input e = moved-memory n (reading (drop n input)) e
 
 pub moved-ok : {X : Type 0} (n : ℕ) (r : Result (X × ℕ) WireFault) (y : X) (m : ℕ) → moved n r ≡ Ok (y, m) → (k : ℕ) × (r ≡ Ok (y, k)) × (m ≡ n + k)
 moved-ok {X} n (Ok r) y m e =
@@ -117,6 +128,13 @@ then-codec {X} {Y} spelled rest fits front front_fits first next Related codec s
             let two = (codecs g.0.0 one.0).bad_within (drop g.0.1 input) b.0 (AreBytes-drop g.0.1 input bytes) b.1 in
             omega (arith, two, b.2, length-drop g.0.1 input)
       ];
+  no_memory = λ input bytes e.
+      elim (goes_on-memory (first input) (λ a n. behind n (next a) input) e) [
+        | inl h ↦ codec.no_memory input bytes h
+        | inr g ↦
+            let one = codec.one_spelling input g.0.0 g.0.1 bytes g.1 in
+            (codecs g.0.0 one.0).no_memory (drop g.0.1 input) (AreBytes-drop g.0.1 input bytes) (behind-memory g.0.1 (next g.0.0) input g.2)
+      ];
 }
 
 pub behind-done : {X : Type 0} (n : ℕ) (v : X) (input : List ℕ) → behind n (done v) input ≡ Ok (v, n)
@@ -142,6 +160,14 @@ bad-through make reading input p e =
       | inr g ↦ absurd (ok_or_bad (make g.0.0, g.0.1) (Bad p) (sym (behind-done g.0.1 (make g.0.0) input) ∙ g.2))
     ]
 
+memory-through : {X Y : Type 0} (make : X → Y) (reading : Reading X) (input : List ℕ) → through make reading input ≡ Err Memory → reading input ≡ Err Memory
+unfolding through ◌>>=◌
+memory-through {X} {Y} make reading input e =
+    elim (goes_on-memory (reading input) (λ a k. behind k (done (make a)) input) e) [
+      | inl h ↦ h
+      | inr g ↦ absurd (ok_or_bad (make g.0.0, g.0.1) Memory (sym (behind-done g.0.1 (make g.0.0) input) ∙ g.2))
+    ]
+
 -- A codec through a constructor, which gives each value that fits from its parts.
 pub through-codec : {X Y : Type 0} (spelled : Y → List ℕ) (fits : Y → Type 0) (front : X → List ℕ) (front_fits : X → Type 0) (reading : Reading X) (make : X → Y)
     → IsCodec front front_fits reading → ((x : X) → front_fits x → fits (make x)) → ((x : X) → front_fits x → spelled (make x) ≡ front x) → ((y : Y) → fits y → (x : X) × front_fits x × (make x ≡ y))
@@ -159,6 +185,7 @@ through-codec {X} {Y} spelled fits front front_fits reading make codec makes spe
       let one = codec.one_spelling input o.0 n bytes o.1 in
       subst (λ (v : Y). fits v × (take n input ≡ spelled v) × (n ≤ length input)) o.2 (makes o.0 one.0, one.1 ∙ sym (spells o.0 one.0), one.2);
   bad_within = λ input p bytes e. codec.bad_within input p bytes (bad-through make reading input p e);
+  no_memory = λ input bytes e. codec.no_memory input bytes (memory-through make reading input e);
 }
 
 -- A value that is all that fits, and is spelled by no byte.
@@ -169,6 +196,7 @@ done-codec {X} spelled fits v here empty only = record {
       let same = value_is (v, 0) (w, n) e in
       subst (λ (r : X × ℕ). fits r.0 × (take r.1 input ≡ spelled r.0) × (r.1 ≤ length input)) same (here, sym empty, omega arith);
   bad_within = λ input p bytes e. absurd (ok_or_bad (v, 0) (Bad p) e);
+  no_memory = λ input bytes e. ok_or_bad (v, 0) Memory e;
 }
 
 -- A codec behind a codec gives the pairs.
@@ -203,6 +231,14 @@ tested-bad : {X : Type 0} (test : X → Bool) (r : Result (X × ℕ) WireFault) 
 tested-bad test (Ok x) p e = inr (x, refl, refused_at (test x.0) x p e)
 tested-bad test (Err d) p e = inl cc
 
+not_refused_so : {X : Type 0} (b : Bool) (x : X × ℕ) → cond b (Ok x) (refused (Bad 0)) ≡ Err Memory → ⊥
+not_refused_so true x e = absurd cc
+not_refused_so false x e = absurd cc
+
+tested-memory : {X : Type 0} (test : X → Bool) (r : Result (X × ℕ) WireFault) → tested test r ≡ Err Memory → r ≡ Err Memory
+tested-memory test (Ok x) e = absurd (not_refused_so (test x.0) x e)
+tested-memory test (Err d) e = cc
+
 -- A codec of what passes a test, where no spelling is empty.
 pub only-codec : {X : Type 0} (spelled : X → List ℕ) (fits : X → Type 0) (taken : Reading X) (test : X → Bool)
     → IsCodec spelled fits taken → ((v : X) → fits v → 0 < length (spelled v)) → IsCodec spelled (λ v. fits v × IsTrue (test v)) (only test taken)
@@ -220,6 +256,7 @@ only-codec {X} spelled fits taken test codec some = record {
             let one = codec.one_spelling input y.0.0 y.0.1 bytes y.1 in
             omega (arith, some y.0.0 one.0, ap (length {A = ℕ}) one.1, length-take y.0.1 input, y.2)
       ];
+  no_memory = λ input bytes e. codec.no_memory input bytes (tested-memory test (taken input) e);
 }
 
 -- ---- behind a kind byte
@@ -259,6 +296,10 @@ chosen-bad : {X : Type 0} (o : Option (Reading X)) (input : List ℕ) (p : ℕ) 
 chosen-bad {X} None input p e = inl (sym (bad_is {X = X} 0 p e))
 chosen-bad (Some reading) input p e = inr (reading, refl, e)
 
+chosen-memory : {X : Type 0} (o : Option (Reading X)) (input : List ℕ) → chosen o input ≡ Err Memory → (reading : Reading X) × (o ≡ Some reading) × (behind 1 reading input ≡ Err Memory)
+chosen-memory None input e = absurd cc
+chosen-memory (Some reading) input e = (reading, refl, e)
+
 choice_spelled : {X : Type 0} (kind : X → ℕ) (body : X → List ℕ) (fits : X → Type 0) (cases : List (ℕ × Reading X)) → AreCases kind body fits cases
     → (input : List ℕ) (v : X) (n : ℕ) → AreBytes input → choice cases input ≡ Ok (v, n) → fits v × (take n input ≡ kind v ∷ body v) × (n ≤ length input)
 choice_spelled kind body fits cases codecs [] v n bytes e = absurd cc
@@ -283,6 +324,14 @@ choice_bad kind body fits cases codecs (k ∷ rest) p bytes e =
           omega (arith, one, b.2)
     ]
 
+choice_memory : {X : Type 0} (kind : X → ℕ) (body : X → List ℕ) (fits : X → Type 0) (cases : List (ℕ × Reading X)) → AreCases kind body fits cases
+    → (input : List ℕ) → AreBytes input → choice cases input ≡ Err Memory → ⊥
+choice_memory kind body fits cases codecs [] bytes e = absurd cc
+choice_memory kind body fits cases codecs (k ∷ rest) bytes e =
+    let c = chosen-memory (reading_of k cases) (k ∷ rest) e in
+    let codec = case_of kind body fits cases k c.0 codecs c.1 in
+    codec.no_memory rest (AreBytes-drop 1 (k ∷ rest) bytes) (behind-memory 1 c.0 (k ∷ rest) c.2)
+
 -- A choice by a kind byte. Each value that fits has a kind that is listed, and its body is read there.
 pub choice-codec : {X : Type 0} (kind : X → ℕ) (body : X → List ℕ) (fits : X → Type 0) (cases : List (ℕ × Reading X))
     → AreCases kind body fits cases → ((v : X) → fits v → IsTrue (is_some (reading_of (kind v) cases))) → IsCodec (λ v. kind v ∷ body v) fits (choice cases)
@@ -294,4 +343,5 @@ choice-codec {X} kind body fits cases codecs listed = record {
       ap (λ (o : Option (Reading X)). chosen o (kind v ∷ (body v ++ more))) r.1 ∙ (one ∙ ap (λ (n : ℕ). read v n) (omega arith));
   one_spelling = λ input v n bytes e. choice_spelled kind body fits cases codecs input v n bytes e;
   bad_within = λ input p bytes e. choice_bad kind body fits cases codecs input p bytes e;
+  no_memory = λ input bytes e. choice_memory kind body fits cases codecs input bytes e;
 }

@@ -1,10 +1,9 @@
 -- Names, texts and lines as bytes: two bytes of length and that many bytes, which are one field.
 use Rattle.std.specs.Prelude.{ℕ, ◌+◌, ◌≤◌, Bool, if◌then◌else◌, nat_lt, List, ◌++◌, length, take, drop, Option, Some, None, IsTrue, Result, Ok, Err}
 use Rattle.std.specs.Int.{w16, to_be_bytes, from_be_bytes}
-use Rattle.irc_line.specs.Names.{is_name, is_text, same_bytes}
+use Rattle.irc_line.specs.Names.{is_name, is_text}
 use Rattle.irc_line.specs.Lines.{Parts, is_line, spelling}
-use Rattle.irc_line.specs.Reading.{judged}
-use Rattle.irc_line.specs.declared.fault.LineFault.{LineFault}
+use Rattle.irc_line.specs.Reading.{canonical, judged}
 use Rattle.wire_bytes.specs.declared.wire_fault.WireFault.{WireFault}
 use Rattle.wire_bytes.specs.declared.wire_fault.WireFault.TheVariants.{Short, Bad}
 use Rattle.wire_bytes.specs.Fields.{Reading}
@@ -50,11 +49,6 @@ text = content (passed is_text)
 -- a line whose canonical spelling has at most 511 bytes
 abbrev pub FitsLine : Parts → Type 0
 FitsLine p = IsTrue (is_line p) × (length (spelling p) ≤ 511)
-
--- what was read of these bytes, where they are its canonical spelling
-abbrev pub canonical : List ℕ → Result Parts LineFault → Option Parts
-canonical bytes (Ok p) = if same_bytes (spelling p) bytes then Some p else None
-canonical bytes (Err e) = None
 
 -- the canonical spelling, behind its length
 unfoldable pub spelled_line : Parts → List ℕ

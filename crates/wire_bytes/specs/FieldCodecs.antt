@@ -1,4 +1,4 @@
--- Each field is a codec.
+-- Each field is a codec. These are lemmas, which need not be believed.
 use Rattle.std.proofs.Common.{◌≡◌, ℕ, zero, suc, ◌+◌, ◌^◌, ◌<◌, ◌≤◌, ◌⊎◌, inl, inr, Bool, true, false, cond, ltb, leb, List, [], ◌∷◌, ◌++◌, length, take, drop, Option, Some, None, Result, Ok, Err, IsTrue, refl, sym, ap, subst, ◌∙◌, arith}
 use Rattle.std.specs.Prelude.{◌&&◌}
 use Rattle.std.specs.Int.{Width, w16, w32, w64, byte_len, from_be_bytes, to_be_bytes}
@@ -8,7 +8,7 @@ use Rattle.std.proofs.Math.Seq.{take-add}
 use Rattle.std.proofs.lemmas.Nat.{be_bytes_2, be_bytes_4, be_bytes_8, from_be_bytes-to_be_bytes_2, from_be_bytes-to_be_bytes_4, from_be_bytes-to_be_bytes_8}
 use Rattle.irc_line.specs.Names.{is_name, is_text}
 use Rattle.wire_bytes.specs.declared.wire_fault.WireFault.{WireFault}
-use Rattle.wire_bytes.specs.declared.wire_fault.WireFault.TheVariants.{Short, Bad}
+use Rattle.wire_bytes.specs.declared.wire_fault.WireFault.TheVariants.{Short, Bad, Memory}
 use Rattle.wire_bytes.specs.Fields.{AreBytes, byte_judged, byte_within, truth, truth_byte, number_to}
 use Rattle.wire_bytes.specs.Contents.{sized, sized_bytes_of, sized_bytes, accepted, accepted_bytes, content, passed, name, text}
 use Rattle.wire_bytes.specs.Codecs.{IsCodec}
@@ -55,6 +55,14 @@ where_bad : {A : Type 0} (b : Bool) (x : A) (q p : ℕ) → cond b (Ok x) (Err (
 where_bad {A} true x q p e = absurd cc
 where_bad {A} false x q p e = place_is {A = A} q p e
 
+unless_memory : {A : Type 0} (b : Bool) (r : Result A WireFault) → cond b (Err Short) r ≡ Err Memory → r ≡ Err Memory
+unless_memory true r e = absurd cc
+unless_memory false r e = e
+
+where_memory : {A : Type 0} (b : Bool) (x : A) → cond b (Ok x) (Err (Bad 0)) ≡ Err Memory → ⊥
+where_memory true x e = absurd cc
+where_memory false x e = absurd cc
+
 -- ---- one byte
 
 byte_judged-ok : (c : Bool) (b n k : ℕ) → byte_judged b c ≡ Ok (n, k) → (c ≡ true) × (b ≡ n) × (1 ≡ k)
@@ -86,11 +94,20 @@ byte_bad : (least most : ℕ) (input : List ℕ) (p : ℕ) → byte_within least
 byte_bad least most [] p e = absurd cc
 byte_bad least most (b ∷ rest) p e = omega (arith, byte_judged-bad (leb least b && leb b most) b p e)
 
+byte_judged-memory : (c : Bool) (b : ℕ) → byte_judged b c ≡ Err Memory → ⊥
+byte_judged-memory true b e = absurd cc
+byte_judged-memory false b e = absurd cc
+
+byte_no_memory : (least most : ℕ) (input : List ℕ) → byte_within least most input ≡ Err Memory → ⊥
+byte_no_memory least most [] e = absurd cc
+byte_no_memory least most (b ∷ rest) e = byte_judged-memory (leb least b && leb b most) b e
+
 pub byte-codec : (least most : ℕ) → IsCodec (λ n. n ∷ []) (λ n. (least ≤ n) × (n ≤ most)) (byte_within least most)
 byte-codec least most = record {
   read_back = λ n rest h. byte_read least most n rest h.0 h.1;
   one_spelling = λ input n k bytes e. byte_spelled least most input n k e;
   bad_within = λ input p bytes e. byte_bad least most input p e;
+  no_memory = λ input bytes e. byte_no_memory least most input e;
 }
 
 -- ---- a truth value
@@ -111,11 +128,18 @@ truth_bad (zero ∷ rest) p e = absurd cc
 truth_bad (suc zero ∷ rest) p e = absurd cc
 truth_bad (suc (suc b) ∷ rest) p e = omega (arith, place_is {A = Bool × ℕ} 0 p e)
 
+truth_no_memory : (input : List ℕ) → truth input ≡ Err Memory → ⊥
+truth_no_memory [] e = absurd cc
+truth_no_memory (zero ∷ rest) e = absurd cc
+truth_no_memory (suc zero ∷ rest) e = absurd cc
+truth_no_memory (suc (suc b) ∷ rest) e = absurd cc
+
 pub truth_is_codec : IsCodec (λ b. truth_byte b ∷ []) (λ _. Unit {0}) truth
 truth_is_codec = record {
   read_back = λ b rest h. truth_read b rest;
   one_spelling = λ input b n bytes e. truth_spelled input (b, n) e;
   bad_within = λ input p bytes e. truth_bad input p e;
+  no_memory = λ input bytes e. truth_no_memory input e;
 }
 
 -- ---- a number
@@ -164,6 +188,8 @@ number-codec w limit most wide below = record {
       let b = where_bad (leb (from_be_bytes w (take (byte_len w) input)) most) (from_be_bytes w (take (byte_len w) input), byte_len w) 0 p a.1 in
       let long : byte_len w ≤ length input = ltb-false _ _ a.0 in
       omega (arith, wide.some);
+  no_memory = λ input bytes e.
+      where_memory (leb (from_be_bytes w (take (byte_len w) input)) most) (from_be_bytes w (take (byte_len w) input), byte_len w) (unless_memory (ltb (length input) (byte_len w)) _ e);
 }
 
 -- ---- a content behind its length
@@ -185,6 +211,14 @@ accepted_bytes-bad : {X : Type 0} (judge : List ℕ → Option X) (r : Result (L
 accepted_bytes-bad judge (Ok bytes) p e = inl (bytes, refl, accepted-bad (length bytes) (judge bytes) p e)
 accepted_bytes-bad judge (Err d) p e = inr cc
 
+accepted-memory : {X : Type 0} (n : ℕ) (o : Option X) → accepted n o ≡ Err Memory → ⊥
+accepted-memory n None e = absurd cc
+accepted-memory n (Some w) e = absurd cc
+
+accepted_bytes-memory : {X : Type 0} (judge : List ℕ → Option X) (r : Result (List ℕ) WireFault) → accepted_bytes judge r ≡ Err Memory → r ≡ Err Memory
+accepted_bytes-memory judge (Ok bytes) e = absurd (accepted-memory (length bytes) (judge bytes) e)
+accepted_bytes-memory judge (Err d) e = cc
+
 -- bytes that are there have their length before them
 pub sized_bytes-ok : (input body : List ℕ) → AreBytes input → sized_bytes input ≡ Ok body → (take (2 + length body) input ≡ sized body) × (2 + length body ≤ length input)
 unfolding sized_bytes sized
@@ -205,6 +239,13 @@ sized_bytes-bad input p e =
     let a = unless_bad (ltb (length input) 2) (sized_bytes_of (from_be_bytes w16 (take 2 input)) input) p e in
     let b = unless_bad {A = List ℕ} (ltb (length input) (2 + from_be_bytes w16 (take 2 input))) (Ok (take (from_be_bytes w16 (take 2 input)) (drop 2 input))) p a.1 in
     answer_or (take (from_be_bytes w16 (take 2 input)) (drop 2 input)) (Bad p) b.1
+
+sized_bytes-memory : (input : List ℕ) → sized_bytes input ≡ Err Memory → ⊥
+unfolding sized_bytes
+sized_bytes-memory input e =
+    let a = unless_memory (ltb (length input) 2) (sized_bytes_of (from_be_bytes w16 (take 2 input)) input) e in
+    let b = unless_memory {A = List ℕ} (ltb (length input) (2 + from_be_bytes w16 (take 2 input))) (Ok (take (from_be_bytes w16 (take 2 input)) (drop 2 input))) a in
+    answer_or (take (from_be_bytes w16 (take 2 input)) (drop 2 input)) Memory b
 
 sized_bytes_of-read : (front body rest : List ℕ) → length front ≡ 2 → sized_bytes_of (length body) (front ++ (body ++ rest)) ≡ Ok body
 sized_bytes_of-read front body rest two =
@@ -240,6 +281,7 @@ content-codec {X} spell fits judge short takes only = record {
         | inl b ↦ let s = sized_bytes-ok input b.0 bytes b.1 in omega (arith, s.1, b.2)
         | inr b ↦ absurd (sized_bytes-bad input p b)
       ];
+  no_memory = λ input bytes e. sized_bytes-memory input (accepted_bytes-memory judge (sized_bytes input) e);
 }
 
 -- a length is never empty

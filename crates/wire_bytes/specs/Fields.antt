@@ -1,5 +1,5 @@
 -- Values as bytes, field by field: what is read at the front of an input, and how long it is.
-use Rattle.std.specs.Prelude.{ℕ, zero, suc, ◌+◌, ◌==◌, ◌<◌, Bool, true, false, ◌&&◌, if◌then◌else◌, nat_le, nat_lt, List, [], ◌∷◌, length, take, drop, Option, Some, None, Result, Ok, Err, slice_index}
+use Rattle.std.specs.Prelude.{ℕ, zero, suc, ◌+◌, ◌==◌, ◌<◌, Bool, true, false, ◌&&◌, if◌then◌else◌, nat_le, nat_lt, List, [], ◌∷◌, ◌++◌, length, take, drop, Option, Some, None, Result, Ok, Err, is_ok, slice_index}
 use Rattle.std.specs.Int.{Width, byte_len, from_be_bytes}
 use Rattle.wire_bytes.specs.declared.wire_fault.WireFault.{WireFault}
 use Rattle.wire_bytes.specs.declared.wire_fault.WireFault.TheVariants.{Short, Bad, Memory}
@@ -7,6 +7,10 @@ use Rattle.wire_bytes.specs.declared.wire_fault.WireFault.TheVariants.{Short, Ba
 -- each number is a byte
 abbrev pub AreBytes : List ℕ → Type 0
 AreBytes bytes = (i : ℕ) → slice_index bytes i < 256
+
+-- what stands where an appending answered so: these bytes behind the others, or the others alone
+abbrev pub appended : {A E : Type 0} → Result A E → List ℕ → List ℕ → List ℕ
+appended result old more = if is_ok result then old ++ more else old
 
 -- the value at the front of an input and its length, or what is wrong; a place is counted from the front
 abbrev pub Reading : Type 0 → Type 0

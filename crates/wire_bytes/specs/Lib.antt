@@ -1,4 +1,5 @@
 pub mod Fields
+pub mod Wants
 pub mod Contents
 pub mod Values
 pub mod Texts

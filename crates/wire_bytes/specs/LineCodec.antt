@@ -1,12 +1,12 @@
--- A line is a codec.
+-- A line is a codec. These are lemmas, which need not be believed.
 use Rattle.std.proofs.Common.{length, ◌≡◌, ◌<◌, ℕ, Bool, true, false, cond, List, Some, None, Result, Ok, Err, refl, sym, ap, ◌∙◌, arith}
 use Rattle.irc_line.specs.Names.{same_bytes}
 use Rattle.irc_line.specs.Lines.{Parts, spelling}
-use Rattle.irc_line.specs.Reading.{judged}
+use Rattle.irc_line.specs.Reading.{canonical, judged}
 use Rattle.irc_line.specs.declared.fault.LineFault.{LineFault}
 use Rattle.irc_line.proofs.Judging.{judged_line, judged_is}
 use Rattle.irc_line.proofs.Canonical.{spelling_judged}
-use Rattle.wire_bytes.specs.Contents.{FitsLine, canonical, spelled_line, line}
+use Rattle.wire_bytes.specs.Contents.{FitsLine, spelled_line, line}
 use Rattle.wire_bytes.specs.Codecs.{IsCodec}
 use Rattle.wire_bytes.specs.FieldCodecs.{content-codec, sized_some}
 use Rattle.irc_line.proofs.SameBytes.{same_bytes-refl, same_bytes-eq}

@@ -10,6 +10,7 @@ use std::alloc::{AllocError, Global};
 impl Wire for bool {
     ghost use Rattle.std.specs.Prelude.{◌∷◌, []};
     ghost use Rattle.wire_bytes.specs.Fields.{truth, truth_byte};
+    ghost use Rattle.wire_bytes.specs.Wants.{never};
     ghost use Rattle.wire_bytes.specs.FieldCodecs.{truth_is_codec};
 
     ghost spelled = { λ b. truth_byte b ∷ [] };
@@ -18,15 +19,14 @@ impl Wire for bool {
 
     ghost taken = { truth };
 
+    ghost wants = { never };
+
     fn put(&self, out: &mut Vec<u8>) -> Result<(), AllocError> {
         out.push(if *self { 1 } else { 0 })?;
         Ok(())
     }
 
-    fn take(_alloc: Global, input: &[u8]) -> Result<(Self, usize), WireFault>
-        ensures ok { IfOk result (λ r. truth input.now ≡ Ok (r.0, r.1)) }
-        ensures err { IfErr result (λ e. truth input.now ≡ Err e) }
-    {
+    fn take(_alloc: Global, input: &[u8]) -> Result<(Self, usize), WireFault> {
         match input {
             [] => Err(WireFault::Short),
             [0, ..] => Ok((false, 1)),
@@ -35,17 +35,14 @@ impl Wire for bool {
         }
     }
 
-    ghost read_back = { truth_is_codec.read_back };
-
-    ghost one_spelling = { truth_is_codec.one_spelling };
-
-    ghost bad_within = { truth_is_codec.bad_within };
+    ghost is_codec = { truth_is_codec };
 }
 
 /// The byte itself.
 impl Wire for u8 {
     ghost use Rattle.std.specs.Prelude.{◌∷◌, [], ◌≤◌};
     ghost use Rattle.wire_bytes.specs.Fields.{byte_within};
+    ghost use Rattle.wire_bytes.specs.Wants.{never};
     ghost use Rattle.wire_bytes.specs.FieldCodecs.{byte-codec};
 
     ghost spelled = { λ b. b ∷ [] };
@@ -54,21 +51,16 @@ impl Wire for u8 {
 
     ghost taken = { byte_within 0 255 };
 
+    ghost wants = { never };
+
     fn put(&self, out: &mut Vec<u8>) -> Result<(), AllocError> {
         out.push(*self)?;
         Ok(())
     }
 
-    fn take(_alloc: Global, input: &[u8]) -> Result<(Self, usize), WireFault>
-        ensures ok { IfOk result (λ r. byte_within 0 255 input.now ≡ Ok (r.0, r.1)) }
-        ensures err { IfErr result (λ e. byte_within 0 255 input.now ≡ Err e) }
-    {
+    fn take(_alloc: Global, input: &[u8]) -> Result<(Self, usize), WireFault> {
         take_byte(input, 0, 255)
     }
 
-    ghost read_back = { (byte-codec 0 255).read_back };
-
-    ghost one_spelling = { (byte-codec 0 255).one_spelling };
-
-    ghost bad_within = { (byte-codec 0 255).bad_within };
+    ghost is_codec = { byte-codec 0 255 };
 }

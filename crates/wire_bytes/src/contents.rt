@@ -4,7 +4,7 @@ ghost use Rattle.wire_bytes.specs.Contents.{FitsLine, sized_bytes, name, text, l
 use crate::fields::{put_sized, take_byte, take_sized, undo};
 use crate::wire::Wire;
 use crate::wire_fault::WireFault;
-use irc_line::{Line, LineFault, Name, Text, is_a_name, is_a_text, is_same};
+use irc_line::{Line, Name, Text, is_a_name, is_a_text};
 use std::alloc::{AllocError, Global};
 
 /// Two bytes of length and the bytes, which are one field.
@@ -12,6 +12,7 @@ impl Wire for Name {
     ghost use Rattle.std.specs.Prelude.{IsTrue};
     ghost use Rattle.irc_line.specs.Names.{is_name};
     ghost use Rattle.wire_bytes.specs.Contents.{sized, name};
+    ghost use Rattle.wire_bytes.specs.Wants.{once_whole};
     ghost use Rattle.wire_bytes.specs.FieldCodecs.{name_is_codec};
 
     ghost spelled = { sized };
@@ -20,16 +21,14 @@ impl Wire for Name {
 
     ghost taken = { name };
 
+    ghost wants = { once_whole name };
+
     fn put(&self, out: &mut Vec<u8>) -> Result<(), AllocError> {
         put_sized(out, self.as_bytes())
     }
 
     #[tactic(auto, unfolding(crate::specs::Contents::name))]
-    fn take(alloc: Global, input: &[u8]) -> Result<(Self, usize), WireFault>
-        ensures ok { IfOk result (λ r. name input.now ≡ Ok (r.0, r.1)) }
-        ensures err { IfErr result (λ e. e ≢ WireFault.Memory → name input.now ≡ Err e) }
-        ensures memory { IfErr result (λ e. e ≡ WireFault.Memory → IsOk (name input.now)) }
-    {
+    fn take(alloc: Global, input: &[u8]) -> Result<(Self, usize), WireFault> {
         let bytes = take_sized(input)?;
         if !is_a_name(bytes) {
             return Err(WireFault::Bad(0));
@@ -40,11 +39,7 @@ impl Wire for Name {
         }
     }
 
-    ghost read_back = { name_is_codec.read_back };
-
-    ghost one_spelling = { name_is_codec.one_spelling };
-
-    ghost bad_within = { name_is_codec.bad_within };
+    ghost is_codec = { name_is_codec };
 }
 
 /// Two bytes of length and the bytes, which are one field.
@@ -52,6 +47,7 @@ impl Wire for Text {
     ghost use Rattle.std.specs.Prelude.{IsTrue};
     ghost use Rattle.irc_line.specs.Names.{is_text};
     ghost use Rattle.wire_bytes.specs.Contents.{sized, text};
+    ghost use Rattle.wire_bytes.specs.Wants.{once_whole};
     ghost use Rattle.wire_bytes.specs.FieldCodecs.{text_is_codec};
 
     ghost spelled = { sized };
@@ -60,16 +56,14 @@ impl Wire for Text {
 
     ghost taken = { text };
 
+    ghost wants = { once_whole text };
+
     fn put(&self, out: &mut Vec<u8>) -> Result<(), AllocError> {
         put_sized(out, self.as_bytes())
     }
 
     #[tactic(auto, unfolding(crate::specs::Contents::text))]
-    fn take(alloc: Global, input: &[u8]) -> Result<(Self, usize), WireFault>
-        ensures ok { IfOk result (λ r. text input.now ≡ Ok (r.0, r.1)) }
-        ensures err { IfErr result (λ e. e ≢ WireFault.Memory → text input.now ≡ Err e) }
-        ensures memory { IfErr result (λ e. e ≡ WireFault.Memory → IsOk (text input.now)) }
-    {
+    fn take(alloc: Global, input: &[u8]) -> Result<(Self, usize), WireFault> {
         let bytes = take_sized(input)?;
         if !is_a_text(bytes) {
             return Err(WireFault::Bad(0));
@@ -80,16 +74,13 @@ impl Wire for Text {
         }
     }
 
-    ghost read_back = { text_is_codec.read_back };
-
-    ghost one_spelling = { text_is_codec.one_spelling };
-
-    ghost bad_within = { text_is_codec.bad_within };
+    ghost is_codec = { text_is_codec };
 }
 
 /// Two bytes of length, 1 to 511, and the canonical spelling; any other spelling of a line is refused.
 impl Wire for Line {
     ghost use Rattle.wire_bytes.specs.Contents.{spelled_line, FitsLine, line};
+    ghost use Rattle.wire_bytes.specs.Wants.{once_whole};
     ghost use Rattle.wire_bytes.specs.LineCodec.{line_is_codec};
 
     ghost spelled = { spelled_line };
@@ -97,6 +88,8 @@ impl Wire for Line {
     ghost fits = { FitsLine };
 
     ghost taken = { line };
+
+    ghost wants = { once_whole line };
 
     #[tactic(auto, unfolding(crate::specs::Contents::sized, crate::specs::Contents::spelled_line))]
     fn put(&self, out: &mut Vec<u8>) -> Result<(), AllocError> {
@@ -110,28 +103,15 @@ impl Wire for Line {
     fn take(alloc: Global, input: &[u8]) -> Result<(Self, usize), WireFault>
         ensures ok { IfOk result (λ r. line input.now ≡ Ok (r.0, r.1)) }
         ensures err { IfErr result (λ e. e ≢ WireFault.Memory → line input.now ≡ Err e) }
-        ensures memory { IfErr result (λ e. e ≡ WireFault.Memory → IsOk (sized_bytes input.now)) }
+        ensures memory { IfErr result (λ e. e ≡ WireFault.Memory → IsOk (line input.now)) }
         ensures fits { IfOk result (λ r. FitsLine r.0) }
     {
         let bytes = take_sized(input)?;
-        match Line::parse(alloc, bytes) {
-            Err(LineFault::Memory) => Err(WireFault::Memory),
-            Err(_) => Err(WireFault::Bad(0)),
-            Ok(line) => {
-                let mut spelling = Vec::new(alloc);
-                line.write_to(&mut spelling)?;
-                if is_same(spelling.as_slice(), bytes) {
-                    Ok((line, 2 + bytes.len()))
-                } else {
-                    Err(WireFault::Bad(0))
-                }
-            }
+        match Line::from_spelling(alloc, bytes)? {
+            None => Err(WireFault::Bad(0)),
+            Some(line) => Ok((line, 2 + bytes.len())),
         }
     }
 
-    ghost read_back = { line_is_codec.read_back };
-
-    ghost one_spelling = { line_is_codec.one_spelling };
-
-    ghost bad_within = { line_is_codec.bad_within };
+    ghost is_codec = { line_is_codec };
 }

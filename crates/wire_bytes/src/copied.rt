@@ -1,4 +1,4 @@
-ghost use Rattle.std.specs.Prelude.{◌≡◌, IfOk};
+ghost use Rattle.std.specs.Prelude.{◌≡◌, IfOk, Ok};
 
 use irc_line::{Line, Name, Text};
 use std::alloc::{AllocError, Global};
@@ -28,13 +28,17 @@ impl Copied for Line {
 }
 
 impl Copied for bool {
-    fn copy(&self, _alloc: Global) -> Result<Self, AllocError> {
+    fn copy(&self, _alloc: Global) -> Result<Self, AllocError>
+        ensures { result ≡ Ok self.now }
+    {
         Ok(*self)
     }
 }
 
 impl Copied for u8 {
-    fn copy(&self, _alloc: Global) -> Result<Self, AllocError> {
+    fn copy(&self, _alloc: Global) -> Result<Self, AllocError>
+        ensures { result ≡ Ok self.now }
+    {
         Ok(*self)
     }
 }

@@ -1,6 +1,6 @@
-ghost use Rattle.std.specs.Prelude.{◌≡◌, ◌≢◌, [], ◌∷◌, drop, ◌<◌, ◌≤◌, ◌+◌, ◌++◌, length, take, is_ok, if◌then◌else◌, IfOk, IfErr, Ok, Err};
+ghost use Rattle.std.specs.Prelude.{◌≡◌, ◌≢◌, [], ◌∷◌, drop, ◌<◌, ◌≤◌, ◌+◌, length, take, is_ok, if◌then◌else◌, IfOk, IfErr, IsTrue, OnErr, Ok, Err, vec_capacity, vec_len};
 ghost use Rattle.std.specs.Int.{w16, w32, w64};
-ghost use Rattle.wire_bytes.specs.Fields.{byte_within, number_to, behind};
+ghost use Rattle.wire_bytes.specs.Fields.{appended, byte_within, number_to, behind};
 ghost use Rattle.wire_bytes.specs.Contents.{sized, sized_bytes};
 
 use crate::wire::Wire;
@@ -10,6 +10,7 @@ use std::alloc::{AllocError, Global};
 /// One byte between these limits. Short where there is none, Bad where it lies outside.
 pub fn take_byte(input: &[u8], least: u8, most: u8) -> Result<(u8, usize), WireFault>
     ensures value { result ≡ byte_within least most input.now }
+    ensures no_memory { IfErr result (λ e. e ≢ WireFault.Memory) }
     ensures limits { IfOk result (λ r. (least ≤ r.0) × (r.0 ≤ most)) }
 {
     match input {
@@ -39,6 +40,7 @@ pub fn take_kind(input: &[u8]) -> Result<u8, WireFault>
 #[tactic(auto, unfolding(crate::specs::Fields::number_to))]
 pub fn take_u16(input: &[u8], most: u16) -> Result<(u16, usize), WireFault>
     ensures value { result ≡ number_to w16 most input.now }
+    ensures no_memory { IfErr result (λ e. e ≢ WireFault.Memory) }
     ensures limit { IfOk result (λ r. r.0 ≤ most) }
 {
     if input.len() < 2 {
@@ -57,6 +59,7 @@ pub fn take_u16(input: &[u8], most: u16) -> Result<(u16, usize), WireFault>
 #[tactic(auto, unfolding(crate::specs::Fields::number_to))]
 pub fn take_u32(input: &[u8], most: u32) -> Result<(u32, usize), WireFault>
     ensures value { result ≡ number_to w32 most input.now }
+    ensures no_memory { IfErr result (λ e. e ≢ WireFault.Memory) }
     ensures limit { IfOk result (λ r. r.0 ≤ most) }
 {
     if input.len() < 4 {
@@ -75,6 +78,7 @@ pub fn take_u32(input: &[u8], most: u32) -> Result<(u32, usize), WireFault>
 #[tactic(auto, unfolding(crate::specs::Fields::number_to))]
 pub fn take_u64(input: &[u8], most: u64) -> Result<(u64, usize), WireFault>
     ensures value { result ≡ number_to w64 most input.now }
+    ensures no_memory { IfErr result (λ e. e ≢ WireFault.Memory) }
     ensures limit { IfOk result (λ r. r.0 ≤ most) }
 {
     if input.len() < 8 {
@@ -119,6 +123,7 @@ pub fn undo(
 ) -> Result<(), AllocError>
     ensures outcome { result ≡ outcome }
     ensures items { out.new.items ≡ (if is_ok outcome then out.old.items else take len out.old.items) }
+    ensures capacity { vec_capacity out.new ≡ vec_capacity out.old }
 {
     if outcome.is_err() {
         out.truncate(len);
@@ -130,7 +135,9 @@ pub fn undo(
 #[tactic(auto, unfolding(crate::specs::Contents::sized))]
 pub fn put_sized(out: &mut Vec<u8>, bytes: &[u8]) -> Result<(), AllocError>
     requires { length bytes.now < 65536 }
-    ensures { out.new.items ≡ (if is_ok result then out.old.items ++ sized bytes.now else out.old.items) }
+    ensures items { out.new.items ≡ appended result out.old.items (sized bytes.now) }
+    ensures full { OnErr result (vec_capacity out.old < vec_len out.old + length (sized bytes.now)) }
+    ensures capacity { vec_capacity out.old ≤ vec_capacity out.new }
 {
     let len = out.len();
     out.extend_from_slice(&(bytes.len() as u16).to_be_bytes())?;
@@ -147,6 +154,7 @@ pub fn take_behind<W: Wire>(
     requires { place ≤ length input.now }
     ensures ok { IfOk result (λ r. behind place W.taken input.now ≡ Ok (r.0, r.1)) }
     ensures err { IfErr result (λ e. e ≢ WireFault.Memory → behind place W.taken input.now ≡ Err e) }
+    ensures memory { IfErr result (λ e. e ≡ WireFault.Memory → IsTrue (W.wants (drop place input.now))) }
     ensures within { IfOk result (λ r. (place ≤ r.1) × (r.1 ≤ length input.now)) }
 {
     let (_, rest) = input.split_at(place);

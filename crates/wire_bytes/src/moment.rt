@@ -46,13 +46,16 @@ impl Moment {
 }
 
 impl Copied for Moment {
-    fn copy(&self, _alloc: Global) -> Result<Self, AllocError> {
+    fn copy(&self, _alloc: Global) -> Result<Self, AllocError>
+        ensures { result ≡ Ok self.now }
+    {
         Ok(*self)
     }
 }
 
 impl Wire for Moment {
     ghost use Rattle.wire_bytes.specs.Values.{spelled_number, FitsMoment, moment};
+    ghost use Rattle.wire_bytes.specs.Wants.{never};
     ghost use Rattle.wire_bytes.specs.ValueCodecs.{moment_is_codec};
 
     ghost spelled = { spelled_number };
@@ -61,25 +64,20 @@ impl Wire for Moment {
 
     ghost taken = { moment };
 
+    ghost wants = { never };
+
     #[tactic(auto, unfolding(crate::specs::Values::spelled_number))]
     fn put(&self, out: &mut Vec<u8>) -> Result<(), AllocError> {
         out.extend_from_slice(&self.seconds.to_be_bytes())
     }
 
     #[tactic(auto, unfolding(crate::specs::Values::moment))]
-    fn take(_alloc: Global, input: &[u8]) -> Result<(Self, usize), WireFault>
-        ensures ok { IfOk result (λ r. moment input.now ≡ Ok (r.0, r.1)) }
-        ensures err { IfErr result (λ e. moment input.now ≡ Err e) }
-    {
+    fn take(_alloc: Global, input: &[u8]) -> Result<(Self, usize), WireFault> {
         let (seconds, len) = take_u64(input, 250_000_000_000)?;
         Ok((Moment { seconds }, len))
     }
 
-    ghost read_back = { moment_is_codec.read_back };
-
-    ghost one_spelling = { moment_is_codec.one_spelling };
-
-    ghost bad_within = { moment_is_codec.bad_within };
+    ghost is_codec = { moment_is_codec };
 }
 
 impl fmt::Display for Moment {

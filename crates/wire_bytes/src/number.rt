@@ -46,13 +46,16 @@ impl Number {
 }
 
 impl Copied for Number {
-    fn copy(&self, _alloc: Global) -> Result<Self, AllocError> {
+    fn copy(&self, _alloc: Global) -> Result<Self, AllocError>
+        ensures { result ≡ Ok self.now }
+    {
         Ok(*self)
     }
 }
 
 impl Wire for Number {
     ghost use Rattle.wire_bytes.specs.Values.{spelled_number, FitsNumber, number};
+    ghost use Rattle.wire_bytes.specs.Wants.{never};
     ghost use Rattle.wire_bytes.specs.ValueCodecs.{number_is_codec};
 
     ghost spelled = { spelled_number };
@@ -61,25 +64,20 @@ impl Wire for Number {
 
     ghost taken = { number };
 
+    ghost wants = { never };
+
     #[tactic(auto, unfolding(crate::specs::Values::spelled_number))]
     fn put(&self, out: &mut Vec<u8>) -> Result<(), AllocError> {
         out.extend_from_slice(&self.value.to_be_bytes())
     }
 
     #[tactic(auto, unfolding(crate::specs::Values::number))]
-    fn take(_alloc: Global, input: &[u8]) -> Result<(Self, usize), WireFault>
-        ensures ok { IfOk result (λ r. number input.now ≡ Ok (r.0, r.1)) }
-        ensures err { IfErr result (λ e. number input.now ≡ Err e) }
-    {
+    fn take(_alloc: Global, input: &[u8]) -> Result<(Self, usize), WireFault> {
         let (value, len) = take_u64(input, 1 << 60)?;
         Ok((Number { value }, len))
     }
 
-    ghost read_back = { number_is_codec.read_back };
-
-    ghost one_spelling = { number_is_codec.one_spelling };
-
-    ghost bad_within = { number_is_codec.bad_within };
+    ghost is_codec = { number_is_codec };
 }
 
 impl fmt::Display for Number {

@@ -1,4 +1,4 @@
-ghost use Rattle.std.specs.Prelude.{◌≡◌, ℕ, ◌≤◌, ◌^◌, Some};
+ghost use Rattle.std.specs.Prelude.{◌≡◌, ℕ, ◌≤◌, ◌^◌, Some, Ok};
 
 use crate::copied::Copied;
 use crate::fields::{take_behind, take_byte, undo};
@@ -64,13 +64,16 @@ impl Origin {
 }
 
 impl Copied for Origin {
-    fn copy(&self, _alloc: Global) -> Result<Self, AllocError> {
+    fn copy(&self, _alloc: Global) -> Result<Self, AllocError>
+        ensures { result ≡ Ok self.now }
+    {
         Ok(*self)
     }
 }
 
 impl Wire for Origin {
     ghost use Rattle.wire_bytes.specs.Values.{spelled_origin, FitsOrigin, origin};
+    ghost use Rattle.wire_bytes.specs.Wants.{never};
     ghost use Rattle.wire_bytes.specs.ValueCodecs.{origin_is_codec};
 
     ghost spelled = { spelled_origin };
@@ -78,6 +81,8 @@ impl Wire for Origin {
     ghost fits = { FitsOrigin };
 
     ghost taken = { origin };
+
+    ghost wants = { never };
 
     #[tactic(auto, unfolding(crate::specs::Values::spelled_origin))]
     fn put(&self, out: &mut Vec<u8>) -> Result<(), AllocError> {
@@ -93,11 +98,7 @@ impl Wire for Origin {
         Ok((Origin::new(node, boot.value(), client.value()), len))
     }
 
-    ghost read_back = { origin_is_codec.read_back };
-
-    ghost one_spelling = { origin_is_codec.one_spelling };
-
-    ghost bad_within = { origin_is_codec.bad_within };
+    ghost is_codec = { origin_is_codec };
 }
 
 impl fmt::Display for Origin {

@@ -1,6 +1,7 @@
 ghost use Rattle.std.specs.Prelude.{◌≡◌, ◌++◌};
 ghost use Rattle.wire_bytes.specs.Fields.{both};
-ghost use Rattle.wire_bytes.specs.Codecs.{codec, both-codec};
+ghost use Rattle.wire_bytes.specs.Wants.{wants_both};
+ghost use Rattle.wire_bytes.specs.Codecs.{both-codec};
 
 use crate::copied::Copied;
 use crate::fields::{take_behind, undo};
@@ -24,6 +25,8 @@ impl<A: Wire, B: Wire> Wire for (A, B) {
 
     ghost taken = { both A.taken B.taken };
 
+    ghost wants = { wants_both A.wants A.taken B.wants };
+
     fn put(&self, out: &mut Vec<u8>) -> Result<(), AllocError> {
         let len = out.len();
         self.0.put(out)?;
@@ -37,9 +40,5 @@ impl<A: Wire, B: Wire> Wire for (A, B) {
         Ok(((first, second), end))
     }
 
-    ghost read_back = { (both-codec A.spelled A.fits A.taken B.spelled B.fits B.taken (codec A.spelled A.fits A.taken A.read_back A.one_spelling A.bad_within) (codec B.spelled B.fits B.taken B.read_back B.one_spelling B.bad_within)).read_back };
-
-    ghost one_spelling = { (both-codec A.spelled A.fits A.taken B.spelled B.fits B.taken (codec A.spelled A.fits A.taken A.read_back A.one_spelling A.bad_within) (codec B.spelled B.fits B.taken B.read_back B.one_spelling B.bad_within)).one_spelling };
-
-    ghost bad_within = { (both-codec A.spelled A.fits A.taken B.spelled B.fits B.taken (codec A.spelled A.fits A.taken A.read_back A.one_spelling A.bad_within) (codec B.spelled B.fits B.taken B.read_back B.one_spelling B.bad_within)).bad_within };
+    ghost is_codec = { both-codec A.spelled A.fits A.taken B.spelled B.fits B.taken A.is_codec B.is_codec };
 }

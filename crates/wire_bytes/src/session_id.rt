@@ -1,4 +1,4 @@
-ghost use Rattle.std.specs.Prelude.{◌≡◌, ℕ, ◌≤◌, ◌^◌, Some};
+ghost use Rattle.std.specs.Prelude.{◌≡◌, ℕ, ◌≤◌, ◌^◌, Some, Ok};
 
 use crate::copied::Copied;
 use crate::number::Number;
@@ -53,13 +53,16 @@ impl SessionId {
 }
 
 impl Copied for SessionId {
-    fn copy(&self, _alloc: Global) -> Result<Self, AllocError> {
+    fn copy(&self, _alloc: Global) -> Result<Self, AllocError>
+        ensures { result ≡ Ok self.now }
+    {
         Ok(*self)
     }
 }
 
 impl Wire for SessionId {
     ghost use Rattle.wire_bytes.specs.Values.{spelled_session, FitsSession, session};
+    ghost use Rattle.wire_bytes.specs.Wants.{never};
     ghost use Rattle.wire_bytes.specs.ValueCodecs.{session_is_codec};
 
     ghost spelled = { spelled_session };
@@ -67,6 +70,8 @@ impl Wire for SessionId {
     ghost fits = { FitsSession };
 
     ghost taken = { session };
+
+    ghost wants = { never };
 
     #[tactic(auto, unfolding(crate::specs::Values::spelled_session))]
     fn put(&self, out: &mut Vec<u8>) -> Result<(), AllocError> {
@@ -79,11 +84,7 @@ impl Wire for SessionId {
         Ok((SessionId::new(term.value(), attempt.value()), len))
     }
 
-    ghost read_back = { session_is_codec.read_back };
-
-    ghost one_spelling = { session_is_codec.one_spelling };
-
-    ghost bad_within = { session_is_codec.bad_within };
+    ghost is_codec = { session_is_codec };
 }
 
 impl fmt::Display for SessionId {

@@ -1,5 +1,5 @@
 use Rattle.std.proofs.Common.{◌≡◌, true, false, append_assoc, sym, ◌∙◌}
-use Rattle.buffer_lines.specs.Stamps.{begins_with, action_mark}
+use Rattle.irc_line.specs.Names.{begins_with, action_mark}
 use Rattle.buffer_lines.proofs.Stamped.{stamped_action, stamped_plain}
 use Rattle.buffer_lines.proofs.stamp.push_stamped.Goals as goal
 

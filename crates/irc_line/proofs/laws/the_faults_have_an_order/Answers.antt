@@ -6,8 +6,8 @@ returns c =
     record {
       too_long = judged_long;
       bad_byte = judged_bad;
-      no_command = judged_none;
-      too_many_parameters = judged_many;
-      spelled_too_long = judged_spelled_long;
-      line = judged_ok;
+      no_command = λ s c n. judged_none s c.0 c.1 n;
+      too_many_parameters = λ s p h. judged_many s p h.0.0 h.0.1 h.1;
+      spelled_too_long = λ s p h. judged_spelled_long s p h.0.0 h.0.1 h.1;
+      line = λ s p h. judged_ok s p h.0.0 h.0.1 h.1;
     }

@@ -6,6 +6,7 @@ pub returns : goal.returns
 returns c =
     record {
       none = λ rest h. (items_none [] rest h, unended_none [] rest h);
-      one = λ ended rest h. (items_one [] ended rest h, unended_one [] ended rest h);
+      one = λ ended rest h. items_one [] ended rest h;
+      left = λ ended rest h. unended_one [] ended rest h;
       cut = λ fed more. (items_cut fed more, unended_cut fed more);
     }

@@ -5,12 +5,12 @@ use Rattle.wire_bytes.proofs.fields.take_behind.Goals as goal
 
 pub overflow_add-result : goal.overflow_add-result
 overflow_add-result g c =
-    let s = g.met.W.Wire.one_spelling _ c.in-Ok.value c.in-Ok.len (AreBytes-behind c.args.place c.args.input.now _ c.split_at.ensures.back (λ i. omega (arith, c.type_inv.input i))) c.in-Ok.ensures.ok in
+    let s = g.met.W.Wire.is_codec.one_spelling _ c.in-Ok.value c.in-Ok.len (AreBytes-behind c.args.place c.args.input.now _ c.split_at.ensures.back (λ i. omega (arith, c.type_inv.input i))) c.in-Ok.ensures.ok in
     omega (arith, s.2, c.split_at.ensures.back_len)
 
 pub overflow_add-result-in-Err-Bad : goal.overflow_add-result-in-Err-Bad
 overflow_add-result-in-Err-Bad g c =
-    let s = g.met.W.Wire.bad_within _ c.in-Err-Bad.within (AreBytes-behind c.args.place c.args.input.now _ c.split_at.ensures.back (λ i. omega (arith, c.type_inv.input i))) ((rw c.in-Err-Bad.field-0-is at c.in-Err-Bad.ensures.err) (λ h. cc)) in
+    let s = g.met.W.Wire.is_codec.bad_within _ c.in-Err-Bad.within (AreBytes-behind c.args.place c.args.input.now _ c.split_at.ensures.back (λ i. omega (arith, c.type_inv.input i))) ((rw c.in-Err-Bad.field-0-is at c.in-Err-Bad.ensures.err) (λ h. cc)) in
     omega (arith, s, c.split_at.ensures.back_len)
 
 pub returns-in-Ok-clause-ok : goal.returns-in-Ok-clause-ok
@@ -18,7 +18,7 @@ returns-in-Ok-clause-ok g c = behind-read c.args.place g.W.Wire.taken c.args.inp
 
 pub returns-in-Ok-clause-within : goal.returns-in-Ok-clause-within
 returns-in-Ok-clause-within g c =
-    let s = g.met.W.Wire.one_spelling _ c.in-Ok.value c.in-Ok.len (AreBytes-behind c.args.place c.args.input.now _ c.split_at.ensures.back (λ i. omega (arith, c.type_inv.input i))) c.in-Ok.ensures.ok in
+    let s = g.met.W.Wire.is_codec.one_spelling _ c.in-Ok.value c.in-Ok.len (AreBytes-behind c.args.place c.args.input.now _ c.split_at.ensures.back (λ i. omega (arith, c.type_inv.input i))) c.in-Ok.ensures.ok in
     (omega arith, omega (arith, s.2, c.split_at.ensures.back_len))
 
 pub returns-in-Err-Short-clause-err : goal.returns-in-Err-Short-clause-err
