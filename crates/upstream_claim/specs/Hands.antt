@@ -2,7 +2,7 @@
 use Rattle.std.specs.Prelude.{ℕ, List, [], ◌∷◌, ◌++◌, Option}
 use Rattle.irc_line.specs.Lines.{Parts}
 use Rattle.wire_bytes.specs.declared.session_id.SessionId.{SessionId}
-use Rattle.machine_laws.specs.Classes.{Handed}
+pub use Rattle.machine_laws.specs.Classes.{Handed}
 use Rattle.machine_laws.specs.Runs.{History, all_effects}
 use Rattle.wire_bytes.specs.declared.origin.Origin.{Origin}
 use Rattle.upstream_claim.specs.declared.command.ClaimsCommand.{ClaimsCommand}
