@@ -43,28 +43,3 @@ below_each k n (m ∷ ns) e r = and_both _ _ e (below_each k m ns (below-trans k
 pub below_later : (n : List ℕ) (ns : List (List ℕ)) → are_rising (n ∷ ns) ≡ true → list_all (λ m. is_below (fold_name n) (fold_name m)) ns ≡ true
 below_later n [] r = refl
 below_later n (m ∷ ns) r = below_each (fold_name n) m ns (and_left _ _ r) (and_right _ _ r)
-
--- the comparison of two lists by whether one comes before the other, and whether they are the same
-pub less_of_below : (a b : List ℕ) → is_below a b ≡ true → Less ≡ slice_cmp nat_cmp a b
-less_of_below a b e = less_of_by (slice_cmp nat_cmp a b) (less_is_below a b _ refl ∙ e)
-  where
-    less_of_by : (o : Ordering) → is_lt o ≡ true → Less ≡ o
-    less_of_by Less e = refl
-    less_of_by Equal e = cc
-    less_of_by Greater e = cc
-
-pub equal_of_same : (a b : List ℕ) → same_bytes a b ≡ true → Equal ≡ slice_cmp nat_cmp a b
-equal_of_same a b e = equal_of_by (slice_cmp nat_cmp a b) (equal_is_same a b _ refl ∙ e)
-  where
-    equal_of_by : (o : Ordering) → is_eq o ≡ true → Equal ≡ o
-    equal_of_by Less e = cc
-    equal_of_by Equal e = refl
-    equal_of_by Greater e = cc
-
-pub greater_of_neither : (a b : List ℕ) → is_below a b ≡ false → same_bytes a b ≡ false → Greater ≡ slice_cmp nat_cmp a b
-greater_of_neither a b e f = greater_of_by (slice_cmp nat_cmp a b) (less_is_below a b _ refl ∙ e) (equal_is_same a b _ refl ∙ f)
-  where
-    greater_of_by : (o : Ordering) → is_lt o ≡ false → is_eq o ≡ false → Greater ≡ o
-    greater_of_by Less e f = cc
-    greater_of_by Equal e f = cc
-    greater_of_by Greater e f = refl

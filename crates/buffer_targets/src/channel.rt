@@ -1,4 +1,4 @@
-ghost use Rattle.std.specs.Prelude.{◌≡◌, [], false, if◌then◌else◌, IfOk, OnOk, OnErr};
+ghost use Rattle.std.specs.Prelude.{◌≡◌, ◌≤◌, [], false, if◌then◌else◌, IfOk, IsOk, OnOk, OnErr};
 ghost use Rattle.buffer_lines.specs.Stamps.{ring};
 ghost use Rattle.buffer_targets.specs.Targets.{channel, cleared, over, pushed, resized, target, with_detached, with_joined};
 
@@ -84,6 +84,7 @@ impl Channel {
     pub(crate) fn resize(&mut self, size: usize) -> Result<(), AllocError>
         ensures ok { OnOk result (self.new ≡ over (resized size) self.old) }
         ensures err { OnErr result (self.new ≡ self.old) }
+        ensures smaller { size ≤ self.old.target.lines.size → IsOk result }
     {
         self.target.resize(size)
     }

@@ -4,7 +4,6 @@
 mod channel;
 mod channels;
 mod index;
-mod order;
 mod queries;
 mod target;
 #[cfg(test)]

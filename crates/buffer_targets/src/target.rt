@@ -1,13 +1,12 @@
-ghost use Rattle.std.specs.Prelude.{◌≡◌, [], IfOk, OnOk, OnErr};
+ghost use Rattle.std.specs.Prelude.{◌≡◌, ◌≤◌, [], IfOk, IsOk, OnOk, OnErr};
 ghost use Rattle.std.specs.Cmp.Lexicographic.{slice_cmp};
 ghost use Rattle.std.specs.Ordering.{nat_cmp};
 ghost use Rattle.irc_line.specs.Names.{fold_name};
 ghost use Rattle.buffer_lines.specs.Stamps.{ring};
 ghost use Rattle.buffer_targets.specs.Targets.{cleared, pushed, resized, target};
 
-use crate::order::compare_names;
 use buffer_lines::{KeptLine, LineRing};
-use irc_line::Name;
+use irc_line::{Name, compare_names};
 use std::alloc::{AllocError, Global};
 use std::cmp::Ordering;
 use std::marker::Model;
@@ -71,6 +70,7 @@ impl Target {
     pub(crate) fn resize(&mut self, size: usize) -> Result<(), AllocError>
         ensures ok { OnOk result (self.new ≡ resized size self.old) }
         ensures err { OnErr result (self.new ≡ self.old) }
+        ensures smaller { size ≤ self.old.lines.size → IsOk result }
     {
         self.lines.set_size(size)
     }

@@ -21,7 +21,7 @@ fn line(alloc: Global, text: &str) -> Result<KeptLine, Fail> {
 fn push_target(alloc: Global, out: &mut Vec<u8>, target: &Target) -> Result<(), AllocError> {
     out.extend_from_slice(target.name().as_bytes())?;
     out.push(b'=')?;
-    for shown in &target.lines().play(alloc, Offset::default(), b"#x")? {
+    for shown in &target.lines().play(Offset::default(), b"#x")? {
         match shown.spelling() {
             [.., text] if *text != b'.' => out.push(*text)?,
             _ => {}

@@ -1,6 +1,6 @@
 use Rattle.buffer_machine.specs.Machine.{held_of}
 use Rattle.buffer_machine.proofs.HeldStep.{line-taken}
-use Rattle.buffer_machine.proofs.changes.take_line.Goals as goal
+use Rattle.buffer_machine.proofs.hearing.take_line.Goals as goal
 
 pub returns : goal.returns
 returns c =
