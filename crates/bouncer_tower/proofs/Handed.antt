@@ -21,7 +21,7 @@ use Rattle.request_once.specs.declared.body.Body.TheVariants.{Inner, Asked}
 use Rattle.request_once.specs.declared.answer.Answer.TheVariants as answer
 use Rattle.request_once.specs.Fresh as requests
 use Rattle.request_once.proofs.Requests.{plain-inner, plain-next, plain-skip}
-use Rattle.bouncer_tower.specs.Bodies.{TowerBody, Claimed, client, fresh, outgoing, claimed, answers, sent, sessioned_effects, claimed_effects, hands}
+use Rattle.bouncer_tower.specs.Bodies.{TowerBody, Claimed, client, accepted, outgoing, claimed, answers, sent, sessioned_effects, claimed_effects, hands}
 use Rattle.irc_line.proofs.Numbers.{eq_of}
 
 -- what a layer below hands out
@@ -54,35 +54,35 @@ module _ (s : Settings) where
   -- what a body comes to below the requests: a command, with all that it hands out; or nothing
   abbrev comes_to : History TowerBody → ℕ → TowerBody → Type 0
   comes_to h place x =
-      ((c : Claimed) × (fresh ((place, x) ∷ h) ≡ (place, c) ∷ fresh h) × (hands (answers s h place x) ≡ below_at (fresh h) place c))
-      ⊎ ((fresh ((place, x) ∷ h) ≡ fresh h) × (hands (answers s h place x) ≡ []))
+      ((c : Claimed) × (accepted ((place, x) ∷ h) ≡ (place, c) ∷ accepted h) × (hands (answers s h place x) ≡ below_at (accepted h) place c))
+      ⊎ ((accepted ((place, x) ∷ h) ≡ accepted h) × (hands (answers s h place x) ≡ []))
 
   comes-asked : (h : History TowerBody) (place : ℕ) (o : Origin) (n at : ℕ) (a : Action) (b : Bool) → (n == requests.last h o + 1) ≡ b → comes_to h place (Asked o n at a)
-  unfolding fresh requests.answers
+  unfolding accepted requests.answers
   comes-asked h place o n at a true e =
       inl (client o at a, plain-next client h place o n at a (eq_of _ _ e), rw e (hands-done (claimed_effects s (requests.plain client h) place (client o at a)) o n))
   comes-asked h place o n at a false e =
       inr (plain-skip client h place o n at a (is_not_next _ _ e), rw e (hands-refused o n (requests.last h o) (nat_le n (requests.last h o)) refl))
 
   comes : (h : History TowerBody) (place : ℕ) (x : TowerBody) → comes_to h place x
-  unfolding fresh requests.answers
+  unfolding accepted requests.answers
   comes h place (Inner c) = inl (c, plain-inner client h place c, hands-below (claimed_effects s (requests.plain client h) place c))
   comes h place (Asked o n at a) = comes-asked h place o n at a (n == requests.last h o + 1) refl
 
   claims-by : (h : History TowerBody) (place : ℕ) (x : TowerBody) → comes_to h place x → claimed s ((place, x) ∷ h) ≡ claimed s h ++ map (λ k. k.0) (hands (answers s h place x))
   unfolding claimed
-  claims-by h place x (inl c) = ap claimed_at c.1 ∙ (handing.hands_are_claims sessions.session (sessions.sent sent) (sessioned_effects s) (fresh h) place c.0 ∙ ap (λ k. claimed_at (fresh h) ++ map (λ p. p.0) k) (sym c.2))
-  claims-by h place x (inr c) = ap claimed_at c.0 ∙ (sym (append-nil (claimed_at (fresh h))) ∙ ap (λ k. claimed_at (fresh h) ++ map (λ p. p.0) k) (sym c.1))
+  claims-by h place x (inl c) = ap claimed_at c.1 ∙ (handing.hands_are_claims sessions.session (sessions.sent sent) (sessioned_effects s) (accepted h) place c.0 ∙ ap (λ k. claimed_at (accepted h) ++ map (λ p. p.0) k) (sym c.2))
+  claims-by h place x (inr c) = ap claimed_at c.0 ∙ (sym (append-nil (claimed_at (accepted h))) ∙ ap (λ k. claimed_at (accepted h) ++ map (λ p. p.0) k) (sym c.1))
 
   lines-by : (h : History TowerBody) (place : ℕ) (x : TowerBody) → comes_to h place x → (i n : ℕ) (id : SessionId) (line : Parts) → slice_get (hands (answers s h place x)) i ≡ Some ((n, id), line) → slice_get (outgoing s h) (n - 1) ≡ Some line
   unfolding outgoing
-  lines-by h place x (inl c) i n id line e = handing.hands_are_lines sessions.session (sessions.sent sent) (sessioned_effects s) (fresh h) place c.0 i n id line (ap (λ k. slice_get k i) (sym c.2) ∙ e)
+  lines-by h place x (inl c) i n id line e = handing.hands_are_lines sessions.session (sessions.sent sent) (sessioned_effects s) (accepted h) place c.0 i n id line (ap (λ k. slice_get k i) (sym c.2) ∙ e)
   lines-by h place x (inr c) i n id line e = absurd (sound.none_not_some _ (ap (λ k. slice_get k i) (sym c.1) ∙ e))
 
   stay-by : (h : History TowerBody) (place : ℕ) (x : TowerBody) → comes_to h place x → take (length (outgoing s h)) (outgoing s ((place, x) ∷ h)) ≡ outgoing s h
   unfolding outgoing
-  stay-by h place x (inl c) = ap (λ k. take (length (outgoing_at (fresh h))) (outgoing_at k)) c.1 ∙ handing.lines_stay sessions.session (sessions.sent sent) (sessioned_effects s) (fresh h) place c.0
-  stay-by h place x (inr c) = ap (λ k. take (length (outgoing_at (fresh h))) (outgoing_at k)) c.0 ∙ handing.take_all (outgoing_at (fresh h))
+  stay-by h place x (inl c) = ap (λ k. take (length (outgoing_at (accepted h))) (outgoing_at k)) c.1 ∙ handing.lines_stay sessions.session (sessions.sent sent) (sessioned_effects s) (accepted h) place c.0
+  stay-by h place x (inr c) = ap (λ k. take (length (outgoing_at (accepted h))) (outgoing_at k)) c.0 ∙ handing.take_all (outgoing_at (accepted h))
 
 -- the claims that a body adds are its hands
 pub hands_are_claims : (s : Settings) (h : History TowerBody) (place : ℕ) (x : TowerBody) → claimed s ((place, x) ∷ h) ≡ claimed s h ++ map (λ k. k.0) (hands (answers s h place x))
@@ -97,12 +97,12 @@ lines_stay s h place x = stay-by s h place x (comes s h place x)
 -- the claims that took effect have the numbers from 1 on
 pub claims_in_order : (s : Settings) (h : History TowerBody) (i n : ℕ) (id : SessionId) → slice_get (claimed s h) i ≡ Some (n, id) → n ≡ i + 1
 unfolding claimed
-claims_in_order s h i n id e = sound.claims_in_order sessions.session (sessions.sent sent) (sessioned_effects s) (fresh h) i n id e
+claims_in_order s h i n id e = sound.claims_in_order sessions.session (sessions.sent sent) (sessioned_effects s) (accepted h) i n id e
 
 pub claims_once : (s : Settings) (h : History TowerBody) (i j n : ℕ) (one other : SessionId) → slice_get (claimed s h) i ≡ Some (n, one) → slice_get (claimed s h) j ≡ Some (n, other) → i ≡ j
 unfolding claimed
-claims_once s h i j n one other e f = sound.claims_once sessions.session (sessions.sent sent) (sessioned_effects s) (fresh h) i j n one other e f
+claims_once s h i j n one other e f = sound.claims_once sessions.session (sessions.sent sent) (sessioned_effects s) (accepted h) i j n one other e f
 
 pub claims_numbered : (s : Settings) (h : History TowerBody) (i n : ℕ) (id : SessionId) → slice_get (claimed s h) i ≡ Some (n, id) → (1 ≤ n) × (n ≤ length (outgoing s h))
 unfolding claimed outgoing
-claims_numbered s h i n id e = sound.claims_numbered sessions.session (sessions.sent sent) (sessioned_effects s) (fresh h) i n id e
+claims_numbered s h i n id e = sound.claims_numbered sessions.session (sessions.sent sent) (sessioned_effects s) (accepted h) i n id e

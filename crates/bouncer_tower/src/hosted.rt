@@ -83,12 +83,12 @@ impl Hosted for Tower {
         }
     }
 
-    #[tactic(auto, unfolding(crate::specs::Bodies::next_claim, crate::specs::Bodies::fresh))]
+    #[tactic(auto, unfolding(crate::specs::Bodies::next_claim, crate::specs::Bodies::accepted))]
     fn next_claim(&self) -> Option<u64> {
         self.layers().machine().next_claim()
     }
 
-    #[tactic(auto, unfolding(crate::specs::Hosting::playback, crate::specs::Bodies::plain, crate::specs::Bodies::unclaimed, crate::specs::Bodies::fresh))]
+    #[tactic(auto, unfolding(crate::specs::Hosting::playback, crate::specs::Bodies::plain, crate::specs::Bodies::unclaimed, crate::specs::Bodies::accepted))]
     fn playback(&self, alloc: Global, target: &Name) -> Result<Vec<Shown>, AllocError> {
         let claims = self.layers().machine();
         let fence = claims.machine();
