@@ -1,17 +1,21 @@
 -- Each line is handed out once.
-use Rattle.std.proofs.Common.{◌≡◌, ◌≢◌, ℕ, ◌+◌, ◌-◌, ◌≤◌, Bool, true, false, List, [], ◌∷◌, ◌++◌, map, length, take, Some, refl, ap, ◌∙◌, sym, arith, inl, inr}
+use Rattle.std.proofs.Common.{◌≡◌, ◌≢◌, ℕ, ◌+◌, ◌-◌, ◌≤◌, Bool, true, false, List, [], ◌∷◌, ◌++◌, map, length, take, Some, refl, ap, ◌∙◌, sym, append_assoc, arith, inl, inr}
 use Rattle.std.specs.Prelude.{◌⊎◌, ◌==◌, nat_le, slice_get}
 use Rattle.std.proofs.lemmas.Bool.Decides.{nat_tests}
 use Rattle.irc_line.specs.Lines.{Parts}
-use Rattle.machine_laws.specs.Runs.{History}
+use Rattle.machine_laws.specs.Classes.{Handed, handed_by}
+use Rattle.machine_laws.specs.Runs.{History, all_effects}
 use Rattle.wire_bytes.specs.declared.origin.Origin.{Origin}
 use Rattle.wire_bytes.specs.declared.session_id.SessionId.{SessionId}
 use Rattle.buffer_commands.specs.Settings.{Settings}
 use Rattle.buffer_commands.specs.declared.command.Action.{Action}
 use Rattle.buffer_commands.specs.declared.effect.Effect.{Effect}
+use Rattle.buffer_commands.specs.declared.effect.Effect.TheVariants as effect
 use Rattle.session_fence.specs.declared.effect.FenceEffect.{FenceEffect}
+use Rattle.session_fence.specs.declared.effect.FenceEffect.TheVariants as fence_effect
 use Rattle.session_fence.specs.Sessions as sessions
 use Rattle.upstream_claim.specs.declared.effect.ClaimsEffect.{ClaimsEffect}
+use Rattle.upstream_claim.specs.declared.effect.ClaimsEffect.TheVariants as claims_effect
 use Rattle.upstream_claim.specs.Hands as below
 use Rattle.upstream_claim.specs.Numbered as lines
 use Rattle.upstream_claim.proofs.Sound as sound
@@ -21,17 +25,38 @@ use Rattle.request_once.specs.declared.body.Body.TheVariants.{Inner, Asked}
 use Rattle.request_once.specs.declared.answer.Answer.TheVariants as answer
 use Rattle.request_once.specs.Fresh as requests
 use Rattle.request_once.proofs.Requests.{plain-inner, plain-next, plain-skip}
-use Rattle.bouncer_tower.specs.Bodies.{TowerBody, Claimed, client, accepted, outgoing, claimed, answers, sent, sessioned_effects, claimed_effects, hands}
+use Rattle.bouncer_tower.specs.Bodies.{TowerBody, TowerEffect, Claimed, client, accepted, outgoing, claimed, answers, sent, sessioned_effects, claimed_effects}
+use Rattle.bouncer_tower.specs.Hosting.{buffer_class, session_class, claim_class, hand_of, hands, handed_over}
 use Rattle.irc_line.proofs.Numbers.{eq_of}
+
+-- the buffers and the sessions hand out nothing
+none-of_buffers : (e : Effect) → handed_by (buffer_class e) ≡ []
+none-of_buffers (effect.Close o) = refl
+none-of_buffers (effect.Show o shown) = refl
+none-of_buffers (effect.Send o line) = refl
+none-of_buffers (effect.Rejoin line) = refl
+
+none-of_sessions : (e : FenceEffect Effect) → handed_by (session_class e) ≡ []
+none-of_sessions (fence_effect.Inner e) = none-of_buffers e
+none-of_sessions (fence_effect.Rejoin id line) = refl
+
+-- what is handed out by class is what the claims hand out
+hand-below : (e : ClaimsEffect (FenceEffect Effect)) → handed_by (claim_class e) ≡ below.hand_of e
+hand-below (claims_effect.Inner e) = none-of_sessions e
+hand-below (claims_effect.Busy o) = refl
+hand-below (claims_effect.Hand id n line) = refl
+
+one_behind : (hs ks : List Handed) (e : ClaimsEffect (FenceEffect Effect)) → hs ≡ ks → handed_by (claim_class e) ++ hs ≡ below.hand_of e ++ ks
+one_behind hs ks e h = ap (λ (xs : List Handed). xs ++ hs) (hand-below e) ∙ ap (λ (xs : List Handed). below.hand_of e ++ xs) h
 
 -- what a layer below hands out
 hands-below : (es : List (ClaimsEffect (FenceEffect Effect))) → hands (map answer.Effect es) ≡ below.hands es
 hands-below [] = refl
-hands-below (e ∷ es) = ap (λ hs. below.hand_of e ++ hs) (hands-below es)
+hands-below (e ∷ es) = one_behind (hands (map answer.Effect es)) (below.hands es) e (hands-below es)
 
 hands-done : (es : List (ClaimsEffect (FenceEffect Effect))) (o : Origin) (n : ℕ) → hands (map answer.Effect es ++ answer.Done o n ∷ []) ≡ below.hands es
 hands-done [] o n = refl
-hands-done (e ∷ es) o n = ap (λ hs. below.hand_of e ++ hs) (hands-done es o n)
+hands-done (e ∷ es) o n = one_behind (hands (map answer.Effect es ++ answer.Done o n ∷ [])) (below.hands es) e (hands-done es o n)
 
 hands-refused : (o : Origin) (n was : ℕ) (b : Bool) → nat_le n was ≡ b → hands (requests.refused o n was ∷ []) ≡ []
 hands-refused o n was true e = rw e refl
@@ -48,7 +73,7 @@ module _ (s : Settings) where
   abbrev outgoing_at : History Claimed → List Parts
   outgoing_at h = lines.outgoing sessions.session (sessions.sent sent) (sessioned_effects s) h
 
-  abbrev below_at : History Claimed → ℕ → Claimed → List below.Handed
+  abbrev below_at : History Claimed → ℕ → Claimed → List Handed
   below_at h place c = below.hands (claimed_effects s h place c)
 
   -- what a body comes to below the requests: a command, with all that it hands out; or nothing
@@ -106,3 +131,26 @@ claims_once s h i j n one other e f = sound.claims_once sessions.session (sessio
 pub claims_numbered : (s : Settings) (h : History TowerBody) (i n : ℕ) (id : SessionId) → slice_get (claimed s h) i ≡ Some (n, id) → (1 ≤ n) × (n ≤ length (outgoing s h))
 unfolding claimed outgoing
 claims_numbered s h i n id e = sound.claims_numbered sessions.session (sessions.sent sent) (sessioned_effects s) (accepted h) i n id e
+
+-- ---- over a whole list
+
+hands_append : (xs ys : List TowerEffect) → hands (xs ++ ys) ≡ hands xs ++ hands ys
+hands_append [] ys = refl
+hands_append (x ∷ xs) ys = ap (λ (hs : List Handed). hand_of x ++ hs) (hands_append xs ys) ∙ sym (append_assoc (hand_of x) (hands xs) (hands ys))
+
+-- all that is handed out is the claims that took effect
+pub all_hands_are_claims : (s : Settings) (h : History TowerBody) → map (λ k. k.0) (handed_over s h) ≡ claimed s h
+unfolding claimed accepted
+all_hands_are_claims s [] = handing.all_hands_are_claims sessions.session (sessions.sent sent) (sessioned_effects s) []
+all_hands_are_claims s (x ∷ h) =
+    ap (map (λ k. k.0)) (hands_append (all_effects (answers s) h) (answers s h x.0 x.1))
+    ∙ (handing.map_append (handed_over s h) (hands (answers s h x.0 x.1))
+    ∙ (ap (λ cs. cs ++ map (λ k. k.0) (hands (answers s h x.0 x.1))) (all_hands_are_claims s h) ∙ sym (hands_are_claims s h x.0 x.1)))
+
+-- no number is handed out twice
+pub hands_differ : (s : Settings) (h : History TowerBody) (i j n : ℕ) (one other : SessionId) (line another : Parts) → slice_get (handed_over s h) i ≡ Some ((n, one), line)
+    → slice_get (handed_over s h) j ≡ Some ((n, other), another) → i ≡ j
+hands_differ s h i j n one other line another e f =
+    let a : slice_get (claimed s h) i ≡ Some (n, one) = ap (λ (cs : List (ℕ × SessionId)). slice_get cs i) (sym (all_hands_are_claims s h)) ∙ handing.claim_at _ i (n, one) line e in
+    let b : slice_get (claimed s h) j ≡ Some (n, other) = ap (λ (cs : List (ℕ × SessionId)). slice_get cs j) (sym (all_hands_are_claims s h)) ∙ handing.claim_at _ j (n, other) another f in
+    claims_once s h i j n one other a b

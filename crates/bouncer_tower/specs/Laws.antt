@@ -1,6 +1,7 @@
 -- What is promised over a list of bodies: requests that are dropped change nothing, and each line is handed out once.
 use Rattle.std.specs.Prelude.{◌≡◌, ◌≤◌, ◌+◌, ◌-◌, ◌++◌, ◌∷◌, ℕ, Some, false, List, length, map, slice_get, take}
 use Rattle.irc_line.specs.Lines.{Parts}
+use Rattle.machine_laws.specs.Classes.{Handed}
 use Rattle.machine_laws.specs.Runs.{History}
 use Rattle.wire_bytes.specs.declared.origin.Origin.{Origin}
 use Rattle.wire_bytes.specs.declared.session_id.SessionId.{SessionId}
@@ -8,7 +9,8 @@ use Rattle.buffer_commands.specs.Settings.{Settings}
 use Rattle.buffer_commands.specs.declared.command.Action.{Action}
 use Rattle.request_once.specs.declared.body.Body.TheVariants.{Asked}
 use Rattle.request_once.specs.Fresh.{fresh, stays}
-use Rattle.bouncer_tower.specs.Bodies.{TowerBody, answers, claimed, hands, outgoing}
+use Rattle.bouncer_tower.specs.Bodies.{TowerBody, answers, claimed, outgoing}
+use Rattle.bouncer_tower.specs.Hosting.{hands}
 
 -- a request that is not the next of its origin changes nothing of this, then or later
 abbrev pub IgnoresDropped : {X : Type 0} → (History TowerBody → X) → Type 0
@@ -24,6 +26,11 @@ AreInOrder claims = (i n : ℕ) (id : SessionId) → slice_get claims i ≡ Some
 -- no two of these claims have the same number
 abbrev pub AreDifferent : List (ℕ × SessionId) → Type 0
 AreDifferent claims = (i j n : ℕ) (one other : SessionId) → slice_get claims i ≡ Some (n, one) → slice_get claims j ≡ Some (n, other) → i ≡ j
+
+-- no two of these lines have the same number
+abbrev pub HaveDifferentNumbers : List Handed → Type 0
+HaveDifferentNumbers lines =
+    (i j n : ℕ) (one other : SessionId) (line another : Parts) → slice_get lines i ≡ Some ((n, one), line) → slice_get lines j ≡ Some ((n, other), another) → i ≡ j
 
 -- each of these claims is of one of these lines
 abbrev pub AreOf : List Parts → List (ℕ × SessionId) → Type 0
