@@ -10,25 +10,25 @@ use Rattle.upstream_claim.specs.Numbered as lines
 use Rattle.request_once.specs.declared.body.Body.TheVariants.{Asked}
 use Rattle.request_once.specs.Fresh as requests
 use Rattle.request_once.proofs.Stays.{plain_without}
-use Rattle.bouncer_tower.specs.Bodies.{TowerBody, Claimed, client, fresh, unclaimed, plain, session, outgoing, claimed, sent, sessioned_effects}
+use Rattle.bouncer_tower.specs.Bodies.{TowerBody, Claimed, client, accepted, unclaimed, plain, session, outgoing, claimed, sent, sessioned_effects}
 
 module _ (later earlier : History TowerBody) (place : ℕ) (o : Origin) (n at : ℕ) (a : Action) (e : requests.stays (requests.fresh earlier) (Asked o n at a) ≡ false) where
-  pub fresh_same : fresh (later ++ (place, Asked o n at a) ∷ earlier) ≡ fresh (later ++ earlier)
-  unfolding fresh
-  fresh_same = plain_without client later earlier place o n at a e
+  pub accepted_same : accepted (later ++ (place, Asked o n at a) ∷ earlier) ≡ accepted (later ++ earlier)
+  unfolding accepted
+  accepted_same = plain_without client later earlier place o n at a e
 
   pub plain_same : plain (later ++ (place, Asked o n at a) ∷ earlier) ≡ plain (later ++ earlier)
   unfolding plain unclaimed
-  plain_same = ap (λ (h : History Claimed). sessions.plain command.Up command.Down command.Upstream (lines.plain h)) fresh_same
+  plain_same = ap (λ (h : History Claimed). sessions.plain command.Up command.Down command.Upstream (lines.plain h)) accepted_same
 
   pub session_same : session (later ++ (place, Asked o n at a) ∷ earlier) ≡ session (later ++ earlier)
   unfolding session unclaimed
-  session_same = ap (λ (h : History Claimed). sessions.session (lines.plain h)) fresh_same
+  session_same = ap (λ (h : History Claimed). sessions.session (lines.plain h)) accepted_same
 
   pub outgoing_same : (s : Settings) → outgoing s (later ++ (place, Asked o n at a) ∷ earlier) ≡ outgoing s (later ++ earlier)
   unfolding outgoing
-  outgoing_same s = ap (λ (h : History Claimed). lines.outgoing sessions.session (sessions.sent sent) (sessioned_effects s) h) fresh_same
+  outgoing_same s = ap (λ (h : History Claimed). lines.outgoing sessions.session (sessions.sent sent) (sessioned_effects s) h) accepted_same
 
   pub claimed_same : (s : Settings) → claimed s (later ++ (place, Asked o n at a) ∷ earlier) ≡ claimed s (later ++ earlier)
   unfolding claimed
-  claimed_same s = ap (λ (h : History Claimed). lines.claimed sessions.session (sessions.sent sent) (sessioned_effects s) h) fresh_same
+  claimed_same s = ap (λ (h : History Claimed). lines.claimed sessions.session (sessions.sent sent) (sessioned_effects s) h) accepted_same

@@ -1,8 +1,9 @@
 -- What a node has to know of bodies and effects.
-use Rattle.std.specs.Prelude.{ℕ, List, map}
+use Rattle.std.specs.Prelude.{ℕ, List, [], ◌∷◌, ◌++◌, map}
 use Rattle.irc_line.specs.Lines.{Parts, spelling}
 use Rattle.irc_line.specs.Names.{fold_name}
-use Rattle.machine_laws.specs.Runs.{History}
+use Rattle.machine_laws.specs.Runs.{History, all_effects}
+use Rattle.machine_laws.specs.Classes.{Handed, handed_by}
 use Rattle.machine_laws.specs.declared.class.Class.{Class}
 use Rattle.machine_laws.specs.declared.class.Class.TheVariants.{To, Hand, Rejoin, Nowhere}
 use Rattle.machine_laws.specs.declared.class.Source.{Source}
@@ -22,7 +23,7 @@ use Rattle.upstream_claim.specs.declared.effect.ClaimsEffect.{ClaimsEffect}
 use Rattle.upstream_claim.specs.declared.effect.ClaimsEffect.TheVariants as claims_effect
 use Rattle.request_once.specs.declared.body.Body.TheVariants as body
 use Rattle.request_once.specs.declared.answer.Answer.TheVariants as answer
-use Rattle.bouncer_tower.specs.Bodies.{Sessioned, Claimed, TowerBody, TowerEffect, plain}
+use Rattle.bouncer_tower.specs.Bodies.{Sessioned, Claimed, TowerBody, TowerEffect, answers, plain}
 
 -- a command of the buffers, of the sessions, and the claim of a line, as bodies
 abbrev pub of_buffers : Command → TowerBody
@@ -75,6 +76,19 @@ class_of (answer.Effect e) = claim_class e
 class_of (answer.Done o n) = To o
 class_of (answer.Repeat o n) = To o
 class_of (answer.Gap o n) = To o
+
+-- what an effect hands out, by where it goes
+abbrev pub hand_of : TowerEffect → List Handed
+hand_of e = handed_by (class_of e)
+
+-- the lines that effects hand out, in order: number, session, line
+abbrev pub hands : List TowerEffect → List Handed
+hands [] = []
+hands (e ∷ es) = hand_of e ++ hands es
+
+-- the lines that the bodies of a history handed out, in order
+abbrev pub handed_over : Settings → History TowerBody → List Handed
+handed_over s h = hands (all_effects (answers s) h)
 
 -- what is played of a target after a history
 unfoldable pub playback : Settings → History TowerBody → List ℕ → List (List ℕ)

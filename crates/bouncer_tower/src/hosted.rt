@@ -10,7 +10,7 @@ use irc_line::{Line, Name};
 use machine_laws::{Class, Hosted, Machine, Source};
 use request_once::{Answer, Body};
 use session_fence::{FenceCommand, FenceEffect};
-use std::alloc::{AllocError, Global};
+use std::alloc::AllocError;
 use upstream_claim::{ClaimsCommand, ClaimsEffect};
 use wire_bytes::{Moment, Number, Origin, SessionId};
 
@@ -83,17 +83,17 @@ impl Hosted for Tower {
         }
     }
 
-    #[tactic(auto, unfolding(crate::specs::Bodies::next_claim, crate::specs::Bodies::fresh))]
+    #[tactic(auto, unfolding(crate::specs::Bodies::next_claim, crate::specs::Bodies::accepted))]
     fn next_claim(&self) -> Option<u64> {
         self.layers().machine().next_claim()
     }
 
-    #[tactic(auto, unfolding(crate::specs::Hosting::playback, crate::specs::Bodies::plain, crate::specs::Bodies::unclaimed, crate::specs::Bodies::fresh))]
-    fn playback(&self, alloc: Global, target: &Name) -> Result<Vec<Shown>, AllocError> {
+    #[tactic(auto, unfolding(crate::specs::Hosting::playback, crate::specs::Bodies::plain, crate::specs::Bodies::unclaimed, crate::specs::Bodies::accepted))]
+    fn playback(&self, target: &Name) -> Result<Vec<Shown>, AllocError> {
         let claims = self.layers().machine();
         let fence = claims.machine();
         let buffers = fence.machine();
-        buffers.playback(alloc, target)
+        buffers.playback(target)
     }
 
     fn class(effect: &TowerEffect) -> Class<&Line> {

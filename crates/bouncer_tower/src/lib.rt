@@ -10,5 +10,8 @@ mod tests;
 mod tower;
 
 pub use answers::answer_all;
-pub use laws::{a_dropped_request_changes_nothing, each_line_is_handed_once};
+pub use laws::{
+    a_dropped_request_changes_nothing, each_line_is_handed_once, each_request_is_done_once,
+    no_number_is_handed_out_twice,
+};
 pub use tower::{Layers, Tower, TowerBody, TowerEffect};

@@ -119,7 +119,7 @@ fn answered(alloc: Global, bodies: &[TowerBody]) -> Result<(Tower, Vec<u8>), Fai
     let mut place = 0u64;
     for body in bodies {
         place = place.wrapping_add(1);
-        let effects = tower.apply(alloc, place, body)?;
+        let effects = tower.apply(place, body)?;
         push_effects(&mut out, place, &effects)?;
     }
     Ok((tower, out))
@@ -236,7 +236,7 @@ fn session_after(alloc: Global) -> Result<Option<SessionId>, Fail> {
     let setup = Setup::plain(alloc)?;
     let mut fence = Fence::<BufferMachine>::start(alloc, &setup)?;
     let opened = FenceCommand::Opened(SessionId::new(1, 2));
-    fence.apply(alloc, 1, &opened)?;
+    fence.apply(1, &opened)?;
     Ok(fence.session())
 }
 
@@ -245,7 +245,7 @@ fn claim_of_none(alloc: Global) -> Result<Option<u64>, Fail> {
     let setup = Setup::plain(alloc)?;
     let mut claims = Claims::<Fence<BufferMachine>>::start(alloc, &setup)?;
     let gone = Claims::<Fence<BufferMachine>>::node_gone(2, Number::new(5));
-    claims.apply(alloc, 1, &gone)?;
+    claims.apply(1, &gone)?;
     Ok(claims.next_claim())
 }
 
@@ -275,8 +275,8 @@ fn the_next_claim_is_of_the_first_line_that_waits(rt: HostRuntime) -> Result<(),
 fn what_is_kept_is_played_without_emptying_it(rt: HostRuntime) -> Result<(), Fail> {
     let tower = tower_after(rt.alloc(), &[OPENED, HEARD])?;
     let name = Name::from_bytes(Vec::from_slice(rt.alloc(), b"#X")?).ok_or("name")?;
-    assert_eq!(rt; tower.playback(rt.alloc(), &name)?.len(), 3);
-    let played = tower.playback(rt.alloc(), &name)?;
+    assert_eq!(rt; tower.playback(&name)?.len(), 3);
+    let played = tower.playback(&name)?;
     let line = played.get(1).ok_or("line")?;
     assert_eq!(rt;
         line.spelling(),

@@ -20,5 +20,7 @@ pub mod FloorLemmas
 pub mod HeldStep
 pub mod Shows
 pub mod Marks
+pub mod Stored
+pub mod Said
 pub mod Readings
 pub mod Attached

@@ -1,9 +1,9 @@
 -- One step of the machine, on what it holds: what it holds next, and what it answers.
-use Rattle.std.specs.Prelude.{ℕ, ◌<◌, Bool, true, false, not, ◌&&◌, ◌||◌, if◌then◌else◌, nat_lt, max, List, [], ◌∷◌, ◌++◌, length, map, Option, Some, None, is_some, filter, flat_map, codes, slice_index, slice_set, ⊤}
+use Rattle.std.specs.Prelude.{◌≡◌, ℕ, ◌<◌, Bool, true, false, not, ◌&&◌, ◌||◌, if◌then◌else◌, nat_lt, max, List, [], ◌∷◌, ◌++◌, length, map, Option, Some, None, is_some, filter, flat_map, codes, slice_index, slice_set, ⊤}
 use Rattle.irc_line.specs.Names.{fold_name, is_channel}
 use Rattle.irc_line.specs.Lines.{Parts}
 use Rattle.buffer_lines.specs.Stamps.{framed, parameter, ring}
-use Rattle.buffer_targets.specs.Targets.{ChannelLines, TargetLines, channel, target, cleared, resized, pushed, over, with_joined, with_detached, at_channel, channel_of_key, joined_by, without_channel, open_cleared, at_query, query_of_key, query_stored}
+use Rattle.buffer_targets.specs.Targets.{StandsAt, ChannelLines, TargetLines, channel, target, cleared, resized, pushed, over, with_joined, with_detached, at_channel, channel_of_key, joined_by, without_channel, open_cleared, at_query, query_of_key, query_stored}
 use Rattle.wire_bytes.specs.declared.origin.Origin.{Origin}
 use Rattle.buffer_commands.specs.Settings.{Settings}
 use Rattle.buffer_commands.specs.declared.command.Action.TheVariants.{Attach, Leave, Say, Join, Part, Detach, Reattach, Play, Clear, ClearChannels, ClearQueries, ClearAll, SetBuffer, Pass}
@@ -21,6 +21,13 @@ use Rattle.buffer_machine.specs.Held.{Held, holding}
 abbrev pub IsWithinLimits : Command → Type 0
 IsWithinLimits (Client o at action) = o.0 < 8
 IsWithinLimits _ = ⊤
+
+-- what asks for no memory: the end of the upstream, a node that is gone, and Leave of one who is attached
+abbrev pub TakesNone : List Origin → Command → Type 0
+TakesNone attached (Client o at Leave) = is_among o attached ≡ true
+TakesNone attached (NodeGone node boot) = ⊤
+TakesNone attached Down = ⊤
+TakesNone attached _ = ⊥
 
 -- a node's floor, raised to at least this one
 abbrev pub raised : ℕ → ℕ → List ℕ → List ℕ
@@ -48,6 +55,37 @@ is_detached (Some c) = c.detached
 abbrev pub is_joined : Option ChannelLines → Bool
 is_joined None = false
 is_joined (Some c) = c.joined
+
+-- the channel of a name
+abbrev pub found : List ℕ → Held → Option ChannelLines
+found name h = channel_of_key (fold_name name) h.channels
+
+-- the place of a key tells whether there is a channel, and whether it is detached
+abbrev pub IsKnownAt : List ChannelLines → Option ℕ → Bool → Type 0
+IsKnownAt cs place b = (key : List ℕ) → StandsAt key cs place → b ≡ is_some (channel_of_key key cs)
+
+abbrev pub IsDetachedAt : List ChannelLines → Option ℕ → Bool → Type 0
+IsDetachedAt cs place b = (key : List ℕ) → StandsAt key cs place → b ≡ is_detached (channel_of_key key cs)
+
+-- this is the place of the channel that a line names
+abbrev pub HasPlace : Parts → Held → Option ℕ → Type 0
+HasPlace line h place = StandsAt (fold_name (channel_of line)) h.channels place
+
+-- other channels, or other queries, are held
+abbrev pub with_channels : Held → List ChannelLines → Held
+with_channels h cs = holding h.nick h.clients cs h.queries
+
+abbrev pub with_queries : Held → List TargetLines → Held
+with_queries h ts = holding h.nick h.clients h.channels ts
+
+-- whether the channel that a line names stores it, where it is known
+abbrev pub stores_in_channel : Settings → Held → Parts → Bool
+stores_in_channel s h line = is_storable line && (keeps s.clears_channels h.clients || is_detached (found (channel_of line) h))
+
+-- whether a query stores a line
+abbrev pub stores_in_query : Settings → Held → Parts → Bool
+stores_in_query s h line =
+    is_storable line && not (is_some (found (channel_of line) h)) && keeps s.clears_queries h.clients && is_query_line h.nick line
 
 -- a line pushed to the channel that it is for, where that keeps lines now or is detached
 abbrev pub channels_storing : Settings → Held → Option (ℕ × Parts) → List ChannelLines
@@ -87,6 +125,10 @@ let_go key cs found = if is_some found && not (is_joined found) then without_cha
 abbrev pub played_out : Settings → List ℕ → Held → Held
 played_out s key h =
     holding h.nick h.clients (if s.clears_channels then at_channel key (over cleared) h.channels else h.channels) (if s.clears_queries then at_query key cleared h.queries else h.queries)
+
+-- the target of a key emptied
+abbrev pub cleared_of : List ℕ → Held → Held
+cleared_of key h = holding h.nick h.clients (at_channel key (over cleared) h.channels) (at_query key cleared h.queries)
 
 -- another size for the target of a key, unless it is past what there may be
 abbrev pub sized_unless_past : ℕ → List ℕ → Held → Held

@@ -8,19 +8,32 @@ ghost use Rattle.buffer_machine.specs.Buffers.{can_attach};
 
 use std::alloc::{AllocError, Global};
 use std::collections::BTreeSet;
+use std::marker::Model;
 use wire_bytes::{Number, Origin};
 
 /// The clients that are attached, in order of attaching, and again as a set in which one is looked up.
 #[derive(Drop)]
 pub struct Clients {
-    pub order: Vec<Origin>,
+    order: Vec<Origin>,
     set: BTreeSet<Origin>,
-    ghost same: { (o : Origin) → contains (⟦<Origin as Ord>⟧.cmp) set o ≡ is_among o order.items },
+}
+
+impl Model for Clients {
+    ghost use Rattle.std.specs.Prelude.{◌≡◌, List};
+    ghost use Rattle.std.specs.BTreeSet.{contains};
+    ghost use Rattle.wire_bytes.specs.declared.origin.Origin.{Origin};
+    ghost use Rattle.buffer_machine.specs.Messages.{is_among};
+
+    ghost Value = { List Origin };
+
+    ghost view = { λ c. c.order.items };
+
+    ghost invariant = { λ c. (o : Origin) → contains (⟦<Origin as Ord>⟧.cmp) c.set o ≡ is_among o c.order.items };
 }
 
 impl Clients {
     pub fn new(alloc: Global) -> Clients
-        ensures { result.order.items ≡ [] }
+        ensures { result ≡ [] }
     {
         Clients {
             order: Vec::new(alloc),
@@ -30,35 +43,35 @@ impl Clients {
 
     /// In order of attaching.
     pub fn as_slice(&self) -> &[Origin]
-        ensures { result.now ≡ self.now.order.items }
+        ensures { result.now ≡ self.now }
     {
         self.order.as_slice()
     }
 
     pub fn is_empty(&self) -> bool
-        ensures { result ≡ is_none_of self.now.order.items }
+        ensures { result ≡ is_none_of self.now }
     {
         self.order.is_empty()
     }
 
     /// Found in a logarithm of the clients.
     pub fn is_attached(&self, origin: Origin) -> bool
-        ensures { result ≡ is_among origin self.now.order.items }
+        ensures { result ≡ is_among origin self.now }
     {
         self.set.contains(&origin)
     }
 
     /// Whether an Attach is taken, where this is the floor of its client's node.
     pub fn may_attach(&self, floor: u64, origin: Origin) -> bool
-        ensures { result ≡ can_attach floor self.now.order.items origin }
+        ensures { result ≡ can_attach floor self.now origin }
     {
         !self.is_attached(origin) && floor <= origin.boot()
     }
 
     /// One more, behind all others. A refused call changes nothing.
     pub fn attach(&mut self, origin: Origin) -> Result<(), AllocError>
-        ensures ok { OnOk result (self.new.order.items ≡ self.old.order.items ++ origin ∷ []) }
-        ensures err { OnErr result (self.new.order.items ≡ self.old.order.items) }
+        ensures ok { OnOk result (self.new ≡ self.old ++ origin ∷ []) }
+        ensures err { OnErr result (self.new ≡ self.old) }
     {
         self.order.push(origin)?;
         match self.set.insert(origin) {
@@ -71,14 +84,14 @@ impl Clients {
     }
 
     pub fn clear(&mut self)
-        ensures { self.new.order.items ≡ [] }
+        ensures { self.new ≡ [] }
     {
         self.order.clear();
         self.set.clear();
     }
 
     pub fn remove(&mut self, origin: Origin)
-        ensures { self.new.order.items ≡ filter (λ x. not (same_origin origin x)) self.old.order.items }
+        ensures { self.new ≡ filter (λ x. not (same_origin origin x)) self.old }
     {
         self.order.retain(|client| !(origin == *client));
         take_out(&mut self.set, origin);
@@ -86,7 +99,7 @@ impl Clients {
 
     /// Removes the clients of a node's runs below this one.
     pub fn remove_below(&mut self, node: u8, floor: Number)
-        ensures { self.new.order.items ≡ filter (λ x. not (x.0 == node && nat_lt x.1 floor)) self.old.order.items }
+        ensures { self.new ≡ filter (λ x. not (x.0 == node && nat_lt x.1 floor)) self.old }
     {
         remove_from(&mut self.order, node, floor);
         remove_from_set(&mut self.set, node, floor);

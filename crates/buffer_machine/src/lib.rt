@@ -1,19 +1,22 @@
 //! The buffers of a bouncer: who is attached, what is kept for clients that are away, and what each command brings about.
 #![tactic(auto)]
 
-mod answers;
+mod actions;
 mod buffers;
-mod changes;
-mod channel_answers;
+mod channel_actions;
 mod clients;
 mod floors;
 mod has_lines;
+mod hearing;
 mod laws;
 mod lines;
 mod machine;
 mod message;
+mod saying;
 mod showing;
 mod step;
+mod storing;
+mod target_actions;
 #[cfg(test)]
 mod tests;
 

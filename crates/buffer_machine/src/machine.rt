@@ -8,14 +8,11 @@ ghost use Rattle.buffer_machine.specs.Held.{IsSound, commands};
 ghost use Rattle.buffer_machine.specs.Machine.{held_of};
 ghost use Rattle.buffer_machine.specs.Steps.{beginning, played_of, target_of_key};
 
-use crate::answers::target_at;
 use crate::buffers::Buffers;
-use crate::clients::Clients;
 use crate::floors::Floors;
 use crate::step::step;
 use buffer_commands::{Action, Command, Effect, Setup};
 use buffer_lines::{Offset, Shown};
-use buffer_targets::{Channels, Queries};
 use irc_line::Name;
 use machine_laws::{ApplyFault, HasClients, Machine};
 use std::alloc::{AllocError, Global};
@@ -25,6 +22,7 @@ use wire_bytes::{Copied, Moment, Number, Origin};
 /// are away.
 #[derive(Drop)]
 pub struct BufferMachine {
+    alloc: Global,
     setup: Setup,
     floors: Floors,
     buffers: Buffers,
@@ -35,10 +33,10 @@ impl BufferMachine {
     ghost use Rattle.buffer_machine.specs.Machine.{Stands};
 
     /// What is kept of a target, between its frame lines; nothing of one that is not known. Nothing is emptied.
-    pub fn playback(&self, alloc: Global, target: &Name) -> Result<Vec<Shown>, AllocError>
+    pub fn playback(&self, target: &Name) -> Result<Vec<Shown>, AllocError>
         ensures { (s : Settings) (history : History Command) → Stands self.now s history → IfOk result (λ v. v.items ≡ map spelling (playback s (commands history) (fold_name target.now))) }
     {
-        played_at(alloc, self.setup.offset(), &self.buffers, target)
+        played_at(self.alloc, self.setup.offset(), &self.buffers, target)
     }
 
     /// The own nick.
@@ -58,7 +56,7 @@ fn played_at(
 ) -> Result<Vec<Shown>, AllocError>
     ensures { IfOk result (λ v. v.items ≡ map spelling (played_of offset (target_of_key (fold_name name.now) (held_of buffers.now)))) }
 {
-    match target_at(buffers, alloc, name)? {
+    match buffers.target(name) {
         Some(target) => target.lines().play(alloc, offset, target.name().as_bytes()),
         None => Ok(Vec::new(alloc)),
     }
@@ -81,8 +79,9 @@ impl Machine for BufferMachine {
 
     fn start(alloc: Global, setup: &Setup) -> Result<Self, AllocError> {
         keeps_its_limits(setup);
-        let buffers = new_buffers(alloc, setup)?;
+        let buffers = Buffers::new(alloc, setup)?;
         Ok(BufferMachine {
+            alloc,
             setup: setup.copy(alloc)?,
             floors: [0; 8],
             buffers,
@@ -90,20 +89,15 @@ impl Machine for BufferMachine {
         })
     }
 
-    fn apply(
-        &mut self,
-        alloc: Global,
-        _place: u64,
-        command: &Command,
-    ) -> Result<Vec<Effect>, ApplyFault> {
+    fn apply(&mut self, _place: u64, command: &Command) -> Result<Vec<Effect>, ApplyFault> {
         if self.spoilt {
             return Err(ApplyFault::Spoilt);
         }
         let outcome = step(
+            self.alloc,
             &self.setup,
             &mut self.floors,
             &mut self.buffers,
-            alloc,
             command,
         );
         match outcome {
@@ -124,18 +118,6 @@ fn keeps_its_limits(setup: &Setup)
 {
     setup.channels();
     setup.most_queries();
-}
-
-/// What is held before any command.
-fn new_buffers(alloc: Global, setup: &Setup) -> Result<Buffers, AllocError>
-    ensures { IfOk result (λ b. held_of b ≡ beginning setup.now) }
-{
-    Ok(Buffers {
-        nick: setup.nick().copy(alloc)?,
-        clients: Clients::new(alloc),
-        channels: Channels::new(alloc, setup.channels(), setup.channel_size())?,
-        queries: Queries::new(alloc),
-    })
 }
 
 impl HasClients for BufferMachine {

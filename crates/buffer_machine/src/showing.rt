@@ -1,5 +1,5 @@
 //! Effects, appended to those before them. After an error a part may have been appended.
-ghost use Rattle.std.specs.Prelude.{◌≡◌, ◌++◌, ◌∷◌, [], map, flat_map, not, filter, IfOk, OnOk};
+ghost use Rattle.std.specs.Prelude.{◌≡◌, ◌++◌, ◌∷◌, [], map, flat_map, not, filter, option_to_list, IfOk, OnOk};
 ghost use Rattle.irc_line.specs.Lines.{spelling};
 ghost use Rattle.machine_laws.specs.Origins.{same_origin};
 ghost use Rattle.buffer_machine.specs.Messages.{bare, word_bytes};
@@ -38,9 +38,9 @@ pub fn tell(
 
 /// A client is shown a target.
 #[tactic(auto, using(crate::proofs::Shows::show_all_is))]
-pub fn play(
-    effects: &mut Vec<Effect>,
+pub fn show_target(
     alloc: Global,
+    effects: &mut Vec<Effect>,
     offset: Offset,
     origin: Origin,
     target: &Target,
@@ -59,7 +59,7 @@ fn show_lines(
     origin: Origin,
     lines: Vec<Shown>,
 ) -> Result<(), AllocError>
-    ensures { OnOk result (effects.new.items ≡ effects.old.items ++ map (λ x. Effect.Show origin x) lines.items) }
+    ensures { OnOk result (effects.new.items ≡ effects.old.items ++ copies lines.items origin) }
 {
     for line in lines {
         effects.push(Effect::Show(origin, line))?;
@@ -69,8 +69,8 @@ fn show_lines(
 
 /// A client is shown copies of these lines.
 fn show_copies(
-    effects: &mut Vec<Effect>,
     alloc: Global,
+    effects: &mut Vec<Effect>,
     origin: Origin,
     lines: &[Shown],
 ) -> Result<(), AllocError>
@@ -82,37 +82,93 @@ fn show_copies(
     Ok(())
 }
 
-/// Each of these clients is shown these lines.
-pub fn show_to_all(
-    effects: &mut Vec<Effect>,
+/// Each of these clients is shown copies of these lines.
+fn show_copies_to_all(
     alloc: Global,
+    effects: &mut Vec<Effect>,
     origins: &[Origin],
     lines: &[Shown],
 ) -> Result<(), AllocError>
     ensures { OnOk result (effects.new.items ≡ effects.old.items ++ flat_map (copies lines.now) origins.now) }
 {
     for origin in origins {
-        show_copies(effects, alloc, *origin, lines)?;
+        show_copies(alloc, effects, *origin, lines)?;
     }
     Ok(())
 }
 
+/// Each of these clients is shown these lines.
+#[tactic(auto, using(crate::proofs::Shows::shown_to_last))]
+pub fn show_lines_to_all(
+    alloc: Global,
+    origins: &[Origin],
+    lines: Vec<Shown>,
+) -> Result<Vec<Effect>, AllocError>
+    ensures { IfOk result (λ v. v.items ≡ flat_map (copies lines.items) origins.now) }
+{
+    let mut effects = Vec::new(alloc);
+    if let Some((last, others)) = origins.split_last() {
+        // copies for the others first: the last client is shown the lines themselves
+        show_copies_to_all(alloc, &mut effects, others, &lines)?;
+        show_lines(&mut effects, *last, lines)?;
+    }
+    Ok(effects)
+}
+
+/// Each of these clients is shown a line.
+pub fn show_to_all(
+    alloc: Global,
+    origins: &[Origin],
+    line: Shown,
+) -> Result<Vec<Effect>, AllocError>
+    ensures { IfOk result (λ v. v.items ≡ flat_map (copies (line ∷ [])) origins.now) }
+{
+    let mut effects = Vec::with_capacity(alloc, origins.len())?;
+    let mut waiting = None;
+    for origin in origins {
+        if let Some(client) = waiting {
+            effects.push(Effect::Show(client, line.copy(alloc)?))?;
+        }
+        waiting = Some(*origin);
+    }
+    show_last(effects, waiting, line)
+}
+
 /// Each of these clients but one is shown a line.
 pub fn show_to_others(
-    effects: &mut Vec<Effect>,
     alloc: Global,
     origins: &[Origin],
     own: Origin,
-    line: &Shown,
-) -> Result<(), AllocError>
-    ensures { OnOk result (effects.new.items ≡ effects.old.items ++ flat_map (λ p. Effect.Show p line.now ∷ []) (others own origins.now)) }
+    line: Shown,
+) -> Result<Vec<Effect>, AllocError>
+    ensures { IfOk result (λ v. v.items ≡ flat_map (copies (line ∷ [])) (others own origins.now)) }
 {
+    let mut effects = Vec::with_capacity(alloc, origins.len())?;
+    let mut waiting = None;
     for origin in origins {
         if own != *origin {
-            effects.push(Effect::Show(*origin, line.copy(alloc)?))?;
+            if let Some(client) = waiting {
+                effects.push(Effect::Show(client, line.copy(alloc)?))?;
+            }
+            waiting = Some(*origin);
         }
     }
-    Ok(())
+    show_last(effects, waiting, line)
+}
+
+/// The last client, if there is one, is shown the line itself.
+fn show_last(
+    effects: Vec<Effect>,
+    last: Option<Origin>,
+    line: Shown,
+) -> Result<Vec<Effect>, AllocError>
+    ensures { IfOk result (λ v. v.items ≡ effects.items ++ flat_map (copies (line ∷ [])) (option_to_list last)) }
+{
+    let mut effects = effects;
+    if let Some(client) = last {
+        effects.push(Effect::Show(client, line))?;
+    }
+    Ok(effects)
 }
 
 /// Each of these clients is closed.
@@ -127,8 +183,8 @@ pub fn close_all(effects: &mut Vec<Effect>, origins: &[Origin]) -> Result<(), Al
 
 /// A client that attaches is shown a channel, where it is not detached: that the own nick is in it, and what is kept.
 pub fn show_channel(
-    effects: &mut Vec<Effect>,
     alloc: Global,
+    effects: &mut Vec<Effect>,
     offset: Offset,
     nick: &Name,
     origin: Origin,
@@ -143,13 +199,13 @@ pub fn show_channel(
         let line = own_channel(alloc, nick, ChannelWord::Join, channel.target().name())?;
         effects.push(Effect::Show(origin, line))?;
     }
-    play(effects, alloc, offset, origin, channel.target())
+    show_target(alloc, effects, offset, origin, channel.target())
 }
 
 /// A client that attaches is shown these channels.
 pub fn show_channels(
-    effects: &mut Vec<Effect>,
     alloc: Global,
+    effects: &mut Vec<Effect>,
     offset: Offset,
     nick: &Name,
     origin: Origin,
@@ -158,15 +214,15 @@ pub fn show_channels(
     ensures { OnOk result (effects.new.items ≡ effects.old.items ++ flat_map (shown_at_attach offset nick.now origin) channels.now) }
 {
     for channel in channels {
-        show_channel(effects, alloc, offset, nick, origin, channel)?;
+        show_channel(alloc, effects, offset, nick, origin, channel)?;
     }
     Ok(())
 }
 
 /// A client that attaches is shown these queries.
 pub fn show_queries(
-    effects: &mut Vec<Effect>,
     alloc: Global,
+    effects: &mut Vec<Effect>,
     offset: Offset,
     origin: Origin,
     queries: &[Target],
@@ -174,15 +230,15 @@ pub fn show_queries(
     ensures { OnOk result (effects.new.items ≡ effects.old.items ++ flat_map (λ t. show_all origin (played offset t)) queries.now) }
 {
     for query in queries {
-        play(effects, alloc, offset, origin, query)?;
+        show_target(alloc, effects, offset, origin, query)?;
     }
     Ok(())
 }
 
 /// For a client that attaches it is asked who is in a channel, where the own nick is in it and it is not detached.
 pub fn ask_for_names(
-    effects: &mut Vec<Effect>,
     alloc: Global,
+    effects: &mut Vec<Effect>,
     origin: Origin,
     channel: &Channel,
 ) -> Result<(), AllocError>
@@ -197,15 +253,15 @@ pub fn ask_for_names(
 
 /// For a client that attaches it is asked who is in these channels.
 pub fn ask_for_all_names(
-    effects: &mut Vec<Effect>,
     alloc: Global,
+    effects: &mut Vec<Effect>,
     origin: Origin,
     channels: &[Channel],
 ) -> Result<(), AllocError>
     ensures { OnOk result (effects.new.items ≡ effects.old.items ++ flat_map (sent_at_attach origin) channels.now) }
 {
     for channel in channels {
-        ask_for_names(effects, alloc, origin, channel)?;
+        ask_for_names(alloc, effects, origin, channel)?;
     }
     Ok(())
 }

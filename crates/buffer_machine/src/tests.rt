@@ -21,11 +21,11 @@ fn command(alloc: Global, bytes: &[u8]) -> Result<Command, WireFault> {
 #[test]
 fn shows_what_is_kept_and_who_it_is(rt: HostRuntime) -> Result<(), Fail> {
     let mut machine = BufferMachine::start(rt.alloc(), &Setup::plain(rt.alloc())?)?;
-    machine.apply(rt.alloc(), 1, &command(rt.alloc(), MESSAGE)?)?;
+    machine.apply(1, &command(rt.alloc(), MESSAGE)?)?;
     assert_eq!(rt; machine.nick().as_bytes(), b"me".as_slice());
     if let Some(target) = Name::from_bytes(Vec::from_slice(rt.alloc(), b"#X")?) {
-        assert_eq!(rt; machine.playback(rt.alloc(), &target)?.len(), 3);
-        assert_eq!(rt; machine.playback(rt.alloc(), &target)?.len(), 3);
+        assert_eq!(rt; machine.playback(&target)?.len(), 3);
+        assert_eq!(rt; machine.playback(&target)?.len(), 3);
     }
     Ok(())
 }

@@ -1,12 +1,12 @@
 -- What an edit at the place of a key does to channels.
-use Rattle.std.proofs.Common.{◌≡◌, ℕ, zero, suc, Bool, true, false, if◌then◌else◌, List, [], ◌∷◌, map, get_or, set, length, refl, sym, ap, ◌∙◌, subst, Result, Ok, Err, OnOk, OnErr, Some, None}
+use Rattle.std.proofs.Common.{◌≡◌, ℕ, zero, suc, ◌<◌, arith, Bool, true, false, if◌then◌else◌, List, [], ◌∷◌, map, get_or, set, length, refl, sym, ap, ◌∙◌, subst, Result, Ok, Err, OnOk, OnErr, Some, None}
 use Rattle.std.specs.List.{list_any, insert, remove}
 use Rattle.std.specs.List.Sorted.{IsBinarySearchResult, IsSearchInRange}
 use Rattle.std.specs.Ordering.{nat_cmp}
 use Rattle.std.specs.Cmp.Lexicographic.{slice_cmp}
 use Rattle.std.specs.Result.{MatchResult}
 use Rattle.irc_line.specs.Names.{fold_name}
-use Rattle.irc_line.specs.Keys.{are_rising}
+use Rattle.irc_line.specs.Keys.{are_rising, is_in}
 use Rattle.irc_line.proofs.Booleans.{and_left}
 use Rattle.irc_line.proofs.Order.{below-asym}
 use Rattle.buffer_lines.specs.Stamps.{ring}
@@ -46,6 +46,12 @@ module _ (key : List ℕ) (cs : List ChannelLines) (at : ℕ) (rises : are_risin
   pub rising_removed : are_rising (channel_names (remove cs at)) ≡ true
   rising_removed = rw channel_removed (rising-filter name_of _ cs rises)
 
+-- a place is one of a channel
+pub place_in_range : (key : List ℕ) (cs : List ChannelLines) (at : ℕ) → IsPlace key (channel_names cs) at → at < length cs
+place_in_range key [] at p = absurd p
+place_in_range key (c ∷ cs) zero p = omega arith
+place_in_range key (c ∷ cs) (suc at) p = let h = place_in_range key cs at p in omega arith
+
 -- the channels rise as before where each keeps its name
 pub rising_set : (cs : List ChannelLines) (at : ℕ) (x y : ChannelLines) → are_rising (channel_names cs) ≡ true → x ≡ get_or cs at x → y.target.name ≡ x.target.name → are_rising (channel_names (set cs at y)) ≡ true
 rising_set cs at x y rises e h = rw (names_set name_of cs at x y e h) rises
@@ -67,6 +73,13 @@ open_name c = open_name_by c (c.detached)
 pub made_names : (size : ℕ) (names : List (List ℕ)) → channel_names (map (λ n. channel (target n (ring [] size)) false false) names) ≡ names
 made_names size [] = refl
 made_names size (n ∷ ns) = ap (λ ms. n ∷ ms) (made_names size ns)
+
+module _ (key : List ℕ) (cs : List ChannelLines) (absent : is_in key (channel_names cs) ≡ false) where
+  pub none_set : (f : ChannelLines → ChannelLines) → cs ≡ at_channel key f cs
+  none_set f = sym (none_changed name_of key f cs absent)
+
+  pub none_of_key : None ≡ channel_of_key key cs
+  none_of_key = sym (none_found name_of key cs absent)
 
 module _ (key : List ℕ) (cs : List ChannelLines) (at : ℕ) (gap : IsGap key (channel_names cs) at) where
   -- there is no channel of the key

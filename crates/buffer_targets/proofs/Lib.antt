@@ -1,4 +1,4 @@
-mod ChannelEdits
+pub mod ChannelEdits
 mod Edits
 pub mod Indexes
 pub mod Keys

@@ -35,6 +35,9 @@ module _ (key : List ℕ) (ts : List TargetLines) (absent : is_in key (query_nam
   pub no_query_set : (f : TargetLines → TargetLines) → ts ≡ at_query key f ts
   no_query_set f = sym (none_changed name_of key f ts absent)
 
+  pub query_unknown : list_any (has_name_key key) ts ≡ false
+  query_unknown = any_is name_of key ts ∙ absent
+
   pub no_query_found : None ≡ query_of_key key ts
   no_query_found = sym (none_found name_of key ts absent)
 
@@ -59,10 +62,9 @@ pub index_newest : (k : ℕ) (ts : List TargetLines) (places : List ℕ) → IsI
 index_newest k ts places index = rw (← drop-map name_of k ts) (index_dropped k (query_names ts) places index)
 
 -- what a stored line does, where there is a query of the name and where there is none
-pub query_pushed : {T E : Type 0} (r : Result T E) (most size : ℕ) (name : List ℕ) (line : ℕ × Parts) (key : List ℕ) (ts : List TargetLines) (at : ℕ) (x y : TargetLines) → key ≡ fold_name name
-    → are_different (query_names ts) ≡ true → IsPlace key (query_names ts) at → x ≡ get_or ts at x → OnOk r (y ≡ pushed line x) → OnOk r (set ts at y ≡ query_stored most size name line ts)
-query_pushed (Err e') most size name line key ts at x y k different place e h = tt
-query_pushed (Ok t) most size name line key ts at x y k different place e h =
+pub query_pushed : (most size : ℕ) (name : List ℕ) (line : ℕ × Parts) (key : List ℕ) (ts : List TargetLines) (at : ℕ) (x y : TargetLines) → key ≡ fold_name name
+    → are_different (query_names ts) ≡ true → IsPlace key (query_names ts) at → x ≡ get_or ts at x → y ≡ pushed line x → set ts at y ≡ query_stored most size name line ts
+query_pushed most size name line key ts at x y k different place e h =
     let place : IsPlace (fold_name name) (query_names ts) at = subst (λ f. IsPlace f (query_names ts) at) k place in
     rw (any_is name_of (fold_name name) ts, some_at_place (fold_name name) (query_names ts) at place) (query_set (fold_name name) ts at different place (pushed line) x y e h)
 

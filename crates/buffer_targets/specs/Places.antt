@@ -1,5 +1,5 @@
 -- Where a key stands among names.
-use Rattle.std.specs.Prelude.{◌≡◌, ℕ, zero, suc, ◌<◌, ◌-◌, Bool, true, not, if◌then◌else◌, ◌&&◌, nat_lt, nat_le, filter, List, [], ◌∷◌, length, map}
+use Rattle.std.specs.Prelude.{◌≡◌, ℕ, zero, suc, ◌<◌, ◌-◌, Bool, true, not, if◌then◌else◌, ◌&&◌, nat_lt, nat_le, filter, List, [], ◌∷◌, length, map, Result, MatchResult}
 use Rattle.std.specs.List.{list_all, slice_index_or, list_any}
 use Rattle.std.specs.Prelude.{◌==◌}
 use Rattle.std.specs.Ordering.{nat_cmp}
@@ -20,6 +20,10 @@ abbrev pub IsGap : List ℕ → List (List ℕ) → ℕ → Type 0
 IsGap key ns zero = list_all (λ n. is_below key (fold_name n)) ns ≡ true
 IsGap key [] (suc at) = ⊥
 IsGap key (n ∷ ns) (suc at) = (is_below (fold_name n) key ≡ true) × IsGap key ns at
+
+-- what a search for a key among names answers: its place, or its gap
+abbrev pub IsSearched : List ℕ → List (List ℕ) → Result ℕ ℕ → Type 0
+IsSearched key names found = MatchResult found (IsPlace key names) (IsGap key names)
 
 -- no two names have one key
 abbrev pub are_different : List (List ℕ) → Bool

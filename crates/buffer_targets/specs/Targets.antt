@@ -1,12 +1,13 @@
 -- What is held of a target: the spelling of its making and its last lines. And what is done to one.
-use Rattle.std.specs.Prelude.{ℕ, ◌-◌, Bool, true, false, not, if◌then◌else◌, List, [], ◌∷◌, ◌++◌, length, drop, map, filter, find, Option, refl}
+use Rattle.std.specs.Prelude.{◌≡◌, ℕ, ◌-◌, ◌<◌, ◌≤◌, Bool, true, false, not, if◌then◌else◌, List, [], ◌∷◌, ◌++◌, length, drop, map, filter, find, Option, None, Some, refl}
 use Rattle.std.specs.List.{list_any}
 use Rattle.std.specs.Coded.{Coded, code_by, coded×, coded_list, coded_ℕ, coded_bool}
 use Rattle.circular_buffer.specs.Buffer.{keep_last}
-use Rattle.irc_line.specs.Keys.{at_key, is_below}
+use Rattle.irc_line.specs.Keys.{at_key, is_below, is_in}
 use Rattle.irc_line.specs.Names.{fold_name}
 use Rattle.irc_line.specs.Lines.{Parts}
 use Rattle.buffer_lines.specs.Stamps.{Ring, ring, ring_code}
+use Rattle.buffer_targets.specs.Places.{IsPlace, IsGap, names_at}
 
 -- a target by the spelling of its making, with its last lines
 pub record TargetLines : Type 0 where
@@ -71,6 +72,31 @@ channel_of_key key cs = find (has_key key) cs
 abbrev pub channel_names : List ChannelLines → List (List ℕ)
 channel_names cs = map (λ c. c.target.name) cs
 
+-- the channel of a key stands at this place, or there is none
+abbrev pub StandsAt : List ℕ → List ChannelLines → Option ℕ → Type 0
+StandsAt key cs None = is_in key (channel_names cs) ≡ false
+StandsAt key cs (Some at) = IsPlace key (channel_names cs) at
+
+-- what is at the place of a key is what is found under the key
+abbrev pub IsChannelAt : List ChannelLines → Option ℕ → Option ChannelLines → Type 0
+IsChannelAt cs place found = (key : List ℕ) → StandsAt key cs place → found ≡ channel_of_key key cs
+
+-- a line stored at the place of a key is stored in the channel of the key
+abbrev pub IsStoredAt : Option ℕ → ℕ × Parts → List ChannelLines → List ChannelLines → Type 0
+IsStoredAt place line cs new = (key : List ℕ) → StandsAt key cs place → new ≡ at_channel key (over (pushed line)) cs
+
+-- some channel has this key
+abbrev pub has_channel : List ℕ → List ChannelLines → Bool
+has_channel key cs = list_any (has_key key) cs
+
+-- another size for the channel of a key
+abbrev pub channel_resized : List ℕ → ℕ → List ChannelLines → List ChannelLines
+channel_resized key size cs = at_channel key (over (resized size)) cs
+
+-- channels of these names that are shown to clients and that the own nick is not in, with so many lines to keep and none kept
+abbrev pub unjoined : ℕ → List (List ℕ) → List ChannelLines
+unjoined size names = map (λ c. channel (target c (ring [] size)) false false) names
+
 -- a channel put where its key belongs
 abbrev pub put_channel : ChannelLines → List ChannelLines → List ChannelLines
 put_channel c [] = c ∷ []
@@ -107,6 +133,26 @@ query_of_key key ts = find (has_name_key key) ts
 -- the queries' names
 abbrev pub query_names : List TargetLines → List (List ℕ)
 query_names ts = map (λ t. t.name) ts
+
+-- some query has this key
+abbrev pub has_query : List ℕ → List TargetLines → Bool
+has_query key ts = list_any (has_name_key key) ts
+
+-- another size for the query of a key
+abbrev pub query_resized : List ℕ → ℕ → List TargetLines → List TargetLines
+query_resized key size ts = at_query key (resized size) ts
+
+-- the queries' names in the order of an index
+abbrev pub indexed : List TargetLines → List ℕ → List (List ℕ)
+indexed ts places = names_at (query_names ts) places
+
+-- where among the queries that of a key stands
+abbrev pub IsQueryPlace : List ℕ → List TargetLines → ℕ → Type 0
+IsQueryPlace key ts place = (place < length ts) × IsPlace key (query_names ts) place
+
+-- no query has the key; its place would stand here in the index
+abbrev pub IsQueryGap : List ℕ → List TargetLines → List ℕ → ℕ → Type 0
+IsQueryGap key ts places gap = (gap ≤ length places) × IsGap key (indexed ts places) gap × (is_in key (query_names ts) ≡ false)
 
 -- the last of a list, at most so many
 abbrev pub newest : {A : Type 0} → ℕ → List A → List A

@@ -1,12 +1,12 @@
-ghost use Rattle.std.specs.Prelude.{◌≡◌, [], false, if◌then◌else◌, IfOk, OnOk, OnErr};
+ghost use Rattle.std.specs.Prelude.{◌≡◌, ◌≤◌, [], false, if◌then◌else◌, IfOk, IsOk, OnOk, OnErr};
 ghost use Rattle.buffer_lines.specs.Stamps.{ring};
 ghost use Rattle.buffer_targets.specs.Targets.{channel, cleared, over, pushed, resized, target, with_detached, with_joined};
 
 use crate::target::Target;
-use irc_line::{Line, Name};
+use buffer_lines::KeptLine;
+use irc_line::Name;
 use std::alloc::{AllocError, Global};
 use std::marker::Model;
-use wire_bytes::Moment;
 
 /// A channel with the last lines that came for it.
 #[derive(Drop)]
@@ -84,16 +84,16 @@ impl Channel {
     pub(crate) fn resize(&mut self, size: usize) -> Result<(), AllocError>
         ensures ok { OnOk result (self.new ≡ over (resized size) self.old) }
         ensures err { OnErr result (self.new ≡ self.old) }
+        ensures smaller { size ≤ self.old.target.lines.size → IsOk result }
     {
         self.target.resize(size)
     }
 
-    /// Keeps a copy of a line that came at this moment. A refused call changes nothing.
-    pub(crate) fn push(&mut self, alloc: Global, at: Moment, line: &Line) -> Result<(), AllocError>
-        ensures ok { OnOk result (self.new ≡ over (pushed (at, line.now)) self.old) }
-        ensures err { OnErr result (self.new ≡ self.old) }
+    /// Keeps one line more.
+    pub(crate) fn push(&mut self, line: KeptLine)
+        ensures { self.new ≡ over (pushed line) self.old }
     {
-        self.target.push(alloc, at, line)
+        self.target.push(line);
     }
 
     pub(crate) fn set_joined(&mut self, joined: bool)

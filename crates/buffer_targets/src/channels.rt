@@ -1,19 +1,19 @@
-ghost use Rattle.std.specs.Prelude.{◌≡◌, [], true, false, length, map, option_map, IfOk, IsOk, IsTrue, MatchResult, OnOk, OnErr};
+ghost use Rattle.std.specs.Prelude.{◌≡◌, ℕ, List, [], true, false, length, map, option_map, IfOk, IsOk, IsTrue, MatchResult, OnOk, OnErr};
 ghost use Rattle.std.specs.List.{list_any};
 ghost use Rattle.std.specs.List.Sorted.{IsSearchInRange};
 ghost use Rattle.irc_line.specs.Keys.{are_rising};
 ghost use Rattle.irc_line.specs.Names.{fold_name};
 ghost use Rattle.buffer_lines.specs.Stamps.{ring};
-ghost use Rattle.buffer_targets.specs.Places.{IsGap, IsPlace};
-ghost use Rattle.buffer_targets.specs.Targets.{at_channel, channel, channel_names, channel_of_key, cleared, has_key, joined_by, open_cleared, over, pushed, resized, target, with_detached, with_joined, without_channel};
+ghost use Rattle.buffer_targets.specs.Places.{IsGap, IsPlace, IsSearched};
+ghost use Rattle.buffer_targets.specs.Targets.{StandsAt, at_channel, channel, channel_names, channel_of_key, cleared, has_key, joined_by, open_cleared, over, pushed, resized, target, with_detached, with_joined, without_channel, IsChannelAt, has_channel, unjoined, channel_resized, IsStoredAt};
 
 use crate::channel::Channel;
-use irc_line::{Line, Name};
+use buffer_lines::KeptLine;
+use irc_line::Name;
 use std::alloc::{AllocError, Global};
 use std::marker::Model;
-use wire_bytes::Moment;
 
-/// Channels in rising order of their keys, found by key. A key is a folded name; bytes that are no channel's key find nothing.
+/// Channels in rising order of their keys, found by name, in any spelling of it. Bytes that are no channel's name find nothing.
 #[derive(Drop)]
 pub struct Channels {
     channels: Vec<Channel>,
@@ -38,7 +38,7 @@ impl Channels {
     /// Channels of these names that the own nick is not in, shown to clients, with so many lines to keep each and none kept.
     pub fn new(alloc: Global, names: &[Name], size: usize) -> Result<Channels, AllocError>
         requires { IsTrue (are_rising names.now) }
-        ensures { IfOk result (λ cs. cs ≡ map (λ c. channel (target c (ring [] size)) false false) names.now) }
+        ensures { IfOk result (λ cs. cs ≡ unjoined size names.now) }
     {
         Ok(Channels {
             channels: new_channels(alloc, names, size)?,
@@ -53,86 +53,99 @@ impl Channels {
         self.channels.as_slice()
     }
 
-    pub fn len(&self) -> usize
-        ensures { result ≡ length self.now }
-    {
-        self.channels.len()
-    }
-
-    /// Where the channel of a key is, or where it would stand.
-    fn search(&self, key: &[u8]) -> Result<usize, usize>
+    /// Where the channel of a name is, or where it would stand.
+    fn search(&self, name: &[u8]) -> Result<usize, usize>
         ensures bound { IsSearchInRange result (length self.now) }
-        ensures place { MatchResult result (IsPlace key.now (channel_names self.now)) (IsGap key.now (channel_names self.now)) }
+        ensures place { IsSearched (fold_name name.now) (channel_names self.now) result }
     {
         self.channels
-            .binary_search_by(|channel| channel.target().compare(key))
+            .binary_search_by(|channel| channel.target().compare(name))
     }
 
-    /// The channel of a key.
-    pub fn find(&self, key: &[u8]) -> Option<&Channel>
-        ensures { option_map (λ c. c.now) result ≡ channel_of_key key.now self.now }
+    /// The channel of a name.
+    pub fn find(&self, name: &[u8]) -> Option<&Channel>
+        ensures { option_map (λ c. c.now) result ≡ channel_of_key (fold_name name.now) self.now }
     {
-        match self.search(key) {
-            Ok(at) => Some(&self.channels[at]),
-            Err(_) => None,
-        }
+        self.at(self.place_of(name))
     }
 
-    /// Empties the channel of a key.
-    pub fn clear_at(&mut self, key: &[u8])
-        ensures { self.new ≡ at_channel key.now (over cleared) self.old }
+    /// Empties the channel of a name.
+    pub fn clear_at(&mut self, name: &[u8])
+        ensures { self.new ≡ at_channel (fold_name name.now) (over cleared) self.old }
     {
-        match self.search(key) {
+        match self.search(name) {
             Ok(at) => self.channels[at].clear(),
             Err(_) => {}
         }
     }
 
-    /// Gives the channel of a key another size. A refused call changes nothing.
-    pub fn resize_at(&mut self, key: &[u8], size: usize) -> Result<(), AllocError>
-        ensures ok { OnOk result (self.new ≡ at_channel key.now (over (resized size)) self.old) }
+    /// Gives the channel of a name another size. A refused call changes nothing.
+    pub fn resize_at(&mut self, name: &[u8], size: usize) -> Result<(), AllocError>
+        ensures ok { OnOk result (self.new ≡ channel_resized (fold_name name.now) size self.old) }
         ensures err { OnErr result (self.new ≡ self.old) }
-        ensures unknown { list_any (has_key key.now) self.old ≡ false → IsOk result }
+        ensures unknown { has_channel (fold_name name.now) self.old ≡ false → IsOk result }
     {
-        match self.search(key) {
+        match self.search(name) {
             Ok(at) => self.channels[at].resize(size),
             Err(_) => Ok(()),
         }
     }
 
-    /// Keeps a copy of a line that came at this moment in the channel of a key. A refused call changes nothing.
-    pub fn store_at(
-        &mut self,
-        alloc: Global,
-        key: &[u8],
-        at: Moment,
-        line: &Line,
-    ) -> Result<(), AllocError>
-        ensures ok { OnOk result (self.new ≡ at_channel key.now (over (pushed (at, line.now))) self.old) }
-        ensures err { OnErr result (self.new ≡ self.old) }
-        ensures unknown { list_any (has_key key.now) self.old ≡ false → IsOk result }
+    /// Where the channel of a name stands. It stands there until a channel is made or let go.
+    pub fn place_of(&self, name: &[u8]) -> Option<usize>
+        ensures { StandsAt (fold_name name.now) self.now result }
     {
-        match self.search(key) {
-            Ok(place) => self.channels[place].push(alloc, at, line),
-            Err(_) => Ok(()),
+        match self.search(name) {
+            Ok(at) => Some(at),
+            Err(_) => None,
         }
     }
 
-    /// Notes of the channel of a key whether the own nick is in it.
-    pub fn set_joined_at(&mut self, key: &[u8], joined: bool)
-        ensures { self.new ≡ at_channel key.now (with_joined joined) self.old }
+    /// The channel that stands at a place.
+    pub fn at(&self, place: Option<usize>) -> Option<&Channel>
+        ensures { IsChannelAt self.now place (option_map (λ c. c.now) result) }
     {
-        match self.search(key) {
+        match place {
+            Some(at) => {
+                if at < self.channels.len() {
+                    Some(&self.channels[at])
+                } else {
+                    None
+                }
+            }
+            None => None,
+        }
+    }
+
+    /// Keeps one line more in the channel that stands at a place.
+    pub fn store_at(&mut self, place: Option<usize>, line: KeptLine)
+        ensures { IsStoredAt place line self.old self.new }
+    {
+        match place {
+            Some(at) => {
+                if at < self.channels.len() {
+                    self.channels[at].push(line);
+                }
+            }
+            None => {}
+        }
+    }
+
+    /// Notes of the channel of a name whether the own nick is in it.
+    pub fn set_joined_at(&mut self, name: &[u8], joined: bool)
+        ensures { self.new ≡ at_channel (fold_name name.now) (with_joined joined) self.old }
+    {
+        match self.search(name) {
             Ok(at) => self.channels[at].set_joined(joined),
             Err(_) => {}
         }
     }
 
-    /// Notes of the channel of a key whether clients are shown nothing of it.
-    pub fn set_detached_at(&mut self, key: &[u8], detached: bool)
-        ensures { self.new ≡ at_channel key.now (with_detached detached) self.old }
+    /// Notes of the channel of a name whether clients are shown nothing of it.
+    pub fn set_detached_at(&mut self, name: &[u8], detached: bool)
+        ensures { self.new ≡ at_channel (fold_name name.now) (with_detached detached) self.old }
     {
-        match self.search(key) {
+        match self.search(name) {
             Ok(at) => self.channels[at].set_detached(detached),
             Err(_) => {}
         }
@@ -140,35 +153,28 @@ impl Channels {
 
     /// Notes that the own nick is in the channel of this name, which is made where there is none of its key, with so many lines
     /// to keep. A refused call changes nothing.
-    pub fn join(
-        &mut self,
-        alloc: Global,
-        name: &Name,
-        key: &[u8],
-        size: usize,
-    ) -> Result<(), AllocError>
-        requires { key.now ≡ fold_name name.now }
+    pub fn join(&mut self, name: &Name, size: usize) -> Result<(), AllocError>
         ensures ok { OnOk result (self.new ≡ joined_by name.now size self.old) }
         ensures err { OnErr result (self.new ≡ self.old) }
-        ensures known { list_any (has_key key.now) self.old ≡ true → IsOk result }
+        ensures known { has_channel (fold_name name.now) self.old ≡ true → IsOk result }
     {
-        match self.search(key) {
+        match self.search(name.as_bytes()) {
             Ok(at) => {
                 self.channels[at].set_joined(true);
                 Ok(())
             }
             Err(at) => {
-                let channel = Channel::new(alloc, name, size, true)?;
+                let channel = Channel::new(*self.channels.allocator(), name, size, true)?;
                 Ok(self.channels.insert(at, channel)?)
             }
         }
     }
 
-    /// Lets the channel of a key go with all that it has.
-    pub fn remove_at(&mut self, key: &[u8])
-        ensures { self.new ≡ without_channel key.now self.old }
+    /// Lets the channel of a name go with all that it has.
+    pub fn remove_at(&mut self, name: &[u8])
+        ensures { self.new ≡ without_channel (fold_name name.now) self.old }
     {
-        match self.search(key) {
+        match self.search(name) {
             Ok(at) => {
                 self.channels.remove(at);
             }
@@ -223,7 +229,7 @@ fn leave_each(channels: &mut [Channel])
 }
 
 fn new_channels(alloc: Global, names: &[Name], size: usize) -> Result<Vec<Channel>, AllocError>
-    ensures { IfOk result (λ v. v.items ≡ map (λ c. channel (target c (ring [] size)) false false) names.now) }
+    ensures { IfOk result (λ v. v.items ≡ unjoined size names.now) }
 {
     let mut channels = Vec::new(alloc);
     for name in names {

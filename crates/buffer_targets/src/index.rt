@@ -4,40 +4,40 @@ ghost use Rattle.std.specs.List.{list_all};
 ghost use Rattle.std.specs.List.Sorted.{IsSearchInRange};
 ghost use Rattle.irc_line.specs.Keys.{is_in};
 ghost use Rattle.irc_line.specs.Names.{fold_name};
-ghost use Rattle.buffer_targets.specs.Places.{compared_at, lowered, names_at, IsGap, IsIndex, IsPlace};
-ghost use Rattle.buffer_targets.specs.Targets.{newest, query_names};
+ghost use Rattle.buffer_targets.specs.Places.{compared_at, lowered, names_at, IsGap, IsIndex, IsPlace, IsSearched};
+ghost use Rattle.buffer_targets.specs.Targets.{newest, query_names, indexed, IsQueryPlace, IsQueryGap};
 
 use crate::target::Target;
 use std::alloc::AllocError;
 use std::cmp::Ordering;
 
-// How the key of the target at a place compares; the places of an index are places of targets.
-fn compare_at(targets: &[Target], place: usize, key: &[u8]) -> Ordering
-    ensures { result ≡ compared_at (query_names targets.now) key.now place }
+// How the target at a place compares with a name; the places of an index are places of targets.
+fn compare_at(targets: &[Target], place: usize, name: &[u8]) -> Ordering
+    ensures { result ≡ compared_at (query_names targets.now) (fold_name name.now) place }
 {
     if place < targets.len() {
-        targets[place].compare(key)
+        targets[place].compare(name)
     } else {
         Ordering::Greater
     }
 }
 
-// Where in the index the place of a key's target stands, or would stand.
-fn search_index(targets: &[Target], places: &[usize], key: &[u8]) -> Result<usize, usize>
+// Where in the index the place of a name's target stands, or would stand.
+fn search_index(targets: &[Target], places: &[usize], name: &[u8]) -> Result<usize, usize>
     requires { IsIndex (query_names targets.now) places.now }
     ensures bound { IsSearchInRange result (length places.now) }
-    ensures place { MatchResult result (IsPlace key.now (names_at (query_names targets.now) places.now)) (IsGap key.now (names_at (query_names targets.now) places.now)) }
+    ensures place { IsSearched (fold_name name.now) (indexed targets.now places.now) result }
 {
-    places.binary_search_by(|place| compare_at(targets, *place, key))
+    places.binary_search_by(|place| compare_at(targets, *place, name))
 }
 
-/// The place of a key's target, or where in the index it would stand.
-pub fn search(targets: &[Target], places: &[usize], key: &[u8]) -> Result<usize, usize>
+/// The place of a name's target, or where in the index it would stand.
+pub fn search(targets: &[Target], places: &[usize], name: &[u8]) -> Result<usize, usize>
     requires { IsIndex (query_names targets.now) places.now }
-    ensures found { IfOk result (λ place. (place < length targets.now) × IsPlace key.now (query_names targets.now) place) }
-    ensures absent { IfErr result (λ gap. (gap ≤ length places.now) × IsGap key.now (names_at (query_names targets.now) places.now) gap × (is_in key.now (query_names targets.now) ≡ false)) }
+    ensures found { IfOk result (IsQueryPlace (fold_name name.now) targets.now) }
+    ensures absent { IfErr result (IsQueryGap (fold_name name.now) targets.now places.now) }
 {
-    match search_index(targets, places, key) {
+    match search_index(targets, places, name) {
         Ok(found) => Ok(places[found]),
         Err(gap) => Err(gap),
     }
@@ -51,7 +51,7 @@ pub fn insert(
     target: Target,
 ) -> Result<(), AllocError>
     requires index { IsIndex (query_names targets.old.items) places.old.items }
-    requires gap { IsGap (fold_name target.name) (names_at (query_names targets.old.items) places.old.items) gap }
+    requires gap { IsGap (fold_name target.name) (indexed targets.old.items places.old.items) gap }
     requires bound { gap ≤ length places.old.items }
     ensures ok { OnOk result (targets.new.items ≡ targets.old.items ++ target ∷ []) }
     ensures err { OnErr result (targets.new.items ≡ targets.old.items) }

@@ -1,18 +1,18 @@
-ghost use Rattle.std.specs.Prelude.{◌≡◌, [], false, map, option_map, IfOk, IsOk, IsTrue, OnOk, OnErr};
+ghost use Rattle.std.specs.Prelude.{◌≡◌, [], false, true, map, option_map, IfOk, IsOk, IsTrue, OnOk, OnErr};
 ghost use Rattle.std.specs.List.{list_any};
 ghost use Rattle.irc_line.specs.Names.{fold_name};
 ghost use Rattle.buffer_lines.specs.Stamps.{ring};
 ghost use Rattle.buffer_targets.specs.Places.{are_different};
-ghost use Rattle.buffer_targets.specs.Targets.{at_query, cleared, has_name_key, pushed, query_names, query_of_key, query_stored, resized, target};
+ghost use Rattle.buffer_targets.specs.Targets.{at_query, cleared, has_name_key, pushed, query_names, query_of_key, query_stored, resized, target, query_resized, has_query};
 
 use crate::index;
 use crate::target::Target;
-use irc_line::{Line, Name};
+use buffer_lines::KeptLine;
+use irc_line::Name;
 use std::alloc::{AllocError, Global};
 use std::marker::Model;
-use wire_bytes::Moment;
 
-/// Queries in order of making, found by key. A key is a folded name; bytes that are no query's key find nothing.
+/// Queries in order of making, found by name, in any spelling of it. Bytes that are no query's name find nothing.
 #[derive(Drop)]
 pub struct Queries {
     targets: Vec<Target>,
@@ -52,33 +52,33 @@ impl Queries {
         self.targets.as_slice()
     }
 
-    /// The query of a key.
-    pub fn find(&self, key: &[u8]) -> Option<&Target>
-        ensures { option_map (λ t. t.now) result ≡ query_of_key key.now self.now }
+    /// The query of a name.
+    pub fn find(&self, name: &[u8]) -> Option<&Target>
+        ensures { option_map (λ t. t.now) result ≡ query_of_key (fold_name name.now) self.now }
     {
-        match index::search(&self.targets, &self.places, key) {
+        match index::search(&self.targets, &self.places, name) {
             Ok(place) => Some(&self.targets[place]),
             Err(_) => None,
         }
     }
 
-    /// Empties the query of a key.
-    pub fn clear_at(&mut self, key: &[u8])
-        ensures { self.new ≡ at_query key.now cleared self.old }
+    /// Empties the query of a name.
+    pub fn clear_at(&mut self, name: &[u8])
+        ensures { self.new ≡ at_query (fold_name name.now) cleared self.old }
     {
-        match index::search(&self.targets, &self.places, key) {
+        match index::search(&self.targets, &self.places, name) {
             Ok(place) => self.targets[place].clear(),
             Err(_) => {}
         }
     }
 
-    /// Gives the query of a key another size. A refused call changes nothing.
-    pub fn resize_at(&mut self, key: &[u8], size: usize) -> Result<(), AllocError>
-        ensures ok { OnOk result (self.new ≡ at_query key.now (resized size) self.old) }
+    /// Gives the query of a name another size. A refused call changes nothing.
+    pub fn resize_at(&mut self, name: &[u8], size: usize) -> Result<(), AllocError>
+        ensures ok { OnOk result (self.new ≡ query_resized (fold_name name.now) size self.old) }
         ensures err { OnErr result (self.new ≡ self.old) }
-        ensures unknown { list_any (has_name_key key.now) self.old ≡ false → IsOk result }
+        ensures unknown { has_query (fold_name name.now) self.old ≡ false → IsOk result }
     {
-        match index::search(&self.targets, &self.places, key) {
+        match index::search(&self.targets, &self.places, name) {
             Ok(place) => self.targets[place].resize(size),
             Err(_) => Ok(()),
         }
@@ -91,26 +91,24 @@ impl Queries {
         clear_each(self.targets.as_mut_slice());
     }
 
-    /// Keeps a copy of a line that came at this moment in the query of this name, which is made where there is none of its key,
-    /// with so many lines to keep. Past the most queries that there may be, the oldest made goes. A refused call changes nothing.
+    /// Keeps one line more in the query of this name, which is made where there is none of its key, with so many lines to keep.
+    /// Past the most queries that there may be, the oldest made goes. After an error, of memory for a query that is made, nothing
+    /// has changed, and the line is lost.
     pub fn store(
         &mut self,
-        alloc: Global,
         name: &Name,
-        key: &[u8],
-        at: Moment,
-        line: &Line,
+        line: KeptLine,
         size: usize,
         most: usize,
     ) -> Result<(), AllocError>
-        requires { key.now ≡ fold_name name.now }
-        ensures ok { OnOk result (self.new ≡ query_stored most size name.now (at, line.now) self.old) }
+        ensures ok { OnOk result (self.new ≡ query_stored most size name.now line self.old) }
         ensures err { OnErr result (self.new ≡ self.old) }
+        ensures known { has_query (fold_name name.now) self.old ≡ true → IsOk result }
     {
-        match index::search(&self.targets, &self.places, key) {
-            Ok(place) => self.targets[place].push(alloc, at, line),
+        match index::search(&self.targets, &self.places, name.as_bytes()) {
+            Ok(place) => Ok(self.targets[place].push(line)),
             Err(gap) => {
-                let target = new_query(alloc, name, at, line, size)?;
+                let target = new_query(*self.targets.allocator(), name, line, size)?;
                 index::insert(&mut self.targets, &mut self.places, gap, target)?;
                 index::keep_newest(&mut self.targets, &mut self.places, most);
                 Ok(())
@@ -127,16 +125,10 @@ fn clear_each(targets: &mut [Target])
     }
 }
 
-fn new_query(
-    alloc: Global,
-    name: &Name,
-    at: Moment,
-    line: &Line,
-    size: usize,
-) -> Result<Target, AllocError>
-    ensures { IfOk result (λ t. t ≡ pushed (at, line.now) (target name.now (ring [] size))) }
+fn new_query(alloc: Global, name: &Name, line: KeptLine, size: usize) -> Result<Target, AllocError>
+    ensures { IfOk result (λ t. t ≡ pushed line (target name.now (ring [] size))) }
 {
     let mut target = Target::new(alloc, name, size)?;
-    target.push(alloc, at, line)?;
+    target.push(line);
     Ok(target)
 }

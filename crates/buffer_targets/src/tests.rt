@@ -1,7 +1,7 @@
 //! Channels and queries, by examples.
 use crate::{Channels, Queries, Target};
-use buffer_lines::Offset;
-use irc_line::{Line, Name, fold_name};
+use buffer_lines::{KeptLine, Offset};
+use irc_line::{Line, Name};
 use std::alloc::{AllocError, Global};
 use std::test::Fail;
 use wire_bytes::Moment;
@@ -11,16 +11,17 @@ fn name(alloc: Global, bytes: &str) -> Result<Name, AllocError> {
 }
 
 /// A message whose text is one byte.
-fn line(alloc: Global, text: &str) -> Result<Line, Fail> {
+fn line(alloc: Global, text: &str) -> Result<KeptLine, Fail> {
     let content = format!(in alloc; ":a!b@c PRIVMSG #x :{text}")?;
-    Ok(Line::parse(alloc, content.as_bytes())?.copy(alloc)?)
+    let line = Line::parse(alloc, content.as_bytes())?;
+    Ok(KeptLine::new(Moment::new(0), line))
 }
 
 /// Appends the spelling of a target and the texts that it keeps.
-fn push_target(out: &mut Vec<u8>, alloc: Global, target: &Target) -> Result<(), AllocError> {
+fn push_target(alloc: Global, out: &mut Vec<u8>, target: &Target) -> Result<(), AllocError> {
     out.extend_from_slice(target.name().as_bytes())?;
     out.push(b'=')?;
-    for shown in &target.lines().play(alloc, Offset::default(), b"#x")? {
+    for shown in &target.lines().play(Offset::default(), b"#x")? {
         match shown.spelling() {
             [.., text] if *text != b'.' => out.push(*text)?,
             _ => {}
@@ -39,7 +40,7 @@ fn told(alloc: Global, channels: &Channels) -> Result<Vec<u8>, AllocError> {
         if channel.is_detached() {
             out.push(b'-')?;
         }
-        push_target(&mut out, alloc, channel.target())?;
+        push_target(alloc, &mut out, channel.target())?;
     }
     Ok(out)
 }
@@ -47,43 +48,33 @@ fn told(alloc: Global, channels: &Channels) -> Result<Vec<u8>, AllocError> {
 fn told_queries(alloc: Global, queries: &Queries) -> Result<Vec<u8>, AllocError> {
     let mut out = Vec::new(alloc);
     for target in queries.as_slice() {
-        push_target(&mut out, alloc, target)?;
+        push_target(alloc, &mut out, target)?;
     }
     Ok(out)
 }
 
-fn join(channels: &mut Channels, alloc: Global, name: &Name) -> Result<(), AllocError> {
-    let key = fold_name(alloc, name.as_bytes())?;
-    channels.join(alloc, name, &key, 2)
-}
-
-fn join_all(channels: &mut Channels, alloc: Global, names: &[&str]) -> Result<(), Fail> {
+fn join_all(alloc: Global, channels: &mut Channels, names: &[&str]) -> Result<(), Fail> {
     for bytes in names {
-        join(channels, alloc, &name(alloc, bytes)?)?;
+        channels.join(&name(alloc, bytes)?, 2)?;
     }
     Ok(())
 }
 
-fn store_all(channels: &mut Channels, alloc: Global, stored: &[(&str, &str)]) -> Result<(), Fail> {
-    for (key, text) in stored {
-        channels.store_at(alloc, key.as_bytes(), Moment::new(0), &line(alloc, text)?)?;
+fn store_all(alloc: Global, channels: &mut Channels, stored: &[(&str, &str)]) -> Result<(), Fail> {
+    for (name, text) in stored {
+        let place = channels.place_of(name.as_bytes());
+        channels.store_at(place, line(alloc, text)?);
     }
     Ok(())
-}
-
-fn store(queries: &mut Queries, alloc: Global, name: &Name, text: &str) -> Result<(), Fail> {
-    let key = fold_name(alloc, name.as_bytes())?;
-    let line = line(alloc, text)?;
-    Ok(queries.store(alloc, name, &key, Moment::new(0), &line, 2, 3)?)
 }
 
 fn store_in_queries(
-    queries: &mut Queries,
     alloc: Global,
+    queries: &mut Queries,
     stored: &[(&str, &str)],
 ) -> Result<(), Fail> {
     for (bytes, text) in stored {
-        store(queries, alloc, &name(alloc, bytes)?, text)?;
+        queries.store(&name(alloc, bytes)?, line(alloc, text)?, 2, 3)?;
     }
     Ok(())
 }
@@ -92,14 +83,14 @@ fn store_in_queries(
 fn channels_stand_in_the_order_of_their_keys(rt: HostRuntime) -> Result<(), Fail> {
     let alloc = rt.alloc();
     let mut channels = Channels::new(alloc, &[], 2)?;
-    join_all(&mut channels, alloc, &["#b", "#A", "#[x", "#B", "#ab"])?;
-    assert_eq!(rt; channels.len(), 4);
+    join_all(alloc, &mut channels, &["#b", "#A", "#[x", "#B", "#ab"])?;
+    assert_eq!(rt; channels.as_slice().len(), 4);
     assert_eq!(rt;
         told(alloc, &channels)?.as_slice(),
         b"+#A= +#ab= +#b= +#[x= ".as_slice()
     );
     channels.remove_at(b"#ab");
-    channels.remove_at(b"#A");
+    channels.remove_at(b"#c");
     channels.set_joined_at(b"#{x", false);
     channels.set_detached_at(b"#b", true);
     assert_eq!(rt;
@@ -113,7 +104,8 @@ fn channels_stand_in_the_order_of_their_keys(rt: HostRuntime) -> Result<(), Fail
         b"#A= #b= #[x= ".as_slice()
     );
     assert!(rt; channels.find(b"#{x").is_some());
-    assert!(rt; channels.find(b"#[x").is_none());
+    assert!(rt; channels.find(b"#[X").is_some());
+    assert!(rt; channels.find(b"#x").is_none());
     Ok(())
 }
 
@@ -121,10 +113,10 @@ fn channels_stand_in_the_order_of_their_keys(rt: HostRuntime) -> Result<(), Fail
 fn channels_keep_their_last_lines(rt: HostRuntime) -> Result<(), Fail> {
     let alloc = rt.alloc();
     let mut channels = Channels::new(alloc, &[], 2)?;
-    join_all(&mut channels, alloc, &["#b", "#A"])?;
+    join_all(alloc, &mut channels, &["#b", "#A"])?;
     store_all(
-        &mut channels,
         alloc,
+        &mut channels,
         &[
             ("#a", "1"),
             ("#a", "2"),
@@ -135,17 +127,17 @@ fn channels_keep_their_last_lines(rt: HostRuntime) -> Result<(), Fail> {
     )?;
     assert_eq!(rt;
         told(alloc, &channels)?.as_slice(),
-        b"+#A=24 +#b=3 ".as_slice()
+        b"+#A=45 +#b=3 ".as_slice()
     );
     channels.resize_at(b"#a", 3)?;
     store_all(
-        &mut channels,
         alloc,
+        &mut channels,
         &[("#a", "6"), ("#b", "7"), ("#b", "8")],
     )?;
     assert_eq!(rt;
         told(alloc, &channels)?.as_slice(),
-        b"+#A=246 +#b=78 ".as_slice()
+        b"+#A=456 +#b=78 ".as_slice()
     );
     Ok(())
 }
@@ -154,8 +146,8 @@ fn channels_keep_their_last_lines(rt: HostRuntime) -> Result<(), Fail> {
 fn channels_are_emptied_where_they_are_shown_or_named(rt: HostRuntime) -> Result<(), Fail> {
     let alloc = rt.alloc();
     let mut channels = Channels::new(alloc, &[], 2)?;
-    join_all(&mut channels, alloc, &["#b", "#A"])?;
-    store_all(&mut channels, alloc, &[("#a", "1"), ("#b", "2")])?;
+    join_all(alloc, &mut channels, &["#b", "#A"])?;
+    store_all(alloc, &mut channels, &[("#a", "1"), ("#b", "2")])?;
     channels.set_detached_at(b"#a", true);
     channels.clear_open();
     assert_eq!(rt;
@@ -163,7 +155,7 @@ fn channels_are_emptied_where_they_are_shown_or_named(rt: HostRuntime) -> Result
         b"+-#A=1 +#b= ".as_slice()
     );
     channels.clear_at(b"#a");
-    store_all(&mut channels, alloc, &[("#a", "6"), ("#b", "7")])?;
+    store_all(alloc, &mut channels, &[("#a", "6"), ("#b", "7")])?;
     assert_eq!(rt;
         told(alloc, &channels)?.as_slice(),
         b"+-#A=6 +#b=7 ".as_slice()
@@ -181,8 +173,8 @@ fn queries_stand_in_the_order_of_their_making(rt: HostRuntime) -> Result<(), Fai
     let alloc = rt.alloc();
     let mut queries = Queries::new(alloc);
     store_in_queries(
-        &mut queries,
         alloc,
+        &mut queries,
         &[
             ("wiz", "1"),
             ("Bob", "2"),
@@ -196,8 +188,8 @@ fn queries_stand_in_the_order_of_their_making(rt: HostRuntime) -> Result<(), Fai
         b"wiz=13 Bob=2 al[=45 ".as_slice()
     );
     store_in_queries(
-        &mut queries,
         alloc,
+        &mut queries,
         &[("x", "6"), ("bob", "7"), ("bob", "8")],
     )?;
     assert_eq!(rt;
@@ -214,8 +206,8 @@ fn queries_keep_their_last_lines(rt: HostRuntime) -> Result<(), Fail> {
     let alloc = rt.alloc();
     let mut queries = Queries::new(alloc);
     store_in_queries(
-        &mut queries,
         alloc,
+        &mut queries,
         &[("Bob", "7"), ("al[", "4"), ("x", "6"), ("bob", "8")],
     )?;
     queries.resize_at(b"bob", 1)?;
@@ -225,7 +217,7 @@ fn queries_keep_their_last_lines(rt: HostRuntime) -> Result<(), Fail> {
         b"Bob=8 al[= x=6 ".as_slice()
     );
     queries.clear_all();
-    store_in_queries(&mut queries, alloc, &[("Wiz", "9")])?;
+    store_in_queries(alloc, &mut queries, &[("Wiz", "9")])?;
     assert_eq!(rt;
         told_queries(alloc, &queries)?.as_slice(),
         b"al[= x= Wiz=9 ".as_slice()

@@ -19,13 +19,17 @@ module _ {B : Type 0} where
   begun size i s =
       record s { term = suc s.term; vote = Some i; role = Candidate; leader = None; voters = with_item (replicate size false) i true }
 
-  -- all others are asked for their votes
-  abbrev pub vote_requests : ℕ → ℕ → Node B → List (Message B)
-  vote_requests size i s = map (λ j. message s.term i j (RequestVote (length s.log) (last_term s.log))) (others size i)
+  -- all others are asked for their votes in this term, for a log that ends so
+  abbrev pub vote_requests : ℕ → ℕ → ℕ → ℕ → ℕ → List (Message B)
+  vote_requests size i t index last = map (λ j. message t i j (RequestVote index last)) (others size i)
+
+  -- the next term is begun, and the others are asked
+  abbrev pub asking : ℕ → ℕ → Node B → Node B
+  asking size i s = sending (begun size i s) (vote_requests size i (suc s.term) (length s.log) (last_term s.log))
 
   -- a node that waited too long for a leader begins an election, unless it leads or its terms are spent
   abbrev pub timed_out : ℕ → ℕ → Node B → Node B
-  timed_out size i s = if is_leader s.role || nat_le (2 ^ 60) s.term then s else sending (begun size i s) (vote_requests size i (begun size i s))
+  timed_out size i s = if is_leader s.role || nat_le (2 ^ 60) s.term then s else asking size i s
 
   -- the term is the own, the vote is free, and a log that ends at this place in this term is at least as up to date
   abbrev pub grants : Node B → ℕ → ℕ → ℕ → ℕ → Bool
@@ -42,6 +46,7 @@ module _ {B : Type 0} where
   abbrev pub leading : ℕ → Node B → Node B
   leading size s = record s { role = Leader; leader = None; next = replicate size (suc (length s.log)); matched = replicate size 0 }
 
+  -- it leads where a majority voted for it
   abbrev pub elected : ℕ → Node B → Node B
   elected size s = if majority size s.voters then leading size s else s
 

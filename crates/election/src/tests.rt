@@ -10,7 +10,9 @@ fn follower(alloc: Global) -> Result<NodeState<u8>, AllocError> {
     for term in [1u8, 1, 2] {
         let body = LoggedBody::new(0);
         let term = Number::new(term as u64);
-        log.push(Entry { term, body })?;
+        if !log.is_full() {
+            log.push(Entry { term, body })?;
+        }
     }
     Ok(NodeState {
         boot: Number::new(1),
@@ -19,8 +21,8 @@ fn follower(alloc: Global) -> Result<NodeState<u8>, AllocError> {
         log,
         role: Role::Follower,
         leader: None,
-        commit: 0,
-        applied: 0,
+        commit: Number::new(0),
+        applied: Number::new(0),
         voters: Vec::new(alloc),
         next: Vec::new(alloc),
         matched: Vec::new(alloc),
@@ -49,25 +51,40 @@ fn answered(message: &Message<u8>) -> Option<bool> {
     }
 }
 
-/// Begins an election at node 1 of five, where its log is short enough.
-fn begun(state: &mut NodeState<u8>, alloc: Global) -> Result<Vec<Message<u8>>, AllocError> {
-    if state.log.len() > 1000 {
-        return Ok(Vec::new(alloc));
-    }
-    begin(state, alloc, 5, 1)
-}
-
-/// A vote of term 3 from a node to node 1 of five, where its log is short enough.
+/// A vote of term 3 from a node to node 1 of five.
 fn voted(
-    state: &mut NodeState<u8>,
     alloc: Global,
+    state: &mut NodeState<u8>,
     from: u8,
     granted: bool,
 ) -> Result<(), AllocError> {
-    if state.log.len() > 1000 {
-        return Ok(());
+    on_vote(alloc, state, 5, from, Number::new(3), granted)
+}
+
+/// To whom requests for a vote of term 3 go, from node 1, whose log ends at place 3 in term 2.
+fn asked_by(alloc: Global, messages: &[Message<u8>]) -> Result<Vec<u8>, AllocError> {
+    let mut nodes = Vec::new(alloc);
+    for message in messages {
+        if let Kind::RequestVote {
+            last_index,
+            last_term,
+        } = &message.kind
+        {
+            let log = (last_index.value(), last_term.value());
+            if (message.term.value(), message.from, log) == (3, 1, (3, 2)) {
+                nodes.push(message.to)?;
+            }
+        }
     }
-    on_vote(state, alloc, 5, from, Number::new(3), granted)
+    Ok(nodes)
+}
+
+fn values(alloc: Global, numbers: &[Number]) -> Result<Vec<u64>, AllocError> {
+    let mut all = Vec::new(alloc);
+    for number in numbers {
+        all.push(number.value())?;
+    }
+    Ok(all)
 }
 
 #[test]
@@ -100,43 +117,54 @@ fn a_log_as_up_to_date_gets_the_vote(rt: HostRuntime) -> Result<(), Fail> {
 #[test]
 fn an_election_asks_all_others(rt: HostRuntime) -> Result<(), Fail> {
     let mut state = follower(rt.alloc())?;
-    let messages = begun(&mut state, rt.alloc())?;
+    let messages = begin(rt.alloc(), &mut state, 5, 1)?;
     assert_eq!(rt; state.term.value(), 3);
     assert!(rt; state.vote == Some(1));
-    assert_eq!(rt; messages.len(), 4);
-    let mut to = 2;
-    for message in &messages {
-        assert_eq!(rt;
-            (message.term.value(), message.from, message.to),
-            (3, 1, to)
-        );
-        to = if to < 5 { to + 1 } else { to };
-        match &message.kind {
-            Kind::RequestVote {
-                last_index,
-                last_term,
-            } => {
-                assert_eq!(rt; (last_index.value(), last_term.value()), (3, 2));
-            }
-            _ => assert!(rt; false),
-        }
+    assert_eq!(rt;
+        asked_by(rt.alloc(), &messages)?.as_slice(),
+        [2, 3, 4, 5].as_slice()
+    );
+    Ok(())
+}
+
+#[test]
+fn an_election_of_seven_wants_four_votes(rt: HostRuntime) -> Result<(), Fail> {
+    let mut state = follower(rt.alloc())?;
+    let messages = begin(rt.alloc(), &mut state, 7, 1)?;
+    assert_eq!(rt;
+        asked_by(rt.alloc(), &messages)?.as_slice(),
+        [2, 3, 4, 5, 6, 7].as_slice()
+    );
+    for from in [7, 6] {
+        on_vote(rt.alloc(), &mut state, 7, from, Number::new(3), true)?;
+        assert!(rt; state.role == Role::Candidate);
     }
+    on_vote(rt.alloc(), &mut state, 7, 5, Number::new(3), true)?;
+    assert!(rt; state.role == Role::Leader);
+    assert_eq!(rt; state.next.len(), 7);
     Ok(())
 }
 
 #[test]
 fn a_node_that_votes_twice_is_counted_once(rt: HostRuntime) -> Result<(), Fail> {
-    let mut state = follower(rt.alloc())?;
-    begun(&mut state, rt.alloc())?;
-    voted(&mut state, rt.alloc(), 2, true)?;
-    voted(&mut state, rt.alloc(), 2, true)?;
-    voted(&mut state, rt.alloc(), 3, false)?;
+    let alloc = rt.alloc();
+    let mut state = follower(alloc)?;
+    begin(alloc, &mut state, 5, 1)?;
+    voted(alloc, &mut state, 2, true)?;
+    voted(alloc, &mut state, 2, true)?;
+    voted(alloc, &mut state, 3, false)?;
     assert!(rt; state.role == Role::Candidate);
-    voted(&mut state, rt.alloc(), 4, true)?;
+    voted(alloc, &mut state, 4, true)?;
     assert!(rt; state.role == Role::Leader);
-    assert_eq!(rt; state.next.as_slice(), [4, 4, 4, 4, 4].as_slice());
-    assert_eq!(rt; state.matched.as_slice(), [0, 0, 0, 0, 0].as_slice());
-    assert!(rt; begun(&mut state, rt.alloc())?.is_empty());
+    assert_eq!(rt;
+        values(alloc, &state.next)?.as_slice(),
+        [4, 4, 4, 4, 4].as_slice()
+    );
+    assert_eq!(rt;
+        values(alloc, &state.matched)?.as_slice(),
+        [0, 0, 0, 0, 0].as_slice()
+    );
+    assert!(rt; begin(alloc, &mut state, 5, 1)?.is_empty());
     Ok(())
 }
 

@@ -1,28 +1,24 @@
-ghost use Rattle.std.specs.Prelude.{◌≡◌, ◌≤◌, ◌^◌, List, ◌++◌, length, map, IfOk, OnErr};
-ghost use Rattle.raft_log.specs.declared.message.Message.{Message};
-ghost use Rattle.raft_log.specs.declared.message.Kind.TheVariants.{RequestVote};
-ghost use Rattle.raft_log.specs.Lists.{others};
-ghost use Rattle.raft_log.specs.Node.{message};
-ghost use Rattle.raft_log.specs.Seen.{seen};
-ghost use Rattle.election.specs.Elections.{timed_out};
+ghost use Rattle.std.specs.Prelude.{◌≡◌, IfOk, OnErr};
+ghost use Rattle.raft_log.specs.Seen.{BecomesSending};
+ghost use Rattle.election.specs.Elections.{timed_out, vote_requests};
 
 use crate::voters::{alone, others};
 use raft_log::{Kind, Message, NodeState, Role};
 use std::alloc::{AllocError, Global};
 use wire_bytes::{Number, Wire};
 
-/// Begins an election: the next term, the own vote, and a request for the vote of each other node, by rising number.
+/// Begins an election, as a candidate does by section 5.2 of the Raft paper: the next term, the own vote,
+/// and a request for the vote of each other node, by rising number.
 ///
-/// A leader does nothing, and no term follows 2^60. Where there is no memory nothing changes.
+/// A leader does nothing, and no term follows 2^60.
 pub fn begin<B: Wire>(
-    state: &mut NodeState<B>,
     alloc: Global,
+    state: &mut NodeState<B>,
     size: u8,
     id: u8,
 ) -> Result<Vec<Message<B>>, AllocError>
-    requires { length state.old.log ≤ 2 ^ 60 }
-    ensures ok { IfOk result (λ ms. (sent : List (Message B)) → seen state.new (sent ++ ms.items) ≡ timed_out size id (seen state.old sent)) }
-    ensures err { OnErr result ((sent : List (Message B)) → seen state.new sent ≡ seen state.old sent) }
+    ensures ok { IfOk result (λ ms. BecomesSending (timed_out size id) state.old ms.items state.new) }
+    ensures err { OnErr result (state.new ≡ state.old) }
 {
     if let Role::Leader = state.role {
         return Ok(Vec::new(alloc));
@@ -33,14 +29,8 @@ pub fn begin<B: Wire>(
     }
     let next = Number::new(term + 1);
     let (last_index, last_term) = state.log.last();
-    let messages = vote_requests(
-        alloc,
-        size,
-        id,
-        next,
-        Number::new(last_index as u64),
-        last_term,
-    )?;
+    // both lists first: nothing changes where there is no memory for one of them
+    let messages = vote_requests(alloc, size, id, next, last_index, last_term)?;
     let voters = alone(alloc, size, id)?;
     state.term = next;
     state.vote = Some(id);
@@ -59,7 +49,7 @@ fn vote_requests<B: Wire>(
     last_index: Number,
     last_term: Number,
 ) -> Result<Vec<Message<B>>, AllocError>
-    ensures { IfOk result (λ ms. ms.items ≡ map (λ j. message term id j (RequestVote last_index last_term)) (others size id)) }
+    ensures { IfOk result (λ ms. ms.items ≡ vote_requests size id term last_index last_term) }
 {
     let nodes = others(alloc, size, id)?;
     let mut all = Vec::with_capacity(alloc, nodes.len())?;

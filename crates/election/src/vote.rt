@@ -1,7 +1,6 @@
-ghost use Rattle.std.specs.Prelude.{◌≡◌, ◌≤◌, ◌∷◌, ◌^◌, [], List, ◌++◌, length, OnOk, OnErr};
-ghost use Rattle.raft_log.specs.declared.message.Message.{Message};
+ghost use Rattle.std.specs.Prelude.{◌≡◌, ◌∷◌, [], OnOk, OnErr};
 ghost use Rattle.raft_log.specs.Node.{raised};
-ghost use Rattle.raft_log.specs.Seen.{seen};
+ghost use Rattle.raft_log.specs.Seen.{Becomes, BecomesSending};
 ghost use Rattle.election.specs.Elections.{on_request_vote, on_vote};
 
 use crate::voters::{majority, mark};
@@ -9,9 +8,10 @@ use raft_log::{Kind, Message, NodeState, Role};
 use std::alloc::{AllocError, Global};
 use wire_bytes::{Number, Wire};
 
-/// Takes a larger term, with no vote; its node follows, and a session that it led is over.
+/// Takes a larger term, with no vote; its node follows, and a session that it led is over. Each message
+/// of a larger term asks for it: section 5.1 of the Raft paper, and "All Servers" in its Figure 2.
 pub fn raise<B: Wire>(state: &mut NodeState<B>, term: Number)
-    ensures { (sent : List (Message B)) → seen state.new sent ≡ raised (seen state.old sent) term }
+    ensures { Becomes (λ s. raised s term) state.old state.new }
 {
     if state.term < term {
         state.term = term;
@@ -22,9 +22,11 @@ pub fn raise<B: Wire>(state: &mut NodeState<B>, term: Number)
     }
 }
 
-/// Answers a request for a vote, of a term that is not larger than the own, with the own term.
+/// Answers a request for a vote, of a term that is not larger than the own, with the own term, as a
+/// receiver of RequestVote does in Figure 2 of the Raft paper.
 ///
-/// Granted where the term is the own, the vote is none or the candidate, and its log is at least as up to date.
+/// Granted where the term is the own, the vote is none or the candidate (section 5.2), and its log is at
+/// least as up to date (section 5.4.1).
 pub fn on_request_vote<B: Wire>(
     state: &mut NodeState<B>,
     id: u8,
@@ -33,13 +35,14 @@ pub fn on_request_vote<B: Wire>(
     last_index: Number,
     last_term: Number,
 ) -> Message<B>
-    ensures { (sent : List (Message B)) → seen state.new (sent ++ result ∷ []) ≡ on_request_vote id (seen state.old sent) from term last_index last_term }
+    ensures { BecomesSending (λ s. on_request_vote id s from term last_index last_term)
+        state.old (result ∷ []) state.new }
 {
     let free = match state.vote {
         None => true,
         Some(other) => other == from,
     };
-    let good = state.log.up_to_date(last_index.value(), last_term);
+    let good = state.log.up_to_date(last_index, last_term);
     let granted = state.term == term && free && good;
     if granted {
         state.vote = Some(from);
@@ -52,28 +55,30 @@ pub fn on_request_vote<B: Wire>(
     }
 }
 
-/// Takes an answer to a request for a vote. A majority makes a candidate the leader of its term.
+/// Takes an answer to a request for a vote. A majority makes a candidate the leader of its term: section
+/// 5.2 of the Raft paper. It then sends to each node from the end of its log on (Figure 2).
 ///
-/// A node is counted once, however often it answers. Where there is no memory nothing changes.
+/// A node is counted once, however often it answers.
 pub fn on_vote<B: Wire>(
-    state: &mut NodeState<B>,
     alloc: Global,
+    state: &mut NodeState<B>,
     size: u8,
     from: u8,
     term: Number,
     granted: bool,
 ) -> Result<(), AllocError>
-    requires { length state.old.log ≤ 2 ^ 60 }
-    ensures ok { OnOk result ((sent : List (Message B)) → seen state.new sent ≡ on_vote size (seen state.old sent) from term granted) }
-    ensures err { OnErr result ((sent : List (Message B)) → seen state.new sent ≡ seen state.old sent) }
+    ensures ok { OnOk result (Becomes (λ s. on_vote size s from term granted) state.old state.new) }
+    ensures err { OnErr result (state.new ≡ state.old) }
 {
     let waits = match state.role {
         Role::Candidate => true,
         _ => false,
     };
     if waits && state.term == term && granted {
-        let next = vec![in alloc; state.log.len() + 1; size as usize]?;
-        let matched = vec![in alloc; 0; size as usize]?;
+        // both lists first: the vote is not counted where there is no memory to lead
+        let next = Number::new(state.log.len().value() + 1);
+        let next = vec![in alloc; next; size as usize]?;
+        let matched = vec![in alloc; Number::new(0); size as usize]?;
         mark(state.voters.as_mut_slice(), from);
         if majority(size, &state.voters) {
             state.role = Role::Leader;

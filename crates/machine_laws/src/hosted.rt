@@ -1,7 +1,7 @@
 //! Machines that a node of a cluster hosts.
 ghost use Rattle.std.specs.Prelude.{◌≡◌, ℕ, ◌+◌, List, Option, option_map, IfOk};
 ghost use Rattle.irc_line.specs.Lines.{Parts};
-ghost use Rattle.machine_laws.specs.Runs.{History};
+ghost use Rattle.machine_laws.specs.Runs.{After, Brings, History};
 ghost use Rattle.machine_laws.specs.Classes.{class_map};
 ghost use Rattle.machine_laws.specs.declared.class.Class.{Class};
 ghost use Rattle.machine_laws.specs.declared.class.Source.{Source};
@@ -89,11 +89,12 @@ pub trait Hosted: Machine {
     /// The number of the line that is to be claimed next: the first that is numbered and not claimed, whichever
     /// session is in force. Takes no memory.
     fn next_claim(&self) -> Option<u64>
-        ensures { (s : Self.Setup) (earlier : History Self.Command) → Self.stands self.now s earlier → result ≡ next_claim s earlier };
+        ensures { After (Self.stands self.now) (λ s earlier. result ≡ next_claim s earlier) };
 
     /// What is played of a target; nothing of one that is not known. Nothing is emptied.
     fn playback(&self, target: &Self::Target) -> Result<Vec<Self::Played>, AllocError>
-        ensures { (s : Self.Setup) (earlier : History Self.Command) → Self.stands self.now s earlier → IfOk result (λ v. v.items ≡ playback s earlier target.now) };
+        ensures { Brings (Self.stands self.now) result (λ v. v.items)
+            (λ s earlier. playback s earlier target.now) };
 
     /// Where an effect goes. Takes no memory.
     fn class(effect: &Self::Effect) -> Class<&Line>

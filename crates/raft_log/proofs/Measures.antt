@@ -1,11 +1,14 @@
--- What the reading of a body behind its length answers, and what is written over a place.
-use Rattle.std.proofs.Common.{◌≡◌, ◌≢◌, ℕ, ◌+◌, Bool, true, false, cond, eqb, List, ◌++◌, length, take, drop, Result, Ok, Err, refl, sym, ap, ◌∙◌, arith, append_assoc}
+-- What the reading of a body behind its length answers, which inputs want memory for it, and what is written over a place.
+use Rattle.std.proofs.Common.{◌≡◌, ◌≢◌, ℕ, ◌+◌, Bool, true, false, cond, eqb, List, ◌++◌, length, take, drop, Result, Ok, Err, IsTrue, refl, sym, subst, ap, ◌∙◌, arith, append_assoc}
 use Rattle.std.proofs.lemmas.Bool.{eq-eqb}
 use Rattle.std.proofs.lemmas.List.{take_at, drop_at, length-append}
 use Rattle.wire_bytes.specs.declared.wire_fault.WireFault.{WireFault}
 use Rattle.wire_bytes.specs.declared.wire_fault.WireFault.TheVariants.{Bad}
 use Rattle.wire_bytes.specs.Fields.{Reading, behind, goes_on}
-use Rattle.raft_log.specs.Spellings.{body_length, ending_at, measured}
+use Rattle.wire_bytes.specs.Wants.{Wants, wants_next}
+use Rattle.wire_bytes.specs.FieldCodecs.{wide32}
+use Rattle.std.specs.Int.{w32, to_be_bytes}
+use Rattle.raft_log.specs.Spellings.{body_length, ending_at, measured, spelled_measured, wants_measured}
 
 module _ {X : Type 0} (reading : Reading X) (input : List ℕ) where
   abbrev goes : Result (ℕ × ℕ) WireFault → Result (X × ℕ) WireFault
@@ -30,9 +33,18 @@ module _ {X : Type 0} (reading : Reading X) (input : List ℕ) where
   unfolding measured
   measured-refused n k x m h b e = ap goes h ∙ (ap (ending_at (k + n)) b ∙ ends_by x m (k + n) false (grind arith))
 
+-- a body that wants memory, behind its length
+pub measured_wants : (wants : Wants) (input : List ℕ) (n k : ℕ) → body_length input ≡ Ok (n, k) → IsTrue (wants (drop k input)) → IsTrue (wants_measured wants input)
+measured_wants wants input n k h w = subst (λ (r : Result (ℕ × ℕ) WireFault). IsTrue (wants_next r wants input)) (sym h) w
+
+-- how long the spelling of a body is with its length
+pub measured_length : {X : Type 0} (spelled : X → List ℕ) (x : X) → length (spelled_measured spelled x) ≡ 4 + length (spelled x)
+unfolding spelled_measured
+measured_length spelled x = omega (arith, length-append (to_be_bytes w32 (length (spelled x))) (spelled x), wide32.len (length (spelled x)))
+
 -- four bytes behind a front are written over
-pub written_over : (front four new rest : List ℕ) (place end : ℕ) → place ≡ length front → end ≡ place + length four → take place ((front ++ four) ++ rest) ++ (new ++ drop end ((front ++ four) ++ rest)) ≡ front ++ (new ++ rest)
-written_over front four new rest place end at e =
+pub covered : (front four new rest : List ℕ) (place end : ℕ) → place ≡ length front → end ≡ place + length four → take place ((front ++ four) ++ rest) ++ (new ++ drop end ((front ++ four) ++ rest)) ≡ front ++ (new ++ rest)
+covered front four new rest place end at e =
     let whole : (front ++ four) ++ rest ≡ front ++ (four ++ rest) = append_assoc front four rest in
     let before : take place ((front ++ four) ++ rest) ≡ front = ap (take place) whole ∙ take_at front (four ++ rest) place (sym at) in
     let after : drop end ((front ++ four) ++ rest) ≡ rest = drop_at (front ++ four) rest end (omega (arith, length-append front four)) in

@@ -1,6 +1,6 @@
 -- What an append leaves of a log, by the number of entries that stand already.
-use Rattle.std.proofs.Common.{false, get_or, take-append-drop, ◌<◌, ◌+◌, ◌≡◌, ℕ, zero, suc, ◌-◌, ◌≤◌, true, eqb, List, [], ◌∷◌, ◌++◌, length, take, drop, refl, sym, ap, ◌∙◌, arith, append_assoc, take-add, ⊎_elim}
-use Rattle.std.proofs.lemmas.Bool.{cond_both, cases_Bool, cond-true, cond-false}
+use Rattle.std.proofs.Common.{false, get_or, take-append-drop, ◌<◌, ◌+◌, ◌≡◌, ℕ, zero, suc, ◌-◌, ◌≤◌, true, eqb, ltb, List, [], ◌∷◌, ◌++◌, length, take, drop, refl, sym, ap, ◌∙◌, arith, append_assoc, take-add, length-drop, ⊎_elim}
+use Rattle.std.proofs.lemmas.Bool.{cond_both, cases_Bool, cases_lt, lt-ltb, le-ltb, cond-true, cond-false}
 use Rattle.raft_log.specs.declared.entry.Entry.{Entry}
 use Rattle.raft_log.specs.Logs.{last_after, last_term, merged, repair, conflicts_within, standing}
 
@@ -65,6 +65,19 @@ module _ {B : Type 0} where
       let k : standing (x ∷ rest) (e ∷ es) ≡ 0 = cond-false (eqb x.term e.term) (suc (standing rest es)) 0 f in
       absurd (h (omega arith) (omega arith) (omega arith)))
       (cases_Bool (eqb x.term e.term))
+
+  -- whether one of the first c conflicts, by how many stand already
+  pub conflicts_count : (log : List (Entry B)) (prev c : ℕ) (es : List (Entry B)) (count : ℕ) → count ≡ standing (drop prev log) es → count < length es → prev + count < length log → ltb count c ≡ conflicts_within (drop prev log) es c
+  conflicts_count log prev c es count e few within =
+      let short : count < length (drop prev log) = omega (arith, length-drop prev log) in
+      ⊎_elim
+      (λ lt. lt-ltb count c lt ∙ sym (conflicts_yes c (drop prev log) es (omega arith) (omega arith) (omega arith)))
+      (λ ge. le-ltb count c ge ∙ sym (conflicts_no c (drop prev log) es (λ a b d. omega arith)))
+      (cases_lt count c)
+
+  pub conflicts_none : (log : List (Entry B)) (prev c : ℕ) (es : List (Entry B)) (count : ℕ) → count ≡ standing (drop prev log) es → (count < length es → prev + count < length log → ⊥) → false ≡ conflicts_within (drop prev log) es c
+  conflicts_none log prev c es count e some_stands =
+      sym (conflicts_no c (drop prev log) es (λ a b d. some_stands (omega arith) (omega (arith, b, length-drop prev log))))
 
   pub repair_all : (log : List (Entry B)) (prev : ℕ) (es : List (Entry B)) → standing (drop prev log) es ≡ length es → repair log prev es ≡ log
   repair_all log prev es h = ap (λ z. take prev log ++ z) (merged_all (drop prev log) es h) ∙ take-append-drop prev log

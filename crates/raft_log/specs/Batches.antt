@@ -1,6 +1,7 @@
 -- What an Append brings.
-use Rattle.std.specs.Prelude.{ℕ, List}
+use Rattle.std.specs.Prelude.{ℕ, ◌+◌, ◌≤◌, List, length}
 use Rattle.raft_log.specs.declared.entry.Entry.{Entry}
+use Rattle.raft_log.specs.Logs.{entry_limit}
 
 -- entries, the place before them with its term, and the sender's commit
 pub record BatchParts (B : Type 0) : Type 0 where
@@ -8,3 +9,17 @@ pub record BatchParts (B : Type 0) : Type 0 where
   pub prev_term : ℕ
   pub entries : List (Entry B)
   pub commit : ℕ
+
+-- how many entries are sent at once
+abbrev pub batch_limit : ℕ
+batch_limit = 256
+
+module _ {B : Type 0} where
+  -- the parts of a batch, in their order
+  abbrev pub batch : ℕ → ℕ → List (Entry B) → ℕ → BatchParts B
+  batch prev_index prev_term entries commit =
+      record { prev_index = prev_index; prev_term = prev_term; entries = entries; commit = commit }
+
+  -- entries that may be sent at once, behind this place
+  abbrev pub MayBeSent : ℕ → List (Entry B) → Type 0
+  MayBeSent prev_index entries = (length entries ≤ batch_limit) × (prev_index + length entries ≤ entry_limit)

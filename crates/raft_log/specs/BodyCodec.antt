@@ -1,13 +1,13 @@
--- Bodies behind their length are a codec where the bodies are.
+-- Bodies behind their length are a codec where the bodies are. These lemmas need not be believed.
 use Rattle.std.proofs.Common.{◌≡◌, ℕ, ◌+◌, ◌^◌, ◌≤◌, ◌⊎◌, inl, inr, Bool, true, false, cond, eqb, List, ◌++◌, length, take, drop, Result, Ok, Err, refl, sym, ap, ◌∙◌, arith, append_assoc}
 use Rattle.std.specs.Int.{w32, to_be_bytes}
 use Rattle.std.proofs.Math.Seq.{take-add}
 use Rattle.std.proofs.lemmas.Bool.{eqb-true, eq-eqb}
 use Rattle.std.proofs.lemmas.List.{length-append, length-take, length-drop}
 use Rattle.wire_bytes.specs.declared.wire_fault.WireFault.{WireFault}
-use Rattle.wire_bytes.specs.declared.wire_fault.WireFault.TheVariants.{Bad}
+use Rattle.wire_bytes.specs.declared.wire_fault.WireFault.TheVariants.{Bad, Memory}
 use Rattle.wire_bytes.specs.Fields.{Reading, behind}
-use Rattle.wire_bytes.specs.Codecs.{IsCodec, goes_on-ok, goes_on-bad, behind-ok, behind-bad, AreBytes-drop, value_is, behind-front}
+use Rattle.wire_bytes.specs.Codecs.{IsCodec, goes_on-ok, goes_on-bad, goes_on-memory, behind-memory, behind-ok, behind-bad, AreBytes-drop, value_is, behind-front}
 use Rattle.wire_bytes.specs.FieldCodecs.{number-codec, wide32}
 use Rattle.raft_log.specs.Spellings.{body_length, ending_at, measured, spelled_measured, FitsMeasured}
 
@@ -40,6 +40,14 @@ refused_by {X} r p false e = sym (place_is {X = X} 0 p e)
 ending-bad : {X : Type 0} (end : ℕ) (r : Result (X × ℕ) WireFault) (p : ℕ) → ending_at end r ≡ Err (Bad p) → (r ≡ Err (Bad p)) ⊎ (p ≡ 0)
 ending-bad end (Ok r) p e = inr (refused_by r p (eqb r.1 end) e)
 ending-bad end (Err d) p e = inl cc
+
+kept_by : {X : Type 0} (r : X × ℕ) (b : Bool) → cond b (Ok r) (refused 0) ≡ Err Memory → ⊥
+kept_by r true e = absurd cc
+kept_by r false e = absurd cc
+
+ending-memory : {X : Type 0} (end : ℕ) (r : Result (X × ℕ) WireFault) → ending_at end r ≡ Err Memory → r ≡ Err Memory
+ending-memory end (Ok r) e = absurd (kept_by r (eqb r.1 end) e)
+ending-memory end (Err d) e = cc
 
 -- A value behind its length is a codec where the value is.
 pub measured-codec : {X : Type 0} (spelled : X → List ℕ) (fits : X → Type 0) (taken : Reading X) → IsCodec spelled fits taken → IsCodec (spelled_measured spelled) (FitsMeasured fits spelled) (measured taken)
@@ -78,5 +86,12 @@ measured-codec {X} spelled fits taken codec = record {
                   omega (arith, two, b.2, length-drop g.0.1 input)
               | inr z ↦ omega (arith, z, ap (length {A = ℕ}) one.1, wide32.len g.0.0, length-take g.0.1 input)
             ]
+      ];
+  no_memory = λ input bytes e.
+      elim (goes_on-memory (body_length input) (λ m k. ending_at (k + m) (behind k taken input)) e) [
+        | inl h ↦ length_codec.no_memory input bytes h
+        | inr g ↦
+            let h = ending-memory (g.0.1 + g.0.0) (behind g.0.1 taken input) g.2 in
+            codec.no_memory (drop g.0.1 input) (AreBytes-drop g.0.1 input bytes) (behind-memory g.0.1 taken input h)
       ];
 }

@@ -2,9 +2,10 @@ pub mod Spellings
 pub mod BodyCodec
 pub mod Entries
 pub mod EntryCodec
-pub mod Batches
 pub mod Lists
 pub mod Logs
+pub mod Batches
+pub mod Laws
 pub mod Votes
 pub mod Node
 pub mod Seen

@@ -1,7 +1,12 @@
 -- Lists whose places count from 1, and the nodes.
-use Rattle.std.specs.Prelude.{ℕ, zero, suc, ◌==◌, List, [], ◌∷◌, Option, None, if◌then◌else◌, slice_get, get_or, set}
+use Rattle.std.specs.Prelude.{ℕ, zero, suc, ◌==◌, ◌≤◌, List, [], ◌∷◌, Option, None, if◌then◌else◌, slice_get, get_or, set}
+
+-- a node of a group
+abbrev pub IsNode : ℕ → Type 0
+IsNode n = (1 ≤ n) × (n ≤ 7)
 
 module _ {A : Type 0} where
+  -- the item at a place, from 1 on
   abbrev pub item : List A → ℕ → Option A
   item xs zero = None
   item xs (suc k) = slice_get xs k
@@ -21,6 +26,7 @@ abbrev pub range_from : ℕ → ℕ → List ℕ
 range_from a zero = []
 range_from a (suc n) = a ∷ range_from (suc a) n
 
+-- these numbers but this one
 abbrev pub without : ℕ → List ℕ → List ℕ
 without i [] = []
 without i (j ∷ js) = if j == i then without i js else j ∷ without i js

@@ -2,17 +2,27 @@
 use Rattle.std.specs.Prelude.{ℕ, zero, suc, ◌==◌, Bool, true, false, ◌&&◌, ◌||◌, List, [], ◌∷◌, ◌++◌, length, take, drop, nat_lt, nat_le, if◌then◌else◌}
 use Rattle.raft_log.specs.declared.entry.Entry.{Entry}
 
+-- how many entries a log has at most
+abbrev pub entry_limit : ℕ
+entry_limit = 1000000
+
 module _ {B : Type 0} where
   -- the term of the last entry, or this number where there is none
   abbrev pub last_after : ℕ → List (Entry B) → ℕ
   last_after t [] = t
   last_after t (e ∷ log) = last_after e.term log
 
+  -- the term of the last entry, 0 where there is none
   abbrev pub last_term : List (Entry B) → ℕ
   last_term log = last_after 0 log
 
+  -- the term of the entry at a place, 0 at place 0
   abbrev pub term_at : List (Entry B) → ℕ → ℕ
   term_at log k = last_term (take k log)
+
+  -- there is an entry at this place, and it has this term
+  abbrev pub has_term : List (Entry B) → ℕ → ℕ → Bool
+  has_term log t k = nat_le 1 k && (nat_le k (length log) && (term_at log k == t))
 
   -- the log reaches to this place and has this term there; at place 0, before all entries, logs always agree
   abbrev pub agrees_at : List (Entry B) → ℕ → ℕ → Bool

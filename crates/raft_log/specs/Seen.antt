@@ -1,5 +1,5 @@
 -- What the code's state is as plain data.
-use Rattle.std.specs.Prelude.{List}
+use Rattle.std.specs.Prelude.{◌≡◌, List, ◌++◌}
 use Rattle.raft_log.specs.declared.message.Message.{Message}
 use Rattle.raft_log.specs.declared.node_state.NodeState.{NodeState}
 use Rattle.raft_log.specs.Node.{Node}
@@ -23,3 +23,12 @@ seen s sent =
       attempts = s.attempts;
       sent = sent;
     }
+
+module _ {B : Type 0} where
+  -- a state comes to another by this step, and nothing is sent
+  abbrev pub Becomes : (Node B → Node B) → NodeState B → NodeState B → Type 0
+  Becomes step old new = (sent : List (Message B)) → seen new sent ≡ step (seen old sent)
+
+  -- the same, and these messages are sent
+  abbrev pub BecomesSending : (Node B → Node B) → NodeState B → List (Message B) → NodeState B → Type 0
+  BecomesSending step old messages new = (sent : List (Message B)) → seen new (sent ++ messages) ≡ step (seen old sent)

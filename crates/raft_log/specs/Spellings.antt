@@ -1,9 +1,10 @@
 -- Bodies as bytes: the length of a body stands before it, in four bytes.
-use Rattle.std.specs.Prelude.{ℕ, ◌+◌, ◌==◌, ◌≤◌, if◌then◌else◌, List, ◌++◌, length, Result, Ok, Err}
+use Rattle.std.specs.Prelude.{ℕ, ◌+◌, ◌==◌, ◌≤◌, if◌then◌else◌, List, ◌++◌, length, take, drop, Result, Ok, Err}
 use Rattle.std.specs.Int.{w32, to_be_bytes}
 use Rattle.wire_bytes.specs.declared.wire_fault.WireFault.{WireFault}
 use Rattle.wire_bytes.specs.declared.wire_fault.WireFault.TheVariants.{Bad}
 use Rattle.wire_bytes.specs.Fields.{Reading, number_to, behind, goes_on}
+use Rattle.wire_bytes.specs.Wants.{Wants, wants_next}
 
 -- four bytes, at most 65,536
 abbrev pub body_length : Reading ℕ
@@ -22,6 +23,14 @@ measured reading input = goes_on (body_length input) (λ n k. ending_at (k + n) 
 unfoldable pub spelled_measured : {X : Type 0} → (X → List ℕ) → X → List ℕ
 spelled_measured spelled x = to_be_bytes w32 (length (spelled x)) ++ spelled x
 
+-- bytes over those at a place
+abbrev pub written_over : List ℕ → ℕ → List ℕ → List ℕ
+written_over items place bytes = take place items ++ (bytes ++ drop (place + length bytes) items)
+
 -- it is spelled in at most 65,536 bytes
 abbrev pub FitsMeasured : {X : Type 0} → (X → Type 0) → (X → List ℕ) → X → Type 0
 FitsMeasured fits spelled x = fits x × (length (spelled x) ≤ 65536)
+
+-- what stands behind a length that was read
+abbrev pub wants_measured : Wants → Wants
+wants_measured wants input = wants_next (body_length input) wants input

@@ -1,7 +1,7 @@
 -- Majorities, and what they commit.
-use Rattle.std.specs.Prelude.{ℕ, zero, suc, ◌+◌, ◌==◌, Bool, true, false, ◌&&◌, List, [], ◌∷◌, map, nat_lt, nat_le, if◌then◌else◌}
+use Rattle.std.specs.Prelude.{ℕ, zero, suc, ◌+◌, Bool, true, false, ◌&&◌, List, [], ◌∷◌, map, nat_lt, nat_le, if◌then◌else◌}
 use Rattle.raft_log.specs.declared.entry.Entry.{Entry}
-use Rattle.raft_log.specs.Logs.{term_at}
+use Rattle.raft_log.specs.Logs.{has_term}
 
 -- how many nodes a set has; a set says of each node whether it is in it
 abbrev pub tally : List Bool → ℕ
@@ -14,9 +14,9 @@ abbrev pub majority : ℕ → List Bool → Bool
 majority size set = nat_lt size (tally set + tally set)
 
 module _ {B : Type 0} where
-  -- a majority has this place, whose entry has this term
+  -- there is an entry at this place, it has this term, and a majority has it
   abbrev pub commits : ℕ → List ℕ → List (Entry B) → ℕ → ℕ → Bool
-  commits size matches log t k = majority size (map (λ m. nat_le k m) matches) && (term_at log k == t)
+  commits size matches log t k = majority size (map (λ m. nat_le k m) matches) && has_term log t k
 
   -- the largest place up to k, above the commit, that commits; else the commit
   abbrev pub commit_place : ℕ → List ℕ → List (Entry B) → ℕ → ℕ → ℕ → ℕ

@@ -1,5 +1,5 @@
-ghost use Rattle.std.specs.Prelude.{◌≡◌, ◌+◌, ◌≤◌, length};
-ghost use Rattle.raft_log.specs.Batches.{BatchParts};
+ghost use Rattle.std.specs.Prelude.{◌≡◌};
+ghost use Rattle.raft_log.specs.Batches.{batch, MayBeSent};
 
 use crate::entry::{Entry, copied_entries};
 use std::alloc::{AllocError, Global};
@@ -18,14 +18,13 @@ pub struct Batch<B: Wire> {
 }
 
 impl<B: Wire> Model for Batch<B> {
-    ghost use Rattle.std.specs.Prelude.{◌+◌, ◌≤◌, length};
-    ghost use Rattle.raft_log.specs.Batches.{BatchParts};
+    ghost use Rattle.raft_log.specs.Batches.{batch, BatchParts, MayBeSent};
 
     ghost Value = { BatchParts B };
 
-    ghost view = { λ b. record { prev_index = b.prev_index; prev_term = b.prev_term; entries = b.entries.items; commit = b.commit } };
+    ghost view = { λ b. batch b.prev_index b.prev_term b.entries.items b.commit };
 
-    ghost invariant = { λ b. (length b.entries.items ≤ 256) × (b.prev_index + length b.entries.items ≤ 1000000) };
+    ghost invariant = { λ b. MayBeSent b.prev_index b.entries.items };
 }
 
 impl<B: Wire> Batch<B> {
@@ -35,9 +34,8 @@ impl<B: Wire> Batch<B> {
         entries: Vec<Entry<B>>,
         commit: Number,
     ) -> Self
-        requires few { length entries.items ≤ 256 }
-        requires within { prev_index + length entries.items ≤ 1000000 }
-        ensures { result ≡ record { prev_index = prev_index; prev_term = prev_term; entries = entries.items; commit = commit } }
+        requires { MayBeSent prev_index entries.items }
+        ensures { result ≡ batch prev_index prev_term entries.items commit }
     {
         Batch {
             prev_index,
@@ -50,7 +48,7 @@ impl<B: Wire> Batch<B> {
     /// The place before the entries.
     pub fn prev_index(&self) -> Number
         ensures value { result ≡ self.now.prev_index }
-        ensures within { self.now.prev_index + length self.now.entries ≤ 1000000 }
+        ensures limits { MayBeSent self.now.prev_index self.now.entries }
     {
         self.prev_index
     }
@@ -64,7 +62,7 @@ impl<B: Wire> Batch<B> {
 
     pub fn entries(&self) -> &[Entry<B>]
         ensures value { result.now ≡ self.now.entries }
-        ensures few { length self.now.entries ≤ 256 }
+        ensures limits { MayBeSent self.now.prev_index self.now.entries }
     {
         self.entries.as_slice()
     }

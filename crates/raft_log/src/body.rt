@@ -1,4 +1,5 @@
-ghost use Rattle.std.specs.Prelude.{◌≡◌, ◌+◌, ◌≤◌, ◌++◌, length, take, drop};
+ghost use Rattle.std.specs.Prelude.{◌≡◌, ◌+◌, ◌≤◌, length, vec_capacity};
+ghost use Rattle.raft_log.specs.Spellings.{written_over};
 
 use std::alloc::{AllocError, Global};
 use std::marker::Model;
@@ -45,11 +46,12 @@ impl<B: Wire> Copied for LoggedBody<B> {
     }
 }
 
-/// A length in four bytes, and the body. The length is that of the body's spelling, else it is refused.
+/// A length in four bytes, and the body. The length is that of the body's spelling, else it is refused
+/// as Bad at its own place, once the body stands whole.
 impl<B: Wire> Wire for LoggedBody<B> {
     ghost use Rattle.raft_log.specs.Spellings.{spelled_measured, FitsMeasured, measured};
+    ghost use Rattle.raft_log.specs.Spellings.{wants_measured};
     ghost use Rattle.raft_log.specs.BodyCodec.{measured-codec};
-    ghost use Rattle.wire_bytes.specs.Codecs.{codec};
 
     ghost spelled = { spelled_measured B.spelled };
 
@@ -57,8 +59,12 @@ impl<B: Wire> Wire for LoggedBody<B> {
 
     ghost taken = { measured B.taken };
 
+    ghost wants = { wants_measured B.wants };
+
+    #[tactic(auto, using(crate::proofs::Measures::measured_length))]
     fn put(&self, out: &mut Vec<u8>) -> Result<(), AllocError> {
         let start = out.len();
+        // the length is known once the body is spelled
         out.extend_from_slice(&[0; 4])?;
         let outcome = self.body.put(out);
         if outcome.is_err() {
@@ -80,17 +86,14 @@ impl<B: Wire> Wire for LoggedBody<B> {
         }
     }
 
-    ghost read_back = { (measured-codec B.spelled B.fits B.taken (codec B.spelled B.fits B.taken B.read_back B.one_spelling B.bad_within)).read_back };
-
-    ghost one_spelling = { (measured-codec B.spelled B.fits B.taken (codec B.spelled B.fits B.taken B.read_back B.one_spelling B.bad_within)).one_spelling };
-
-    ghost bad_within = { (measured-codec B.spelled B.fits B.taken (codec B.spelled B.fits B.taken B.read_back B.one_spelling B.bad_within)).bad_within };
+    ghost is_codec = { measured-codec B.spelled B.fits B.taken B.is_codec };
 }
 
 /// Writes bytes over those at a place.
 fn write_over(out: &mut Vec<u8>, place: usize, bytes: &[u8])
     requires { place + length bytes.now ≤ length out.old.items }
-    ensures { out.new.items ≡ take place out.old.items ++ (bytes.now ++ drop (place + length bytes.now) out.old.items) }
+    ensures items { out.new.items ≡ written_over out.old.items place bytes.now }
+    ensures capacity { vec_capacity out.new ≡ vec_capacity out.old }
 {
     out[place..place + bytes.len()].copy_from_slice(bytes);
 }

@@ -33,15 +33,16 @@ impl<B: Wire> Copied for Entry<B> {
 
 /// The term, and the body behind its length.
 impl<B: Wire> Wire for Entry<B> {
-    ghost use Rattle.raft_log.specs.Entries.{spelled_entry, FitsEntry, entry_taken};
+    ghost use Rattle.raft_log.specs.Entries.{spelled_entry, FitsEntry, entry_taken, wants_entry};
     ghost use Rattle.raft_log.specs.EntryCodec.{entry-codec};
-    ghost use Rattle.wire_bytes.specs.Codecs.{codec};
 
     ghost spelled = { spelled_entry B.spelled };
 
     ghost fits = { FitsEntry B.fits B.spelled };
 
     ghost taken = { entry_taken B.taken };
+
+    ghost wants = { wants_entry B.wants };
 
     #[tactic(auto, unfolding(crate::specs::Entries::spelled_entry))]
     fn put(&self, out: &mut Vec<u8>) -> Result<(), AllocError> {
@@ -57,11 +58,7 @@ impl<B: Wire> Wire for Entry<B> {
         Ok((Entry { term, body }, len))
     }
 
-    ghost read_back = { (entry-codec B.spelled B.fits B.taken (codec B.spelled B.fits B.taken B.read_back B.one_spelling B.bad_within)).read_back };
-
-    ghost one_spelling = { (entry-codec B.spelled B.fits B.taken (codec B.spelled B.fits B.taken B.read_back B.one_spelling B.bad_within)).one_spelling };
-
-    ghost bad_within = { (entry-codec B.spelled B.fits B.taken (codec B.spelled B.fits B.taken B.read_back B.one_spelling B.bad_within)).bad_within };
+    ghost is_codec = { entry-codec B.spelled B.fits B.taken B.is_codec };
 }
 
 /// Copies of entries, in order.

@@ -7,6 +7,7 @@ mod entry;
 mod laws;
 mod log;
 mod message;
+mod node_id;
 mod node_state;
 mod role;
 
@@ -18,6 +19,7 @@ pub use laws::{
 };
 pub use log::Log;
 pub use message::{Kind, Message};
+pub use node_id::NodeId;
 pub use node_state::{Live, NodeState};
 pub use role::Role;
 

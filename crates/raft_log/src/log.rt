@@ -1,24 +1,33 @@
-ghost use Rattle.std.specs.Prelude.{◌≡◌, ◌+◌, ◌<◌, ◌≤◌, [], ◌∷◌, ◌++◌, length, take, drop, is_ok, if◌then◌else◌, IfOk, vec_len};
+ghost use Rattle.std.specs.Prelude.{◌≡◌, ◌+◌, ◌<◌, ◌≤◌, [], ◌∷◌, ◌++◌, length, take, drop, Some};
+ghost use Rattle.std.specs.Prelude.{nat_le, vec_len, IfOk, OnOk, OnErr};
+ghost use Rattle.raft_log.specs.Lists.{item};
 ghost use Rattle.raft_log.specs.Logs.{agrees_at, last_term, repair, standing, term_at, up_to_date};
+ghost use Rattle.raft_log.specs.Logs.{conflicts_within, entry_limit};
 
 use crate::entry::{Entry, copied_entries};
 use std::alloc::{AllocError, Global};
 use std::marker::Model;
 use wire_bytes::{Copied, Number, Wire};
 
-/// A node's entries, the first at place 1. Place 0 has term 0.
+/// How many entries a log has at most.
+const ENTRY_LIMIT: usize = 1_000_000;
+
+/// A node's entries, the first at place 1 and at most 1,000,000. Place 0 has term 0.
 #[derive(Drop)]
 pub struct Log<B: Wire> {
     entries: Vec<Entry<B>>,
 }
 
 impl<B: Wire> Model for Log<B> {
-    ghost use Rattle.std.specs.Prelude.{List};
+    ghost use Rattle.std.specs.Prelude.{List, ◌≤◌, length};
     ghost use Rattle.raft_log.specs.declared.entry.Entry.{Entry};
+    ghost use Rattle.raft_log.specs.Logs.{entry_limit};
 
     ghost Value = { List (Entry B) };
 
     ghost view = { λ l. l.entries.items };
+
+    ghost invariant = { λ l. length l.entries.items ≤ entry_limit };
 }
 
 impl<B: Wire> Log<B> {
@@ -32,10 +41,18 @@ impl<B: Wire> Log<B> {
     }
 
     /// The place of the last entry, 0 where there is none.
-    pub fn len(&self) -> usize
-        ensures { result ≡ length self.now }
+    pub fn len(&self) -> Number
+        ensures value { result ≡ length self.now }
+        ensures limit { length self.now ≤ entry_limit }
     {
-        self.entries.len()
+        Number::new(self.entries.len() as u64)
+    }
+
+    /// Whether it has as many entries as a log may have.
+    pub fn is_full(&self) -> bool
+        ensures { result ≡ nat_le entry_limit (length self.now) }
+    {
+        self.entries.len() >= ENTRY_LIMIT
     }
 
     pub fn entries(&self) -> &[Entry<B>]
@@ -44,11 +61,21 @@ impl<B: Wire> Log<B> {
         self.entries.as_slice()
     }
 
+    /// The entry at a place.
+    pub fn entry(&self, place: Number) -> &Entry<B>
+        requires counts_from_1 { 1 ≤ place }
+        requires within { place ≤ length self.now }
+        ensures { item self.now place ≡ Some result.now }
+    {
+        &self.entries[place.value() as usize - 1]
+    }
+
     /// The term at a place of the log.
-    pub fn term_at(&self, place: usize) -> Number
+    pub fn term_at(&self, place: Number) -> Number
         requires { place ≤ length self.now }
         ensures { result ≡ term_at self.now place }
     {
+        let place = place.value() as usize;
         if place == 0 {
             Number::new(0)
         } else {
@@ -57,66 +84,106 @@ impl<B: Wire> Log<B> {
     }
 
     /// The last place and its term.
-    pub fn last(&self) -> (usize, Number)
+    pub fn last(&self) -> (Number, Number)
         ensures place { result.0 ≡ length self.now }
         ensures term { result.1 ≡ last_term self.now }
+        ensures limit { length self.now ≤ entry_limit }
     {
         let place = self.len();
         (place, self.term_at(place))
     }
 
-    /// Whether the log reaches to a place and has this term there; at place 0, before all entries, it always agrees.
-    pub fn agrees_at(&self, place: usize, term: Number) -> bool
+    /// Whether the log reaches to a place and has this term there. At place 0, before all entries, it
+    /// always agrees. Logs that agree at a place are the same up to it: section 5.3 of the Raft paper.
+    pub fn agrees_at(&self, place: Number, term: Number) -> bool
         ensures { result ≡ agrees_at self.now place term }
     {
-        place == 0 || (place <= self.len() && self.term_at(place) == term)
+        place.value() == 0 || (place <= self.len() && self.term_at(place) == term)
     }
 
-    /// Whether a log that ends at this place, in this term, is at least as up to date as this one.
-    pub fn up_to_date(&self, index: u64, term: Number) -> bool
+    /// Whether a log that ends at this place, in this term, is at least as up to date as this one, as
+    /// section 5.4.1 of the Raft paper says: the later last term, or in the same the longer log.
+    pub fn up_to_date(&self, index: Number, term: Number) -> bool
         ensures { result ≡ up_to_date term index (last_term self.now) (length self.now) }
     {
         let (own_index, own_term) = self.last();
-        own_term < term || (term == own_term && own_index as u64 <= index)
+        own_term < term || (term == own_term && own_index <= index)
     }
 
-    /// Adds an entry, or leaves the log as it was.
+    /// Copies of so many entries behind a place, or of all that are there.
+    pub fn copied_behind(&self, place: Number, count: usize) -> Result<Vec<Entry<B>>, AllocError>
+        requires { place ≤ length self.now }
+        ensures { IfOk result (λ v. v.items ≡ take count (drop place self.now)) }
+    {
+        let alloc = *self.entries.allocator();
+        let rest = &self.entries[place.value() as usize..];
+        if count < rest.len() {
+            copied_entries(alloc, &rest[..count])
+        } else {
+            copied_entries(alloc, rest)
+        }
+    }
+
+    /// How many of the entries stand behind a place already, up to the first that does not.
+    pub fn standing(&self, prev: Number, entries: &[Entry<B>]) -> usize
+        requires { prev ≤ length self.now }
+        ensures value { result ≡ standing (drop prev self.now) entries.now }
+        ensures few { result ≤ length entries.now }
+        ensures within { prev + result ≤ length self.now }
+    {
+        standing(&self.entries, prev.value() as usize, entries)
+    }
+
+    /// Whether one of the first so many entries conflicts with what stands behind a place: the same
+    /// place, another term.
+    pub fn conflicts_within(&self, prev: Number, entries: &[Entry<B>], count: usize) -> bool
+        requires { prev ≤ length self.now }
+        ensures { result ≡ conflicts_within (drop prev self.now) entries.now count }
+    {
+        let standing = self.standing(prev, entries);
+        if standing == entries.len() {
+            return false;
+        }
+        let end = prev.value() as usize + standing;
+        end < self.entries.len() && standing < count
+    }
+
+    /// Adds an entry.
     pub fn push(&mut self, entry: Entry<B>) -> Result<(), AllocError>
-        ensures { self.new ≡ (if is_ok result then self.old ++ entry ∷ [] else self.old) }
+        requires { length self.old < entry_limit }
+        ensures ok { OnOk result (self.new ≡ self.old ++ entry ∷ []) }
+        ensures err { OnErr result (self.new ≡ self.old) }
     {
         Ok(self.entries.push(entry)?)
     }
 
-    /// Copies of entries in the place of all that follow a place, or the log as it was.
-    pub fn replace_from(
-        &mut self,
-        alloc: Global,
-        place: usize,
-        entries: &[Entry<B>],
-    ) -> Result<(), AllocError>
-        requires { place ≤ length self.old }
-        ensures { self.new ≡ (if is_ok result then take place self.old ++ entries.now else self.old) }
+    /// Copies of entries in the place of all that follow a place.
+    pub fn replace_from(&mut self, place: Number, entries: &[Entry<B>]) -> Result<(), AllocError>
+        requires within { place ≤ length self.old }
+        requires room { place + length entries.now ≤ entry_limit }
+        ensures ok { OnOk result (self.new ≡ take place self.old ++ entries.now) }
+        ensures err { OnErr result (self.new ≡ self.old) }
     {
-        let added = copied_entries(alloc, entries)?;
-        replace_tail(&mut self.entries, place, added)
+        let added = copied_entries(*self.entries.allocator(), entries)?;
+        replace_tail(&mut self.entries, place.value() as usize, added)
     }
 
-    /// Entries that follow a place: the first that conflicts goes with all behind it, missing ones are added.
-    /// Where there is no memory the log stays as it was.
-    pub fn repair(
-        &mut self,
-        alloc: Global,
-        prev: usize,
-        entries: &[Entry<B>],
-    ) -> Result<(), AllocError>
-        requires { prev ≤ length self.old }
-        ensures { self.new ≡ (if is_ok result then repair self.old prev entries.now else self.old) }
+    /// Takes entries that follow a place, as steps 3 and 4 of a receiver of AppendEntries do in Figure 2
+    /// of the Raft paper (section 5.3): the first that conflicts goes with all behind it, missing ones
+    /// are added.
+    pub fn repair(&mut self, prev: Number, entries: &[Entry<B>]) -> Result<(), AllocError>
+        requires within { prev ≤ length self.old }
+        requires room { prev + length entries.now ≤ entry_limit }
+        ensures ok { OnOk result (self.new ≡ repair self.old prev entries.now) }
+        ensures err { OnErr result (self.new ≡ self.old) }
     {
-        let count = standing(&self.entries, prev, entries);
+        let count = self.standing(prev, entries);
+        // an append that stands already leaves what follows it, which a late copy of it must not cut
         if count == entries.len() {
             return Ok(());
         }
-        self.replace_from(alloc, prev + count, &entries[count..])
+        let place = Number::new(prev.value() + count as u64);
+        self.replace_from(place, &entries[count..])
     }
 }
 
@@ -131,7 +198,8 @@ impl<B: Wire> Copied for Log<B> {
 fn standing<B: Wire>(log: &[Entry<B>], prev: usize, entries: &[Entry<B>]) -> usize
     requires { prev ≤ length log.now }
     ensures value { result ≡ standing (drop prev log.now) entries.now }
-    ensures within { (result ≤ length entries.now) × (prev + result ≤ length log.now) }
+    ensures few { result ≤ length entries.now }
+    ensures within { prev + result ≤ length log.now }
 {
     let mut count = 0;
     for entry in entries {
@@ -145,15 +213,17 @@ fn standing<B: Wire>(log: &[Entry<B>], prev: usize, entries: &[Entry<B>]) -> usi
     count
 }
 
-/// Puts these items in the place of all that follow so many, or leaves them as they were.
+/// Puts these items in the place of all that follow so many.
 fn replace_tail<T: Drop>(
     items: &mut Vec<T>,
     place: usize,
     mut tail: Vec<T>,
 ) -> Result<(), AllocError>
     requires { place ≤ vec_len items.old }
-    ensures { items.new.items ≡ (if is_ok result then take place items.old.items ++ tail.items else items.old.items) }
+    ensures ok { OnOk result (items.new.items ≡ take place items.old.items ++ tail.items) }
+    ensures err { OnErr result (items.new.items ≡ items.old.items) }
 {
+    // room first: what follows the place is cut only where the rest is sure to fit
     items.reserve(tail.len())?;
     items.truncate(place);
     items.append(&mut tail)

@@ -24,15 +24,15 @@ pub struct NodeState<B: Wire> {
     /// The sender of the last Append of the current term.
     pub leader: Option<u8>,
     /// The place up to which entries are agreed, as far as the node knows.
-    pub commit: usize,
+    pub commit: Number,
     /// The place up to which entries were applied.
-    pub applied: usize,
+    pub applied: Number,
     /// Of each node, whether its vote for this one came.
     pub voters: Vec<bool>,
     /// The place of the next entry for each node.
-    pub next: Vec<usize>,
+    pub next: Vec<Number>,
     /// The place up to which each node's log is known to be the own.
-    pub matched: Vec<usize>,
+    pub matched: Vec<Number>,
     pub live: Option<Live>,
     /// How many sessions this run had.
     pub attempts: Number,

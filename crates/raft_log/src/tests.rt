@@ -1,3 +1,5 @@
+ghost use Rattle.std.specs.Prelude.{◌≡◌};
+
 use super::*;
 use std::alloc::{AllocError, Global};
 use std::test::Fail;
@@ -10,11 +12,19 @@ fn entry(term: u8, body: u8) -> Entry<u8> {
     }
 }
 
+fn place(place: u8) -> Number
+    ensures { result ≡ place }
+{
+    Number::new(place as u64)
+}
+
 /// A log of these terms, whose bodies are 0.
 fn log_of(alloc: Global, terms: &[u8]) -> Result<Log<u8>, AllocError> {
     let mut log = Log::new(alloc);
     for term in terms {
-        log.push(entry(*term, 0))?;
+        if !log.is_full() {
+            log.push(entry(*term, 0))?;
+        }
     }
     Ok(log)
 }
@@ -30,8 +40,9 @@ fn terms_of(alloc: Global, log: &Log<u8>) -> Result<Vec<u64>, AllocError> {
 /// The terms of a log of terms 1, 1, 2 after an entry of this term behind a place.
 fn repaired(alloc: Global, prev: u8, term: u8) -> Result<Vec<u64>, AllocError> {
     let mut log = log_of(alloc, &[1, 1, 2])?;
-    if prev as usize <= log.len() {
-        log.repair(alloc, prev as usize, &[entry(term, 0)])?;
+    let prev = place(prev);
+    if prev <= log.len() {
+        log.repair(prev, &[entry(term, 0)])?;
     }
     terms_of(alloc, &log)
 }
@@ -90,37 +101,75 @@ fn a_missing_entry_is_added(rt: HostRuntime) -> Result<(), Fail> {
 #[test]
 fn a_later_last_term_is_more_up_to_date_than_a_longer_log(rt: HostRuntime) -> Result<(), Fail> {
     let log = log_of(rt.alloc(), &[1, 1, 2])?;
-    assert!(rt; !log.up_to_date(5, Number::new(1)));
-    assert!(rt; !log.up_to_date(2, Number::new(2)));
-    assert!(rt; log.up_to_date(3, Number::new(2)));
-    assert!(rt; log.up_to_date(1, Number::new(3)));
+    assert!(rt; !log.up_to_date(place(5), Number::new(1)));
+    assert!(rt; !log.up_to_date(place(2), Number::new(2)));
+    assert!(rt; log.up_to_date(place(3), Number::new(2)));
+    assert!(rt; log.up_to_date(place(1), Number::new(3)));
     let (index, term) = log.last();
-    assert_eq!(rt; (index, term.value()), (3, 2));
+    assert_eq!(rt; (index.value(), term.value()), (3, 2));
     Ok(())
+}
+
+#[test]
+fn a_node_is_its_number(rt: HostRuntime) {
+    assert_eq!(rt; NodeId::new(7).value(), 7);
+    assert!(rt; NodeId::new(1) != NodeId::new(2));
 }
 
 #[test]
 fn place_0_always_agrees(rt: HostRuntime) -> Result<(), Fail> {
     let log = log_of(rt.alloc(), &[1, 2])?;
-    assert!(rt; log.agrees_at(0, Number::new(0)));
-    assert!(rt; log.agrees_at(0, Number::new(7)));
-    assert!(rt; log.agrees_at(2, Number::new(2)));
-    assert!(rt; !log.agrees_at(1, Number::new(2)));
-    assert!(rt; !log.agrees_at(3, Number::new(2)));
-    assert!(rt; log.copy(rt.alloc())?.agrees_at(1, Number::new(1)));
+    assert!(rt; log.agrees_at(place(0), Number::new(0)));
+    assert!(rt; log.agrees_at(place(0), Number::new(7)));
+    assert!(rt; log.agrees_at(place(2), Number::new(2)));
+    assert!(rt; !log.agrees_at(place(1), Number::new(2)));
+    assert!(rt; !log.agrees_at(place(3), Number::new(2)));
+    assert!(rt; log.copy(rt.alloc())?.agrees_at(place(1), Number::new(1)));
     Ok(())
 }
 
 #[test]
 fn what_follows_a_place_is_replaced(rt: HostRuntime) -> Result<(), Fail> {
     let mut log = log_of(rt.alloc(), &[1, 1, 2])?;
-    if 2 <= log.len() {
-        log.replace_from(rt.alloc(), 2, &[entry(3, 0), entry(4, 0)])?;
+    if place(2) <= log.len() {
+        log.replace_from(place(2), &[entry(3, 0), entry(4, 0)])?;
     }
     assert_eq!(rt;
         terms_of(rt.alloc(), &log)?.as_slice(),
         [1, 1, 3, 4].as_slice()
     );
+    Ok(())
+}
+
+#[test]
+fn entries_are_looked_at_by_their_place(rt: HostRuntime) -> Result<(), Fail> {
+    let mut log = Log::new(rt.alloc());
+    if !log.is_full() {
+        log.push(entry(1, 7))?;
+    }
+    if !log.is_full() {
+        log.push(entry(2, 8))?;
+    }
+    if place(2) <= log.len() {
+        assert_eq!(rt; *log.entry(place(1)).body.get(), 7);
+        assert_eq!(rt; *log.entry(place(2)).body.get(), 8);
+        assert_eq!(rt; log.copied_behind(place(0), 1)?.len(), 1);
+        assert_eq!(rt; log.copied_behind(place(1), 9)?.len(), 1);
+        assert_eq!(rt; log.copied_behind(place(2), 1)?.len(), 0);
+    }
+    Ok(())
+}
+
+#[test]
+fn entries_are_compared_with_what_stands_there(rt: HostRuntime) -> Result<(), Fail> {
+    let log = log_of(rt.alloc(), &[1, 1, 2])?;
+    let entries = [entry(1, 0), entry(3, 0)];
+    if place(2) <= log.len() {
+        assert_eq!(rt; log.standing(place(1), &entries), 1);
+        assert!(rt; log.conflicts_within(place(1), &entries, 2));
+        assert!(rt; !log.conflicts_within(place(1), &entries, 1));
+        assert!(rt; !log.conflicts_within(place(1), &entries[..1], 2));
+    }
     Ok(())
 }
 

@@ -1,4 +1,4 @@
--- Bodies are a codec where the commands below and the actions are.
+-- Bodies are a codec where the commands below and the actions are. These are lemmas, which need not be believed.
 use Rattle.std.proofs.Common.{◌≡◌, ℕ, List, [], ◌∷◌, ◌++◌, IsTrue, refl, arith}
 use Rattle.std.specs.Prelude.{is_some}
 use Rattle.wire_bytes.specs.Fields.{Reading, through, both, reading_of}

@@ -9,6 +9,7 @@ use Rattle.request_once.specs.declared.answer.Answer.{Answer}
 use Rattle.request_once.specs.declared.answer.Answer.TheVariants.{Effect, Done, Repeat, Gap}
 
 module _ {C A : Type 0} where
+  -- a request of this origin
   abbrev pub is_asked_by : Origin → Body C A → Bool
   is_asked_by o (Inner c) = false
   is_asked_by o (Asked p n at a) = same_origin o p
@@ -23,6 +24,7 @@ module _ {C A : Type 0} where
   stays kept (Inner c) = true
   stays kept (Asked o n at a) = n == asked o kept + 1
 
+  -- with this body, where it stays
   abbrev pub if_stays : Bool → ℕ × Body C A → History (Body C A) → History (Body C A)
   if_stays true x kept = x ∷ kept
   if_stays false x kept = kept
@@ -36,11 +38,12 @@ module _ {C A : Type 0} where
   unfoldable pub last : History (Body C A) → Origin → ℕ
   last bodies o = asked o (fresh bodies)
 
-  -- how many requests there are of this origin and number
+  -- a request of this origin and number
   abbrev pub is_request : Origin → ℕ → Body C A → Bool
   is_request o n (Inner c) = false
   is_request o n (Asked p m at a) = same_origin o p && m == n
 
+  -- how many requests there are of this origin and number
   abbrev pub times : Origin → ℕ → History (Body C A) → ℕ
   times o n [] = 0
   times o n (x ∷ earlier) = if is_request o n x.1 then times o n earlier + 1 else times o n earlier

@@ -20,6 +20,7 @@ abbrev pub body_wants : Wants → Wants → Wants
 body_wants command action = wants_choice ((0, command) ∷ (1, asked_wants action) ∷ [])
 
 module _ {C A : Type 0} where
+  -- the kind byte
   abbrev pub body_kind : Body C A → ℕ
   body_kind (Inner c) = 0
   body_kind (Asked o n at a) = 1
@@ -29,19 +30,24 @@ module _ {C A : Type 0} where
   spelled_parts command action (Inner c) = command c
   spelled_parts command action (Asked o n at a) = spelled_asked action o n at a
 
+  -- a body as bytes
   abbrev pub spelled_body : (C → List ℕ) → (A → List ℕ) → Body C A → List ℕ
   spelled_body command action body = body_kind body ∷ spelled_parts command action body
 
+  -- each of its values is within its limits
   abbrev pub FitsBody : (C → Type 0) → (A → Type 0) → Body C A → Type 0
   FitsBody command action (Inner c) = command c
   FitsBody command action (Asked o n at a) = ((FitsOrigin o × FitsNumber n) × FitsMoment at) × action a
 
+  -- a command below, behind the kind byte
   abbrev pub inner_taken : Reading C → Reading (Body C A)
   inner_taken command = through Inner command
 
+  -- a request, by its parts as they are read
   abbrev pub asked_of : ((Origin × ℕ) × ℕ) × A → Body C A
   asked_of p = Asked p.0.0.0 p.0.0.1 p.0.1 p.1
 
+  -- a request
   abbrev pub asked_taken : Reading A → Reading (Body C A)
   asked_taken action = through asked_of (both (both (both origin number) moment) action)
 

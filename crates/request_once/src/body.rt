@@ -3,6 +3,8 @@ ghost use Rattle.std.specs.Prelude.{◌≡◌, ◌≢◌, ◌<◌, ◌≤◌, �
 ghost use Rattle.wire_bytes.specs.Fields.{appended, behind};
 ghost use Rattle.request_once.specs.Spelling.{FitsBody, asked_taken, asked_wants, body_taken, body_wants, inner_taken, spelled_asked, spelled_body};
 ghost use Rattle.request_once.specs.BodyCodec.{body_is_codec};
+ghost use Rattle.irc_line.specs.Lines.{LacksRoom};
+ghost use Rattle.wire_bytes.specs.Reads.{Reads, Refuses, WantsWhere};
 
 use std::alloc::{AllocError, Global};
 use wire_bytes::{Copied, Moment, Number, Origin, Wire, WireFault, take_behind, undo};
@@ -77,8 +79,10 @@ fn put_asked<A: Wire>(
     action: &A,
 ) -> Result<(), AllocError>
     requires { A.fits action.now }
-    ensures items { out.new.items ≡ appended result out.old.items (spelled_asked A.spelled origin number at action.now) }
-    ensures full { OnErr result (vec_capacity out.old < vec_len out.old + length (spelled_asked A.spelled origin number at action.now)) }
+    ensures items { out.new.items
+        ≡ appended result out.old.items (spelled_asked A.spelled origin number at action.now) }
+    ensures full { OnErr result (LacksRoom out.old (length
+        (spelled_asked A.spelled origin number at action.now))) }
     ensures capacity { vec_capacity out.old ≤ vec_capacity out.new }
 {
     let len = out.len();
@@ -93,9 +97,9 @@ fn take_inner<C: Wire, A: Wire>(
     input: &[u8],
 ) -> Result<(Body<C, A>, usize), WireFault>
     requires { 1 ≤ length input.now }
-    ensures ok { IfOk result (λ r. behind 1 (inner_taken {A = A} C.taken) input.now ≡ Ok (r.0, r.1)) }
-    ensures err { IfErr result (λ e. e ≢ WireFault.Memory → behind 1 (inner_taken {A = A} C.taken) input.now ≡ Err e) }
-    ensures memory { IfErr result (λ e. e ≡ WireFault.Memory → IsTrue (C.wants (drop 1 input.now))) }
+    ensures ok { Reads result (behind 1 (inner_taken {A = A} C.taken)) input.now }
+    ensures err { Refuses result (behind 1 (inner_taken {A = A} C.taken)) input.now }
+    ensures memory { WantsWhere result (C.wants (drop 1 input.now)) }
 {
     let (command, end) = take_behind::<C>(alloc, input, 1)?;
     Ok((Body::Inner(command), end))
@@ -107,9 +111,9 @@ fn take_asked<C: Wire, A: Wire>(
     input: &[u8],
 ) -> Result<(Body<C, A>, usize), WireFault>
     requires { 1 ≤ length input.now }
-    ensures ok { IfOk result (λ r. behind 1 (asked_taken A.taken) input.now ≡ Ok (r.0, r.1)) }
-    ensures err { IfErr result (λ e. e ≢ WireFault.Memory → behind 1 (asked_taken {C = C} A.taken) input.now ≡ Err e) }
-    ensures memory { IfErr result (λ e. e ≡ WireFault.Memory → IsTrue (asked_wants A.wants (drop 1 input.now))) }
+    ensures ok { Reads result (behind 1 (asked_taken A.taken)) input.now }
+    ensures err { Refuses result (behind 1 (asked_taken {C = C} A.taken)) input.now }
+    ensures memory { WantsWhere result (asked_wants A.wants (drop 1 input.now)) }
 {
     let ((((origin, number), at), action), end) = take_behind::<(((Origin, Number), Moment), A)>(
         alloc, input, 1,

@@ -13,17 +13,21 @@ use machine_laws::HasClients;
 pub fn each_request_takes_effect_once<M: HasClients>()
     ensures once { (bodies : History (Body M.Command M.Action)) (origin : Origin) (number : ℕ)
         → times origin number (fresh bodies) ≤ 1 }
-    ensures dropped { (later earlier : History (Body M.Command M.Action)) (place : ℕ) (origin : Origin)
+    ensures dropped { (later earlier : History (Body M.Command M.Action)) (place : ℕ)
+        (origin : Origin)
         (number at : ℕ) (action : M.Action) → stays (fresh earlier) (Body.Asked origin number at action) ≡ false
         → plain M.client (later ++ (place, Body.Asked origin number at action) ∷ earlier)
-            ≡ plain M.client (later ++ earlier) }
+        ≡ plain M.client (later ++ earlier) }
 {}
 
 /// Over a whole list, the requests of an origin and number are answered `Done` as often as they stay: at most once.
 #[tactic(auto, using(crate::proofs::Answered::dones_stay, crate::proofs::Answered::done_once))]
 pub fn each_request_is_done_once<M: HasClients>()
-    ensures stay { (s : M.Setup) (h : History (Body M.Command M.Action)) (origin : Origin) (number : ℕ)
-        → dones origin number (all_effects (answers M.client (M.effects s)) h) ≡ times origin number (fresh h) }
-    ensures once { (s : M.Setup) (h : History (Body M.Command M.Action)) (origin : Origin) (number : ℕ)
+    ensures stay { (s : M.Setup) (h : History (Body M.Command M.Action)) (origin : Origin)
+        (number : ℕ)
+        → dones origin number (all_effects (answers M.client (M.effects s)) h)
+        ≡ times origin number (fresh h) }
+    ensures once { (s : M.Setup) (h : History (Body M.Command M.Action)) (origin : Origin)
+        (number : ℕ)
         → dones origin number (all_effects (answers M.client (M.effects s)) h) ≤ 1 }
 {}

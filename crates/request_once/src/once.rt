@@ -28,7 +28,9 @@ pub struct Once<M: HasClients> {
 impl<M: HasClients> Once<M> {
     /// The machine below.
     pub fn machine(&self) -> &M
-        ensures { (s : M.Setup) (earlier : History (Body M.Command M.Action)) → ⟦<Once<M> as Machine>⟧.stands self.now s earlier → M.stands result.now s (plain M.client earlier) }
+        ensures { (s : M.Setup) (earlier : History (Body M.Command M.Action))
+            → ⟦<Once<M> as Machine>⟧.stands self.now s earlier
+            → M.stands result.now s (plain M.client earlier) }
     {
         &self.machine
     }
@@ -41,7 +43,8 @@ impl<M: HasClients> Machine for Once<M> {
 
     type Effect = Answer<M::Effect>;
 
-    ghost stands = { λ m s earlier. M.stands m.machine s (plain M.client earlier) × HasNumbers (get (⟦<Origin as Ord>⟧.cmp) m.last) earlier × (m.spoilt ≡ false) };
+    ghost stands = { λ m s earlier. M.stands m.machine s (plain M.client earlier)
+        × HasNumbers (get (⟦<Origin as Ord>⟧.cmp) m.last) earlier × (m.spoilt ≡ false) };
 
     ghost effects = { λ s earlier place x. answers M.client (M.effects s) earlier place x };
 
@@ -64,13 +67,7 @@ impl<M: HasClients> Machine for Once<M> {
         if self.spoilt {
             return Err(ApplyFault::Spoilt);
         }
-        let result = step(
-            self.alloc,
-            &mut self.machine,
-            &mut self.last,
-            place,
-            body,
-        );
+        let result = step(self.alloc, &mut self.machine, &mut self.last, place, body);
         if result.is_err() {
             self.spoilt = true;
         }

@@ -30,7 +30,8 @@ fn last_of(last: &BTreeMap<Origin, u64>, origin: &Origin) -> u64
 
 /// Notes the number of an origin's last request.
 fn note(last: &mut BTreeMap<Origin, u64>, origin: Origin, number: u64) -> Result<(), AllocError>
-    ensures { OnOk result (IsNoted (get (⟦<Origin as Ord>⟧.cmp) last.old) (get (⟦<Origin as Ord>⟧.cmp) last.new) origin number) }
+    ensures { OnOk result (IsNoted (get (⟦<Origin as Ord>⟧.cmp) last.old) (get
+        (⟦<Origin as Ord>⟧.cmp) last.new) origin number) }
 {
     last.insert(origin, number)?;
     Ok(())
@@ -51,12 +52,17 @@ fn ask<M: HasClients>(
     ensures stands { (s : M.Setup) (earlier : History (Body M.Command M.Action))
         → M.stands machine.old s (plain M.client earlier)
         → HasNumbers (get (⟦<Origin as Ord>⟧.cmp) last.old) earlier
-        → OnOk result (M.stands machine.new s (plain M.client ((place, Body.Asked origin number at action.now) ∷ earlier))
-            × HasNumbers (get (⟦<Origin as Ord>⟧.cmp) last.new) ((place, Body.Asked origin number at action.now) ∷ earlier)) }
+        → OnOk result (M.stands machine.new s (plain M.client
+        ((place, Body.Asked origin number at action.now)
+        ∷ earlier))
+        × HasNumbers (get (⟦<Origin as Ord>⟧.cmp) last.new)
+        ((place, Body.Asked origin number at action.now)
+        ∷ earlier)) }
     ensures effects { (s : M.Setup) (earlier : History (Body M.Command M.Action))
         → M.stands machine.old s (plain M.client earlier)
         → HasNumbers (get (⟦<Origin as Ord>⟧.cmp) last.old) earlier
-        → IfOk result (λ es. es.items ≡ answers M.client (M.effects s) earlier place (Body.Asked origin number at action.now)) }
+        → IfOk result (λ es. es.items
+        ≡ answers M.client (M.effects s) earlier place (Body.Asked origin number at action.now)) }
     ensures fault { IfErr result (λ e. e ≡ ApplyFault.Memory) }
     ensures whole { OnOk result (M.spoilt machine.new ≡ false) }
 {
@@ -91,7 +97,7 @@ pub fn step<M: HasClients>(
         → M.stands machine.old s (plain M.client earlier)
         → HasNumbers (get (⟦<Origin as Ord>⟧.cmp) last.old) earlier
         → OnOk result (M.stands machine.new s (plain M.client ((place, body.now) ∷ earlier))
-            × HasNumbers (get (⟦<Origin as Ord>⟧.cmp) last.new) ((place, body.now) ∷ earlier)) }
+        × HasNumbers (get (⟦<Origin as Ord>⟧.cmp) last.new) ((place, body.now) ∷ earlier)) }
     ensures effects { (s : M.Setup) (earlier : History (Body M.Command M.Action))
         → M.stands machine.old s (plain M.client earlier)
         → HasNumbers (get (⟦<Origin as Ord>⟧.cmp) last.old) earlier

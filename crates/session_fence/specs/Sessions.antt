@@ -40,14 +40,17 @@ module _ {C L : Type 0} where
   labelled rejoined (Opened id) e = for_session id e (rejoined e)
   labelled rejoined _ e = effect.Inner e
 
+  -- word that this session is opened
   abbrev pub opens : SessionId → FenceCommand C L → Bool
   opens id (Opened other) = same_session other id
   opens id _ = false
 
+  -- word that this session is shut
   abbrev pub shuts : SessionId → FenceCommand C L → Bool
   shuts id (Shut other) = same_session other id
   shuts id _ = false
 
+  -- the greatest id after a command
   abbrev pub greatest_after : Option SessionId → FenceCommand C L → Option SessionId
   greatest_after top (Opened id) = if is_new top id then Some id else top
   greatest_after top _ = top
@@ -57,6 +60,7 @@ module _ {C L : Type 0} where
   greatest [] = None
   greatest (x ∷ earlier) = greatest_after (greatest earlier) x.1
 
+  -- a session was opened
   abbrev pub was_opened : History (FenceCommand C L) → SessionId → Bool
   was_opened [] id = false
   was_opened (x ∷ earlier) id = opens id x.1 || was_opened earlier id
@@ -66,6 +70,7 @@ module _ {C L : Type 0} where
   was_shut [] id = false
   was_shut (x ∷ earlier) id = shuts id x.1 && was_opened earlier id || was_shut earlier id
 
+  -- a session, where it was not shut after its first Opened
   abbrev pub unless_shut : History (FenceCommand C L) → Option SessionId → Option SessionId
   unless_shut h None = None
   unless_shut h (Some id) = if was_shut h id then None else Some id
@@ -79,6 +84,7 @@ module _ {C L : Type 0} where
   is_next now taken (Heard id n at l) = is_that now id && n == taken id + 1
   is_next now taken _ = false
 
+  -- a line of this session
   abbrev pub is_line_of : SessionId → FenceCommand C L → Bool
   is_line_of id (Heard other n at l) = same_session other id
   is_line_of id _ = false
@@ -109,6 +115,7 @@ module _ {C L : Type 0} where
     given top now taken (Shut id) = if is_that now id then down ∷ [] else []
     given top now taken (Heard id n at l) = if is_that now id && n == taken id + 1 then heard at l ∷ [] else []
 
+    -- the commands of the machine below that a command gives after a history
     unfoldable pub commands : History (FenceCommand C L) → FenceCommand C L → List C
     commands earlier x = given (greatest earlier) (session earlier) (lines_taken earlier) x
 

@@ -20,6 +20,7 @@ abbrev pub command_wants : Wants → Wants → Wants
 command_wants command line = wants_choice ((0, command) ∷ (3, heard_wants line) ∷ [])
 
 module _ {C L : Type 0} where
+  -- the kind byte
   abbrev pub command_kind : FenceCommand C L → ℕ
   command_kind (Inner c) = 0
   command_kind (Opened id) = 1
@@ -33,27 +34,34 @@ module _ {C L : Type 0} where
   spelled_parts command line (Shut id) = spelled_session id
   spelled_parts command line (Heard id n at l) = spelled_heard line id n at l
 
+  -- a command as bytes
   abbrev pub spelled_command : (C → List ℕ) → (L → List ℕ) → FenceCommand C L → List ℕ
   spelled_command command line x = command_kind x ∷ spelled_parts command line x
 
+  -- each of its values is within its limits
   abbrev pub FitsCommand : (C → Type 0) → (L → Type 0) → FenceCommand C L → Type 0
   FitsCommand command line (Inner c) = command c
   FitsCommand command line (Opened id) = FitsSession id
   FitsCommand command line (Shut id) = FitsSession id
   FitsCommand command line (Heard id n at l) = ((FitsSession id × FitsNumber n) × FitsMoment at) × line l
 
+  -- a command below, behind the kind byte
   abbrev pub inner_taken : Reading C → Reading (FenceCommand C L)
   inner_taken command = through Inner command
 
+  -- word of a session that is opened
   abbrev pub opened_taken : Reading (FenceCommand C L)
   opened_taken = through Opened session
 
+  -- word of one that is shut
   abbrev pub shut_taken : Reading (FenceCommand C L)
   shut_taken = through Shut session
 
+  -- a line of a session, by its parts as they are read
   abbrev pub heard_of : ((SessionId × ℕ) × ℕ) × L → FenceCommand C L
   heard_of p = Heard p.0.0.0 p.0.0.1 p.0.1 p.1
 
+  -- a line of a session
   abbrev pub heard_taken : Reading L → Reading (FenceCommand C L)
   heard_taken line = through heard_of (both (both (both session number) moment) line)
 

@@ -3,6 +3,8 @@ ghost use Rattle.std.specs.Prelude.{◌≡◌, ◌≢◌, ◌<◌, ◌≤◌, �
 ghost use Rattle.wire_bytes.specs.Fields.{appended, behind};
 ghost use Rattle.session_fence.specs.Spelling.{FitsCommand, command_taken, command_wants, heard_taken, heard_wants, inner_taken, opened_taken, shut_taken, spelled_command, spelled_heard};
 ghost use Rattle.session_fence.specs.CommandCodec.{command_is_codec};
+ghost use Rattle.irc_line.specs.Lines.{LacksRoom};
+ghost use Rattle.wire_bytes.specs.Reads.{Reads, Refuses, WantsWhere};
 
 use std::alloc::{AllocError, Global};
 use wire_bytes::{Copied, Moment, Number, SessionId, Wire, WireFault, take_behind, undo};
@@ -95,8 +97,10 @@ fn put_heard<L: Wire>(
     line: &L,
 ) -> Result<(), AllocError>
     requires { L.fits line.now }
-    ensures items { out.new.items ≡ appended result out.old.items (spelled_heard L.spelled id number at line.now) }
-    ensures full { OnErr result (vec_capacity out.old < vec_len out.old + length (spelled_heard L.spelled id number at line.now)) }
+    ensures items { out.new.items
+        ≡ appended result out.old.items (spelled_heard L.spelled id number at line.now) }
+    ensures full { OnErr result (LacksRoom out.old (length
+        (spelled_heard L.spelled id number at line.now))) }
     ensures capacity { vec_capacity out.old ≤ vec_capacity out.new }
 {
     let len = out.len();
@@ -112,9 +116,9 @@ fn take_inner<C: Wire, L: Wire>(
     input: &[u8],
 ) -> Result<(FenceCommand<C, L>, usize), WireFault>
     requires { 1 ≤ length input.now }
-    ensures ok { IfOk result (λ r. behind 1 (inner_taken {L = L} C.taken) input.now ≡ Ok (r.0, r.1)) }
-    ensures err { IfErr result (λ e. e ≢ WireFault.Memory → behind 1 (inner_taken {L = L} C.taken) input.now ≡ Err e) }
-    ensures memory { IfErr result (λ e. e ≡ WireFault.Memory → IsTrue (C.wants (drop 1 input.now))) }
+    ensures ok { Reads result (behind 1 (inner_taken {L = L} C.taken)) input.now }
+    ensures err { Refuses result (behind 1 (inner_taken {L = L} C.taken)) input.now }
+    ensures memory { WantsWhere result (C.wants (drop 1 input.now)) }
 {
     let (command, end) = take_behind::<C>(alloc, input, 1)?;
     Ok((FenceCommand::Inner(command), end))
@@ -127,8 +131,8 @@ fn take_opened<C: Drop, L: Drop>(
     input: &[u8],
 ) -> Result<(FenceCommand<C, L>, usize), WireFault>
     requires { 1 ≤ length input.now }
-    ensures ok { IfOk result (λ r. behind 1 (opened_taken {C = C} {L = L}) input.now ≡ Ok (r.0, r.1)) }
-    ensures err { IfErr result (λ e. e ≢ WireFault.Memory → behind 1 (opened_taken {C = C} {L = L}) input.now ≡ Err e) }
+    ensures ok { Reads result (behind 1 (opened_taken {C = C} {L = L})) input.now }
+    ensures err { Refuses result (behind 1 (opened_taken {C = C} {L = L})) input.now }
     ensures memory { IfErr result (λ e. e ≢ WireFault.Memory) }
 {
     let (id, end) = take_behind::<SessionId>(alloc, input, 1)?;
@@ -142,8 +146,8 @@ fn take_shut<C: Drop, L: Drop>(
     input: &[u8],
 ) -> Result<(FenceCommand<C, L>, usize), WireFault>
     requires { 1 ≤ length input.now }
-    ensures ok { IfOk result (λ r. behind 1 (shut_taken {C = C} {L = L}) input.now ≡ Ok (r.0, r.1)) }
-    ensures err { IfErr result (λ e. e ≢ WireFault.Memory → behind 1 (shut_taken {C = C} {L = L}) input.now ≡ Err e) }
+    ensures ok { Reads result (behind 1 (shut_taken {C = C} {L = L})) input.now }
+    ensures err { Refuses result (behind 1 (shut_taken {C = C} {L = L})) input.now }
     ensures memory { IfErr result (λ e. e ≢ WireFault.Memory) }
 {
     let (id, end) = take_behind::<SessionId>(alloc, input, 1)?;
@@ -157,9 +161,9 @@ fn take_heard<C: Drop, L: Wire>(
     input: &[u8],
 ) -> Result<(FenceCommand<C, L>, usize), WireFault>
     requires { 1 ≤ length input.now }
-    ensures ok { IfOk result (λ r. behind 1 (heard_taken {C = C} L.taken) input.now ≡ Ok (r.0, r.1)) }
-    ensures err { IfErr result (λ e. e ≢ WireFault.Memory → behind 1 (heard_taken {C = C} L.taken) input.now ≡ Err e) }
-    ensures memory { IfErr result (λ e. e ≡ WireFault.Memory → IsTrue (heard_wants L.wants (drop 1 input.now))) }
+    ensures ok { Reads result (behind 1 (heard_taken {C = C} L.taken)) input.now }
+    ensures err { Refuses result (behind 1 (heard_taken {C = C} L.taken)) input.now }
+    ensures memory { WantsWhere result (heard_wants L.wants (drop 1 input.now)) }
 {
     let ((((id, number), at), line), end) = take_behind::<(((SessionId, Number), Moment), L)>(
         alloc, input, 1,

@@ -28,7 +28,9 @@ pub struct Fence<M: HasLines> {
 impl<M: HasLines> Fence<M> {
     /// The machine below.
     pub fn machine(&self) -> &M
-        ensures { (s : M.Setup) (earlier : History (FenceCommand M.Command M.Line)) → ⟦<Fence<M> as Machine>⟧.stands self.now s earlier → M.stands result.now s (plain M.up M.down M.heard earlier) }
+        ensures { (s : M.Setup) (earlier : History (FenceCommand M.Command M.Line))
+            → ⟦<Fence<M> as Machine>⟧.stands self.now s earlier
+            → M.stands result.now s (plain M.up M.down M.heard earlier) }
     {
         &self.machine
     }
@@ -41,9 +43,11 @@ impl<M: HasLines> Machine for Fence<M> {
 
     type Effect = FenceEffect<M::Effect>;
 
-    ghost stands = { λ m s earlier. M.stands m.machine s (plain M.up M.down M.heard earlier) × IsKept m.session earlier × (m.spoilt ≡ false) };
+    ghost stands = { λ m s earlier. M.stands m.machine s (plain M.up M.down M.heard earlier)
+        × IsKept m.session earlier × (m.spoilt ≡ false) };
 
-    ghost effects = { λ s earlier place x. answers M.up M.down M.heard M.rejoined (M.effects s) earlier place x };
+    ghost effects = { λ s earlier place x. answers M.up M.down M.heard M.rejoined
+        (M.effects s) earlier place x };
 
     ghost spoilt = { λ m. m.spoilt };
 

@@ -34,7 +34,8 @@ fn all_for_session<M: HasLines>(
     id: SessionId,
     effects: Vec<M::Effect>,
 ) -> Result<Vec<FenceEffect<M::Effect>>, AllocError>
-    ensures { IfOk result (λ v. v.items ≡ map (λ e. for_session id e (M.rejoined e)) effects.items) }
+    ensures { IfOk result (λ v. v.items
+        ≡ map (λ e. for_session id e (M.rejoined e)) effects.items) }
 {
     effects
         .into_iter()
@@ -45,8 +46,11 @@ fn all_for_session<M: HasLines>(
 /// Word to the machine below that there is a new session, where one was before.
 fn go_down_and_up<M: HasLines>(machine: &mut M, place: u64) -> Result<Vec<M::Effect>, ApplyFault>
     requires { M.spoilt machine.old ≡ false }
-    ensures stands { Moves (M.stands machine.old) (M.stands machine.new) result place (M.down ∷ M.up ∷ []) }
-    ensures effects { Brings (M.stands machine.old) result (λ v. v.items) (λ s below. effects_at (M.effects s) place (M.down ∷ M.up ∷ []) below) }
+    ensures stands { Moves (M.stands machine.old) (M.stands machine.new) result place (M.down ∷ M.up
+        ∷ []) }
+    ensures effects { Brings (M.stands machine.old) result (λ v. v.items) (λ s below. effects_at
+        (M.effects s) place (M.down
+        ∷ M.up ∷ []) below) }
     ensures fault { IfErr result (λ e. e ≡ ApplyFault.Memory) }
     ensures whole { OnOk result (M.spoilt machine.new ≡ false) }
 {
@@ -66,9 +70,13 @@ fn open<M: HasLines>(
     id: SessionId,
 ) -> Result<Vec<FenceEffect<M::Effect>>, ApplyFault>
     requires { M.spoilt machine.old ≡ false }
-    ensures session { OnOk result (session.new ≡ next_of {C = M.Command} {L = M.Line} session.old (FenceCommand.Opened id)) }
-    ensures stands { Moves (M.stands machine.old) (M.stands machine.new) result place (given_by M.up M.down M.heard session.old (FenceCommand.Opened id)) }
-    ensures effects { Brings (M.stands machine.old) result (λ v. v.items) (brought_by M.up M.down M.heard M.rejoined M.effects session.old place (FenceCommand.Opened id)) }
+    ensures session { OnOk result (session.new
+        ≡ next_of {C = M.Command} {L = M.Line} session.old (FenceCommand.Opened id)) }
+    ensures stands { Moves (M.stands machine.old) (M.stands machine.new) result place
+        (given_by M.up M.down M.heard session.old (FenceCommand.Opened id)) }
+    ensures effects { Brings (M.stands machine.old) result (λ v. v.items)
+        (brought_by M.up M.down M.heard M.rejoined M.effects session.old place
+        (FenceCommand.Opened id)) }
     ensures fault { IfErr result (λ e. e ≡ ApplyFault.Memory) }
     ensures whole { OnOk result (M.spoilt machine.new ≡ false) }
 {
@@ -94,9 +102,13 @@ fn shut<M: HasLines>(
     id: SessionId,
 ) -> Result<Vec<FenceEffect<M::Effect>>, ApplyFault>
     requires { M.spoilt machine.old ≡ false }
-    ensures session { OnOk result (session.new ≡ next_of {C = M.Command} {L = M.Line} session.old (FenceCommand.Shut id)) }
-    ensures stands { Moves (M.stands machine.old) (M.stands machine.new) result place (given_by M.up M.down M.heard session.old (FenceCommand.Shut id)) }
-    ensures effects { Brings (M.stands machine.old) result (λ v. v.items) (brought_by M.up M.down M.heard M.rejoined M.effects session.old place (FenceCommand.Shut id)) }
+    ensures session { OnOk result (session.new
+        ≡ next_of {C = M.Command} {L = M.Line} session.old (FenceCommand.Shut id)) }
+    ensures stands { Moves (M.stands machine.old) (M.stands machine.new) result place
+        (given_by M.up M.down M.heard session.old (FenceCommand.Shut id)) }
+    ensures effects { Brings (M.stands machine.old) result (λ v. v.items)
+        (brought_by M.up M.down M.heard M.rejoined M.effects session.old place
+        (FenceCommand.Shut id)) }
     ensures fault { IfErr result (λ e. e ≡ ApplyFault.Memory) }
     ensures whole { OnOk result (M.spoilt machine.new ≡ false) }
 {
@@ -121,9 +133,13 @@ fn hear<M: HasLines>(
     line: &M::Line,
 ) -> Result<Vec<FenceEffect<M::Effect>>, ApplyFault>
     requires { M.spoilt machine.old ≡ false }
-    ensures session { OnOk result (session.new ≡ next_of {C = M.Command} session.old (FenceCommand.Heard id number at line.now)) }
-    ensures stands { Moves (M.stands machine.old) (M.stands machine.new) result place (given_by M.up M.down M.heard session.old (FenceCommand.Heard id number at line.now)) }
-    ensures effects { Brings (M.stands machine.old) result (λ v. v.items) (brought_by M.up M.down M.heard M.rejoined M.effects session.old place (FenceCommand.Heard id number at line.now)) }
+    ensures session { OnOk result (session.new
+        ≡ next_of {C = M.Command} session.old (FenceCommand.Heard id number at line.now)) }
+    ensures stands { Moves (M.stands machine.old) (M.stands machine.new) result place
+        (given_by M.up M.down M.heard session.old (FenceCommand.Heard id number at line.now)) }
+    ensures effects { Brings (M.stands machine.old) result (λ v. v.items)
+        (brought_by M.up M.down M.heard M.rejoined M.effects session.old place
+        (FenceCommand.Heard id number at line.now)) }
     ensures fault { IfErr result (λ e. e ≡ ApplyFault.Memory) }
     ensures whole { OnOk result (M.spoilt machine.new ≡ false) }
 {
@@ -146,8 +162,10 @@ pub fn step<M: HasLines>(
 ) -> Result<Vec<FenceEffect<M::Effect>>, ApplyFault>
     requires { M.spoilt machine.old ≡ false }
     ensures session { OnOk result (session.new ≡ next_of session.old command.now) }
-    ensures stands { Moves (M.stands machine.old) (M.stands machine.new) result place (given_by M.up M.down M.heard session.old command.now) }
-    ensures effects { Brings (M.stands machine.old) result (λ v. v.items) (brought_by M.up M.down M.heard M.rejoined M.effects session.old place command.now) }
+    ensures stands { Moves (M.stands machine.old) (M.stands machine.new) result place
+        (given_by M.up M.down M.heard session.old command.now) }
+    ensures effects { Brings (M.stands machine.old) result (λ v. v.items)
+        (brought_by M.up M.down M.heard M.rejoined M.effects session.old place command.now) }
     ensures fault { IfErr result (λ e. e ≡ ApplyFault.Memory) }
     ensures whole { OnOk result (M.spoilt machine.new ≡ false) }
 {

@@ -1,11 +1,13 @@
 -- Items that are read one behind the other.
-use Rattle.std.proofs.Common.{◌≡◌, ℕ, zero, suc, ◌-◌, ◌<◌, List, [], ◌∷◌, ◌++◌, Result, Ok, Err, refl, sym, ap, ◌∙◌, arith, append_assoc, append-nil}
+use Rattle.std.proofs.Common.{◌≡◌, ℕ, zero, suc, ◌-◌, ◌<◌, ◌≤◌, ◌&&◌, ◌||◌, inl, inr, Bool, true, false, List, [], ◌∷◌, ◌++◌, drop, Result, Ok, Err, is_ok, IsTrue, refl, sym, ap, subst, ◌∙◌, arith, append_assoc, append-nil}
+use Rattle.std.proofs.lemmas.Bool.{cases_lt, lt-ltb}
 use Rattle.wire_bytes.specs.declared.wire_fault.WireFault.{WireFault}
 use Rattle.std.specs.Int.{w16}
 use Rattle.wire_bytes.specs.Fields.{Reading, behind, both, goes_on, number_to, ◌>>=◌}
-use Rattle.wire_bytes.specs.Codecs.{behind-done}
+use Rattle.wire_bytes.specs.Codecs.{behind-done, behind-ok}
+use Rattle.wire_bytes.specs.Wants.{Wants}
 use Rattle.wire_bytes.proofs.Steps.{through-read, through-stops, both-read, both-stops, both-stops_behind}
-use Rattle.stable_store.specs.Lists.{joined_pair, many, counted}
+use Rattle.stable_store.specs.Lists.{joined_pair, many, counted, wants_many, wants_by, wants_counted}
 
 module _ {X : Type 0} where
   -- these before what was read
@@ -57,3 +59,49 @@ module _ {X : Type 0} (reading : Reading X) (input : List ℕ) where
   pub counted-goes : (n k : ℕ) → number_to w16 256 input ≡ Ok (n, k) → counted reading input ≡ behind k (many n reading) input
   unfolding counted ◌>>=◌
   counted-goes n k h = ap goes h
+
+-- ---- what wants memory
+
+or_left : (a b : Bool) → IsTrue a → IsTrue (a || b)
+or_left true b h = refl
+or_left false b h = absurd cc
+
+or_right : (a b : Bool) → IsTrue b → IsTrue (a || b)
+or_right true b h = refl
+or_right false b h = h
+
+module _ {X : Type 0} (wants : Wants) (reading : Reading X) (input : List ℕ) where
+  wants_of-one : (n : ℕ) → 0 < n → IsTrue (wants input || is_ok (reading input)) → IsTrue (wants_many n wants reading input)
+  wants_of-one n pos h = ap (λ (b : Bool). b && (wants input || is_ok (reading input))) (lt-ltb 0 n pos) ∙ h
+
+  -- what was read is kept apart
+  pub was_read : (place : ℕ) (x : X) (k : ℕ) → behind place reading input ≡ Ok (x, k) → IsTrue (is_ok (reading (drop place input)))
+  was_read place x k e = let b = behind-ok place reading input x k e in ap (λ (r : Result (X × ℕ) WireFault). is_ok r) b.1
+
+  -- the first item of so many was read, where fewer are left or the next one was read
+  pub first_was_read : (place end count left : ℕ) → (left < count → IsTrue (is_ok (reading (drop place input)))) → (left ≡ count → end ≡ place) → left ≤ count
+      → IsTrue (is_ok (reading (drop end input))) → IsTrue (is_ok (reading (drop place input)))
+  first_was_read place end count left some none few h =
+      elim (cases_lt left count) [
+        | inl lt ↦ some lt
+        | inr ge ↦ subst (λ (k : ℕ). IsTrue (is_ok (reading (drop k input)))) (none (omega arith)) h
+      ]
+
+module _ {X : Type 0} (wants : Wants) (reading : Reading X) (input : List ℕ) where
+  -- memory may be wanted for one more of so many items, and where one was read
+  pub many_want : (place end count left : ℕ) → (left < count → IsTrue (is_ok (reading (drop place input)))) → (left ≡ count → end ≡ place) → left ≤ count → 0 < left
+      → IsTrue (wants (drop end input)) → IsTrue (wants_many count wants reading (drop place input))
+  many_want place end count left some none few pos h =
+      elim (cases_lt left count) [
+        | inl lt ↦ wants_of-one wants reading (drop place input) count (omega arith) (or_right (wants (drop place input)) (is_ok (reading (drop place input))) (some lt))
+        | inr ge ↦
+            let here : IsTrue (wants (drop place input)) = subst (λ (k : ℕ). IsTrue (wants (drop k input))) (none (omega arith)) h in
+            wants_of-one wants reading (drop place input) count (omega arith) (or_left (wants (drop place input)) (is_ok (reading (drop place input))) here)
+      ]
+
+  pub many_want_room : (place count : ℕ) → 0 < count → IsTrue (is_ok (reading (drop place input))) → IsTrue (wants_many count wants reading (drop place input))
+  many_want_room place count pos h = wants_of-one wants reading (drop place input) count pos (or_right (wants (drop place input)) (is_ok (reading (drop place input))) h)
+
+  -- the same, behind their number
+  pub counted_wants : (n k : ℕ) → number_to w16 256 input ≡ Ok (n, k) → IsTrue (wants_many n wants reading (drop k input)) → IsTrue (wants_counted wants reading input)
+  counted_wants n k e h = subst (λ (r : Result (ℕ × ℕ) WireFault). IsTrue (wants_by r wants reading input)) (sym e) h

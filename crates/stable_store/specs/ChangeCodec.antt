@@ -1,4 +1,4 @@
--- Changes are a codec where the bodies are.
+-- Changes are a codec where the bodies are. These lemmas need not be believed.
 use Rattle.std.proofs.Common.{◌≡◌, ℕ, zero, suc, ◌≤◌, List, [], ◌∷◌, ◌++◌, Option, None, Some, refl, ap, arith}
 use Rattle.wire_bytes.specs.Fields.{Reading, byte_within, both}
 use Rattle.wire_bytes.specs.Codecs.{IsCodec, through-codec, both-codec}

@@ -1,4 +1,4 @@
--- Lists are a codec where their items are.
+-- Lists are a codec where their items are. These lemmas need not be believed.
 use Rattle.std.proofs.Common.{◌≡◌, ℕ, zero, suc, ◌^◌, ◌≤◌, List, [], ◌∷◌, ◌++◌, length, refl, ap, arith}
 use Rattle.std.specs.Int.{w16, to_be_bytes}
 use Rattle.wire_bytes.specs.Fields.{Reading, number_to, both}
@@ -12,6 +12,7 @@ refit spelled fits other taken codec to from = record {
   read_back = λ v rest h. codec.read_back v rest (from v h);
   one_spelling = λ input v n bytes e. let one = codec.one_spelling input v n bytes e in (to v one.0, one.1, one.2);
   bad_within = λ input p bytes e. codec.bad_within input p bytes e;
+  no_memory = λ input bytes e. codec.no_memory input bytes e;
 }
 
 pub count_codec : IsCodec (to_be_bytes w16) (λ n. n ≤ 256) (number_to w16 256)

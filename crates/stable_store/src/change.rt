@@ -1,5 +1,5 @@
 ghost use Rattle.std.specs.Prelude.{◌≡◌, ◌≢◌, ◌≤◌, ◌<◌, length, Some};
-ghost use Rattle.stable_store.specs.Changes.{ChangeParts, FitsChange, vote_byte, vote_of};
+ghost use Rattle.stable_store.specs.Changes.{change, vote_byte, vote_of, FitsChange};
 
 use crate::entries::{Entries, all_fit};
 use raft_log::Entry;
@@ -7,9 +7,11 @@ use std::alloc::{AllocError, Global};
 use std::marker::Model;
 use wire_bytes::{Copied, Number, Wire, WireFault, undo};
 
-/// What is saved at once: boot, term and vote, how many entries are kept, and those that follow them.
+/// What is saved at once: boot, term and vote, how many entries are kept, and those that follow
+/// them, at most 256.
 ///
-/// A vote is for a node from 1 on; at most 256 entries follow.
+/// A vote is for a node from 1 on, past 7 too, since that is what a change's bytes may say; only
+/// one for a node of a group may follow what stands in a store.
 #[derive(Drop)]
 pub struct Change<B: Wire> {
     boot: Number,
@@ -20,11 +22,11 @@ pub struct Change<B: Wire> {
 }
 
 impl<B: Wire> Model for Change<B> {
-    ghost use Rattle.stable_store.specs.Changes.{ChangeParts, IsVote};
+    ghost use Rattle.stable_store.specs.Changes.{change, ChangeParts, IsVote};
 
     ghost Value = { ChangeParts B };
 
-    ghost view = { λ c. record { boot = c.boot; term = c.term; vote = c.vote; keep = c.keep; entries = c.entries } };
+    ghost view = { λ c. change c.boot c.term c.vote c.keep c.entries };
 
     ghost invariant = { λ c. IsVote c.vote };
 }
@@ -39,7 +41,7 @@ impl<B: Wire> Change<B> {
     ) -> Self
         requires vote { vote ≢ Some 0 }
         requires few { length entries.items ≤ 256 }
-        ensures { result ≡ record { boot = boot; term = term; vote = vote; keep = keep; entries = entries.items } }
+        ensures { result ≡ change boot term vote keep entries.items }
     {
         Change {
             boot,
@@ -107,17 +109,20 @@ impl<B: Wire> Copied for Change<B> {
     }
 }
 
-/// Boot, term, one byte for the vote (0 for none), the number of entries that are kept, and the entries.
+/// Boot, term, one byte for the vote (0 for none), the number of entries that are kept, and the
+/// entries.
 impl<B: Wire> Wire for Change<B> {
     ghost use Rattle.stable_store.specs.Changes.{spelled_change, FitsChange, change_taken};
+    ghost use Rattle.stable_store.specs.Changes.{wants_change};
     ghost use Rattle.stable_store.specs.ChangeCodec.{change-codec};
-    ghost use Rattle.wire_bytes.specs.Codecs.{codec};
 
     ghost spelled = { spelled_change B.spelled };
 
     ghost fits = { FitsChange B.fits B.spelled };
 
     ghost taken = { change_taken B.taken };
+
+    ghost wants = { wants_change B.wants B.taken };
 
     #[tactic(auto, unfolding(crate::specs::Changes::spelled_change))]
     fn put(&self, out: &mut Vec<u8>) -> Result<(), AllocError> {
@@ -142,11 +147,7 @@ impl<B: Wire> Wire for Change<B> {
         Ok((change, len))
     }
 
-    ghost read_back = { (change-codec B.spelled B.fits B.taken (codec B.spelled B.fits B.taken B.read_back B.one_spelling B.bad_within)).read_back };
-
-    ghost one_spelling = { (change-codec B.spelled B.fits B.taken (codec B.spelled B.fits B.taken B.read_back B.one_spelling B.bad_within)).one_spelling };
-
-    ghost bad_within = { (change-codec B.spelled B.fits B.taken (codec B.spelled B.fits B.taken B.read_back B.one_spelling B.bad_within)).bad_within };
+    ghost is_codec = { change-codec B.spelled B.fits B.taken B.is_codec };
 }
 
 fn byte_of(vote: Option<u8>) -> u8

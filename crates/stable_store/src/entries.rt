@@ -1,7 +1,9 @@
-ghost use Rattle.std.specs.Prelude.{◌≡◌, ◌≢◌, ◌≤◌, ◌++◌, length, is_ok, if◌then◌else◌, IfOk, IfErr, Ok, Err};
-ghost use Rattle.wire_bytes.specs.Fields.{behind};
-ghost use Rattle.raft_log.specs.Entries.{FitsEntry, spelled_entry, entry_taken};
-ghost use Rattle.stable_store.specs.Lists.{AllFit, spelled_all, many};
+ghost use Rattle.std.specs.Prelude.{◌≡◌, ◌+◌, ◌<◌, ◌≤◌, length, vec_capacity, vec_len};
+ghost use Rattle.std.specs.Prelude.{IfOk, IfErr, OnErr, Ok};
+ghost use Rattle.wire_bytes.specs.Fields.{appended};
+ghost use Rattle.raft_log.specs.Entries.{FitsEntry};
+ghost use Rattle.stable_store.specs.Lists.{AllFit};
+ghost use Rattle.stable_store.specs.EntryLists.{entries_at, spelled_entries, IsRefusal};
 
 use raft_log::{Entry, copied_entries};
 use std::alloc::{AllocError, Global};
@@ -50,17 +52,18 @@ impl<B: Wire> Copied for Entries<B> {
 
 /// Their number in two bytes, and each in turn.
 impl<B: Wire> Wire for Entries<B> {
-    ghost use Rattle.raft_log.specs.Entries.{FitsEntry, spelled_entry, entry_taken};
-    ghost use Rattle.raft_log.specs.EntryCodec.{entry-codec};
+    ghost use Rattle.raft_log.specs.Entries.{FitsEntry, spelled_entry, entry_taken, wants_entry};
     ghost use Rattle.stable_store.specs.Lists.{spelled_counted, FitsCounted, counted};
-    ghost use Rattle.stable_store.specs.ListCodec.{counted-codec};
-    ghost use Rattle.wire_bytes.specs.Codecs.{codec};
+    ghost use Rattle.stable_store.specs.Lists.{wants_counted};
+    ghost use Rattle.stable_store.specs.EntryListCodec.{entries-codec};
 
     ghost spelled = { spelled_counted (spelled_entry B.spelled) };
 
     ghost fits = { FitsCounted (FitsEntry B.fits B.spelled) };
 
     ghost taken = { counted (entry_taken B.taken) };
+
+    ghost wants = { wants_counted (wants_entry B.wants) (entry_taken B.taken) };
 
     #[tactic(auto, unfolding(crate::specs::Lists::spelled_counted))]
     fn put(&self, out: &mut Vec<u8>) -> Result<(), AllocError> {
@@ -76,11 +79,7 @@ impl<B: Wire> Wire for Entries<B> {
         Ok((Entries { entries }, end))
     }
 
-    ghost read_back = { (counted-codec (spelled_entry B.spelled) (FitsEntry B.fits B.spelled) (entry_taken B.taken) (entry-codec B.spelled B.fits B.taken (codec B.spelled B.fits B.taken B.read_back B.one_spelling B.bad_within))).read_back };
-
-    ghost one_spelling = { (counted-codec (spelled_entry B.spelled) (FitsEntry B.fits B.spelled) (entry_taken B.taken) (entry-codec B.spelled B.fits B.taken (codec B.spelled B.fits B.taken B.read_back B.one_spelling B.bad_within))).one_spelling };
-
-    ghost bad_within = { (counted-codec (spelled_entry B.spelled) (FitsEntry B.fits B.spelled) (entry_taken B.taken) (entry-codec B.spelled B.fits B.taken (codec B.spelled B.fits B.taken B.read_back B.one_spelling B.bad_within))).bad_within };
+    ghost is_codec = { entries-codec B.spelled B.fits B.taken B.is_codec };
 }
 
 /// Does nothing. Entries always have a spelling, since their types keep their limits.
@@ -99,7 +98,11 @@ pub fn all_fit<B: Wire>(entries: &[Entry<B>])
 /// Appends the spelling of each in turn, or leaves the items as they were.
 fn put_all<B: Wire>(out: &mut Vec<u8>, entries: &[Entry<B>]) -> Result<(), AllocError>
     requires { AllFit (FitsEntry B.fits B.spelled) entries.now }
-    ensures { out.new.items ≡ (if is_ok result then out.old.items ++ spelled_all (spelled_entry B.spelled) entries.now else out.old.items) }
+    ensures items { let more = spelled_entries B.spelled entries.now in
+        out.new.items ≡ appended result out.old.items more }
+    ensures full { let more = spelled_entries B.spelled entries.now in
+        OnErr result (vec_capacity out.old < vec_len out.old + length more) }
+    ensures capacity { vec_capacity out.old ≤ vec_capacity out.new }
 {
     let len = out.len();
     for entry in entries {
@@ -112,7 +115,8 @@ fn put_all<B: Wire>(out: &mut Vec<u8>, entries: &[Entry<B>]) -> Result<(), Alloc
     Ok(())
 }
 
-/// Reads so many entries from a place of the input on. Places and the end are counted from the input's front.
+/// Reads so many entries from a place of the input on. Places and the end are counted from the
+/// input's front.
 fn take_many<B: Wire>(
     alloc: Global,
     input: &[u8],
@@ -120,8 +124,8 @@ fn take_many<B: Wire>(
     count: u16,
 ) -> Result<(Vec<Entry<B>>, usize), WireFault>
     requires { place ≤ length input.now }
-    ensures ok { IfOk result (λ r. behind place (many count (entry_taken B.taken)) input.now ≡ Ok (r.0.items, r.1)) }
-    ensures err { IfErr result (λ e. e ≢ WireFault.Memory → behind place (many count (entry_taken B.taken)) input.now ≡ Err e) }
+    ensures ok { IfOk result (λ r. entries_at B.taken count place input.now ≡ Ok (r.0.items, r.1)) }
+    ensures err { IfErr result (IsRefusal B.wants B.taken count place input.now) }
     ensures number { IfOk result (λ r. length r.0.items ≡ count) }
 {
     let mut entries = Vec::new(alloc);

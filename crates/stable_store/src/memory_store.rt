@@ -1,17 +1,18 @@
-ghost use Rattle.std.specs.Prelude.{◌≡◌};
-ghost use Rattle.stable_store.specs.Stores.{nothing_saved};
+ghost use Rattle.std.specs.Prelude.{◌≡◌, IsOk};
+ghost use Rattle.stable_store.specs.Stores.{NamesNode, nothing_saved};
 
 use crate::change::Change;
 use crate::saved::Saved;
 use crate::stable::Stable;
 use crate::store_fault::StoreFault;
-use raft_log::Log;
+use raft_log::{Log, NodeId};
 use std::alloc::Global;
 use wire_bytes::{Copied, Number, Wire};
 
 /// A store in memory, which stands as long as the program does.
 #[derive(Drop)]
 pub struct MemoryStore<B: Wire> {
+    alloc: Global,
     saved: Saved<B>,
 }
 
@@ -20,60 +21,70 @@ impl<B: Wire> MemoryStore<B> {
     pub fn new(alloc: Global) -> Self
         ensures { ⟦<MemoryStore<B> as Stable<B>>⟧.saved result ≡ nothing_saved }
     {
-        MemoryStore {
-            saved: Saved {
-                boot: Number::new(0),
-                term: Number::new(0),
-                vote: None,
-                log: Log::new(alloc),
-            },
-        }
+        let saved = Saved {
+            boot: Number::new(0),
+            term: Number::new(0),
+            vote: None,
+            log: Log::new(alloc),
+        };
+        MemoryStore { alloc, saved }
     }
 
     /// A store in which this stands.
-    pub fn holding(saved: Saved<B>) -> Self
+    pub fn holding(alloc: Global, saved: Saved<B>) -> Self
         ensures { ⟦<MemoryStore<B> as Stable<B>>⟧.saved result ≡ saved }
     {
-        MemoryStore { saved }
+        MemoryStore { alloc, saved }
     }
 }
 
+/// It never fails but for want of memory, and then nothing changes.
 impl<B: Wire> Stable<B> for MemoryStore<B> {
-    ghost use Rattle.std.specs.Prelude.{false, true};
+    ghost use Rattle.std.specs.Prelude.{◌≡◌, false, true};
 
     ghost saved = { λ s. s.saved };
 
-    ghost honest = { λ _. true };
+    ghost may_stand = { λ s v. v ≡ s.saved };
 
-    ghost broken = { λ _. false };
+    ghost condition = { λ _. record { honest = true; broken = false; failures = 0 } };
 
-    ghost failures = { λ _. 0 };
-
-    fn read(&self, alloc: Global) -> Result<Saved<B>, StoreFault> {
-        Ok(Saved {
-            boot: self.saved.boot,
-            term: self.saved.term,
-            vote: self.saved.vote,
-            log: self.saved.log.copy(alloc)?,
-        })
+    fn read(&self) -> Result<Saved<B>, StoreFault> {
+        Ok(self.saved.copy(self.alloc)?)
     }
 
-    /// Where there is no memory nothing changes.
-    fn save(&mut self, alloc: Global, change: &Change<B>) -> Result<(), StoreFault> {
-        let keep = change.keep().value() as usize;
-        self.saved.log.replace_from(alloc, keep, change.entries())?;
+    fn save(&mut self, change: &Change<B>) -> Result<(), StoreFault> {
+        // the one step that can fail goes first
+        self.saved
+            .log
+            .replace_from(change.keep(), change.entries())?;
         self.saved.boot = change.boot();
         self.saved.term = change.term();
-        self.saved.vote = change.vote();
+        self.saved.vote = node_of(change.vote());
         Ok(())
     }
 
-    /// Does nothing.
-    fn again(&mut self, _alloc: Global) -> Result<(), StoreFault> {
+    /// Does nothing, and answers Ok.
+    fn again(&mut self) -> Result<(), StoreFault>
+        ensures ok { IsOk result }
+        ensures same { self.new ≡ self.old }
+    {
+        // memory fails no call, so nothing is to be mended
         Ok(())
     }
 
     fn failures(&self) -> u64 {
         0
+    }
+
+    ghost sure = { λ s v c. (λ e. e, λ e. e) };
+}
+
+fn node_of(vote: Option<u8>) -> Option<NodeId>
+    requires { NamesNode vote }
+    ensures { result ≡ vote }
+{
+    match vote {
+        None => None,
+        Some(node) => Some(NodeId::new(node)),
     }
 }

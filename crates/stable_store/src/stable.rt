@@ -1,53 +1,65 @@
 //! The laws of a store.
-ghost use Rattle.std.specs.Prelude.{◌≡◌, ◌≤◌, ◌⊎◌, Bool, false, ℕ, IsTrue, IfOk, IfErr, OnOk, OnErr};
+ghost use Rattle.std.specs.Prelude.{◌≡◌, ◌↔◌, IfOk, IfErr, OnOk, OnErr};
 ghost use Rattle.stable_store.specs.declared.saved.Saved.{Saved};
-ghost use Rattle.stable_store.specs.Stores.{MayFollow, IsAllowed, changed};
+ghost use Rattle.stable_store.specs.Stores.{Condition, IsAllowed, IsHonest, MayBecome, Serves};
+ghost use Rattle.stable_store.specs.Stores.{IsDone, MayFollow, MayStandAfter, MayStandStill};
 
 use crate::change::Change;
 use crate::saved::Saved;
 use crate::store_fault::StoreFault;
-use std::alloc::Global;
 use wire_bytes::Wire;
 
 /// A store for what a node keeps over a restart.
 ///
-/// Its laws hold where it is honest. After an error it may answer `Device` until `again` or a `save` answers Ok.
+/// Its laws hold where its device is honest. A `save` that answers an error may have been done or not,
+/// and nobody knows which until `again` or a `save` answers Ok: until then more than one state may
+/// stand, and it may answer `Device`.
 pub trait Stable<B: Wire>: Drop {
-    /// What stands: the changes that were saved, one after the other.
+    /// What stands, as far as the store knows: the changes that were saved, one after the other.
     ghost saved: { Self → Saved B };
 
-    /// Whether the device keeps what it is told. No call changes it.
-    ghost honest: { Self → Bool };
+    /// What may stand, were the device read anew.
+    ghost may_stand: { Self → Saved B → Type 0 };
 
-    /// Whether an error was met that nothing has mended.
-    ghost broken: { Self → Bool };
-
-    /// How many calls of the device failed; a count at the greatest u64 stays there.
-    ghost failures: { Self → ℕ };
+    /// Whether its device is honest, which no call changes; whether an error was met that nothing has
+    /// mended; and how many calls of the device failed, a count that stays at the greatest u64.
+    ghost condition: { Self → Condition };
 
     /// What stands.
-    fn read(&self, alloc: Global) -> Result<Saved<B>, StoreFault>
-        ensures ok { IsTrue (honest self.now) → IfOk result (λ s. s ≡ saved self.now) }
-        ensures fault { IsTrue (honest self.now) → IfErr result (λ e. IsAllowed e (broken self.now) (failures self.now) (failures self.now)) };
+    fn read(&self) -> Result<Saved<B>, StoreFault>
+        ensures ok { IsHonest (condition self.now) → IfOk result (λ s. s ≡ saved self.now) }
+        ensures sure { IsHonest (condition self.now) → OnOk result (Serves (condition self.now)) }
+        ensures fault { IfErr result (IsAllowed (condition self.now) (condition self.now)) };
 
-    /// Saves a change. After Ok it stands; after an error what stood before stands, or the change.
-    fn save(&mut self, alloc: Global, change: &Change<B>) -> Result<(), StoreFault>
-        requires { IsTrue (honest self.old) → MayFollow (saved self.old) change.now }
-        ensures ok { IsTrue (honest self.old) → OnOk result (saved self.new ≡ changed (saved self.old) change.now) }
-        ensures err { IsTrue (honest self.old) → OnErr result ((saved self.new ≡ saved self.old) ⊎ (saved self.new ≡ changed (saved self.old) change.now)) }
-        ensures fault { IsTrue (honest self.old) → IfErr result (λ e. IsAllowed e (broken self.old) (failures self.old) (failures self.new)) }
-        ensures mended { IsTrue (honest self.old) → OnOk result (broken self.new ≡ false) }
-        ensures honest { honest self.new ≡ honest self.old }
-        ensures counts { failures self.old ≤ failures self.new };
+    /// Saves a change. After Ok it stands; after an error what may have stood may stand, or the change.
+    fn save(&mut self, change: &Change<B>) -> Result<(), StoreFault>
+        requires { Serves (condition self.old) → MayFollow (saved self.old) change.now }
+        ensures ok { IsHonest (condition self.old)
+            → OnOk result (IsDone (may_stand self.old) change.now (saved self.new)) }
+        ensures err { IsHonest (condition self.old)
+            → OnErr result (saved self.new ≡ saved self.old) }
+        ensures stands { IsHonest (condition self.old)
+            → MayStandAfter (may_stand self.old) change.now (may_stand self.new) }
+        ensures fault { IfErr result (IsAllowed (condition self.old) (condition self.new)) }
+        ensures condition { MayBecome result (condition self.old) (condition self.new) };
 
-    /// Serves again after an error. After Ok it does; after an error it may be broken still. What stands stays.
-    fn again(&mut self, alloc: Global) -> Result<(), StoreFault>
-        ensures saved { IsTrue (honest self.old) → saved self.new ≡ saved self.old }
-        ensures fault { IsTrue (honest self.old) → IfErr result (λ e. IsAllowed e (broken self.old) (failures self.old) (failures self.new)) }
-        ensures mended { IsTrue (honest self.old) → OnOk result (broken self.new ≡ false) }
-        ensures honest { honest self.new ≡ honest self.old }
-        ensures counts { failures self.old ≤ failures self.new };
+    /// Serves again after an error, by what the device holds. After Ok one of those that may have stood
+    /// is known to stand; after an error all of them may stand still.
+    fn again(&mut self) -> Result<(), StoreFault>
+        ensures ok { IsHonest (condition self.old)
+            → OnOk result (may_stand self.old (saved self.new)) }
+        ensures err { IsHonest (condition self.old)
+            → OnErr result (saved self.new ≡ saved self.old) }
+        ensures stands { IsHonest (condition self.old)
+            → MayStandStill (may_stand self.old) (may_stand self.new) }
+        ensures fault { IfErr result (IsAllowed (condition self.old) (condition self.new)) }
+        ensures condition { MayBecome result (condition self.old) (condition self.new) };
 
+    /// How many calls of the device failed.
     fn failures(&self) -> u64
-        ensures { result ≡ failures self.now };
+        ensures { result ≡ (condition self.now).failures };
+
+    /// Where nothing is to be mended, what stands is known.
+    ghost sure: { (s : Self) (v : Saved B) → Serves (condition s)
+        → may_stand s v ↔ (v ≡ saved s) };
 }

@@ -1,7 +1,8 @@
-ghost use Rattle.std.specs.Prelude.{◌≡◌, IfOk};
+ghost use Rattle.std.specs.Prelude.{◌≡◌, ◌≢◌, length, IfOk, OnOk};
+ghost use Rattle.stable_store.specs.Stores.{IsEither, MayFollow, Serves};
 
 use super::*;
-use raft_log::{Entry, LoggedBody};
+use raft_log::{Entry, Log, LoggedBody};
 use std::alloc::{AllocError, Global};
 use std::test::Fail;
 use wire_bytes::{Copied, Number, Wire, WireFault};
@@ -21,19 +22,26 @@ fn entry(term: u8, body: u8) -> Entry<u8> {
 
 /// A change of boot 1 and term 2 that keeps so many entries, and one of term 2 that follows.
 fn change(alloc: Global, vote: Option<u8>, keep: u8) -> Result<Change<u8>, AllocError>
-    ensures { IfOk result (λ c. c.keep ≡ keep) }
+    requires { vote ≢ Some 0 }
+    ensures numbers { IfOk result (λ c. (c.boot ≡ 1) × (c.term ≡ 2)) }
+    ensures vote { IfOk result (λ c. c.vote ≡ vote) }
+    ensures keep { IfOk result (λ c. (c.keep ≡ keep) × (length c.entries ≡ 1)) }
 {
-    let vote = if vote == Some(0) { None } else { vote };
     let entries = vec![in alloc; entry(2, 7)]?;
     let keep = Number::new(keep as u64);
     Ok(Change::new(Number::new(1), Number::new(2), vote, keep, entries))
 }
 
-/// What stands in a store, and its last term.
-fn read<S: Stable<u8>>(alloc: Global, store: &S) -> Result<(Saved<u8>, u64), StoreFault> {
-    let saved = store.read(alloc)?;
-    let (_, term) = saved.log.last();
-    Ok((saved, term.value()))
+/// Saves a change, and where that fails asks what stands.
+fn settled<B: Wire, S: Stable<B>>(store: &mut S, change: &Change<B>) -> Result<(), StoreFault>
+    requires serves { Serves (S.condition store.old) }
+    requires follows { MayFollow (S.saved store.old) change.now }
+    ensures { OnOk result (IsEither (S.saved store.old) change.now (S.saved store.new)) }
+{
+    if store.save(change).is_err() {
+        store.again()?;
+    }
+    Ok(())
 }
 
 #[test]
@@ -88,35 +96,60 @@ fn a_field_of_a_change_is_refused_at_its_place(rt: HostRuntime) {
     assert!(rt; Change::<u8>::take(alloc, &BYTES[..39]).err() == Some(WireFault::Short));
 }
 
+/// Boot, term, vote, and the terms of the log.
+fn parts(alloc: Global, saved: &Saved<u8>) -> Result<(u64, u64, u8, Vec<u64>), AllocError> {
+    let vote = match saved.vote {
+        None => 0,
+        Some(node) => node.value(),
+    };
+    let mut terms = Vec::new(alloc);
+    for entry in saved.log.entries() {
+        terms.push(entry.term.value())?;
+    }
+    Ok((saved.boot.value(), saved.term.value(), vote, terms))
+}
+
 #[test]
 fn a_memory_store_keeps_what_is_saved(rt: HostRuntime) -> Result<(), Fail> {
     let alloc = rt.alloc();
     let mut store = MemoryStore::<u8>::new(alloc);
-    let (saved, term) = read(alloc, &store)?;
-    assert_eq!(rt;
-        (
-            saved.boot.value(),
-            saved.term.value(),
-            saved.log.len(),
-            term
-        ),
-        (0, 0, 0, 0)
-    );
-    assert!(rt; saved.vote == None);
-    store.save(alloc, &change(alloc, Some(3), 0)?)?;
-    store.again(alloc)?;
-    let (saved, term) = read(alloc, &store)?;
-    assert_eq!(rt;
-        (
-            saved.boot.value(),
-            saved.term.value(),
-            saved.log.len(),
-            term
-        ),
-        (1, 2, 1, 2)
-    );
-    assert!(rt; saved.vote == Some(3));
+    let (boot, term, vote, terms) = parts(alloc, &store.read()?)?;
+    assert_eq!(rt; (boot, term, vote, terms.len()), (0, 0, 0, 0));
+    store.save(&change(alloc, Some(3), 0)?)?;
+    store.again()?;
+    let (boot, term, vote, terms) = parts(alloc, &store.read()?)?;
+    assert_eq!(rt; (boot, term, vote), (1, 2, 3));
+    assert_eq!(rt; terms.as_slice(), [2].as_slice());
     assert_eq!(rt; store.failures(), 0);
+    Ok(())
+}
+
+#[test]
+fn a_save_keeps_entries_and_adds_those_that_follow(rt: HostRuntime) -> Result<(), Fail> {
+    let alloc = rt.alloc();
+    let mut log = Log::new(alloc);
+    for body in [5, 6] {
+        if !log.is_full() {
+            log.push(entry(1, body))?;
+        }
+    }
+    if Number::new(1) <= log.len() {
+        let (boot, term) = (Number::new(1), Number::new(1));
+        let vote = None;
+        let mut store = MemoryStore::holding(
+            alloc,
+            Saved {
+                boot,
+                term,
+                vote,
+                log,
+            },
+        );
+        settled(&mut store, &change(alloc, None, 1)?)?;
+        let (boot, term, vote, terms) = parts(alloc, &store.read()?)?;
+        assert_eq!(rt; (boot, term, vote), (1, 2, 0));
+        assert_eq!(rt; terms.as_slice(), [1, 2].as_slice());
+    }
     Ok(())
 }
 
@@ -124,18 +157,11 @@ fn a_memory_store_keeps_what_is_saved(rt: HostRuntime) -> Result<(), Fail> {
 fn a_store_holds_what_it_is_made_of(rt: HostRuntime) -> Result<(), Fail> {
     let alloc = rt.alloc();
     let mut first = MemoryStore::<u8>::new(alloc);
-    first.save(alloc, &change(alloc, Some(3), 0)?)?;
-    let store = MemoryStore::holding(first.read(alloc)?);
-    let (saved, term) = read(alloc, &store)?;
-    assert_eq!(rt;
-        (
-            saved.boot.value(),
-            saved.term.value(),
-            saved.log.len(),
-            term
-        ),
-        (1, 2, 1, 2)
-    );
+    first.save(&change(alloc, Some(3), 0)?)?;
+    let store = MemoryStore::holding(alloc, first.read()?);
+    let (boot, term, vote, terms) = parts(alloc, &store.read()?)?;
+    assert_eq!(rt; (boot, term, vote), (1, 2, 3));
+    assert_eq!(rt; terms.as_slice(), [2].as_slice());
     Ok(())
 }
 

@@ -3,6 +3,7 @@ use Rattle.std.proofs.Common.{◌≡◌, ℕ, zero, suc, ◌+◌, ◌-◌, ◌�
 use Rattle.std.specs.Prelude.{◌==◌, nat_lt, if◌then◌else◌, slice_get}
 use Rattle.std.proofs.lemmas.List.{append-nil}
 use Rattle.irc_line.specs.Lines.{Parts}
+use Rattle.machine_laws.specs.Classes.{Handed}
 use Rattle.machine_laws.specs.Runs.{History, all_effects}
 use Rattle.machine_laws.specs.Sessions.{is_that}
 use Rattle.wire_bytes.specs.declared.origin.Origin.{Origin}
@@ -10,7 +11,7 @@ use Rattle.wire_bytes.specs.declared.session_id.SessionId.{SessionId}
 use Rattle.upstream_claim.specs.declared.command.ClaimsCommand.{ClaimsCommand}
 use Rattle.upstream_claim.specs.declared.command.ClaimsCommand.TheVariants.{Inner, Claim}
 use Rattle.upstream_claim.specs.declared.effect.ClaimsEffect.{ClaimsEffect}
-use Rattle.upstream_claim.specs.Hands.{Handed, hand_of, hands}
+use Rattle.upstream_claim.specs.Hands.{hand_of, hands}
 use Rattle.upstream_claim.specs.Numbered.{Numbered, room, lines_of, answer, answered, room_left, handed, is_next, is_taken, with_claim, plain, numbered, numbered_after, answers_by, answers, outgoing, claimed}
 use Rattle.upstream_claim.proofs.Sound.{claims_once, none_not_some}
 use Rattle.irc_line.proofs.Numbers.{eq_of, le_of}
@@ -116,12 +117,12 @@ pub hands_append : {E : Type 0} (xs ys : List (ClaimsEffect E)) → hands (xs ++
 hands_append [] ys = refl
 hands_append (x ∷ xs) ys = ap (λ (hs : List Handed). hand_of x ++ hs) (hands_append xs ys) ∙ sym (append_assoc (hand_of x) (hands xs) (hands ys))
 
-map_append : (xs ys : List Handed) → map (λ k. k.0) (xs ++ ys) ≡ map (λ k. k.0) xs ++ map (λ k. k.0) ys
+pub map_append : (xs ys : List Handed) → map (λ k. k.0) (xs ++ ys) ≡ map (λ k. k.0) xs ++ map (λ k. k.0) ys
 map_append [] ys = refl
 map_append (x ∷ xs) ys = ap (λ zs. x.0 ∷ zs) (map_append xs ys)
 
 -- the claim of what was handed out
-claim_at : (hs : List Handed) (i : ℕ) (claim : ℕ × SessionId) (line : Parts) → slice_get hs i ≡ Some (claim, line) → slice_get (map (λ k. k.0) hs) i ≡ Some claim
+pub claim_at : (hs : List Handed) (i : ℕ) (claim : ℕ × SessionId) (line : Parts) → slice_get hs i ≡ Some (claim, line) → slice_get (map (λ k. k.0) hs) i ≡ Some claim
 claim_at [] i claim line e = absurd (none_not_some _ e)
 claim_at (h ∷ hs) zero claim line e =
     let same : h ≡ (claim, line) = same_some e in

@@ -2,6 +2,7 @@
 use Rattle.std.specs.Prelude.{ℕ, List, [], ◌∷◌, ◌++◌, Option}
 use Rattle.irc_line.specs.Lines.{Parts}
 use Rattle.wire_bytes.specs.declared.session_id.SessionId.{SessionId}
+pub use Rattle.machine_laws.specs.Classes.{Handed}
 use Rattle.machine_laws.specs.Runs.{History, all_effects}
 use Rattle.wire_bytes.specs.declared.origin.Origin.{Origin}
 use Rattle.upstream_claim.specs.declared.command.ClaimsCommand.{ClaimsCommand}
@@ -9,11 +10,8 @@ use Rattle.upstream_claim.specs.declared.effect.ClaimsEffect.{ClaimsEffect}
 use Rattle.upstream_claim.specs.declared.effect.ClaimsEffect.TheVariants.{Hand}
 use Rattle.upstream_claim.specs.Numbered.{answers}
 
--- a line that is handed out: its claim, which is number and session, and itself
-abbrev pub Handed : Type 0
-Handed = (ℕ × SessionId) × Parts
-
 module _ {E : Type 0} where
+  -- the line that an effect hands out
   abbrev pub hand_of : ClaimsEffect E → List Handed
   hand_of (Hand id n line) = ((n, id), line) ∷ []
   hand_of _ = []

@@ -46,6 +46,7 @@ abbrev pub answer : {E : Type 0} → ℕ → E → Option (Origin × Parts) → 
 answer space e None = effect.Inner e ∷ []
 answer space e (Some p) = if nat_lt 0 space then [] else effect.Busy p.0 ∷ []
 
+-- the room after an effect
 abbrev pub room_left : ℕ → Option (Origin × Parts) → ℕ
 room_left space None = space
 room_left space (Some p) = space - 1
@@ -77,6 +78,7 @@ module _ {C E : Type 0} (session : History C → Option SessionId) (sends : E �
   numbered_after q below place (Inner c) = record { outgoing = q.outgoing ++ take (room q) (lines_of sends (effects below place c)); claimed = q.claimed }
   numbered_after q below place (Claim id n) = if is_taken (session below) q id n then with_claim q id n else q
 
+  -- what is numbered and claimed after a history
   unfoldable pub numbered : History (ClaimsCommand C) → Numbered
   numbered [] = record { outgoing = []; claimed = [] }
   numbered (x ∷ earlier) = numbered_after (numbered earlier) (plain earlier) x.0 x.1

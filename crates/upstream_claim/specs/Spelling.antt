@@ -12,6 +12,7 @@ abbrev pub command_wants : Wants → Wants
 command_wants command = wants_choice ((0, command) ∷ [])
 
 module _ {C : Type 0} where
+  -- the kind byte
   abbrev pub command_kind : ClaimsCommand C → ℕ
   command_kind (Inner c) = 0
   command_kind (Claim id n) = 1
@@ -21,19 +22,24 @@ module _ {C : Type 0} where
   spelled_parts command (Inner c) = command c
   spelled_parts command (Claim id n) = spelled_session id ++ spelled_number n
 
+  -- a command as bytes
   abbrev pub spelled_command : (C → List ℕ) → ClaimsCommand C → List ℕ
   spelled_command command x = command_kind x ∷ spelled_parts command x
 
+  -- each of its values is within its limits
   abbrev pub FitsCommand : (C → Type 0) → ClaimsCommand C → Type 0
   FitsCommand command (Inner c) = command c
   FitsCommand command (Claim id n) = FitsSession id × FitsNumber n
 
+  -- a command below, behind the kind byte
   abbrev pub inner_taken : Reading C → Reading (ClaimsCommand C)
   inner_taken command = through Inner command
 
+  -- a claim, by its parts as they are read
   abbrev pub claim_of : SessionId × ℕ → ClaimsCommand C
   claim_of p = Claim p.0 p.1
 
+  -- a claim
   abbrev pub claim_taken : Reading (ClaimsCommand C)
   claim_taken = through claim_of (both session number)
 

@@ -1,4 +1,4 @@
--- What is kept of the lines for upstream, and what it stands for.
+-- What is kept of the lines for upstream, and what it stands for. These are the machine's inner steps, which need not be believed.
 use Rattle.std.specs.Prelude.{◌≡◌, ℕ, ◌-◌, ◌≤◌, if◌then◌else◌, List, [], length, drop, slice_get}
 use Rattle.irc_line.specs.Lines.{Parts}
 use Rattle.wire_bytes.specs.declared.session_id.SessionId.{SessionId}
@@ -19,5 +19,6 @@ pub record IsKept (n : ℕ) (lines : List Parts) (q : Numbered) : Type 0 where
 abbrev pub handed_next : {E : Type 0} → Numbered → SessionId → ℕ → List (ClaimsEffect E)
 handed_next q id n = if is_next q n then handed id n (slice_get q.outgoing (n - 1)) else []
 
+-- a claim is added where it is of the line that is to be claimed next
 abbrev pub claimed_next : Numbered → SessionId → ℕ → Numbered
 claimed_next q id n = if is_next q n then with_claim q id n else q

@@ -28,14 +28,17 @@ pub struct Claims<M: HasSession> {
 impl<M: HasSession> Claims<M> {
     /// The machine below.
     pub fn machine(&self) -> &M
-        ensures { (s : M.Setup) (earlier : History (ClaimsCommand M.Command)) → ⟦<Claims<M> as Machine>⟧.stands self.now s earlier → M.stands result.now s (plain earlier) }
+        ensures { (s : M.Setup) (earlier : History (ClaimsCommand M.Command))
+            → ⟦<Claims<M> as Machine>⟧.stands self.now s earlier
+            → M.stands result.now s (plain earlier) }
     {
         &self.machine
     }
 
     /// The number of the line that is to be claimed next, where a line is numbered and not claimed.
     pub fn next_claim(&self) -> Option<u64>
-        ensures { (s : M.Setup) (earlier : History (ClaimsCommand M.Command)) → ⟦<Claims<M> as Machine>⟧.stands self.now s earlier
+        ensures { (s : M.Setup) (earlier : History (ClaimsCommand M.Command))
+            → ⟦<Claims<M> as Machine>⟧.stands self.now s earlier
             → result ≡ next_claim M.session M.sends (M.effects s) earlier }
     {
         self.unclaimed.next()
@@ -49,9 +52,13 @@ impl<M: HasSession> Machine for Claims<M> {
 
     type Effect = ClaimsEffect<M::Effect>;
 
-    ghost stands = { λ m s earlier. M.stands m.machine s (plain earlier) × IsKept m.unclaimed.count m.unclaimed.lines.items (numbered M.session M.sends (M.effects s) earlier) × (m.spoilt ≡ false) };
+    ghost stands = { λ m s earlier. M.stands m.machine s (plain earlier)
+        × IsKept m.unclaimed.count m.unclaimed.lines.items (numbered M.session M.sends
+        (M.effects s) earlier)
+        × (m.spoilt ≡ false) };
 
-    ghost effects = { λ s earlier place x. answers M.session M.sends (M.effects s) earlier place x };
+    ghost effects = { λ s earlier place x. answers M.session M.sends
+        (M.effects s) earlier place x };
 
     ghost spoilt = { λ m. m.spoilt };
 

@@ -3,6 +3,7 @@ ghost use Rattle.std.specs.Prelude.{◌≡◌, ◌≢◌, ◌≤◌, drop, lengt
 ghost use Rattle.wire_bytes.specs.Fields.{behind};
 ghost use Rattle.upstream_claim.specs.Spelling.{FitsCommand, claim_taken, command_taken, command_wants, inner_taken, spelled_command};
 ghost use Rattle.upstream_claim.specs.CommandCodec.{command_is_codec};
+ghost use Rattle.wire_bytes.specs.Reads.{Reads, Refuses, WantsWhere};
 
 use std::alloc::{AllocError, Global};
 use wire_bytes::{Copied, Number, SessionId, Wire, WireFault, take_behind, undo};
@@ -66,9 +67,9 @@ impl<C: Wire> Wire for ClaimsCommand<C> {
 #[tactic(auto, using(wire_bytes::proofs::Steps::composed))]
 fn take_inner<C: Wire>(alloc: Global, input: &[u8]) -> Result<(ClaimsCommand<C>, usize), WireFault>
     requires { 1 ≤ length input.now }
-    ensures ok { IfOk result (λ r. behind 1 (inner_taken C.taken) input.now ≡ Ok (r.0, r.1)) }
-    ensures err { IfErr result (λ e. e ≢ WireFault.Memory → behind 1 (inner_taken C.taken) input.now ≡ Err e) }
-    ensures memory { IfErr result (λ e. e ≡ WireFault.Memory → IsTrue (C.wants (drop 1 input.now))) }
+    ensures ok { Reads result (behind 1 (inner_taken C.taken)) input.now }
+    ensures err { Refuses result (behind 1 (inner_taken C.taken)) input.now }
+    ensures memory { WantsWhere result (C.wants (drop 1 input.now)) }
 {
     let (command, end) = take_behind::<C>(alloc, input, 1)?;
     Ok((ClaimsCommand::Inner(command), end))
@@ -78,8 +79,8 @@ fn take_inner<C: Wire>(alloc: Global, input: &[u8]) -> Result<(ClaimsCommand<C>,
 #[tactic(auto, using(wire_bytes::proofs::Steps::composed))]
 fn take_claim<C: Drop>(alloc: Global, input: &[u8]) -> Result<(ClaimsCommand<C>, usize), WireFault>
     requires { 1 ≤ length input.now }
-    ensures ok { IfOk result (λ r. behind 1 (claim_taken {C = C}) input.now ≡ Ok (r.0, r.1)) }
-    ensures err { IfErr result (λ e. e ≢ WireFault.Memory → behind 1 (claim_taken {C = C}) input.now ≡ Err e) }
+    ensures ok { Reads result (behind 1 (claim_taken {C = C})) input.now }
+    ensures err { Refuses result (behind 1 (claim_taken {C = C})) input.now }
     ensures memory { IfErr result (λ e. e ≢ WireFault.Memory) }
 {
     let ((id, number), end) = take_behind::<(SessionId, Number)>(alloc, input, 1)?;

@@ -17,8 +17,11 @@ fn answer_one<M: HasSession>(
     answers: &mut Vec<ClaimsEffect<M::Effect>>,
     effect: M::Effect,
 ) -> Result<(), AllocError>
-    ensures answers { OnOk result (answers.new.items ≡ answers.old.items ++ answer (space unclaimed.old.lines.items) effect (M.sends effect)) }
-    ensures lines { OnOk result (unclaimed.new.lines.items ≡ unclaimed.old.lines.items ++ take (space unclaimed.old.lines.items) (line_of (M.sends effect))) }
+    ensures answers { OnOk result (answers.new.items
+        ≡ answers.old.items ++ answer (space unclaimed.old.lines.items) effect (M.sends effect)) }
+    ensures lines { OnOk result (unclaimed.new.lines.items
+        ≡ unclaimed.old.lines.items ++ take (space unclaimed.old.lines.items) (line_of
+        (M.sends effect))) }
     ensures count { unclaimed.new.count ≡ unclaimed.old.count }
 {
     match M::sends(effect) {
@@ -40,8 +43,11 @@ fn answer_all<M: HasSession>(
     unclaimed: &mut Unclaimed,
     effects: Vec<M::Effect>,
 ) -> Result<Vec<ClaimsEffect<M::Effect>>, AllocError>
-    ensures answers { IfOk result (λ v. v.items ≡ answered M.sends (space unclaimed.old.lines.items) effects.items) }
-    ensures lines { OnOk result (unclaimed.new.lines.items ≡ unclaimed.old.lines.items ++ take (space unclaimed.old.lines.items) (lines_of M.sends effects.items)) }
+    ensures answers { IfOk result (λ v. v.items
+        ≡ answered M.sends (space unclaimed.old.lines.items) effects.items) }
+    ensures lines { OnOk result (unclaimed.new.lines.items
+        ≡ unclaimed.old.lines.items ++ take (space unclaimed.old.lines.items)
+        (lines_of M.sends effects.items)) }
     ensures count { unclaimed.new.count ≡ unclaimed.old.count }
 {
     let mut answers = Vec::new(alloc);
@@ -58,8 +64,10 @@ fn hand<E: Drop>(
     id: SessionId,
     number: Number,
 ) -> Result<Vec<ClaimsEffect<E>>, AllocError>
-    ensures answers { (q : Numbered) → IsKept unclaimed.old.count unclaimed.old.lines.items q → IfOk result (λ v. v.items ≡ handed_next q id number) }
-    ensures kept { (q : Numbered) → IsKept unclaimed.old.count unclaimed.old.lines.items q → IsKept unclaimed.new.count unclaimed.new.lines.items (claimed_next q id number) }
+    ensures answers { (q : Numbered) → IsKept unclaimed.old.count unclaimed.old.lines.items q
+        → IfOk result (λ v. v.items ≡ handed_next q id number) }
+    ensures kept { (q : Numbered) → IsKept unclaimed.old.count unclaimed.old.lines.items q
+        → IsKept unclaimed.new.count unclaimed.new.lines.items (claimed_next q id number) }
 {
     match unclaimed.claim(number) {
         Some(line) => single(alloc, ClaimsEffect::Hand(id, number.value(), line)),
@@ -78,13 +86,16 @@ pub fn step<M: HasSession>(
     requires { M.spoilt machine.old ≡ false }
     ensures stands { (s : M.Setup) (below : History M.Command) → M.stands machine.old s below
         → OnOk result (M.stands machine.new s (with_command place command.now below)) }
-    ensures effects { (s : M.Setup) (below : History M.Command) (q : Numbered) → M.stands machine.old s below
+    ensures effects { (s : M.Setup) (below : History M.Command) (q : Numbered)
+        → M.stands machine.old s below
         → IsKept unclaimed.old.count unclaimed.old.lines.items q
-        → IfOk result (λ v. v.items ≡ answers_by M.session M.sends (M.effects s) q below place command.now) }
-    ensures kept { (s : M.Setup) (below : History M.Command) (q : Numbered) → M.stands machine.old s below
+        → IfOk result (λ v. v.items
+        ≡ answers_by M.session M.sends (M.effects s) q below place command.now) }
+    ensures kept { (s : M.Setup) (below : History M.Command) (q : Numbered)
+        → M.stands machine.old s below
         → IsKept unclaimed.old.count unclaimed.old.lines.items q
         → OnOk result (IsKept unclaimed.new.count unclaimed.new.lines.items
-            (numbered_after M.session M.sends (M.effects s) q below place command.now)) }
+        (numbered_after M.session M.sends (M.effects s) q below place command.now)) }
     ensures fault { IfErr result (λ e. e ≡ ApplyFault.Memory) }
     ensures whole { OnOk result (M.spoilt machine.new ≡ false) }
 {

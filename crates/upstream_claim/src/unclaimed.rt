@@ -37,7 +37,8 @@ impl Unclaimed {
 
     /// The number of the line that is to be claimed next.
     pub fn next(&self) -> Option<u64>
-        ensures { result ≡ (if nat_lt 0 (length self.now.lines.items) then Some (self.now.count + 1) else None) }
+        ensures { result
+            ≡ (if nat_lt 0 (length self.now.lines.items) then Some (self.now.count + 1) else None) }
     {
         if self.lines.is_empty() {
             None
@@ -57,9 +58,12 @@ impl Unclaimed {
 
     /// The line of a number, which waits no longer, where it is to be claimed next.
     pub fn claim(&mut self, number: Number) -> Option<Line>
-        ensures line { result ≡ (if number == self.old.count + 1 then slice_get self.old.lines.items 0 else None) }
-        ensures lines { self.new.lines.items ≡ (if is_some result then drop 1 self.old.lines.items else self.old.lines.items) }
-        ensures count { self.new.count ≡ (if is_some result then self.old.count + 1 else self.old.count) }
+        ensures line { result
+            ≡ (if number == self.old.count + 1 then slice_get self.old.lines.items 0 else None) }
+        ensures lines { self.new.lines.items
+            ≡ (if is_some result then drop 1 self.old.lines.items else self.old.lines.items) }
+        ensures count { self.new.count
+            ≡ (if is_some result then self.old.count + 1 else self.old.count) }
     {
         if number.value() != self.count + 1 {
             return None;

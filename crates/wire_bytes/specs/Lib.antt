@@ -1,5 +1,6 @@
 pub mod Fields
 pub mod Wants
+pub mod Reads
 pub mod Contents
 pub mod Values
 pub mod Texts

@@ -1,5 +1,6 @@
 ghost use Rattle.std.specs.Prelude.{◌≡◌, ◌≢◌, IfOk, IfErr, IsOk, Ok, Err};
 ghost use Rattle.wire_bytes.specs.Contents.{FitsLine, sized_bytes, name, text, line};
+ghost use Rattle.wire_bytes.specs.Reads.{Reads, Refuses};
 
 use crate::fields::{put_sized, take_byte, take_sized, undo};
 use crate::wire::Wire;
@@ -101,8 +102,8 @@ impl Wire for Line {
 
     #[tactic(auto, using(crate::specs::LineCodec::line_fits), unfolding(crate::specs::Contents::line))]
     fn take(alloc: Global, input: &[u8]) -> Result<(Self, usize), WireFault>
-        ensures ok { IfOk result (λ r. line input.now ≡ Ok (r.0, r.1)) }
-        ensures err { IfErr result (λ e. e ≢ WireFault.Memory → line input.now ≡ Err e) }
+        ensures ok { Reads result line input.now }
+        ensures err { Refuses result line input.now }
         ensures memory { IfErr result (λ e. e ≡ WireFault.Memory → IsOk (line input.now)) }
         ensures fits { IfOk result (λ r. FitsLine r.0) }
     {

@@ -2,6 +2,8 @@ ghost use Rattle.std.specs.Prelude.{◌≡◌, ◌≢◌, [], ◌∷◌, drop, �
 ghost use Rattle.std.specs.Int.{w16, w32, w64};
 ghost use Rattle.wire_bytes.specs.Fields.{appended, byte_within, number_to, behind};
 ghost use Rattle.wire_bytes.specs.Contents.{sized, sized_bytes};
+ghost use Rattle.irc_line.specs.Lines.{LacksRoom};
+ghost use Rattle.wire_bytes.specs.Reads.{Reads, Refuses, WantsWhere};
 
 use crate::wire::Wire;
 use crate::wire_fault::WireFault;
@@ -22,17 +24,6 @@ pub fn take_byte(input: &[u8], least: u8, most: u8) -> Result<(u8, usize), WireF
                 Err(WireFault::Bad(0))
             }
         }
-    }
-}
-
-/// The kind byte at the front of an input. Short where there is none.
-pub fn take_kind(input: &[u8]) -> Result<u8, WireFault>
-    ensures ok { IfOk result (λ kind. input.now ≡ kind ∷ drop 1 input.now) }
-    ensures err { IfErr result (λ e. (e ≡ WireFault.Short) × (input.now ≡ [])) }
-{
-    match input {
-        [] => Err(WireFault::Short),
-        [kind, ..] => Ok(*kind),
     }
 }
 
@@ -122,7 +113,8 @@ pub fn undo(
     outcome: Result<(), AllocError>,
 ) -> Result<(), AllocError>
     ensures outcome { result ≡ outcome }
-    ensures items { out.new.items ≡ (if is_ok outcome then out.old.items else take len out.old.items) }
+    ensures items { out.new.items
+        ≡ (if is_ok outcome then out.old.items else take len out.old.items) }
     ensures capacity { vec_capacity out.new ≡ vec_capacity out.old }
 {
     if outcome.is_err() {
@@ -136,7 +128,7 @@ pub fn undo(
 pub fn put_sized(out: &mut Vec<u8>, bytes: &[u8]) -> Result<(), AllocError>
     requires { length bytes.now < 65536 }
     ensures items { out.new.items ≡ appended result out.old.items (sized bytes.now) }
-    ensures full { OnErr result (vec_capacity out.old < vec_len out.old + length (sized bytes.now)) }
+    ensures full { OnErr result (LacksRoom out.old (length (sized bytes.now))) }
     ensures capacity { vec_capacity out.old ≤ vec_capacity out.new }
 {
     let len = out.len();
@@ -152,9 +144,9 @@ pub fn take_behind<W: Wire>(
     place: usize,
 ) -> Result<(W, usize), WireFault>
     requires { place ≤ length input.now }
-    ensures ok { IfOk result (λ r. behind place W.taken input.now ≡ Ok (r.0, r.1)) }
-    ensures err { IfErr result (λ e. e ≢ WireFault.Memory → behind place W.taken input.now ≡ Err e) }
-    ensures memory { IfErr result (λ e. e ≡ WireFault.Memory → IsTrue (W.wants (drop place input.now))) }
+    ensures ok { Reads result (behind place W.taken) input.now }
+    ensures err { Refuses result (behind place W.taken) input.now }
+    ensures memory { WantsWhere result (W.wants (drop place input.now)) }
     ensures within { IfOk result (λ r. (place ≤ r.1) × (r.1 ≤ length input.now)) }
 {
     let (_, rest) = input.split_at(place);

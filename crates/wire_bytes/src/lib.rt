@@ -1,8 +1,8 @@
 //! Values as bytes: each value has one spelling, and small types that keep their limits.
 //!
 //! A value of several fields is read as `both`, `through`, `only` and `choice` of `specs/Fields` say, and has the
-//! laws of [`Wire`] by the lemmas of `specs/Codecs`. Its `take` asks [`take_kind`] for the kind byte and
-//! [`take_behind`] for what stands behind it, where a pair of values is one behind the other; with the rules
+//! laws of [`Wire`] by the lemmas of `specs/Codecs`. Its `take` asks
+//! [`take_behind`] for what stands behind its kind byte, where a pair of values is one behind the other; with the rules
 //! `composed` of `proofs/Steps` the search proves it. Its `put` appends one field after the other and hands the
 //! outcome to [`undo`].
 #![tactic(auto)]
@@ -22,7 +22,7 @@ mod wire_fault;
 
 pub use copied::Copied;
 pub use fields::{
-    put_sized, take_behind, take_byte, take_kind, take_sized, take_u16, take_u32, take_u64, undo,
+    put_sized, take_behind, take_byte, take_sized, take_u16, take_u32, take_u64, undo,
 };
 pub use laws::{none_begins_another, the_front_is_read};
 pub use moment::Moment;

@@ -26,7 +26,8 @@ impl Model for Origin {
 
     ghost view = { λ o. (o.node, o.boot, o.client) };
 
-    ghost invariant = { λ o. (1 ≤ o.node) × (o.node ≤ 7) × (o.boot ≤ 2 ^ 60) × (o.client ≤ 2 ^ 60) };
+    ghost invariant = { λ o. (1 ≤ o.node) × (o.node ≤ 7) × (o.boot ≤ 2 ^ 60)
+        × (o.client ≤ 2 ^ 60) };
 
     ghost inverse = { λ v. record { node = v.0; boot = v.1; client = v.2 } };
 }

@@ -2,6 +2,8 @@ ghost use Rattle.std.specs.Prelude.{◌≡◌, ◌≢◌, ℕ, ◌+◌, ◌<◌,
 ghost use Rattle.wire_bytes.specs.Fields.{Reading, appended};
 ghost use Rattle.wire_bytes.specs.Wants.{Wants};
 ghost use Rattle.wire_bytes.specs.Codecs.{IsCodec};
+ghost use Rattle.irc_line.specs.Lines.{LacksRoom};
+ghost use Rattle.wire_bytes.specs.Reads.{Reads, Refuses, WantsWhere};
 
 use crate::copied::Copied;
 use crate::wire_fault::WireFault;
@@ -28,14 +30,14 @@ pub trait Wire: Copied {
     fn put(&self, out: &mut Vec<u8>) -> Result<(), AllocError>
         requires { fits self.now }
         ensures items { out.new.items ≡ appended result out.old.items (spelled self.now) }
-        ensures full { OnErr result (vec_capacity out.old < vec_len out.old + length (spelled self.now)) }
+        ensures full { OnErr result (LacksRoom out.old (length (spelled self.now))) }
         ensures capacity { vec_capacity out.old ≤ vec_capacity out.new };
 
     /// Reads the value at the front of an input, with the length of its spelling. Bytes may follow it.
     fn take(alloc: Global, input: &[u8]) -> Result<(Self, usize), WireFault>
-        ensures ok { IfOk result (λ r. taken input.now ≡ Ok (r.0, r.1)) }
-        ensures err { IfErr result (λ e. e ≢ WireFault.Memory → taken input.now ≡ Err e) }
-        ensures memory { IfErr result (λ e. e ≡ WireFault.Memory → IsTrue (wants input.now)) };
+        ensures ok { Reads result taken input.now }
+        ensures err { Refuses result taken input.now }
+        ensures memory { WantsWhere result (wants input.now) };
 
     /// What is spelled is read back, whatever follows it; what is read is spelled so, byte by byte; a field that is
     /// refused begins within the input; and what an input gives is never want of memory.

@@ -31,8 +31,7 @@ returns-then-number-was-gt1-clause-effects g c = λ s earlier st h.
 pub returns-clause-stands : goal.returns-clause-stands
 returns-clause-stands g c = λ s earlier st h.
     let was : c.last_of-was.result ≡ last earlier c.args.origin = c.last_of-was.ensures ∙ h _ in
-    let eq : c.args.number ≡ last earlier c.args.origin + 1 = omega arith in
-    (
+    let eq : c.args.number ≡ last earlier c.args.origin + 1 = omega arith in (
       rw (plain-next _ _ _ _ _ _ _ eq, ← c.in_ok-command.ensures) (c.in_ok-effects.ensures.stands s _ st),
       numbers-next _ _ earlier _ _ _ _ _ h eq (rw c.value-number.ensures.value at c.in_ok-note.ensures),
     )

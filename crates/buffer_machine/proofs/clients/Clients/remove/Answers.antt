@@ -5,10 +5,8 @@ use Rattle.buffer_machine.proofs.Attached.{removed-one}
 use Rattle.buffer_machine.proofs.clients.Clients.remove.Goals as goal
 
 pub returns : goal.returns
-returns c = filter_same _ (λ x. not (same_origin c.args.origin x)) _ (λ x b q r. search rules) _ _ c.retain.ensures.filtered
+returns c = rw (← c.self.view_is) (filter_same _ (λ x. not (same_origin c.args.origin x)) _ (λ x b q r. search rules) _ _ c.retain.ensures.filtered)
 
 pub invariant_of-self : goal.invariant_of-self
-invariant_of-self c = record {
-  same =
-      removed-one c.args.self.now.order.items c.args.origin c.take_out.ensures c.args.self.now.same (filter_same _ (λ x. not (same_origin c.args.origin x)) _ (λ x b q r. search rules) _ _ c.retain.ensures.filtered);
-}
+invariant_of-self c =
+    removed-one c.self.inside.order.items c.args.origin c.take_out.ensures c.self.invariant (filter_same _ (λ x. not (same_origin c.args.origin x)) _ (λ x b q r. search rules) _ _ c.retain.ensures.filtered)

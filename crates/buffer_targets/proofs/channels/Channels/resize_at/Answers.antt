@@ -1,4 +1,5 @@
 use Rattle.std.proofs.Common.{refl}
+use Rattle.irc_line.specs.Names.{fold_name}
 use Rattle.buffer_targets.specs.Targets.{over, resized}
 use Rattle.buffer_targets.proofs.ChannelEdits.{channel_known, channel_set_ok, rising_set, same_name_of, no_channel_set}
 use Rattle.buffer_targets.proofs.channels.Channels.resize_at.Goals as goal
@@ -9,12 +10,12 @@ invariant_of-self c =
 
 pub returns-in-Ok-clause-ok : goal.returns-in-Ok-clause-ok
 returns-in-Ok-clause-ok c =
-    rw (← c.self.view_is) (channel_set_ok c.args.key.now _ c.in-Ok.at c.self.invariant (rw (← c.self.view_is) at c.in-Ok.ensures.place) c.resize.result (over (resized c.args.size)) _ _ c.index_mut.ensures.value c.resize.ensures.ok)
+    rw (← c.self.view_is) (channel_set_ok (fold_name c.args.name.now) _ c.in-Ok.at c.self.invariant (rw (← c.self.view_is) at c.in-Ok.ensures.place) c.resize.result (over (resized c.args.size)) _ _ c.index_mut.ensures.value c.resize.ensures.ok)
 
 pub returns-in-Err-clause-ok : goal.returns-in-Err-clause-ok
 returns-in-Err-clause-ok c = no_channel_set _ _ _ c.in-Err.ensures.place (over (resized c.args.size))
 
 pub returns-in-Ok-clause-unknown : goal.returns-in-Ok-clause-unknown
 returns-in-Ok-clause-unknown c = λ unknown.
-    let known = channel_known c.args.key.now _ c.in-Ok.at (rw c.self.view_is at c.self.invariant) c.in-Ok.ensures.place in
+    let known = channel_known (fold_name c.args.name.now) _ c.in-Ok.at (rw c.self.view_is at c.self.invariant) c.in-Ok.ensures.place in
     cc

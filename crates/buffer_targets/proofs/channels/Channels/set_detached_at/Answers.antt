@@ -1,4 +1,5 @@
 use Rattle.std.proofs.Common.{ap}
+use Rattle.irc_line.specs.Names.{fold_name}
 use Rattle.buffer_targets.specs.Targets.{with_detached}
 use Rattle.buffer_targets.proofs.ChannelEdits.{channel_set, rising_set, no_channel_set}
 use Rattle.buffer_targets.proofs.channels.Channels.set_detached_at.Goals as goal
@@ -8,7 +9,7 @@ invariant_of-self c = rising_set _ c.in-Ok.at _ _ c.self.invariant c.index_mut.e
 
 pub returns-in-Ok : goal.returns-in-Ok
 returns-in-Ok c =
-    rw (← c.self.view_is) (channel_set c.args.key.now _ c.in-Ok.at c.self.invariant (rw (← c.self.view_is) at c.in-Ok.ensures.place) (with_detached c.args.detached) _ _ c.index_mut.ensures.value c.set_detached.ensures)
+    rw (← c.self.view_is) (channel_set (fold_name c.args.name.now) _ c.in-Ok.at c.self.invariant (rw (← c.self.view_is) at c.in-Ok.ensures.place) (with_detached c.args.detached) _ _ c.index_mut.ensures.value c.set_detached.ensures)
 
 pub returns-in-Err : goal.returns-in-Err
 returns-in-Err c = no_channel_set _ _ _ c.in-Err.ensures.place (with_detached c.args.detached)

@@ -1,4 +1,5 @@
 use Rattle.std.proofs.Common.{ap}
+use Rattle.irc_line.specs.Names.{fold_name}
 use Rattle.buffer_targets.specs.Targets.{cleared}
 use Rattle.buffer_targets.proofs.QueryEdits.{query_set, index_set, no_query_set}
 use Rattle.buffer_targets.proofs.queries.Queries.clear_at.Goals as goal
@@ -8,7 +9,7 @@ invariant_of-self c = index_set c.self.inside.targets.items _ c.in-Ok.place _ _ 
 
 pub returns-in-Ok : goal.returns-in-Ok
 returns-in-Ok c =
-    rw (← c.self.view_is) (query_set c.args.key.now c.self.inside.targets.items c.in-Ok.place c.self.invariant.different (rw c.deref.ensures.value at c.in-Ok.ensures.found.1) cleared _ _ c.index_mut.ensures.value c.clear.ensures)
+    rw (← c.self.view_is) (query_set (fold_name c.args.name.now) c.self.inside.targets.items c.in-Ok.place c.self.invariant.different (rw c.deref.ensures.value at c.in-Ok.ensures.found.1) cleared _ _ c.index_mut.ensures.value c.clear.ensures)
 
 pub returns-in-Err : goal.returns-in-Err
-returns-in-Err c = rw (← c.self.view_is) (no_query_set c.args.key.now c.self.inside.targets.items (rw c.deref.ensures.value at c.in-Err.ensures.absent.2) cleared)
+returns-in-Err c = rw (← c.self.view_is) (no_query_set (fold_name c.args.name.now) c.self.inside.targets.items (rw c.deref.ensures.value at c.in-Err.ensures.absent.2) cleared)

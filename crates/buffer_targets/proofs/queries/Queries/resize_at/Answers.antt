@@ -1,4 +1,5 @@
 use Rattle.std.proofs.Common.{refl}
+use Rattle.irc_line.specs.Names.{fold_name}
 use Rattle.buffer_targets.specs.Targets.{resized}
 use Rattle.buffer_targets.proofs.QueryEdits.{query_known, query_set_ok, index_set, same_name_of, no_query_set}
 use Rattle.buffer_targets.proofs.queries.Queries.resize_at.Goals as goal
@@ -9,14 +10,14 @@ invariant_of-self c =
 
 pub returns-in-Ok-clause-ok : goal.returns-in-Ok-clause-ok
 returns-in-Ok-clause-ok c =
-    rw (← c.self.view_is) (query_set_ok c.args.key.now c.self.inside.targets.items c.in-Ok.place c.self.invariant.different (rw c.deref.ensures.value at c.in-Ok.ensures.found.1) c.resize.result (resized c.args.size) _ _ c.index_mut.ensures.value c.resize.ensures.ok)
+    rw (← c.self.view_is) (query_set_ok (fold_name c.args.name.now) c.self.inside.targets.items c.in-Ok.place c.self.invariant.different (rw c.deref.ensures.value at c.in-Ok.ensures.found.1) c.resize.result (resized c.args.size) _ _ c.index_mut.ensures.value c.resize.ensures.ok)
 
 pub returns-in-Err-clause-ok : goal.returns-in-Err-clause-ok
 returns-in-Err-clause-ok c =
-    rw (← c.self.view_is) (no_query_set c.args.key.now c.self.inside.targets.items (rw c.deref.ensures.value at c.in-Err.ensures.absent.2) (resized c.args.size))
+    rw (← c.self.view_is) (no_query_set (fold_name c.args.name.now) c.self.inside.targets.items (rw c.deref.ensures.value at c.in-Err.ensures.absent.2) (resized c.args.size))
 
 pub returns-in-Ok-clause-unknown : goal.returns-in-Ok-clause-unknown
 returns-in-Ok-clause-unknown c = λ unknown.
-    let known = query_known c.args.key.now c.self.inside.targets.items c.in-Ok.place c.self.invariant.different (rw c.deref.ensures.value at c.in-Ok.ensures.found.1) in
+    let known = query_known (fold_name c.args.name.now) c.self.inside.targets.items c.in-Ok.place c.self.invariant.different (rw c.deref.ensures.value at c.in-Ok.ensures.found.1) in
     let same = c.self.view_is in
     cc

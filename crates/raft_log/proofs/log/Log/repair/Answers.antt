@@ -1,4 +1,4 @@
-use Rattle.std.proofs.Common.{◌≡◌, ℕ, ◌+◌, ◌-◌, ◌<◌, List, ◌++◌, length, take, drop, is_ok, if◌then◌else◌, sym, ap, ◌∙◌, arith, length-drop}
+use Rattle.std.proofs.Common.{◌≡◌, ℕ, ◌+◌, ◌-◌, ◌<◌, List, ◌++◌, length, take, drop, OnOk, sym, ap, subst, ◌∙◌, arith, length-drop}
 use Rattle.std.proofs.lemmas.List.{take_all}
 use Rattle.raft_log.specs.declared.entry.Entry.{Entry}
 use Rattle.raft_log.specs.Logs.{standing, repair}
@@ -11,19 +11,17 @@ cut_and_added {B} log es prev count e lt =
     ap (λ (z : List (Entry B)). take (prev + count) log ++ z) all
     ∙ (ap (λ (k : ℕ). take (prev + k) log ++ drop k es) e ∙ sym (repair_part log prev es (omega arith)))
 
-pub returns-then-count-entries : goal.returns-then-count-entries
-returns-then-count-entries g c =
-    let log : List (Entry g.row.B.Denot) = c.args.self.now in
-    let e : c.standing-count.result ≡ standing (drop c.args.prev log) c.args.entries.now =
-    c.standing-count.ensures.value ∙ ap (λ (l : List (Entry g.row.B.Denot)). standing (drop c.args.prev l) c.args.entries.now) (c.deref.ensures.value ∙ c.self.view_is)
-    in
-    sym (repair_all log c.args.prev c.args.entries.now (sym e ∙ c.if-count-entries.true))
+pub returns-then-count-entries-clause-ok : goal.returns-then-count-entries-clause-ok
+returns-then-count-entries-clause-ok g c = sym (repair_all c.args.self.now c.args.prev c.args.entries.now (sym c.standing-count.ensures.value ∙ c.if-count-entries.true))
 
-pub returns : goal.returns
-returns g c =
+pub returns-clause-ok : goal.returns-clause-ok
+returns-clause-ok g c =
     let log : List (Entry g.row.B.Denot) = c.args.self.now in
-    let e : c.standing-count.result ≡ standing (drop c.args.prev log) c.args.entries.now =
-    c.standing-count.ensures.value ∙ ap (λ (l : List (Entry g.row.B.Denot)). standing (drop c.args.prev l) c.args.entries.now) (c.deref.ensures.value ∙ c.self.view_is)
+    let es : List (Entry g.row.B.Denot) = c.args.entries.now in
+    let count : ℕ = c.standing-count.result in
+    let less : count < length es = omega (arith, c.if-count-entries.false) in
+    let place : c.new-place.result ≡ c.args.prev + count = omega arith in
+    let whole : take c.new-place.result log ++ take (length es - count) (drop count es) ≡ repair log c.args.prev es =
+    ap (λ (k : ℕ). take k log ++ take (length es - count) (drop count es)) place ∙ cut_and_added log es c.args.prev count c.standing-count.ensures.value less
     in
-    let less : c.standing-count.result < length c.args.entries.now = grind (arith, c.standing-count.ensures.within, c.if-count-entries.false) in
-    c.replace_from.ensures ∙ ap (λ (z : List (Entry g.row.B.Denot)). if is_ok c.replace_from.result then z else log) (cut_and_added log c.args.entries.now c.args.prev c.standing-count.result e less)
+    subst (λ (z : List (Entry g.row.B.Denot)). OnOk c.replace_from.result (c.replace_from.new.self ≡ z)) whole c.replace_from.ensures.ok

@@ -1,0 +1,296 @@
+//! What clients ask of channels: what is answered, and what is held after it.
+ghost use Rattle.std.specs.Prelude.{◌≡◌, ◌∷◌, ◌&&◌, [], codes, if◌then◌else◌, is_some, map, not, option_map, true, IfOk, OnOk};
+ghost use Rattle.irc_line.specs.Lines.{spelling};
+ghost use Rattle.irc_line.specs.Names.{fold_name};
+ghost use Rattle.buffer_machine.specs.Effects.{show_each};
+ghost use Rattle.buffer_machine.specs.Machine.{held_of};
+ghost use Rattle.buffer_machine.specs.Messages.{bare, own_line, word_bytes};
+ghost use Rattle.buffer_machine.specs.Steps.{answers_again, answers_detaching, answers_joining, answers_parting, answers_reattaching, attached_again, found, is_detached, is_joined, let_go, played, with_channels};
+ghost use Rattle.buffer_targets.specs.Targets.{at_channel, channel_of_key, with_detached};
+
+use crate::buffers::Buffers;
+use crate::message::{ChannelWord, NO_SUCH_TARGET, bare_channel, own_channel};
+use crate::showing::{just, show_lines_to_all, tell};
+use buffer_commands::{Effect, Setup};
+use buffer_lines::Shown;
+use buffer_targets::{Channel, Channels};
+use irc_line::Name;
+use std::alloc::{AllocError, Global};
+use wire_bytes::Origin;
+
+/// A client has a channel joined; a detached one is attached again.
+pub fn join(
+    alloc: Global,
+    setup: &Setup,
+    buffers: &mut Buffers,
+    origin: Origin,
+    name: &Name,
+) -> Result<Vec<Effect>, AllocError>
+    ensures effects { IfOk result (λ v. v.items ≡ answers_joining setup.now (held_of buffers.old) origin name.now (found name.now (held_of buffers.old))) }
+    ensures held { OnOk result (held_of buffers.new ≡ with_channels (held_of buffers.old) (attached_again setup.now.clears_channels (fold_name name.now) buffers.old.channels (found name.now (held_of buffers.old)))) }
+{
+    let effects = answer_join(alloc, setup, buffers, origin, name)?;
+    attach_again(setup, &mut buffers.channels, name.as_bytes());
+    Ok(effects)
+}
+
+/// A client leaves a channel; one that is not joined is let go.
+pub fn part(
+    alloc: Global,
+    buffers: &mut Buffers,
+    origin: Origin,
+    name: &Name,
+) -> Result<Vec<Effect>, AllocError>
+    ensures effects { IfOk result (λ v. v.items ≡ answers_parting origin name.now (found name.now (held_of buffers.old))) }
+    ensures held { OnOk result (held_of buffers.new ≡ with_channels (held_of buffers.old) (let_go (fold_name name.now) buffers.old.channels (found name.now (held_of buffers.old)))) }
+{
+    let effects = answer_part(alloc, buffers, origin, name)?;
+    let_channel_go(&mut buffers.channels, name.as_bytes());
+    Ok(effects)
+}
+
+/// A client detaches a channel: all are shown that it is left.
+pub fn detach(
+    alloc: Global,
+    buffers: &mut Buffers,
+    origin: Origin,
+    name: &Name,
+) -> Result<Vec<Effect>, AllocError>
+    ensures effects { IfOk result (λ v. v.items ≡ answers_detaching (held_of buffers.old) origin (found name.now (held_of buffers.old))) }
+    ensures held { OnOk result (held_of buffers.new ≡ with_channels (held_of buffers.old) (at_channel (fold_name name.now) (with_detached true) buffers.old.channels)) }
+{
+    let effects = answer_detach(alloc, buffers, origin, name)?;
+    buffers.channels.set_detached_at(name.as_bytes(), true);
+    Ok(effects)
+}
+
+/// A client attaches a channel again.
+pub fn reattach(
+    alloc: Global,
+    setup: &Setup,
+    buffers: &mut Buffers,
+    origin: Origin,
+    name: &Name,
+) -> Result<Vec<Effect>, AllocError>
+    ensures effects { IfOk result (λ v. v.items ≡ answers_reattaching setup.now (held_of buffers.old) origin (found name.now (held_of buffers.old))) }
+    ensures held { OnOk result (held_of buffers.new ≡ with_channels (held_of buffers.old) (attached_again setup.now.clears_channels (fold_name name.now) buffers.old.channels (found name.now (held_of buffers.old)))) }
+{
+    let effects = answer_reattach(alloc, setup, buffers, origin, name)?;
+    attach_again(setup, &mut buffers.channels, name.as_bytes());
+    Ok(effects)
+}
+
+/// A client has a channel joined.
+fn answer_join(
+    alloc: Global,
+    setup: &Setup,
+    buffers: &Buffers,
+    origin: Origin,
+    name: &Name,
+) -> Result<Vec<Effect>, AllocError>
+    ensures { IfOk result (λ v. v.items ≡ answers_joining setup.now (held_of buffers.now) origin name.now (found name.now (held_of buffers.now))) }
+{
+    match buffers.channels.find(name.as_bytes()) {
+        None => send(alloc, origin, ChannelWord::Join, name),
+        Some(channel) => {
+            if channel.is_detached() {
+                return show_again(alloc, setup, buffers, origin, channel);
+            }
+            if channel.is_joined() {
+                return Ok(Vec::new(alloc));
+            }
+            send(alloc, origin, ChannelWord::Join, channel.target().name())
+        }
+    }
+}
+
+/// A client leaves a channel.
+fn answer_part(
+    alloc: Global,
+    buffers: &Buffers,
+    origin: Origin,
+    name: &Name,
+) -> Result<Vec<Effect>, AllocError>
+    ensures { IfOk result (λ v. v.items ≡ answers_parting origin name.now (found name.now (held_of buffers.now))) }
+{
+    match buffers.channels.find(name.as_bytes()) {
+        None => send(alloc, origin, ChannelWord::Part, name),
+        Some(channel) => {
+            if channel.is_joined() {
+                send(alloc, origin, ChannelWord::Part, channel.target().name())
+            } else {
+                Ok(Vec::new(alloc))
+            }
+        }
+    }
+}
+
+/// A client detaches a channel: all are shown that it is left.
+fn answer_detach(
+    alloc: Global,
+    buffers: &Buffers,
+    origin: Origin,
+    name: &Name,
+) -> Result<Vec<Effect>, AllocError>
+    ensures { IfOk result (λ v. v.items ≡ answers_detaching (held_of buffers.now) origin (found name.now (held_of buffers.now))) }
+{
+    match buffers.channels.find(name.as_bytes()) {
+        None => tell(alloc, &buffers.nick, origin, NO_SUCH_TARGET),
+        Some(channel) => {
+            if channel.is_detached() {
+                Ok(Vec::new(alloc))
+            } else {
+                show_left(alloc, buffers, channel)
+            }
+        }
+    }
+}
+
+/// A client attaches a channel again.
+fn answer_reattach(
+    alloc: Global,
+    setup: &Setup,
+    buffers: &Buffers,
+    origin: Origin,
+    name: &Name,
+) -> Result<Vec<Effect>, AllocError>
+    ensures { IfOk result (λ v. v.items ≡ answers_reattaching setup.now (held_of buffers.now) origin (found name.now (held_of buffers.now))) }
+{
+    match buffers.channels.find(name.as_bytes()) {
+        None => tell(alloc, &buffers.nick, origin, NO_SUCH_TARGET),
+        Some(channel) => {
+            if channel.is_detached() {
+                show_again(alloc, setup, buffers, origin, channel)
+            } else {
+                Ok(Vec::new(alloc))
+            }
+        }
+    }
+}
+
+/// All are shown that a channel is left.
+#[tactic(auto, using(crate::proofs::Shows::show_one_is))]
+fn show_left(alloc: Global, buffers: &Buffers, channel: &Channel) -> Result<Vec<Effect>, AllocError>
+    ensures { IfOk result (λ v. v.items ≡ show_each buffers.now.clients (own_line buffers.now.nick (codes "PART") channel.now.target.name ∷ [])) }
+{
+    let line = own_channel(
+        alloc,
+        &buffers.nick,
+        ChannelWord::Part,
+        channel.target().name(),
+    )?;
+    let lines = vec![in alloc; line]?;
+    show_lines_to_all(alloc, buffers.clients.as_slice(), lines)
+}
+
+/// All are shown a channel that is attached again, and it is asked who is in it, or joined.
+fn show_again(
+    alloc: Global,
+    setup: &Setup,
+    buffers: &Buffers,
+    origin: Origin,
+    channel: &Channel,
+) -> Result<Vec<Effect>, AllocError>
+    ensures { IfOk result (λ v. v.items ≡ answers_again setup.now (held_of buffers.now) origin channel.now) }
+{
+    let mut effects = show_joined(alloc, setup, buffers, channel)?;
+    let line = bare_channel(alloc, word_again(channel), channel.target().name())?;
+    effects.push(Effect::Send(origin, line))?;
+    Ok(effects)
+}
+
+/// What is sent of a channel that is attached again: who is in it, or that it is joined.
+fn word_again(channel: &Channel) -> ChannelWord
+    ensures { word_bytes result ≡ (if channel.now.joined then codes "NAMES" else codes "JOIN") }
+{
+    if channel.is_joined() {
+        ChannelWord::Names
+    } else {
+        ChannelWord::Join
+    }
+}
+
+/// All are shown that a channel is joined, and what is kept of it.
+#[tactic(auto, using(crate::proofs::Shows::show_first_is))]
+fn show_joined(
+    alloc: Global,
+    setup: &Setup,
+    buffers: &Buffers,
+    channel: &Channel,
+) -> Result<Vec<Effect>, AllocError>
+    ensures { IfOk result (λ v. v.items ≡ show_each buffers.now.clients (own_line buffers.now.nick (codes "JOIN") channel.now.target.name ∷ played setup.now.offset channel.now.target)) }
+{
+    let lines = lines_again(alloc, setup, &buffers.nick, channel)?;
+    show_lines_to_all(alloc, buffers.clients.as_slice(), lines)
+}
+
+/// That a channel is joined, and what is kept of it.
+fn lines_again(
+    alloc: Global,
+    setup: &Setup,
+    nick: &Name,
+    channel: &Channel,
+) -> Result<Vec<Shown>, AllocError>
+    ensures { IfOk result (λ v. v.items ≡ map spelling (own_line nick.now (codes "JOIN") channel.now.target.name ∷ played setup.now.offset channel.now.target)) }
+{
+    let target = channel.target();
+    let mut lines = vec![in alloc; own_channel(alloc, nick, ChannelWord::Join, target.name())?]?;
+    let mut kept = target
+        .lines()
+        .play(alloc, setup.offset(), target.name().as_bytes())?;
+    lines.append(&mut kept)?;
+    Ok(lines)
+}
+
+/// A command about a channel is sent, and nothing else.
+fn send(
+    alloc: Global,
+    origin: Origin,
+    word: ChannelWord,
+    channel: &Name,
+) -> Result<Vec<Effect>, AllocError>
+    ensures { IfOk result (λ v. v.items ≡ Effect.Send origin (bare (word_bytes word) (channel.now ∷ [])) ∷ []) }
+{
+    let line = bare_channel(alloc, word, channel)?;
+    just(alloc, Effect::Send(origin, line))
+}
+/// Attaches the channel of a name again, where it is detached.
+fn attach_again(setup: &Setup, channels: &mut Channels, name: &[u8])
+    ensures { channels.new ≡ attached_again setup.now.clears_channels (fold_name name.now) channels.old (channel_of_key (fold_name name.now) channels.old) }
+{
+    if is_detached_at(channels, name) {
+        channels.set_detached_at(name, false);
+        if setup.clears_channels() {
+            channels.clear_at(name);
+        }
+    }
+}
+
+/// Lets the channel of a name go, where it is not joined.
+fn let_channel_go(channels: &mut Channels, name: &[u8])
+    ensures { channels.new ≡ let_go (fold_name name.now) channels.old (channel_of_key (fold_name name.now) channels.old) }
+{
+    if is_idle_at(channels, name) {
+        channels.remove_at(name);
+    }
+}
+
+/// Whether the channel of a name is known and detached.
+fn is_detached_at(channels: &Channels, name: &[u8]) -> bool
+    ensures { result ≡ is_detached (channel_of_key (fold_name name.now) channels.now) }
+{
+    match channels.find(name) {
+        None => false,
+        Some(channel) => channel.is_detached(),
+    }
+}
+
+/// Whether the channel of a name is known and not joined.
+fn is_idle_at(channels: &Channels, name: &[u8]) -> bool
+    ensures { result ≡ (is_some (channel_of_key (fold_name name.now) channels.now) && not (is_joined (channel_of_key (fold_name name.now) channels.now))) }
+{
+    match channels.find(name) {
+        None => false,
+        Some(channel) => !channel.is_joined(),
+    }
+}

@@ -1,0 +1,79 @@
+//! What a client says: what it brings about, and what is held after it. After an error a part may have been done.
+ghost use Rattle.std.specs.Prelude.{◌≡◌, ◌∷◌, [], not, Some, None, if◌then◌else◌, IfOk, OnOk};
+ghost use Rattle.irc_line.specs.Names.{is_channel};
+ghost use Rattle.buffer_machine.specs.Effects.{show_each};
+ghost use Rattle.buffer_machine.specs.Machine.{held_of};
+ghost use Rattle.buffer_machine.specs.Messages.{bare, channel_of, own_said, verb_word};
+ghost use Rattle.buffer_machine.specs.Steps.{HasPlace, answers_saying, found, is_detached, others, storing};
+
+use crate::buffers::Buffers;
+use crate::lines::channel_of;
+use crate::message::{bare_message, own_message};
+use crate::showing::{just, show_to_others};
+use crate::storing::store;
+use buffer_commands::{Effect, Setup, Verb};
+use buffer_lines::Shown;
+use irc_line::{Line, Name, Text};
+use std::alloc::{AllocError, Global};
+use wire_bytes::{Moment, Origin};
+
+/// A message is sent, and where it is for a channel, shown to the others and stored.
+pub fn say(
+    alloc: Global,
+    setup: &Setup,
+    buffers: &mut Buffers,
+    origin: Origin,
+    at: Moment,
+    verb: Verb,
+    name: &Name,
+    text: &Text,
+) -> Result<Vec<Effect>, AllocError>
+    ensures effects { IfOk result (λ v. v.items ≡ answers_saying (held_of buffers.old) origin name.now (own_said buffers.old.nick verb name.now text.now) (bare (verb_word verb) (name.now ∷ text.now ∷ []) ∷ [])) }
+    ensures held { OnOk result (held_of buffers.new ≡ storing setup.now (held_of buffers.old) (if is_channel name.now then Some (at, own_said buffers.old.nick verb name.now text.now) else None)) }
+{
+    let sent = bare_message(alloc, verb, name, text)?;
+    if !name.is_channel() {
+        return just(alloc, Effect::Send(origin, sent));
+    }
+    let line = own_message(alloc, &buffers.nick, verb, name, text)?;
+    let mut effects = share(alloc, setup, buffers, origin, at, line)?;
+    effects.push(Effect::Send(origin, sent))?;
+    Ok(effects)
+}
+
+/// A line is shown to the others, unless its channel is detached, and stored.
+fn share(
+    alloc: Global,
+    setup: &Setup,
+    buffers: &mut Buffers,
+    origin: Origin,
+    at: Moment,
+    line: Line,
+) -> Result<Vec<Effect>, AllocError>
+    ensures effects { IfOk result (λ v. v.items ≡ (if not (is_detached (found (channel_of line) (held_of buffers.old))) then show_each (others origin buffers.old.clients) (line ∷ []) else [])) }
+    ensures held { OnOk result (held_of buffers.new ≡ storing setup.now (held_of buffers.old) (Some (at, line))) }
+{
+    let place = buffers.channels.place_of(channel_of(&line));
+    let effects = show_said(alloc, buffers, place, origin, &line)?;
+    store(alloc, setup, buffers, place, at, line)?;
+    Ok(effects)
+}
+
+/// The others are shown a line, unless its channel is detached.
+#[tactic(auto, using(crate::proofs::Shows::show_one_is))]
+fn show_said(
+    alloc: Global,
+    buffers: &Buffers,
+    place: Option<usize>,
+    origin: Origin,
+    line: &Line,
+) -> Result<Vec<Effect>, AllocError>
+    requires { HasPlace line.now (held_of buffers.now) place }
+    ensures { IfOk result (λ v. v.items ≡ (if not (is_detached (found (channel_of line.now) (held_of buffers.now))) then show_each (others origin buffers.now.clients) (line.now ∷ []) else [])) }
+{
+    if buffers.is_detached(place) {
+        return Ok(Vec::new(alloc));
+    }
+    let shown = Shown::of_line(alloc, line)?;
+    show_to_others(alloc, buffers.clients.as_slice(), origin, shown)
+}

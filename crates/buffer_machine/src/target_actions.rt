@@ -1,0 +1,117 @@
+//! What clients ask of targets: what is answered, and what is held after it.
+ghost use Rattle.std.specs.Prelude.{◌≡◌, IfOk, OnOk};
+ghost use Rattle.irc_line.specs.Names.{fold_name};
+ghost use Rattle.buffer_machine.specs.Held.{holding};
+ghost use Rattle.buffer_machine.specs.Machine.{held_of};
+ghost use Rattle.buffer_machine.specs.Steps.{answers_sizing, cleared_of, done_or_status, played_or_status, played_out, sized_unless_past, target_of_key};
+ghost use Rattle.buffer_targets.specs.Targets.{at_channel, at_query, cleared, over};
+
+use crate::buffers::Buffers;
+use crate::message::{DONE, NO_SUCH_TARGET, SIZE_IS_PAST};
+use crate::showing::{show_target, tell};
+use buffer_commands::{BufferSize, Effect, Setup};
+use irc_line::Name;
+use std::alloc::{AllocError, Global};
+use wire_bytes::Origin;
+
+/// The most lines that a target may keep.
+const MOST_LINES: usize = 500;
+
+/// A target is played to a client, and emptied where playing empties it.
+pub fn play(
+    alloc: Global,
+    setup: &Setup,
+    buffers: &mut Buffers,
+    origin: Origin,
+    name: &Name,
+) -> Result<Vec<Effect>, AllocError>
+    ensures effects { IfOk result (λ v. v.items ≡ played_or_status setup.now (held_of buffers.old) origin (target_of_key (fold_name name.now) (held_of buffers.old))) }
+    ensures held { OnOk result (held_of buffers.new ≡ played_out setup.now (fold_name name.now) (held_of buffers.old)) }
+{
+    let effects = answer_play(alloc, setup, buffers, origin, name)?;
+    empty_played(setup, buffers, name.as_bytes());
+    Ok(effects)
+}
+
+/// A target is emptied, and a client told whether it is known.
+pub fn clear(
+    alloc: Global,
+    buffers: &mut Buffers,
+    origin: Origin,
+    name: &Name,
+) -> Result<Vec<Effect>, AllocError>
+    ensures effects { IfOk result (λ v. v.items ≡ done_or_status (held_of buffers.old) origin (target_of_key (fold_name name.now) (held_of buffers.old))) }
+    ensures held { OnOk result (held_of buffers.new ≡ cleared_of (fold_name name.now) (held_of buffers.old)) }
+{
+    let effects = answer_known(alloc, buffers, origin, name)?;
+    buffers.channels.clear_at(name.as_bytes());
+    buffers.queries.clear_at(name.as_bytes());
+    Ok(effects)
+}
+
+/// A target keeps so many lines from now on, unless that is past what there may be.
+pub fn resize(
+    alloc: Global,
+    buffers: &mut Buffers,
+    origin: Origin,
+    name: &Name,
+    size: BufferSize,
+) -> Result<Vec<Effect>, AllocError>
+    ensures effects { IfOk result (λ v. v.items ≡ answers_sizing (held_of buffers.old) origin name.now size) }
+    ensures held { OnOk result (held_of buffers.new ≡ sized_unless_past size (fold_name name.now) (held_of buffers.old)) }
+{
+    if size.lines() > MOST_LINES {
+        return tell(alloc, &buffers.nick, origin, SIZE_IS_PAST);
+    }
+    let effects = answer_known(alloc, buffers, origin, name)?;
+    buffers.channels.resize_at(name.as_bytes(), size.lines())?;
+    buffers.queries.resize_at(name.as_bytes(), size.lines())?;
+    Ok(effects)
+}
+
+/// A client is shown what is kept of a target.
+fn answer_play(
+    alloc: Global,
+    setup: &Setup,
+    buffers: &Buffers,
+    origin: Origin,
+    name: &Name,
+) -> Result<Vec<Effect>, AllocError>
+    ensures { IfOk result (λ v. v.items ≡ played_or_status setup.now (held_of buffers.now) origin (target_of_key (fold_name name.now) (held_of buffers.now))) }
+{
+    match buffers.target(name) {
+        None => tell(alloc, &buffers.nick, origin, NO_SUCH_TARGET),
+        Some(target) => {
+            let mut effects = Vec::new(alloc);
+            show_target(alloc, &mut effects, setup.offset(), origin, target)?;
+            Ok(effects)
+        }
+    }
+}
+
+/// A client is told whether a target is known.
+fn answer_known(
+    alloc: Global,
+    buffers: &Buffers,
+    origin: Origin,
+    name: &Name,
+) -> Result<Vec<Effect>, AllocError>
+    ensures { IfOk result (λ v. v.items ≡ done_or_status (held_of buffers.now) origin (target_of_key (fold_name name.now) (held_of buffers.now))) }
+{
+    match buffers.target(name) {
+        None => tell(alloc, &buffers.nick, origin, NO_SUCH_TARGET),
+        Some(_) => tell(alloc, &buffers.nick, origin, DONE),
+    }
+}
+
+/// Empties a target that was played, where playing empties it.
+fn empty_played(setup: &Setup, buffers: &mut Buffers, name: &[u8])
+    ensures { held_of buffers.new ≡ played_out setup.now (fold_name name.now) (held_of buffers.old) }
+{
+    if setup.clears_channels() {
+        buffers.channels.clear_at(name);
+    }
+    if setup.clears_queries() {
+        buffers.queries.clear_at(name);
+    }
+}
