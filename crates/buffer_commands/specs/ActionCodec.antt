@@ -44,6 +44,7 @@ channel_is_codec = record {
   read_back = λ c rest h. named_codec.read_back c rest (channel_named c h, h);
   one_spelling = λ input c n bytes e. let o = named_codec.one_spelling input c n bytes e in (o.0.1, o.1, o.2);
   bad_within = named_codec.bad_within;
+  no_memory = named_codec.no_memory;
 }
 
 -- ---- sizes

@@ -16,12 +16,6 @@ use Rattle.buffer_commands.specs.declared.command.Action.{Action}
 use Rattle.buffer_commands.specs.declared.command.Command.{Command}
 use Rattle.buffer_commands.specs.declared.command.Command.TheVariants.{Client, Upstream, NodeGone, Up, Down}
 
--- ---- nodes
-
-pub node_is_codec : IsCodec spelled_node FitsNode node
-unfolding node
-node_is_codec = byte-codec 0 255
-
 -- ---- commands
 
 -- the command is made of something that fits
@@ -67,7 +61,7 @@ upstream_codec : IsCodec (λ (p : ℕ × Parts). spelled_number p.0 ++ spelled_l
 upstream_codec = both-codec spelled_number FitsMoment moment spelled_line FitsLine line moment_is_codec line_is_codec
 
 gone_codec : IsCodec (λ (p : ℕ × ℕ). spelled_node p.0 ++ spelled_number p.1) GoneFits (both node number)
-gone_codec = both-codec spelled_node FitsNode node spelled_number FitsNumber number node_is_codec number_is_codec
+gone_codec = both-codec spelled_node FitsNode node spelled_number FitsNumber number (byte-codec 0 255) number_is_codec
 
 command_listed : (c : Command) → FitsCommand c → IsTrue (is_some (reading_of (command_kind c) command_cases))
 command_listed (Client o at a) h = refl

@@ -1,5 +1,5 @@
 -- What a bouncer is set up with.
-use Rattle.std.specs.Prelude.{ℕ, ◌+◌, Bool, true, ◌&&◌, ◌||◌, if◌then◌else◌, nat_le, nat_lt, List, [], ◌∷◌, length, Option, Some, None, codes}
+use Rattle.std.specs.Prelude.{◌≡◌, ◌≤◌, IsTrue, Result, MatchResult, ℕ, ◌+◌, Bool, true, ◌&&◌, ◌||◌, if◌then◌else◌, nat_le, nat_lt, List, [], ◌∷◌, length, Option, Some, None, codes}
 use Rattle.std.specs.List.{list_all}
 use Rattle.irc_line.specs.Names.{is_channel}
 use Rattle.irc_line.specs.Keys.{is_below_all, are_rising}
@@ -7,6 +7,7 @@ use Rattle.buffer_commands.specs.declared.options.Options.{Options}
 use Rattle.buffer_commands.specs.declared.setup_fault.SetupFault.{SetupFault}
 use Rattle.buffer_commands.specs.declared.setup_fault.SetupFault.TheVariants.{TooManyChannels, NotAChannel, NotRising, ChannelSize, QuerySize, MostQueries}
 
+-- what clauses see of a setup
 pub record Settings : Type 0 where
   pub nick : List ℕ
   -- the channels that stand at the start, in rising order of folded name
@@ -52,6 +53,24 @@ settings_of nick channels options =
 -- the nick `me`, the channel `#x`, and all else as it is by default
 abbrev pub plain : Settings
 plain = settings_of (codes "me") (codes "#x" ∷ []) default_options
+
+-- what holds of the channels and the sizes of every setup
+pub record KeepsLimits (channels : List (List ℕ)) (options : Options) : Type 0 where
+  pub rising : IsTrue (are_rising channels)
+  pub named : IsTrue (list_all is_channel channels)
+  pub few : length channels ≤ 100
+  pub channel_size : options.channel_size ≤ 500
+  pub query_size : options.query_size ≤ 500
+  pub some_queries : 1 ≤ options.most_queries
+  pub few_queries : options.most_queries ≤ 50
+
+-- nothing was wrong, or this is what was wrong first
+abbrev pub Refuses : Result (Unit {0}) SetupFault → Option SetupFault → Type 0
+Refuses result fault = MatchResult result (λ _. fault ≡ None) (λ e. fault ≡ Some e)
+
+-- what is wrong with so many channels
+abbrev pub count_fault : ℕ → Option SetupFault
+count_fault count = if nat_lt 100 count then Some TooManyChannels else None
 
 -- at most 100 names, each a channel's, each before the next one in the order of folded names
 abbrev pub are_channels : List (List ℕ) → Bool

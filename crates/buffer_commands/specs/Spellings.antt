@@ -4,6 +4,7 @@ use Rattle.std.specs.Int.{w16, to_be_bytes}
 use Rattle.irc_line.specs.Names.{is_name, is_channel, is_text}
 use Rattle.irc_line.specs.Lines.{Parts}
 use Rattle.wire_bytes.specs.Fields.{Reading, done, through, both, only, choice, byte_within, number_to}
+use Rattle.wire_bytes.specs.Wants.{Wants, once_whole, wants_behind, wants_both, wants_choice}
 use Rattle.wire_bytes.specs.Contents.{sized, name, text, spelled_line, FitsLine, line}
 use Rattle.wire_bytes.specs.Values.{spelled_origin, spelled_number, FitsOrigin, FitsNumber, FitsMoment, origin, number, moment}
 use Rattle.wire_bytes.specs.declared.origin.Origin.{Origin}
@@ -66,11 +67,15 @@ action_kind ClearAll = 12
 action_kind (SetBuffer n k) = 13
 action_kind (Pass p) = 14
 
+-- verb, name and text of a Say
+abbrev pub said : Verb → List ℕ → List ℕ → List ℕ
+said v n t = (spelled_verb v ++ sized n) ++ sized t
+
 -- verb, name, text; or name; or name, size; or line
 abbrev pub action_body : Action → List ℕ
 action_body Attach = []
 action_body Leave = []
-action_body (Say v n t) = (spelled_verb v ++ sized n) ++ sized t
+action_body (Say v n t) = said v n t
 action_body (Join c) = sized c
 action_body (Part c) = sized c
 action_body (Detach c) = sized c
@@ -136,6 +141,27 @@ action_cases =
     ∷ (14, pass_taken)
     ∷ []
 
+-- an action wants memory for what stands whole behind its kind byte
+abbrev pub say_wants : Wants
+say_wants = wants_both (wants_behind verb (once_whole name)) (both verb name) (once_whole text)
+
+abbrev pub set_buffer_wants : Wants
+set_buffer_wants = once_whole name
+
+abbrev pub action_wants : Wants
+action_wants =
+    wants_choice (
+    (3, say_wants)
+    ∷ (4, once_whole channel_name)
+    ∷ (5, once_whole channel_name)
+    ∷ (6, once_whole channel_name)
+    ∷ (7, once_whole channel_name)
+    ∷ (8, once_whole name)
+    ∷ (9, once_whole name)
+    ∷ (13, set_buffer_wants)
+    ∷ (14, once_whole line)
+    ∷ [])
+
 -- the action at the front of an input
 unfoldable pub action : Reading Action
 action = choice action_cases
@@ -148,7 +174,7 @@ FitsNode n = (0 ≤ n) × (n ≤ 255)
 abbrev pub spelled_node : ℕ → List ℕ
 spelled_node n = n ∷ []
 
-unfoldable pub node : Reading ℕ
+abbrev pub node : Reading ℕ
 node = byte_within 0 255
 
 -- Commands
@@ -199,6 +225,16 @@ gone_taken = through gone_of (both node number)
 -- what may stand behind each kind byte
 abbrev pub command_cases : List (ℕ × Reading Command)
 command_cases = (1, client_taken) ∷ (2, upstream_taken) ∷ (3, gone_taken) ∷ (4, done Up) ∷ (5, done Down) ∷ []
+
+-- a command wants memory for its action or its line, behind what stands before these
+abbrev pub client_wants : Wants
+client_wants = wants_behind (both origin moment) action_wants
+
+abbrev pub upstream_wants : Wants
+upstream_wants = wants_behind moment (once_whole line)
+
+abbrev pub command_wants : Wants
+command_wants = wants_choice ((1, client_wants) ∷ (2, upstream_wants) ∷ [])
 
 -- the command at the front of an input
 unfoldable pub command : Reading Command

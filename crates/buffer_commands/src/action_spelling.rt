@@ -1,9 +1,11 @@
 //! How actions are spelled: a kind byte, and behind it what is of that kind.
-ghost use Rattle.std.specs.Prelude.{◌≡◌, ◌≢◌, ◌≤◌, ◌++◌, length, is_ok, if◌then◌else◌, IfOk, IfErr, IsTrue, Ok, Err};
+ghost use Rattle.std.specs.Prelude.{◌≡◌, ◌≢◌, ◌≤◌, drop, length, vec_capacity, IfOk, IfErr, IsTrue, OnErr, Ok, Err};
+ghost use Rattle.irc_line.specs.Lines.{LacksRoom};
 ghost use Rattle.irc_line.specs.Names.{is_name, is_text};
-ghost use Rattle.wire_bytes.specs.Contents.{sized};
-ghost use Rattle.wire_bytes.specs.Fields.{behind};
-ghost use Rattle.buffer_commands.specs.Spellings.{FitsAction, spelled_verb, say_taken, set_buffer_taken, pass_taken};
+ghost use Rattle.wire_bytes.specs.Contents.{line};
+ghost use Rattle.wire_bytes.specs.Wants.{once_whole};
+ghost use Rattle.wire_bytes.specs.Fields.{appended, behind};
+ghost use Rattle.buffer_commands.specs.Spellings.{FitsAction, said, say_taken, say_wants, set_buffer_taken, set_buffer_wants, pass_taken};
 
 use crate::buffer_size::BufferSize;
 use crate::channel_name::ChannelName;
@@ -45,11 +47,11 @@ impl Action {
     }
 }
 
-/// Attach is 1, Leave 2, Say 3 with verb, target and text, Join 4, Part 5, Detach 6 and Reattach 7 with their channel,
-/// Play 8 and Clear 9 with their target, ClearChannels 10, ClearQueries 11, ClearAll 12, SetBuffer 13 with its target
-/// and size, and Pass 14 with its line.
+/// Attach is 1, Leave 2, Say 3 with verb, target and text, Join 4, Part 5, Detach 6 and Reattach 7
+/// with their channel, Play 8 and Clear 9 with their target, ClearChannels 10, ClearQueries 11,
+/// ClearAll 12, SetBuffer 13 with its target and size, and Pass 14 with its line.
 impl Wire for Action {
-    ghost use Rattle.buffer_commands.specs.Spellings.{spelled_action, FitsAction, action};
+    ghost use Rattle.buffer_commands.specs.Spellings.{spelled_action, FitsAction, action, action_wants};
     ghost use Rattle.buffer_commands.specs.ActionCodec.{action_is_codec};
 
     ghost spelled = { spelled_action };
@@ -57,6 +59,8 @@ impl Wire for Action {
     ghost fits = { FitsAction };
 
     ghost taken = { action };
+
+    ghost wants = { action_wants };
 
     #[tactic(auto, unfolding(crate::specs::Spellings::spelled_action))]
     fn put(&self, out: &mut Vec<u8>) -> Result<(), AllocError> {
@@ -127,18 +131,16 @@ impl Wire for Action {
         }
     }
 
-    ghost read_back = { action_is_codec.read_back };
-
-    ghost one_spelling = { action_is_codec.one_spelling };
-
-    ghost bad_within = { action_is_codec.bad_within };
+    ghost is_codec = { action_is_codec };
 }
 
 /// Appends what a Say has, or leaves the items as they were.
 fn put_said(out: &mut Vec<u8>, verb: Verb, target: &Name, text: &Text) -> Result<(), AllocError>
     requires target { IsTrue (is_name target.now) }
     requires text { IsTrue (is_text text.now) }
-    ensures { out.new.items ≡ (if is_ok result then out.old.items ++ ((spelled_verb verb ++ sized target.now) ++ sized text.now) else out.old.items) }
+    ensures items { out.new.items ≡ appended result out.old.items (said verb target.now text.now) }
+    ensures full { OnErr result (LacksRoom out.old (length (said verb target.now text.now))) }
+    ensures capacity { vec_capacity out.old ≤ vec_capacity out.new }
 {
     let len = out.len();
     put_two(out, &verb, target)?;
@@ -152,6 +154,8 @@ fn take_say(alloc: Global, input: &[u8]) -> Result<(Action, usize), WireFault>
     requires { 1 ≤ length input.now }
     ensures ok { IfOk result (λ r. behind 1 say_taken input.now ≡ Ok (r.0, r.1)) }
     ensures err { IfErr result (λ e. e ≢ WireFault.Memory → behind 1 say_taken input.now ≡ Err e) }
+    ensures memory { IfErr result (λ e. e ≡ WireFault.Memory →
+        IsTrue (say_wants (drop 1 input.now))) }
 {
     let (((verb, target), text), end) = take_behind::<((Verb, Name), Text)>(alloc, input, 1)?;
     Ok((Action::Say(verb, target, text), end))
@@ -162,7 +166,10 @@ fn take_say(alloc: Global, input: &[u8]) -> Result<(Action, usize), WireFault>
 fn take_set_buffer(alloc: Global, input: &[u8]) -> Result<(Action, usize), WireFault>
     requires { 1 ≤ length input.now }
     ensures ok { IfOk result (λ r. behind 1 set_buffer_taken input.now ≡ Ok (r.0, r.1)) }
-    ensures err { IfErr result (λ e. e ≢ WireFault.Memory → behind 1 set_buffer_taken input.now ≡ Err e) }
+    ensures err { IfErr result (λ e. e ≢ WireFault.Memory →
+        behind 1 set_buffer_taken input.now ≡ Err e) }
+    ensures memory { IfErr result (λ e. e ≡ WireFault.Memory →
+        IsTrue (set_buffer_wants (drop 1 input.now))) }
 {
     let ((target, size), end) = take_behind::<(Name, BufferSize)>(alloc, input, 1)?;
     Ok((Action::SetBuffer(target, size), end))
@@ -174,6 +181,8 @@ fn take_pass(alloc: Global, input: &[u8]) -> Result<(Action, usize), WireFault>
     requires { 1 ≤ length input.now }
     ensures ok { IfOk result (λ r. behind 1 pass_taken input.now ≡ Ok (r.0, r.1)) }
     ensures err { IfErr result (λ e. e ≢ WireFault.Memory → behind 1 pass_taken input.now ≡ Err e) }
+    ensures memory { IfErr result (λ e. e ≡ WireFault.Memory →
+        IsTrue (once_whole line (drop 1 input.now))) }
 {
     let (line, end) = take_behind::<WireLine>(alloc, input, 1)?;
     Ok((Action::Pass(line), end))

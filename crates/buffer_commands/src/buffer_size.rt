@@ -1,4 +1,4 @@
-ghost use Rattle.std.specs.Prelude.{◌≡◌, ◌≤◌};
+ghost use Rattle.std.specs.Prelude.{◌≡◌, Ok, ◌≤◌};
 ghost use Rattle.buffer_commands.specs.Spellings.{buffer_size};
 
 use std::alloc::{AllocError, Global};
@@ -41,7 +41,9 @@ impl BufferSize {
 }
 
 impl Copied for BufferSize {
-    fn copy(&self, _alloc: Global) -> Result<Self, AllocError> {
+    fn copy(&self, _alloc: Global) -> Result<Self, AllocError>
+        ensures { result ≡ Ok self.now }
+    {
         Ok(*self)
     }
 }
@@ -49,6 +51,7 @@ impl Copied for BufferSize {
 /// Two bytes, the highest first.
 impl Wire for BufferSize {
     ghost use Rattle.buffer_commands.specs.Spellings.{spelled_size, FitsSize, buffer_size};
+    ghost use Rattle.wire_bytes.specs.Wants.{never};
     ghost use Rattle.buffer_commands.specs.ActionCodec.{size_is_codec};
 
     ghost spelled = { spelled_size };
@@ -56,6 +59,8 @@ impl Wire for BufferSize {
     ghost fits = { FitsSize };
 
     ghost taken = { buffer_size };
+
+    ghost wants = { never };
 
     #[tactic(auto, unfolding(crate::specs::Spellings::spelled_size))]
     fn put(&self, out: &mut Vec<u8>) -> Result<(), AllocError> {
@@ -68,9 +73,5 @@ impl Wire for BufferSize {
         Ok((BufferSize { lines }, len))
     }
 
-    ghost read_back = { size_is_codec.read_back };
-
-    ghost one_spelling = { size_is_codec.one_spelling };
-
-    ghost bad_within = { size_is_codec.bad_within };
+    ghost is_codec = { size_is_codec };
 }

@@ -1,10 +1,10 @@
 ghost use Rattle.std.specs.Prelude.{◌≡◌, false, IfOk, IsTrue, MatchOption};
-ghost use Rattle.irc_line.specs.Names.{is_channel};
+ghost use Rattle.irc_line.specs.Names.{IsPassed, is_channel};
 
-use irc_line::Name;
+use irc_line::{Name, is_channel_name};
 use std::alloc::{AllocError, Global};
 use std::marker::Model;
-use wire_bytes::{Copied, Wire, WireFault};
+use wire_bytes::{Copied, Wire, WireFault, take_sized};
 
 /// The name of a channel: a name that begins with `#`, `&`, `+` or `!` (RFC 2812, 1.3).
 #[derive(Drop)]
@@ -26,7 +26,7 @@ impl Model for ChannelName {
 impl ChannelName {
     /// The name, where it is a channel's.
     pub fn from_name(name: Name) -> Option<ChannelName>
-        ensures { MatchOption result (is_channel name ≡ false) (λ c. (c ≡ name) × IsTrue (is_channel name)) }
+        ensures { MatchOption result (is_channel name ≡ false) (IsPassed is_channel name) }
     {
         if name.is_channel() {
             Some(ChannelName { name })
@@ -55,6 +55,7 @@ impl Copied for ChannelName {
 impl Wire for ChannelName {
     ghost use Rattle.wire_bytes.specs.Contents.{sized};
     ghost use Rattle.buffer_commands.specs.Spellings.{FitsChannel, channel_name};
+    ghost use Rattle.wire_bytes.specs.Wants.{once_whole};
     ghost use Rattle.buffer_commands.specs.ActionCodec.{channel_is_codec};
 
     ghost spelled = { sized };
@@ -63,23 +64,21 @@ impl Wire for ChannelName {
 
     ghost taken = { channel_name };
 
+    ghost wants = { once_whole channel_name };
+
     #[tactic(auto, using(crate::specs::ActionCodec::channel_named))]
     fn put(&self, out: &mut Vec<u8>) -> Result<(), AllocError> {
         self.name().put(out)
     }
 
-    #[tactic(auto, unfolding(crate::specs::Spellings::channel_name, wire_bytes::specs::Fields::only))]
     fn take(alloc: Global, input: &[u8]) -> Result<(Self, usize), WireFault> {
-        let (name, len) = Name::take(alloc, input)?;
-        match ChannelName::from_name(name) {
-            None => Err(WireFault::Bad(0)),
-            Some(channel) => Ok((channel, len)),
+        // The bytes are judged before a name is made of them: want of memory hides no fault.
+        if !is_channel_name(take_sized(input)?) {
+            return Err(WireFault::Bad(0));
         }
+        let (name, len) = Name::take(alloc, input)?;
+        Ok((ChannelName { name }, len))
     }
 
-    ghost read_back = { channel_is_codec.read_back };
-
-    ghost one_spelling = { channel_is_codec.one_spelling };
-
-    ghost bad_within = { channel_is_codec.bad_within };
+    ghost is_codec = { channel_is_codec };
 }

@@ -4,7 +4,6 @@ ghost use Rattle.buffer_commands.specs.Spellings.{FitsCommand};
 
 use crate::command::{Action, Command};
 use crate::fields::put_two;
-use crate::node_byte::NodeByte;
 use crate::wire_line::WireLine;
 use std::alloc::{AllocError, Global};
 use wire_bytes::{Moment, Number, Origin, Wire, WireFault, take_behind, undo};
@@ -27,7 +26,7 @@ impl Command {
                 line.fits();
             }
             Command::NodeGone(node, floor) => {
-                NodeByte::new(*node);
+                let _node = *node;
                 floor.value();
             }
             Command::Up | Command::Down => {}
@@ -35,9 +34,10 @@ impl Command {
     }
 }
 
-/// Client is 1 with origin, moment and action, Upstream 2 with moment and line, NodeGone 3 with node and floor, Up 4, Down 5.
+/// Client is 1 with origin, moment and action, Upstream 2 with moment and line, NodeGone 3 with node
+/// and floor, Up 4, Down 5.
 impl Wire for Command {
-    ghost use Rattle.buffer_commands.specs.Spellings.{spelled_command, FitsCommand, command};
+    ghost use Rattle.buffer_commands.specs.Spellings.{spelled_command, FitsCommand, command, command_wants};
     ghost use Rattle.buffer_commands.specs.CommandCodec.{command_is_codec};
 
     ghost spelled = { spelled_command };
@@ -45,6 +45,8 @@ impl Wire for Command {
     ghost fits = { FitsCommand };
 
     ghost taken = { command };
+
+    ghost wants = { command_wants };
 
     #[tactic(auto, unfolding(crate::specs::Spellings::spelled_command))]
     fn put(&self, out: &mut Vec<u8>) -> Result<(), AllocError> {
@@ -62,7 +64,7 @@ impl Wire for Command {
             }
             Command::NodeGone(node, floor) => {
                 out.push(3)?;
-                let outcome = put_two(out, &NodeByte::new(*node), floor);
+                let outcome = put_two(out, node, floor);
                 undo(out, len, outcome)
             }
             Command::Up => Ok(out.push(4)?),
@@ -85,8 +87,8 @@ impl Wire for Command {
                 Ok((Command::Upstream(at, line), end))
             }
             [3, ..] => {
-                let ((node, floor), end) = take_behind::<(NodeByte, Number)>(alloc, input, 1)?;
-                Ok((Command::NodeGone(node.node(), floor), end))
+                let ((node, floor), end) = take_behind::<(u8, Number)>(alloc, input, 1)?;
+                Ok((Command::NodeGone(node, floor), end))
             }
             [4, ..] => Ok((Command::Up, 1)),
             [5, ..] => Ok((Command::Down, 1)),
@@ -94,9 +96,5 @@ impl Wire for Command {
         }
     }
 
-    ghost read_back = { command_is_codec.read_back };
-
-    ghost one_spelling = { command_is_codec.one_spelling };
-
-    ghost bad_within = { command_is_codec.bad_within };
+    ghost is_codec = { command_is_codec };
 }

@@ -1,4 +1,5 @@
-//! What comes to the buffers of a bouncer and what they bring about: commands and their bytes, effects, and the setup.
+//! What comes to the buffers of a bouncer and what they bring about: commands and their bytes,
+//! effects, and the setup.
 #![tactic(auto)]
 
 mod action_spelling;
@@ -8,7 +9,6 @@ mod command;
 mod command_spelling;
 mod effect;
 mod fields;
-mod node_byte;
 mod options;
 mod setup;
 mod setup_fault;
@@ -22,6 +22,6 @@ pub use channel_name::ChannelName;
 pub use command::{Action, Command, Verb};
 pub use effect::Effect;
 pub use options::Options;
-pub use setup::Setup;
+pub use setup::{MOST_LINES, Setup};
 pub use setup_fault::SetupFault;
 pub use wire_line::WireLine;

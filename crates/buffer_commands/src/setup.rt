@@ -1,8 +1,8 @@
-ghost use Rattle.std.specs.Prelude.{◌≡◌, ◌<◌, ◌≤◌, is_ok, length, drop, slice_index_or, [], ◌+◌, None, Some, IfOk, IfErr, IsTrue, MatchResult};
+ghost use Rattle.std.specs.Prelude.{◌≡◌, ◌<◌, ◌≤◌, is_ok, length, drop, slice_index_or, [], ◌+◌, Some, IfOk, IfErr, IsTrue};
 ghost use Rattle.std.specs.List.{list_all};
 ghost use Rattle.irc_line.specs.Names.{is_channel, is_name};
 ghost use Rattle.irc_line.specs.Keys.{are_rising, is_below_all};
-ghost use Rattle.buffer_commands.specs.Settings.{fault_of, order_fault, plain, settings_of, size_fault, within_limits};
+ghost use Rattle.buffer_commands.specs.Settings.{Refuses, count_fault, fault_of, order_fault, plain, settings_of, size_fault, within_limits};
 
 use crate::options::Options;
 use crate::setup_fault::SetupFault;
@@ -16,7 +16,7 @@ use wire_bytes::Copied;
 const MOST_CHANNELS: usize = 100;
 
 /// The most lines that a channel or a query may keep.
-const MOST_LINES: u16 = 500;
+pub const MOST_LINES: u16 = 500;
 
 /// The most queries that there may be.
 const MOST_QUERIES: u8 = 50;
@@ -30,23 +30,19 @@ pub struct Setup {
 }
 
 impl Model for Setup {
-    ghost use Rattle.std.specs.Prelude.{◌≤◌, IsTrue, length};
-    ghost use Rattle.std.specs.List.{list_all};
-    ghost use Rattle.irc_line.specs.Names.{is_channel};
-    ghost use Rattle.irc_line.specs.Keys.{are_rising};
-    ghost use Rattle.buffer_commands.specs.Settings.{Settings, settings_of};
+    ghost use Rattle.buffer_commands.specs.Settings.{KeepsLimits, Settings, settings_of};
 
     ghost Value = { Settings };
 
     ghost view = { λ s. settings_of s.nick s.channels.items s.options };
 
-    ghost invariant = { λ s. IsTrue (are_rising s.channels.items) × IsTrue (list_all is_channel s.channels.items) × (length s.channels.items ≤ 100) × (s.options.channel_size ≤ 500) × (s.options.query_size ≤ 500) × (1 ≤ s.options.most_queries) × (s.options.most_queries ≤ 50) };
+    ghost invariant = { λ s. KeepsLimits s.channels.items s.options };
 }
 
 impl Setup {
-    /// The setup of a nick and the channels that stand at the start, which are to be in rising order of folded name.
-    /// Of several faults the first one is told: of the number of channels, then of the channels one by one, then of
-    /// the sizes in the order of [`Options`].
+    /// The setup of a nick and the channels that stand at the start, which are to be in rising order of
+    /// folded name. Of several faults the first one is told: of the number of channels, then of the
+    /// channels one by one, then of the sizes in the order of [`Options`].
     pub fn new(nick: Name, channels: Vec<Name>, options: Options) -> Result<Setup, SetupFault>
         ensures limits { is_ok result ≡ within_limits channels.items options }
         ensures ok { IfOk result (λ s. s ≡ settings_of nick channels.items options) }
@@ -153,7 +149,7 @@ impl Setup {
 
 /// Refuses what is wrong first.
 fn check(channels: &[Name], options: &Options) -> Result<(), SetupFault>
-    ensures { MatchResult result (λ _. fault_of channels.now options.now ≡ None) (λ e. fault_of channels.now options.now ≡ Some e) }
+    ensures { Refuses result (fault_of channels.now options.now) }
 {
     check_count(channels.len())?;
     check_channels(channels)?;
@@ -162,7 +158,7 @@ fn check(channels: &[Name], options: &Options) -> Result<(), SetupFault>
 
 /// Refuses more channels than there may be.
 fn check_count(count: usize) -> Result<(), SetupFault>
-    ensures { MatchResult result (λ _. count ≤ 100) (λ e. (100 < count) × (e ≡ SetupFault.TooManyChannels)) }
+    ensures { Refuses result (count_fault count) }
 {
     if count > MOST_CHANNELS {
         return Err(SetupFault::TooManyChannels);
@@ -172,7 +168,7 @@ fn check_count(count: usize) -> Result<(), SetupFault>
 
 /// Refuses the first name that is no channel's or that does not come after the one before it.
 fn check_channels(channels: &[Name]) -> Result<(), SetupFault>
-    ensures { MatchResult result (λ _. order_fault 0 channels.now ≡ None) (λ e. order_fault 0 channels.now ≡ Some e) }
+    ensures { Refuses result (order_fault 0 channels.now) }
 {
     for place in 0..channels.len() {
         if !channels[place].is_channel() {
@@ -188,7 +184,8 @@ fn check_channels(channels: &[Name]) -> Result<(), SetupFault>
 /// Whether the name at a place comes before the next one, if there is a next one.
 fn rises_at(names: &[Name], place: usize) -> bool
     requires { place < length names.now }
-    ensures { result ≡ is_below_all (slice_index_or names.now place []) (drop (place + 1) names.now) }
+    ensures { result ≡ is_below_all (slice_index_or names.now place [])
+        (drop (place + 1) names.now) }
 {
     let next = place + 1;
     next == names.len() || is_name_below(names[place].as_bytes(), names[next].as_bytes())
@@ -196,7 +193,7 @@ fn rises_at(names: &[Name], place: usize) -> bool
 
 /// Refuses the first size that is out of its limits.
 fn check_sizes(options: &Options) -> Result<(), SetupFault>
-    ensures { MatchResult result (λ _. size_fault options.now ≡ None) (λ e. size_fault options.now ≡ Some e) }
+    ensures { Refuses result (size_fault options.now) }
 {
     if options.channel_size > MOST_LINES {
         return Err(SetupFault::ChannelSize);

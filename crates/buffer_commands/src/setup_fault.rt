@@ -1,6 +1,7 @@
 use thiserror::Error;
 
-/// Why no bouncer is set up so. Of several faults the one that is named first here is told, and of two names the first one's.
+/// Why no bouncer is set up so. Of several faults the one that is named first here is told, and of
+/// two names the first one's.
 #[derive(Clone, Copy, Debug, Drop, PartialEq, Eq, Error)]
 pub enum SetupFault {
     #[error("there are more than 100 channels")]

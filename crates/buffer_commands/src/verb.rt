@@ -1,4 +1,4 @@
-ghost use Rattle.std.specs.Prelude.{◌≡◌};
+ghost use Rattle.std.specs.Prelude.{◌≡◌, Ok};
 ghost use Rattle.buffer_commands.specs.Spellings.{verb_of};
 
 use crate::command::Verb;
@@ -6,7 +6,9 @@ use std::alloc::{AllocError, Global};
 use wire_bytes::{Copied, Wire, WireFault, take_byte};
 
 impl Copied for Verb {
-    fn copy(&self, _alloc: Global) -> Result<Self, AllocError> {
+    fn copy(&self, _alloc: Global) -> Result<Self, AllocError>
+        ensures { result ≡ Ok self.now }
+    {
         Ok(*self)
     }
 }
@@ -14,6 +16,7 @@ impl Copied for Verb {
 /// One byte, 0 for `PRIVMSG` and 1 for `NOTICE`.
 impl Wire for Verb {
     ghost use Rattle.buffer_commands.specs.Spellings.{spelled_verb, verb};
+    ghost use Rattle.wire_bytes.specs.Wants.{never};
     ghost use Rattle.buffer_commands.specs.ActionCodec.{verb_is_codec};
 
     ghost spelled = { spelled_verb };
@@ -21,6 +24,8 @@ impl Wire for Verb {
     ghost fits = { λ _. Unit {0} };
 
     ghost taken = { verb };
+
+    ghost wants = { never };
 
     fn put(&self, out: &mut Vec<u8>) -> Result<(), AllocError> {
         let byte = match self {
@@ -35,11 +40,7 @@ impl Wire for Verb {
         Ok((verb_named(byte), len))
     }
 
-    ghost read_back = { verb_is_codec.read_back };
-
-    ghost one_spelling = { verb_is_codec.one_spelling };
-
-    ghost bad_within = { verb_is_codec.bad_within };
+    ghost is_codec = { verb_is_codec };
 }
 
 fn verb_named(byte: u8) -> Verb

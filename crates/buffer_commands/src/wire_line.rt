@@ -1,5 +1,6 @@
 ghost use Rattle.std.specs.Prelude.{◌≡◌, ◌<◌, ◌≤◌, length, MatchOption};
 ghost use Rattle.irc_line.specs.Lines.{spelling};
+ghost use Rattle.irc_line.specs.Reading.{IsShort};
 ghost use Rattle.wire_bytes.specs.Contents.{FitsLine};
 
 use irc_line::Line;
@@ -32,7 +33,8 @@ impl Model for WireLine {
 impl WireLine {
     /// The line, where it is not too long.
     pub fn from_line(line: Line) -> Option<WireLine>
-        ensures { MatchOption result (511 < length (spelling line)) (λ l. (l ≡ line) × (length (spelling line) ≤ 511)) }
+        ensures { MatchOption result (511 < length (spelling line))
+            (λ l. (l ≡ line) × IsShort line) }
     {
         if line.spelled_len() <= MOST_BYTES {
             Some(WireLine { line })
@@ -68,6 +70,7 @@ impl Copied for WireLine {
 /// A line, as any other.
 impl Wire for WireLine {
     ghost use Rattle.wire_bytes.specs.Contents.{spelled_line, FitsLine, line};
+    ghost use Rattle.wire_bytes.specs.Wants.{once_whole};
     ghost use Rattle.wire_bytes.specs.LineCodec.{line_is_codec};
 
     ghost spelled = { spelled_line };
@@ -75,6 +78,8 @@ impl Wire for WireLine {
     ghost fits = { FitsLine };
 
     ghost taken = { line };
+
+    ghost wants = { once_whole line };
 
     fn put(&self, out: &mut Vec<u8>) -> Result<(), AllocError> {
         let line = self.line();
@@ -87,9 +92,5 @@ impl Wire for WireLine {
         Ok((line, len))
     }
 
-    ghost read_back = { line_is_codec.read_back };
-
-    ghost one_spelling = { line_is_codec.one_spelling };
-
-    ghost bad_within = { line_is_codec.bad_within };
+    ghost is_codec = { line_is_codec };
 }
