@@ -1,8 +1,8 @@
 -- One step of the machine, on what it holds: what it holds next, and what it answers.
 use Rattle.std.specs.Prelude.{◌≡◌, ℕ, ◌<◌, Bool, true, false, not, ◌&&◌, ◌||◌, if◌then◌else◌, nat_lt, max, List, [], ◌∷◌, ◌++◌, length, map, Option, Some, None, is_some, filter, flat_map, codes, slice_index, slice_set, ⊤}
 use Rattle.irc_line.specs.Names.{fold_name, is_channel}
-use Rattle.irc_line.specs.Lines.{Parts}
-use Rattle.buffer_lines.specs.Stamps.{framed, parameter, ring}
+use Rattle.irc_line.specs.Lines.{Parts, parameter}
+use Rattle.buffer_lines.specs.Stamps.{framed, ring}
 use Rattle.buffer_targets.specs.Targets.{StandsAt, ChannelLines, TargetLines, channel, target, cleared, resized, pushed, over, with_joined, with_detached, at_channel, channel_of_key, joined_by, without_channel, open_cleared, at_query, query_of_key, query_stored}
 use Rattle.wire_bytes.specs.declared.origin.Origin.{Origin}
 use Rattle.buffer_commands.specs.Settings.{Settings}
@@ -93,15 +93,15 @@ channels_storing s h None = h.channels
 channels_storing s h (Some line) =
     if is_storable line.1
     then
-    (if keeps s.clears_channels h.clients || is_detached (channel_of_key (fold_name (parameter 1 (line.1))) h.channels)
-    then at_channel (fold_name (parameter 1 (line.1))) (over (pushed line)) h.channels else h.channels)
+    (if keeps s.clears_channels h.clients || is_detached (channel_of_key (fold_name (parameter 0 (line.1))) h.channels)
+    then at_channel (fold_name (parameter 0 (line.1))) (over (pushed line)) h.channels else h.channels)
     else h.channels
 
 -- a line is stored in a query where it is for no channel that is known
 abbrev pub queries_storing : Settings → Held → Option (ℕ × Parts) → List TargetLines
 queries_storing s h None = h.queries
 queries_storing s h (Some line) =
-    if is_storable line.1 && not (is_some (channel_of_key (fold_name (parameter 1 (line.1))) h.channels)) && keeps s.clears_queries h.clients && is_query_line h.nick line.1
+    if is_storable line.1 && not (is_some (channel_of_key (fold_name (parameter 0 (line.1))) h.channels)) && keeps s.clears_queries h.clients && is_query_line h.nick line.1
     then query_stored s.most_queries s.query_size (source line.1) line h.queries
     else h.queries
 
@@ -139,12 +139,12 @@ sized_unless_past n key h =
 abbrev pub channels_taking : Settings → Held → ℕ → Parts → List ChannelLines
 channels_taking s h at line =
     if is_own (codes "JOIN") h.nick line
-    then joined_by (parameter 1 line) s.channel_size h.channels
+    then joined_by (parameter 0 line) s.channel_size h.channels
     else
     if is_own (codes "PART") h.nick line
-    then without_channel (fold_name (parameter 1 line)) h.channels
+    then without_channel (fold_name (parameter 0 line)) h.channels
     else
-    if is_own_kick h.nick line then at_channel (fold_name (parameter 1 line)) (with_joined false) h.channels else channels_storing s h (Some (at, line))
+    if is_own_kick h.nick line then at_channel (fold_name (parameter 0 line)) (with_joined false) h.channels else channels_storing s h (Some (at, line))
 
 abbrev pub channels_after : Settings → ℕ → Held → Command → List ChannelLines
 channels_after s floor h (Client o at Attach) = if can_attach floor h.clients o && s.clears_channels then open_cleared h.channels else h.channels

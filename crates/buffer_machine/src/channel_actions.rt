@@ -237,7 +237,7 @@ fn lines_again(
     let mut lines = vec![in alloc; own_channel(alloc, nick, ChannelWord::Join, target.name())?]?;
     let mut kept = target
         .lines()
-        .play(alloc, setup.offset(), target.name().as_bytes())?;
+        .play(setup.offset(), target.name().as_bytes())?;
     lines.append(&mut kept)?;
     Ok(lines)
 }

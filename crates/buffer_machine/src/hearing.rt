@@ -1,7 +1,7 @@
 //! A line from upstream: what it brings about, and what is held after it. After an error a part may have been done.
 ghost use Rattle.std.specs.Prelude.{◌≡◌, IfOk, IsTrue, OnOk, if◌then◌else◌};
+ghost use Rattle.irc_line.specs.Lines.{parameter};
 ghost use Rattle.irc_line.specs.Names.{is_name};
-ghost use Rattle.buffer_lines.specs.Stamps.{parameter};
 ghost use Rattle.buffer_commands.specs.declared.command.Command.TheVariants.{Upstream};
 ghost use Rattle.buffer_machine.specs.Buffers.{nick_after};
 ghost use Rattle.buffer_machine.specs.Held.{holding};
@@ -122,7 +122,7 @@ fn join(alloc: Global, channels: &mut Channels, name: &[u8], size: usize) -> Res
 
 /// Takes the nick that a line gives, if it gives one.
 fn take_nick(alloc: Global, nick: &mut Name, line: &Line) -> Result<(), AllocError>
-    ensures { OnOk result (nick.new ≡ (if is_new_nick nick.old line.now then parameter 1 line.now else nick.old)) }
+    ensures { OnOk result (nick.new ≡ (if is_new_nick nick.old line.now then parameter 0 line.now else nick.old)) }
 {
     if is_new_nick(line, nick.as_bytes()) {
         let bytes = Vec::from_slice(alloc, line.parameter(0))?;

@@ -57,7 +57,7 @@ fn played_at(
     ensures { IfOk result (λ v. v.items ≡ map spelling (played_of offset (target_of_key (fold_name name.now) (held_of buffers.now)))) }
 {
     match buffers.target(name) {
-        Some(target) => target.lines().play(alloc, offset, target.name().as_bytes()),
+        Some(target) => target.lines().play(offset, target.name().as_bytes()),
         None => Ok(Vec::new(alloc)),
     }
 }

@@ -1,7 +1,6 @@
 //! The lines that the buffers tell and send.
 ghost use Rattle.std.specs.Prelude.{◌≡◌, ◌∷◌, [], codes, IfOk, IsTrue};
-ghost use Rattle.irc_line.specs.Lines.{is_upper_command, is_word, spelling};
-ghost use Rattle.buffer_lines.specs.Stamps.{line_of};
+ghost use Rattle.irc_line.specs.Lines.{is_upper_command, is_word, spelling, line_of};
 ghost use Rattle.buffer_machine.specs.Messages.{bare, own_line, own_prefix, own_said, verb_word, word_bytes};
 
 use buffer_commands::Verb;

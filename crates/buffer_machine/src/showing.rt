@@ -49,7 +49,7 @@ pub fn show_target(
 {
     let shown = target
         .lines()
-        .play(alloc, offset, target.name().as_bytes())?;
+        .play(offset, target.name().as_bytes())?;
     show_lines(effects, origin, shown)
 }
 
