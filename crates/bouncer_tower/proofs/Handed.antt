@@ -24,7 +24,7 @@ use Rattle.std.proofs.lemmas.List.{append-nil}
 use Rattle.request_once.specs.declared.body.Body.TheVariants.{Inner, Asked}
 use Rattle.request_once.specs.declared.answer.Answer.TheVariants as answer
 use Rattle.request_once.specs.Fresh as requests
-use Rattle.request_once.proofs.Requests.{plain-inner, plain-next, plain-skip}
+use Rattle.request_once.proofs.Requests.{plain-nil, plain-inner, plain-next, plain-skip}
 use Rattle.bouncer_tower.specs.Bodies.{TowerBody, TowerEffect, Claimed, client, accepted, outgoing, claimed, answers, sent, sessioned_effects, claimed_effects}
 use Rattle.bouncer_tower.specs.Hosting.{buffer_class, session_class, claim_class, hand_of, hands, handed_over}
 use Rattle.irc_line.proofs.Numbers.{eq_of}
@@ -141,7 +141,8 @@ hands_append (x ∷ xs) ys = ap (λ (hs : List Handed). hand_of x ++ hs) (hands_
 -- all that is handed out is the claims that took effect
 pub all_hands_are_claims : (s : Settings) (h : History TowerBody) → map (λ k. k.0) (handed_over s h) ≡ claimed s h
 unfolding claimed accepted
-all_hands_are_claims s [] = handing.all_hands_are_claims sessions.session (sessions.sent sent) (sessioned_effects s) []
+all_hands_are_claims s [] =
+    handing.all_hands_are_claims sessions.session (sessions.sent sent) (sessioned_effects s) [] ∙ ap (claimed_at s) (sym (plain-nil client))
 all_hands_are_claims s (x ∷ h) =
     ap (map (λ k. k.0)) (hands_append (all_effects (answers s) h) (answers s h x.0 x.1))
     ∙ (handing.map_append (handed_over s h) (hands (answers s h x.0 x.1))
