@@ -81,7 +81,8 @@ pub fn own_channel(
 
 /// The bouncer's own answer to a client of this nick.
 pub fn status_line(alloc: Global, nick: &Name, text: &[u8]) -> Result<Shown, AllocError>
-    ensures { IfOk result (λ x. x ≡ spelling (line_of (codes "*status!bouncer@local") (codes "PRIVMSG") (nick.now ∷ text.now ∷ []))) }
+    ensures { IfOk result (λ x. x ≡ spelling
+        (line_of (codes "*status!bouncer@local") (codes "PRIVMSG") (nick.now ∷ text.now ∷ []))) }
 {
     Shown::of_parts(
         alloc,
