@@ -17,7 +17,8 @@ pub fn begin<B: Wire>(
     size: u8,
     id: u8,
 ) -> Result<Vec<Message<B>>, AllocError>
-    ensures ok { IfOk result (λ ms. BecomesSending (timed_out size id) state.old ms.items state.new) }
+    ensures ok { IfOk result (λ ms. BecomesSending (timed_out size id)
+        state.old ms.items state.new) }
     ensures err { OnErr result (state.new ≡ state.old) }
 {
     if let Role::Leader = state.role {

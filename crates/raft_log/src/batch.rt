@@ -1,10 +1,10 @@
 ghost use Rattle.std.specs.Prelude.{◌≡◌};
 ghost use Rattle.raft_log.specs.Batches.{batch, MayBeSent};
 
-use crate::entry::{Entry, copied_entries};
+use crate::entry::Entry;
 use std::alloc::{AllocError, Global};
 use std::marker::Model;
-use wire_bytes::{Copied, Number, Wire};
+use wire_bytes::{Copied, Number, Wire, copied_all};
 
 /// What an Append brings: entries, the place before them with its term, and the sender's commit.
 ///
@@ -77,7 +77,7 @@ impl<B: Wire> Batch<B> {
 
 impl<B: Wire> Copied for Batch<B> {
     fn copy(&self, alloc: Global) -> Result<Self, AllocError> {
-        let entries = copied_entries(alloc, &self.entries)?;
+        let entries = copied_all(alloc, &self.entries)?;
         Ok(Batch {
             prev_index: self.prev_index,
             prev_term: self.prev_term,

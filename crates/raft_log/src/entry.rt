@@ -1,4 +1,3 @@
-ghost use Rattle.std.specs.Prelude.{◌≡◌, IfOk};
 ghost use Rattle.raft_log.specs.Entries.{FitsEntry};
 
 use crate::body::LoggedBody;
@@ -59,18 +58,4 @@ impl<B: Wire> Wire for Entry<B> {
     }
 
     ghost is_codec = { entry-codec B.spelled B.fits B.taken B.is_codec };
-}
-
-/// Copies of entries, in order.
-pub fn copied_entries<B: Wire>(
-    alloc: Global,
-    entries: &[Entry<B>],
-) -> Result<Vec<Entry<B>>, AllocError>
-    ensures { IfOk result (λ v. v.items ≡ entries.now) }
-{
-    let mut all = Vec::with_capacity(alloc, entries.len())?;
-    for entry in entries {
-        all.push(entry.copy(alloc)?)?;
-    }
-    Ok(all)
 }

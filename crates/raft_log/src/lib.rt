@@ -13,7 +13,7 @@ mod role;
 
 pub use batch::Batch;
 pub use body::LoggedBody;
-pub use entry::{Entry, copied_entries};
+pub use entry::Entry;
 pub use laws::{
     the_first_conflict_cuts, what_does_not_conflict_is_added, what_stands_before_a_conflict_is_kept,
 };

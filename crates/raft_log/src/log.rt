@@ -4,10 +4,10 @@ ghost use Rattle.raft_log.specs.Lists.{item};
 ghost use Rattle.raft_log.specs.Logs.{agrees_at, last_term, repair, standing, term_at, up_to_date};
 ghost use Rattle.raft_log.specs.Logs.{conflicts_within, entry_limit};
 
-use crate::entry::{Entry, copied_entries};
+use crate::entry::Entry;
 use std::alloc::{AllocError, Global};
 use std::marker::Model;
-use wire_bytes::{Copied, Number, Wire};
+use wire_bytes::{Copied, Number, Wire, copied_all};
 
 /// How many entries a log has at most.
 const ENTRY_LIMIT: usize = 1_000_000;
@@ -118,9 +118,9 @@ impl<B: Wire> Log<B> {
         let alloc = *self.entries.allocator();
         let rest = &self.entries[place.value() as usize..];
         if count < rest.len() {
-            copied_entries(alloc, &rest[..count])
+            copied_all(alloc, &rest[..count])
         } else {
-            copied_entries(alloc, rest)
+            copied_all(alloc, rest)
         }
     }
 
@@ -164,7 +164,7 @@ impl<B: Wire> Log<B> {
         ensures ok { OnOk result (self.new ≡ take place self.old ++ entries.now) }
         ensures err { OnErr result (self.new ≡ self.old) }
     {
-        let added = copied_entries(*self.entries.allocator(), entries)?;
+        let added = copied_all(*self.entries.allocator(), entries)?;
         replace_tail(&mut self.entries, place.value() as usize, added)
     }
 
@@ -189,7 +189,7 @@ impl<B: Wire> Log<B> {
 
 impl<B: Wire> Copied for Log<B> {
     fn copy(&self, alloc: Global) -> Result<Self, AllocError> {
-        let entries = copied_entries(alloc, &self.entries)?;
+        let entries = copied_all(alloc, &self.entries)?;
         Ok(Log { entries })
     }
 }

@@ -5,10 +5,10 @@ ghost use Rattle.raft_log.specs.Entries.{FitsEntry};
 ghost use Rattle.stable_store.specs.Lists.{AllFit};
 ghost use Rattle.stable_store.specs.EntryLists.{entries_at, spelled_entries, IsRefusal};
 
-use raft_log::{Entry, copied_entries};
+use raft_log::Entry;
 use std::alloc::{AllocError, Global};
 use std::marker::Model;
-use wire_bytes::{Copied, Wire, WireFault, take_behind, take_u16, undo};
+use wire_bytes::{Copied, Wire, WireFault, copied_all, take_behind, take_u16, undo};
 
 /// At most 256 entries.
 #[derive(Drop)]
@@ -45,7 +45,7 @@ impl<B: Wire> Entries<B> {
 
 impl<B: Wire> Copied for Entries<B> {
     fn copy(&self, alloc: Global) -> Result<Self, AllocError> {
-        let entries = copied_entries(alloc, &self.entries)?;
+        let entries = copied_all(alloc, &self.entries)?;
         Ok(Entries { entries })
     }
 }

@@ -42,3 +42,14 @@ impl Copied for u8 {
         Ok(*self)
     }
 }
+
+/// Copies of all items, in order.
+pub fn copied_all<T: Copied>(alloc: Global, items: &[T]) -> Result<Vec<T>, AllocError>
+    ensures { IfOk result (λ v. v.items ≡ items.now) }
+{
+    let mut all = Vec::with_capacity(alloc, items.len())?;
+    for item in items {
+        all.push(item.copy(alloc)?)?;
+    }
+    Ok(all)
+}

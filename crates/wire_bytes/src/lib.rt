@@ -20,7 +20,7 @@ mod session_id;
 mod wire;
 mod wire_fault;
 
-pub use copied::Copied;
+pub use copied::{Copied, copied_all};
 pub use fields::{
     put_sized, take_behind, take_byte, take_sized, take_u16, take_u32, take_u64, undo,
 };
