@@ -4,9 +4,9 @@ use Rattle.std.specs.Prelude.{Some, None, if◌then◌else◌, filter, codes}
 use Rattle.std.specs.List.{list_all, list_any}
 use Rattle.irc_line.specs.Names.{fold_name, is_channel}
 use Rattle.irc_line.specs.Keys.{at_key, is_in, is_below, put_in}
-use Rattle.irc_line.specs.Lines.{Parts}
+use Rattle.irc_line.specs.Lines.{Parts, parameter}
 use Rattle.irc_line.proofs.Booleans.{and_left, and_right, and_true, not_true, or_left_false, or_right_false, and_false, not_from}
-use Rattle.buffer_lines.specs.Stamps.{ring, parameter}
+use Rattle.buffer_lines.specs.Stamps.{ring}
 use Rattle.buffer_targets.specs.Targets.{ChannelLines, channel, target, with_joined, has_key, at_channel, channel_of_key, joined_by, put_channel, without_channel}
 use Rattle.wire_bytes.specs.declared.origin.Origin.{Origin}
 use Rattle.buffer_commands.specs.Settings.{Settings}
@@ -133,13 +133,13 @@ line_held : (s : Settings) (earlier : List Command) (at : ℕ) (line : Parts) (c
     → next_channel s (is_taken (floor earlier) (attached s earlier) (Upstream at line)) (attached s earlier) (nick s earlier) (Upstream at line) (channel_held s earlier c)
     ≡ upon c (kept s earlier (fold_name c)) (size s (fold_name c) earlier) (s.clears_channels && false) None j (detached s earlier (fold_name c))
 line_held s earlier at line c j e f =
-    rw (f, e, unstored_by (keeps s.clears_channels (attached s earlier) || detached s earlier (fold_name c)) (at_key (fold_name c) (parameter 1 line)) (at, line)) refl
+    rw (f, e, unstored_by (keeps s.clears_channels (attached s earlier) || detached s earlier (fold_name c)) (at_key (fold_name c) (parameter 0 line)) (at, line)) refl
 
 word_of : (word own : List ℕ) (line : Parts) → is_own word own line ≡ true → has_command word line ≡ true
-word_of word own line e = and_left _ (is_by own line) (and_left _ (is_channel (parameter 1 line)) e)
+word_of word own line e = and_left _ (is_by own line) (and_left _ (is_channel (parameter 0 line)) e)
 
 kick_word : (own : List ℕ) (line : Parts) → is_own_kick own line ≡ true → has_command (codes "KICK") line ≡ true
-kick_word own line e = and_left _ _ (and_left _ (is_channel (parameter 1 line)) e)
+kick_word own line e = and_left _ _ (and_left _ (is_channel (parameter 0 line)) e)
 
 -- PART by the own nick
 
@@ -152,13 +152,13 @@ part_joined own k was at line w r =
     rw (other_command (codes "PART") (codes "JOIN") line w refl, other_command (codes "PART") (codes "KICK") line w refl, r) (part_stays was)
 
 part_line-held : (s : Settings) → IsSound s → (earlier : List Command) (at : ℕ) (line : Parts) → is_own (codes "PART") (nick s earlier) line ≡ true
-    → without_channel (fold_name (parameter 1 line)) (map (channel_held s earlier) (channels s earlier)) ≡ map (channel_held s (Upstream at line ∷ earlier)) (channels s (Upstream at line ∷ earlier))
+    → without_channel (fold_name (parameter 0 line)) (map (channel_held s earlier) (channels s earlier)) ≡ map (channel_held s (Upstream at line ∷ earlier)) (channels s (Upstream at line ∷ earlier))
 part_line-held s sound earlier at line e =
     let w = word_of (codes "PART") (nick s earlier) line e in
-    filter_map (channel_held s earlier) (λ ch. not (has_key (fold_name (parameter 1 line)) ch)) (channels s earlier)
+    filter_map (channel_held s earlier) (λ ch. not (has_key (fold_name (parameter 0 line)) ch)) (channels s earlier)
     ∙ (ap (map (channel_held s earlier))
-    (filter_same (λ c. not (at_key (fold_name (parameter 1 line)) c)) (λ c. not (is_removed s earlier (fold_name c) (Upstream at line))) (channels s earlier)
-    (λ c. ap not (at_key-sym (parameter 1 line) c ∙ sym (removed-is s earlier (fold_name c) (Upstream at line) ∙ rw e refl))))
+    (filter_same (λ c. not (at_key (fold_name (parameter 0 line)) c)) (λ c. not (is_removed s earlier (fold_name c) (Upstream at line))) (channels s earlier)
+    (λ c. ap not (at_key-sym (parameter 0 line) c ∙ sym (removed-is s earlier (fold_name c) (Upstream at line) ∙ rw e refl))))
     ∙ staying s sound earlier (Upstream at line) (rw (other_command (codes "PART") (codes "JOIN") line w refl) refl)
     (λ c r. line_held s earlier at line c (joined s earlier (fold_name c)) (not_storable (codes "PART") line w refl refl)
     (part_joined (nick s earlier) (fold_name c) (joined s earlier (fold_name c)) at line w (sym (removed-is s earlier (fold_name c) (Upstream at line)) ∙ r))))
@@ -176,18 +176,18 @@ joined_if true c ks n j v d = refl
 joined_if false c ks n j v d = refl
 
 kick-held : (s : Settings) → IsSound s → (earlier : List Command) (at : ℕ) (line : Parts) → is_own_kick (nick s earlier) line ≡ true
-    → at_channel (fold_name (parameter 1 line)) (with_joined false) (map (channel_held s earlier) (channels s earlier)) ≡ map (channel_held s (Upstream at line ∷ earlier)) (channels s (Upstream at line ∷ earlier))
+    → at_channel (fold_name (parameter 0 line)) (with_joined false) (map (channel_held s earlier) (channels s earlier)) ≡ map (channel_held s (Upstream at line ∷ earlier)) (channels s (Upstream at line ∷ earlier))
 kick-held s sound earlier at line e =
     let w = kick_word (nick s earlier) line e in
-    mapped s sound earlier (Upstream at line) (λ c. if has_key (fold_name (parameter 1 line)) c then with_joined false c else c)
+    mapped s sound earlier (Upstream at line) (λ c. if has_key (fold_name (parameter 0 line)) c then with_joined false c else c)
     (λ k. removed-is s earlier k (Upstream at line) ∙ rw (other_command (codes "KICK") (codes "PART") line w refl) refl)
     (rw (other_command (codes "KICK") (codes "JOIN") line w refl) refl)
     (λ c i.
-    rw (at_key-sym (parameter 1 line) c)
-    (joined_if (at_key (fold_name c) (parameter 1 line)) c (lines s earlier c) (size s (fold_name c) earlier) (joined s earlier (fold_name c)) false (detached s earlier (fold_name c))
-    ∙ (same c (lines s earlier c) (size s (fold_name c) earlier) (fits s earlier c) (if at_key (fold_name c) (parameter 1 line) then false else joined s earlier (fold_name c)) (detached s earlier (fold_name c)) (s.clears_channels && false) (and_false s.clears_channels)
-    ∙ sym (line_held s earlier at line c (if at_key (fold_name c) (parameter 1 line) then false else joined s earlier (fold_name c)) (not_storable (codes "KICK") line w refl refl)
-    (rw (other_command (codes "KICK") (codes "JOIN") line w refl, other_command (codes "KICK") (codes "PART") line w refl, e) (kick_joined (joined s earlier (fold_name c)) (at_key (fold_name c) (parameter 1 line))))))))
+    rw (at_key-sym (parameter 0 line) c)
+    (joined_if (at_key (fold_name c) (parameter 0 line)) c (lines s earlier c) (size s (fold_name c) earlier) (joined s earlier (fold_name c)) false (detached s earlier (fold_name c))
+    ∙ (same c (lines s earlier c) (size s (fold_name c) earlier) (fits s earlier c) (if at_key (fold_name c) (parameter 0 line) then false else joined s earlier (fold_name c)) (detached s earlier (fold_name c)) (s.clears_channels && false) (and_false s.clears_channels)
+    ∙ sym (line_held s earlier at line c (if at_key (fold_name c) (parameter 0 line) then false else joined s earlier (fold_name c)) (not_storable (codes "KICK") line w refl refl)
+    (rw (other_command (codes "KICK") (codes "JOIN") line w refl, other_command (codes "KICK") (codes "PART") line w refl, e) (kick_joined (joined s earlier (fold_name c)) (at_key (fold_name c) (parameter 0 line))))))))
 
 -- JOIN by the own nick
 
@@ -197,25 +197,25 @@ join_joined true false = refl
 join_joined false true = refl
 join_joined false false = refl
 
-joined_next : (own k : List ℕ) (was : Bool) (at : ℕ) (line : Parts) → is_own (codes "JOIN") own line ≡ true → joined_after own k was (Upstream at line) ≡ (if at_key k (parameter 1 line) then true else was)
-joined_next own k was at line e = rw (no_part own k line e, no_kick own line e, e) (join_joined was (at_key k (parameter 1 line)))
+joined_next : (own k : List ℕ) (was : Bool) (at : ℕ) (line : Parts) → is_own (codes "JOIN") own line ≡ true → joined_after own k was (Upstream at line) ≡ (if at_key k (parameter 0 line) then true else was)
+joined_next own k was at line e = rw (no_part own k line e, no_kick own line e, e) (join_joined was (at_key k (parameter 0 line)))
 
 known_any : (s : Settings) (earlier : List Command) (k : List ℕ) (cs : List (List ℕ)) → list_any (has_key k) (map (channel_held s earlier) cs) ≡ is_in k cs
 known_any s earlier k [] = refl
 known_any s earlier k (c ∷ cs) = ap (λ b. at_key k c || b) (known_any s earlier k cs)
 
-join_known-held : (s : Settings) → IsSound s → (earlier : List Command) (at : ℕ) (line : Parts) → is_own (codes "JOIN") (nick s earlier) line ≡ true → is_in (fold_name (parameter 1 line)) (channels s earlier) ≡ true
-    → at_channel (fold_name (parameter 1 line)) (with_joined true) (map (channel_held s earlier) (channels s earlier)) ≡ map (channel_held s (Upstream at line ∷ earlier)) (channels s (Upstream at line ∷ earlier))
+join_known-held : (s : Settings) → IsSound s → (earlier : List Command) (at : ℕ) (line : Parts) → is_own (codes "JOIN") (nick s earlier) line ≡ true → is_in (fold_name (parameter 0 line)) (channels s earlier) ≡ true
+    → at_channel (fold_name (parameter 0 line)) (with_joined true) (map (channel_held s earlier) (channels s earlier)) ≡ map (channel_held s (Upstream at line ∷ earlier)) (channels s (Upstream at line ∷ earlier))
 join_known-held s sound earlier at line e u =
     let w = word_of (codes "JOIN") (nick s earlier) line e in
-    mapped s sound earlier (Upstream at line) (λ c. if has_key (fold_name (parameter 1 line)) c then with_joined true c else c)
+    mapped s sound earlier (Upstream at line) (λ c. if has_key (fold_name (parameter 0 line)) c then with_joined true c else c)
     (λ k. join_removes s earlier at line k e)
     (rw (e, u) refl)
     (λ c i.
-    rw (at_key-sym (parameter 1 line) c)
-    (joined_if (at_key (fold_name c) (parameter 1 line)) c (lines s earlier c) (size s (fold_name c) earlier) (joined s earlier (fold_name c)) true (detached s earlier (fold_name c))
-    ∙ (same c (lines s earlier c) (size s (fold_name c) earlier) (fits s earlier c) (if at_key (fold_name c) (parameter 1 line) then true else joined s earlier (fold_name c)) (detached s earlier (fold_name c)) (s.clears_channels && false) (and_false s.clears_channels)
-    ∙ sym (line_held s earlier at line c (if at_key (fold_name c) (parameter 1 line) then true else joined s earlier (fold_name c)) (not_storable (codes "JOIN") line w refl refl)
+    rw (at_key-sym (parameter 0 line) c)
+    (joined_if (at_key (fold_name c) (parameter 0 line)) c (lines s earlier c) (size s (fold_name c) earlier) (joined s earlier (fold_name c)) true (detached s earlier (fold_name c))
+    ∙ (same c (lines s earlier c) (size s (fold_name c) earlier) (fits s earlier c) (if at_key (fold_name c) (parameter 0 line) then true else joined s earlier (fold_name c)) (detached s earlier (fold_name c)) (s.clears_channels && false) (and_false s.clears_channels)
+    ∙ sym (line_held s earlier at line c (if at_key (fold_name c) (parameter 0 line) then true else joined s earlier (fold_name c)) (not_storable (codes "JOIN") line w refl refl)
     (joined_next (nick s earlier) (fold_name c) (joined s earlier (fold_name c)) at line e)))))
 
 put_map_by : (c d : List ℕ) (f : List ℕ → ChannelLines) (ch : ChannelLines) (ds : List (List ℕ)) (b : Bool) → f c ≡ ch → put_channel ch (map f ds) ≡ map f (put_in c ds)
@@ -230,19 +230,19 @@ put_map s history c (d ∷ ds) =
     put_map_by c d (channel_held s history) (channel_held s history c) ds (is_below (fold_name d) (fold_name c)) refl (put_map s history c ds)
 
 -- the names after a channel is made
-made_names : (s : Settings) (earlier : List Command) (at : ℕ) (line : Parts) → is_own (codes "JOIN") (nick s earlier) line ≡ true → is_in (fold_name (parameter 1 line)) (channels s earlier) ≡ false
-    → channels s (Upstream at line ∷ earlier) ≡ put_in (parameter 1 line) (channels s earlier)
+made_names : (s : Settings) (earlier : List Command) (at : ℕ) (line : Parts) → is_own (codes "JOIN") (nick s earlier) line ≡ true → is_in (fold_name (parameter 0 line)) (channels s earlier) ≡ false
+    → channels s (Upstream at line ∷ earlier) ≡ put_in (parameter 0 line) (channels s earlier)
 made_names s earlier at line e u =
     channels-more s earlier (Upstream at line)
     ∙ (ap (λ cs. filter (λ c. not (is_removed s earlier (fold_name c) (Upstream at line))) cs) (rw (e, u) refl)
-    ∙ filter_all (λ c. not (is_removed s earlier (fold_name c) (Upstream at line))) (put_in (parameter 1 line) (channels s earlier)) (λ c. not_from _ (join_removes s earlier at line (fold_name c) e)))
+    ∙ filter_all (λ c. not (is_removed s earlier (fold_name c) (Upstream at line))) (put_in (parameter 0 line) (channels s earlier)) (λ c. not_from _ (join_removes s earlier at line (fold_name c) e)))
 
 apart : (s : Settings) (earlier : List Command) (c p : List ℕ) (b : Bool) → at_key (fold_name c) p ≡ b → is_in (fold_name c) (channels s earlier) ≡ true → is_in (fold_name p) (channels s earlier) ≡ false → b ≡ false
 apart s earlier c p true e i u = sym i ∙ (ap (λ k. is_in k (channels s earlier)) (key_is (fold_name c) p e) ∙ u)
 apart s earlier c p false e i u = refl
 
 -- the other channels are as they were
-beside : (s : Settings) → IsSound s → (earlier : List Command) (at : ℕ) (line : Parts) → is_own (codes "JOIN") (nick s earlier) line ≡ true → is_in (fold_name (parameter 1 line)) (channels s earlier) ≡ false
+beside : (s : Settings) → IsSound s → (earlier : List Command) (at : ℕ) (line : Parts) → is_own (codes "JOIN") (nick s earlier) line ≡ true → is_in (fold_name (parameter 0 line)) (channels s earlier) ≡ false
     → map (channel_held s earlier) (channels s earlier) ≡ map (channel_held s (Upstream at line ∷ earlier)) (channels s earlier)
 beside s sound earlier at line e u =
     map_at (channel_held s earlier) (channel_held s (Upstream at line ∷ earlier)) (channels s earlier)
@@ -253,33 +253,33 @@ beside s sound earlier at line e u =
     same c (lines s earlier c) (size s (fold_name c) earlier) (fits s earlier c) (joined s earlier (fold_name c)) (detached s earlier (fold_name c)) (s.clears_channels && false) (and_false s.clears_channels)
     ∙ (sym (line_held s earlier at line c (joined s earlier (fold_name c)) (not_storable (codes "JOIN") line w refl refl)
     (joined_next (nick s earlier) (fold_name c) (joined s earlier (fold_name c)) at line e
-    ∙ ap (λ b. if b then true else joined s earlier (fold_name c)) (apart s earlier c (parameter 1 line) (at_key (fold_name c) (parameter 1 line)) refl here u)))
+    ∙ ap (λ b. if b then true else joined s earlier (fold_name c)) (apart s earlier c (parameter 0 line) (at_key (fold_name c) (parameter 0 line)) refl here u)))
     ∙ sym (channel-next s earlier (Upstream at line) c channel_name here (join_removes s earlier at line (fold_name c) e))))
 
-join_new-held : (s : Settings) → IsSound s → (earlier : List Command) (at : ℕ) (line : Parts) → is_own (codes "JOIN") (nick s earlier) line ≡ true → is_in (fold_name (parameter 1 line)) (channels s earlier) ≡ false
-    → put_channel (channel (target (parameter 1 line) (ring [] s.channel_size)) true false) (map (channel_held s earlier) (channels s earlier)) ≡ map (channel_held s (Upstream at line ∷ earlier)) (channels s (Upstream at line ∷ earlier))
+join_new-held : (s : Settings) → IsSound s → (earlier : List Command) (at : ℕ) (line : Parts) → is_own (codes "JOIN") (nick s earlier) line ≡ true → is_in (fold_name (parameter 0 line)) (channels s earlier) ≡ false
+    → put_channel (channel (target (parameter 0 line) (ring [] s.channel_size)) true false) (map (channel_held s earlier) (channels s earlier)) ≡ map (channel_held s (Upstream at line ∷ earlier)) (channels s (Upstream at line ∷ earlier))
 join_new-held s sound earlier at line e u =
     ap (λ ch. put_channel ch (map (channel_held s earlier) (channels s earlier))) (sym (channel-made s earlier at line e u))
-    ∙ (ap (put_channel (channel_held s (Upstream at line ∷ earlier) (parameter 1 line))) (beside s sound earlier at line e u)
-    ∙ (put_map s (Upstream at line ∷ earlier) (parameter 1 line) (channels s earlier)
+    ∙ (ap (put_channel (channel_held s (Upstream at line ∷ earlier) (parameter 0 line))) (beside s sound earlier at line e u)
+    ∙ (put_map s (Upstream at line ∷ earlier) (parameter 0 line) (channels s earlier)
     ∙ ap (map (channel_held s (Upstream at line ∷ earlier))) (sym (made_names s earlier at line e u))))
 
-join_by : (s : Settings) → IsSound s → (earlier : List Command) (at : ℕ) (line : Parts) (known : Bool) → is_own (codes "JOIN") (nick s earlier) line ≡ true → is_in (fold_name (parameter 1 line)) (channels s earlier) ≡ known
-    → (if known then at_channel (fold_name (parameter 1 line)) (with_joined true) (map (channel_held s earlier) (channels s earlier))
-    else put_channel (channel (target (parameter 1 line) (ring [] s.channel_size)) true false) (map (channel_held s earlier) (channels s earlier)))
+join_by : (s : Settings) → IsSound s → (earlier : List Command) (at : ℕ) (line : Parts) (known : Bool) → is_own (codes "JOIN") (nick s earlier) line ≡ true → is_in (fold_name (parameter 0 line)) (channels s earlier) ≡ known
+    → (if known then at_channel (fold_name (parameter 0 line)) (with_joined true) (map (channel_held s earlier) (channels s earlier))
+    else put_channel (channel (target (parameter 0 line) (ring [] s.channel_size)) true false) (map (channel_held s earlier) (channels s earlier)))
     ≡ map (channel_held s (Upstream at line ∷ earlier)) (channels s (Upstream at line ∷ earlier))
 join_by s sound earlier at line true e u = join_known-held s sound earlier at line e u
 join_by s sound earlier at line false e u = join_new-held s sound earlier at line e u
 
 join-held : (s : Settings) → IsSound s → (earlier : List Command) (at : ℕ) (line : Parts) → is_own (codes "JOIN") (nick s earlier) line ≡ true
-    → joined_by (parameter 1 line) s.channel_size (map (channel_held s earlier) (channels s earlier)) ≡ map (channel_held s (Upstream at line ∷ earlier)) (channels s (Upstream at line ∷ earlier))
+    → joined_by (parameter 0 line) s.channel_size (map (channel_held s earlier) (channels s earlier)) ≡ map (channel_held s (Upstream at line ∷ earlier)) (channels s (Upstream at line ∷ earlier))
 join-held s sound earlier at line e =
-    rw (known_any s earlier (fold_name (parameter 1 line)) (channels s earlier)) (join_by s sound earlier at line (is_in (fold_name (parameter 1 line)) (channels s earlier)) e refl)
+    rw (known_any s earlier (fold_name (parameter 0 line)) (channels s earlier)) (join_by s sound earlier at line (is_in (fold_name (parameter 0 line)) (channels s earlier)) e refl)
 
 line_by : (s : Settings) → IsSound s → (earlier : List Command) (at : ℕ) (line : Parts) (j p k : Bool) → is_own (codes "JOIN") (nick s earlier) line ≡ j → is_own (codes "PART") (nick s earlier) line ≡ p → is_own_kick (nick s earlier) line ≡ k
-    → (if j then joined_by (parameter 1 line) s.channel_size (map (channel_held s earlier) (channels s earlier))
-    else if p then without_channel (fold_name (parameter 1 line)) (map (channel_held s earlier) (channels s earlier))
-    else if k then at_channel (fold_name (parameter 1 line)) (with_joined false) (map (channel_held s earlier) (channels s earlier)) else channels_storing s (held s earlier) (Some (at, line)))
+    → (if j then joined_by (parameter 0 line) s.channel_size (map (channel_held s earlier) (channels s earlier))
+    else if p then without_channel (fold_name (parameter 0 line)) (map (channel_held s earlier) (channels s earlier))
+    else if k then at_channel (fold_name (parameter 0 line)) (with_joined false) (map (channel_held s earlier) (channels s earlier)) else channels_storing s (held s earlier) (Some (at, line)))
     ≡ map (channel_held s (Upstream at line ∷ earlier)) (channels s (Upstream at line ∷ earlier))
 line_by s sound earlier at line true p k e f g = join-held s sound earlier at line e
 line_by s sound earlier at line false true k e f g = part_line-held s sound earlier at line f

@@ -4,8 +4,7 @@ use Rattle.std.specs.Prelude.{Option, Some, None, if◌then◌else◌, filter}
 use Rattle.std.specs.List.{list_all}
 use Rattle.irc_line.specs.Names.{fold_name, is_channel}
 use Rattle.irc_line.specs.Keys.{at_key, is_in}
-use Rattle.irc_line.specs.Lines.{Parts}
-use Rattle.buffer_lines.specs.Stamps.{parameter}
+use Rattle.irc_line.specs.Lines.{Parts, parameter}
 use Rattle.buffer_targets.specs.Targets.{ChannelLines, cleared, resized, pushed, over, with_detached, has_key, at_channel, channel_of_key}
 use Rattle.wire_bytes.specs.declared.origin.Origin.{Origin}
 use Rattle.buffer_commands.specs.Settings.{Settings}
@@ -206,12 +205,12 @@ storing-held s sound earlier x None r m h =
     unmapped s sound earlier x r m
     (λ c i. same c (lines s earlier c) (size s (fold_name c) earlier) (fits s earlier c) (joined s earlier (fold_name c)) (detached s earlier (fold_name c)) (s.clears_channels && false) (and_false s.clears_channels) ∙ sym (h c))
 storing-held s sound earlier x (Some line) r m h =
-    ap (λ det. if is_storable line.1 then (if keeps s.clears_channels (attached s earlier) || det then at_channel (fold_name (parameter 1 (line.1))) (over (pushed line)) (map (channel_held s earlier) (channels s earlier)) else map (channel_held s earlier) (channels s earlier)) else map (channel_held s earlier) (channels s earlier)) (found-detached s earlier (fold_name (parameter 1 (line.1))))
-    ∙ (pushed_map (is_storable line.1) (keeps s.clears_channels (attached s earlier) || detached s earlier (fold_name (parameter 1 (line.1)))) (fold_name (parameter 1 (line.1))) line (map (channel_held s earlier) (channels s earlier))
-    ∙ mapped s sound earlier x (λ y. if is_storable line.1 && (keeps s.clears_channels (attached s earlier) || detached s earlier (fold_name (parameter 1 (line.1)))) then (if has_key (fold_name (parameter 1 (line.1))) y then over (pushed line) y else y) else y) r m
+    ap (λ det. if is_storable line.1 then (if keeps s.clears_channels (attached s earlier) || det then at_channel (fold_name (parameter 0 (line.1))) (over (pushed line)) (map (channel_held s earlier) (channels s earlier)) else map (channel_held s earlier) (channels s earlier)) else map (channel_held s earlier) (channels s earlier)) (found-detached s earlier (fold_name (parameter 0 (line.1))))
+    ∙ (pushed_map (is_storable line.1) (keeps s.clears_channels (attached s earlier) || detached s earlier (fold_name (parameter 0 (line.1)))) (fold_name (parameter 0 (line.1))) line (map (channel_held s earlier) (channels s earlier))
+    ∙ mapped s sound earlier x (λ y. if is_storable line.1 && (keeps s.clears_channels (attached s earlier) || detached s earlier (fold_name (parameter 0 (line.1)))) then (if has_key (fold_name (parameter 0 (line.1))) y then over (pushed line) y else y) else y) r m
     (λ c i.
-    rw (at_key-sym (parameter 1 (line.1)) c)
-    (store_one c (lines s earlier c) (size s (fold_name c) earlier) (fits s earlier c) (joined s earlier (fold_name c)) (detached s earlier (fold_name c)) (is_storable line.1 && (keeps s.clears_channels (attached s earlier) || detached s earlier (fold_name (parameter 1 (line.1))))) s.clears_channels (at_key (fold_name c) (parameter 1 (line.1))) line
+    rw (at_key-sym (parameter 0 (line.1)) c)
+    (store_one c (lines s earlier c) (size s (fold_name c) earlier) (fits s earlier c) (joined s earlier (fold_name c)) (detached s earlier (fold_name c)) (is_storable line.1 && (keeps s.clears_channels (attached s earlier) || detached s earlier (fold_name (parameter 0 (line.1))))) s.clears_channels (at_key (fold_name c) (parameter 0 (line.1))) line
     ∙ ap (λ b. upon c (lines s earlier c) (size s (fold_name c) earlier) (s.clears_channels && false) (if b then Some line else None) (joined s earlier (fold_name c)) (detached s earlier (fold_name c)))
-    (store_test (is_storable line.1) (keeps s.clears_channels (attached s earlier)) (detached s earlier (fold_name c)) (detached s earlier (fold_name (parameter 1 (line.1)))) (at_key (fold_name c) (parameter 1 (line.1))) (detached_together s earlier c (parameter 1 (line.1))))
+    (store_test (is_storable line.1) (keeps s.clears_channels (attached s earlier)) (detached s earlier (fold_name c)) (detached s earlier (fold_name (parameter 0 (line.1)))) (at_key (fold_name c) (parameter 0 (line.1))) (detached_together s earlier c (parameter 0 (line.1))))
     ∙ sym (h c))))

@@ -7,8 +7,8 @@ use Rattle.buffer_commands.specs.Settings.{Settings}
 use Rattle.buffer_commands.specs.declared.command.Command.{Command}
 use Rattle.buffer_machine.specs.Buffers.{nick, nick_after, joined, size}
 use Rattle.std.specs.Prelude.{Some, if◌then◌else◌}
-use Rattle.irc_line.specs.Lines.{Parts}
-use Rattle.buffer_lines.specs.Stamps.{parameter, ring}
+use Rattle.irc_line.specs.Lines.{Parts, parameter}
+use Rattle.buffer_lines.specs.Stamps.{ring}
 use Rattle.buffer_commands.specs.declared.command.Command.TheVariants.{Upstream}
 use Rattle.buffer_commands.specs.declared.effect.Effect.{Effect}
 use Rattle.buffer_machine.specs.Messages.{is_new_nick}
@@ -74,6 +74,6 @@ both-stored s h i j line e f = f ∙ rw e refl
 
 -- a line taken: in a query, for a channel, and for the own nick
 pub line-taken : (s : Settings) (h i j : Held) (at : ℕ) (line : Parts) (nick : List ℕ) → i ≡ holding h.nick h.clients h.channels (queries_storing s h (Some (at, line))) → j ≡ holding i.nick i.clients (channels_taking s i at line) i.queries
-    → nick ≡ (if is_new_nick j.nick line then parameter 1 line else j.nick)
+    → nick ≡ (if is_new_nick j.nick line then parameter 0 line else j.nick)
     → holding nick j.clients j.channels j.queries ≡ holding (nick_after h.nick (Upstream at line)) h.clients (channels_taking s h at line) (queries_storing s h (Some (at, line)))
 line-taken s h i j at line nick e f g = rw (g, f, e) refl

@@ -4,11 +4,10 @@ use Rattle.std.specs.Prelude.{Option, Some, None, if◌then◌else◌, codes}
 use Rattle.circular_buffer.specs.Buffer.{keep_last}
 use Rattle.irc_line.specs.Names.{fold_name, same_bytes, is_channel}
 use Rattle.irc_line.specs.Keys.{at_key, is_in}
-use Rattle.irc_line.specs.Lines.{Parts}
+use Rattle.irc_line.specs.Lines.{Parts, parameter}
 use Rattle.irc_line.proofs.Booleans.{and_right, and_false, or_false}
 use Rattle.irc_line.proofs.SameBytes.{same_bytes-eq}
 use Rattle.buffer_lines.specs.Keeping.{if_kept}
-use Rattle.buffer_lines.specs.Stamps.{parameter}
 use Rattle.buffer_lines.proofs.Keeping.{kept-more, kept-nil, keep_last-nil}
 use Rattle.buffer_commands.specs.Settings.{Settings}
 use Rattle.buffer_commands.specs.declared.command.Command.{Command}
@@ -85,44 +84,44 @@ query_for k own line true e c = query_apart k (source line) (at_key k (source li
 query_for k own line false e c = refl
 
 -- a line for a known channel
-aim-known_by : (cs : List (List ℕ)) (own k : List ℕ) (line : Parts) (storable known : Bool) → is_channel k ≡ true → is_in k cs ≡ true → is_in (fold_name (parameter 1 line)) cs ≡ known
-    → is_for k (if not storable then None else if known then Some (parameter 1 line) else if is_query_line own line then Some (source line) else None) ≡ (storable && at_key k (parameter 1 line))
+aim-known_by : (cs : List (List ℕ)) (own k : List ℕ) (line : Parts) (storable known : Bool) → is_channel k ≡ true → is_in k cs ≡ true → is_in (fold_name (parameter 0 line)) cs ≡ known
+    → is_for k (if not storable then None else if known then Some (parameter 0 line) else if is_query_line own line then Some (source line) else None) ≡ (storable && at_key k (parameter 0 line))
 aim-known_by cs own k line false known c i e = refl
 aim-known_by cs own k line true true c i e = refl
 aim-known_by cs own k line true false c i e =
-    query_for k own line (is_query_line own line) refl c ∙ sym (key_apart cs k (parameter 1 line) (at_key k (parameter 1 line)) refl i e)
+    query_for k own line (is_query_line own line) refl c ∙ sym (key_apart cs k (parameter 0 line) (at_key k (parameter 0 line)) refl i e)
 
-aim-known : (cs : List (List ℕ)) (own k : List ℕ) (line : Parts) → is_channel k ≡ true → is_in k cs ≡ true → is_for k (aim cs own line) ≡ (is_storable line && at_key k (parameter 1 line))
-aim-known cs own k line c i = aim-known_by cs own k line (is_storable line) (is_in (fold_name (parameter 1 line)) cs) c i refl
+aim-known : (cs : List (List ℕ)) (own k : List ℕ) (line : Parts) → is_channel k ≡ true → is_in k cs ≡ true → is_for k (aim cs own line) ≡ (is_storable line && at_key k (parameter 0 line))
+aim-known cs own k line c i = aim-known_by cs own k line (is_storable line) (is_in (fold_name (parameter 0 line)) cs) c i refl
 
 -- no line is for a channel that is not known
-aim-unknown_by : (cs : List (List ℕ)) (own k : List ℕ) (line : Parts) (storable known : Bool) → is_channel k ≡ true → is_in k cs ≡ false → is_in (fold_name (parameter 1 line)) cs ≡ known
-    → is_for k (if not storable then None else if known then Some (parameter 1 line) else if is_query_line own line then Some (source line) else None) ≡ false
+aim-unknown_by : (cs : List (List ℕ)) (own k : List ℕ) (line : Parts) (storable known : Bool) → is_channel k ≡ true → is_in k cs ≡ false → is_in (fold_name (parameter 0 line)) cs ≡ known
+    → is_for k (if not storable then None else if known then Some (parameter 0 line) else if is_query_line own line then Some (source line) else None) ≡ false
 aim-unknown_by cs own k line false known c i e = refl
-aim-unknown_by cs own k line true true c i e = key_apart_too cs k (parameter 1 line) (at_key k (parameter 1 line)) refl i e
+aim-unknown_by cs own k line true true c i e = key_apart_too cs k (parameter 0 line) (at_key k (parameter 0 line)) refl i e
 aim-unknown_by cs own k line true false c i e = query_for k own line (is_query_line own line) refl c
 
 aim-unknown : (cs : List (List ℕ)) (own k : List ℕ) (line : Parts) → is_channel k ≡ true → is_in k cs ≡ false → is_for k (aim cs own line) ≡ false
-aim-unknown cs own k line c i = aim-unknown_by cs own k line (is_storable line) (is_in (fold_name (parameter 1 line)) cs) c i refl
+aim-unknown cs own k line c i = aim-unknown_by cs own k line (is_storable line) (is_in (fold_name (parameter 0 line)) cs) c i refl
 
 -- a line for a query
-aim-query_by : (cs : List (List ℕ)) (k : List ℕ) (line : Parts) (storable known query : Bool) → is_in k cs ≡ false → is_in (fold_name (parameter 1 line)) cs ≡ known
-    → is_for k (if not storable then None else if known then Some (parameter 1 line) else if query then Some (source line) else None)
+aim-query_by : (cs : List (List ℕ)) (k : List ℕ) (line : Parts) (storable known query : Bool) → is_in k cs ≡ false → is_in (fold_name (parameter 0 line)) cs ≡ known
+    → is_for k (if not storable then None else if known then Some (parameter 0 line) else if query then Some (source line) else None)
     ≡ is_made_at k (if storable && not known && query then Some (source line) else None)
 aim-query_by cs k line false known query i e = refl
-aim-query_by cs k line true true query i e = key_apart_too cs k (parameter 1 line) (at_key k (parameter 1 line)) refl i e
+aim-query_by cs k line true true query i e = key_apart_too cs k (parameter 0 line) (at_key k (parameter 0 line)) refl i e
 aim-query_by cs k line true false true i e = refl
 aim-query_by cs k line true false false i e = refl
 
 aim-query : (cs : List (List ℕ)) (own k : List ℕ) (line : ℕ × Parts) → is_in k cs ≡ false → is_for k (aim cs own line.1) ≡ is_made_at k (query_aim cs own (Some line))
-aim-query cs own k line i = aim-query_by cs k line.1 (is_storable line.1) (is_in (fold_name (parameter 1 (line.1))) cs) (is_query_line own line.1) i refl
+aim-query cs own k line i = aim-query_by cs k line.1 (is_storable line.1) (is_in (fold_name (parameter 0 (line.1))) cs) (is_query_line own line.1) i refl
 
 -- ---- what is stored
 
 -- the line that is stored in the channel of a key
 abbrev pub channel_stored : Bool → List ℕ → Option (ℕ × Parts) → Option (ℕ × Parts)
 channel_stored keep k None = None
-channel_stored keep k (Some line) = if keep && (is_storable line.1 && at_key k (parameter 1 (line.1))) then Some line else None
+channel_stored keep k (Some line) = if keep && (is_storable line.1 && at_key k (parameter 0 (line.1))) then Some line else None
 
 stored_channel : (keep : Bool) (cs : List (List ℕ)) (own k : List ℕ) (o : Option (ℕ × Parts)) → is_channel k ≡ true → is_in k cs ≡ true → stored_where keep cs own k o ≡ channel_stored keep k o
 stored_channel keep cs own k None c i = refl

@@ -4,8 +4,7 @@ use Rattle.std.specs.Prelude.{nat_lt, codes, IsTrue, None}
 use Rattle.std.specs.List.{list_all}
 use Rattle.std.proofs.lemmas.Bool.Decides.{nat_tests}
 use Rattle.irc_line.specs.Names.{is_name, is_name_byte, is_channel, is_content_byte}
-use Rattle.buffer_lines.specs.Stamps.{parameter}
-use Rattle.irc_line.specs.Lines.{Parts, is_word, is_word_byte, is_line, parts}
+use Rattle.irc_line.specs.Lines.{Parts, is_word, is_word_byte, is_line, parts, parameter}
 use Rattle.irc_line.proofs.Booleans.{and_left, and_right, and_both}
 use Rattle.buffer_machine.specs.Messages.{has_command, is_by, is_own, is_query_line, is_query_name, own_prefix, source, word_bytes}
 use Rattle.buffer_machine.specs.declared.message.ChannelWord.{ChannelWord}
@@ -38,9 +37,9 @@ own_prefix_word nick e =
     and_both _ _ (longer nick (codes "!bouncer@local") refl) (name_bytes-word nick (codes "!bouncer@local") (and_right _ _ (and_left _ _ e)) refl)
 
 -- a channel's name is a name
-pub own_named : (word nick : List ℕ) (line : Parts) → is_own word nick line ≡ true → is_name (parameter 1 line) ≡ true
+pub own_named : (word nick : List ℕ) (line : Parts) → is_own word nick line ≡ true → is_name (parameter 0 line) ≡ true
 unfolding is_channel
-own_named word nick line e = and_left (is_name (parameter 1 line)) _ (and_right (has_command word line && is_by nick line) (is_channel (parameter 1 line)) e)
+own_named word nick line e = and_left (is_name (parameter 0 line)) _ (and_right (has_command word line && is_by nick line) (is_channel (parameter 0 line)) e)
 
 -- who has a query has a name
 pub query_line_named : (nick : List ℕ) (line : Parts) → is_query_line nick line ≡ true → is_name (source line) ≡ true

@@ -3,10 +3,10 @@ use Rattle.std.proofs.Common.{◌≡◌, ℕ, List, [], ◌∷◌, refl, ap, ◌
 use Rattle.std.specs.Prelude.{Option, Some, if◌then◌else◌, codes}
 use Rattle.irc_line.specs.Names.{fold_name, is_channel}
 use Rattle.irc_line.specs.Keys.{at_key, is_in}
-use Rattle.irc_line.specs.Lines.{Parts}
+use Rattle.irc_line.specs.Lines.{Parts, parameter}
 use Rattle.irc_line.proofs.Booleans.{and_left, and_right, and_false, and_true, or_true, or_false}
 use Rattle.irc_line.proofs.Order.{own_key, key_is}
-use Rattle.buffer_lines.specs.Stamps.{ring, parameter}
+use Rattle.buffer_lines.specs.Stamps.{ring}
 use Rattle.buffer_targets.specs.Targets.{ChannelLines, TargetLines, channel, target, pushed}
 use Rattle.wire_bytes.specs.declared.origin.Origin.{Origin}
 use Rattle.buffer_commands.specs.Settings.{Settings}
@@ -84,9 +84,9 @@ channel-next s earlier x c f i r =
 
 -- of a JOIN by the own nick
 join_word : (own : List ℕ) (line : Parts) → is_own (codes "JOIN") own line ≡ true → has_command (codes "JOIN") line ≡ true
-join_word own line e = and_left _ (is_by own line) (and_left _ (is_channel (parameter 1 line)) e)
+join_word own line e = and_left _ (is_by own line) (and_left _ (is_channel (parameter 0 line)) e)
 
-join_channel : (own : List ℕ) (line : Parts) → is_own (codes "JOIN") own line ≡ true → is_channel (parameter 1 line) ≡ true
+join_channel : (own : List ℕ) (line : Parts) → is_own (codes "JOIN") own line ≡ true → is_channel (parameter 0 line) ≡ true
 join_channel own line e = and_right (has_command (codes "JOIN") line && is_by own line) _ e
 
 -- it is no PART and no KICK
@@ -113,24 +113,24 @@ kept_made s earlier at line e k c u =
     ∙ rw (kept-unknown s earlier k c u, stored-not_storable s earlier at line k (not_storable (codes "JOIN") line (join_word (nick s earlier) line e) refl refl))
     (next-nothing (size s k (Upstream at line ∷ earlier)) (emptied s k earlier (Upstream at line)))
 
-joined_by_join : (own k : List ℕ) (was : Bool) (at : ℕ) (line : Parts) → is_own (codes "JOIN") own line ≡ true → at_key k (parameter 1 line) ≡ true → joined_after own k was (Upstream at line) ≡ true
+joined_by_join : (own k : List ℕ) (was : Bool) (at : ℕ) (line : Parts) → is_own (codes "JOIN") own line ≡ true → at_key k (parameter 0 line) ≡ true → joined_after own k was (Upstream at line) ≡ true
 joined_by_join own k was at line e f = rw (no_part own k line e, no_kick own line e, e, f) (ap (λ b. b && true && true) (or_true was))
 
 detached_made : (s : Settings) (earlier : List Command) (at : ℕ) (line : Parts) (k : List ℕ) → is_in k (channels s earlier) ≡ false → detached s (Upstream at line ∷ earlier) k ≡ false
 detached_made s earlier at line k u = detached-more s earlier (Upstream at line) k ∙ rw (detached-unknown s earlier k u) refl
 
 -- JOIN by the own nick makes a channel that is joined, and nothing is kept of it yet
-pub channel-made : (s : Settings) (earlier : List Command) (at : ℕ) (line : Parts) → is_own (codes "JOIN") (nick s earlier) line ≡ true → is_in (fold_name (parameter 1 line)) (channels s earlier) ≡ false
-    → channel_held s (Upstream at line ∷ earlier) (parameter 1 line) ≡ channel (target (parameter 1 line) (ring [] s.channel_size)) true false
+pub channel-made : (s : Settings) (earlier : List Command) (at : ℕ) (line : Parts) → is_own (codes "JOIN") (nick s earlier) line ≡ true → is_in (fold_name (parameter 0 line)) (channels s earlier) ≡ false
+    → channel_held s (Upstream at line ∷ earlier) (parameter 0 line) ≡ channel (target (parameter 0 line) (ring [] s.channel_size)) true false
 channel-made s earlier at line e u =
-    let k = channel-key (parameter 1 line) (join_channel (nick s earlier) line e) in
-    let r = join_removes s earlier at line (fold_name (parameter 1 line)) e in
+    let k = channel-key (parameter 0 line) (join_channel (nick s earlier) line e) in
+    let r = join_removes s earlier at line (fold_name (parameter 0 line)) e in
     rw (
-      kept_made s earlier at line e (fold_name (parameter 1 line)) k u,
-      size_made s earlier at line (fold_name (parameter 1 line)) k u r,
-      joined-more s earlier (Upstream at line) (fold_name (parameter 1 line)),
-      joined_by_join (nick s earlier) (fold_name (parameter 1 line)) (joined s earlier (fold_name (parameter 1 line))) at line e (own_key (parameter 1 line)),
-      detached_made s earlier at line (fold_name (parameter 1 line)) u,
+      kept_made s earlier at line e (fold_name (parameter 0 line)) k u,
+      size_made s earlier at line (fold_name (parameter 0 line)) k u r,
+      joined-more s earlier (Upstream at line) (fold_name (parameter 0 line)),
+      joined_by_join (nick s earlier) (fold_name (parameter 0 line)) (joined s earlier (fold_name (parameter 0 line))) at line e (own_key (parameter 0 line)),
+      detached_made s earlier at line (fold_name (parameter 0 line)) u,
     ) refl
 
 -- ---- a query

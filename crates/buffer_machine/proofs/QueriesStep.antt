@@ -5,10 +5,10 @@ use Rattle.std.specs.List.{list_all, list_any}
 use Rattle.std.proofs.lemmas.List.{length-map}
 use Rattle.irc_line.specs.Names.{fold_name}
 use Rattle.irc_line.specs.Keys.{at_key, is_in}
-use Rattle.irc_line.specs.Lines.{Parts}
+use Rattle.irc_line.specs.Lines.{Parts, parameter}
 use Rattle.irc_line.proofs.Booleans.{and_right, or_second, and_false, or_left_false, or_right_false}
 use Rattle.irc_line.proofs.Order.{own_key, at_key-sym, in-own}
-use Rattle.buffer_lines.specs.Stamps.{ring, parameter}
+use Rattle.buffer_lines.specs.Stamps.{ring}
 use Rattle.buffer_targets.specs.Targets.{TargetLines, target, cleared, resized, pushed, has_name_key, at_query, query_stored, newest}
 use Rattle.buffer_commands.specs.Settings.{Settings}
 use Rattle.buffer_commands.specs.declared.command.Action.TheVariants.{Attach, Leave, Say, Join, Part, Detach, Reattach, Play, Clear, ClearChannels, ClearQueries, ClearAll, SetBuffer, Pass}
@@ -201,10 +201,10 @@ query_if false false known query q = refl
 
 aimed : (s : Settings) (earlier : List Command) (x : Command) (line : ℕ × Parts) → said (attached s earlier) (nick s earlier) x ≡ Some line
     → stored_query s earlier x
-    ≡ (if is_storable line.1 && not (is_in (fold_name (parameter 1 (line.1))) (channels s earlier)) && keeps s.clears_queries (attached s earlier) && is_query_line (nick s earlier) line.1 then Some (source line.1) else None)
+    ≡ (if is_storable line.1 && not (is_in (fold_name (parameter 0 (line.1))) (channels s earlier)) && keeps s.clears_queries (attached s earlier) && is_query_line (nick s earlier) line.1 then Some (source line.1) else None)
 unfolding stored_query
 aimed s earlier x line l =
-    rw l (query_if (keeps s.clears_queries (attached s earlier)) (is_storable line.1) (is_in (fold_name (parameter 1 (line.1))) (channels s earlier)) (is_query_line (nick s earlier) line.1) (source line.1))
+    rw l (query_if (keeps s.clears_queries (attached s earlier)) (is_storable line.1) (is_in (fold_name (parameter 0 (line.1))) (channels s earlier)) (is_query_line (nick s earlier) line.1) (source line.1))
 
 stored_if : (s : Settings) → IsSound s → (earlier : List Command) (x : Command) (line : ℕ × Parts) (b : Bool) → IsStoring s earlier x → said (attached s earlier) (nick s earlier) x ≡ Some line
     → (b ≡ true → is_query_name (source line.1) ≡ true) → stored_query s earlier x ≡ (if b then Some (source line.1) else None)
@@ -221,9 +221,9 @@ pub storing_queries : (s : Settings) → IsSound s → (earlier : List Command) 
     → queries_storing s (held s earlier) o ≡ map (target_held s (x ∷ earlier)) (queries s (x ∷ earlier))
 storing_queries s sound earlier x None i l = other_query s sound earlier x i (nothing_stored s earlier x l)
 storing_queries s sound earlier x (Some line) i l =
-    rw (found-known s earlier (fold_name (parameter 1 (line.1))))
-    (stored_if s sound earlier x line (is_storable line.1 && not (is_in (fold_name (parameter 1 (line.1))) (channels s earlier)) && keeps s.clears_queries (attached s earlier) && is_query_line (nick s earlier) line.1) i l
-    (λ e. query_named (nick s earlier) line.1 (is_storable line.1 && not (is_in (fold_name (parameter 1 (line.1))) (channels s earlier)) && keeps s.clears_queries (attached s earlier)) e)
+    rw (found-known s earlier (fold_name (parameter 0 (line.1))))
+    (stored_if s sound earlier x line (is_storable line.1 && not (is_in (fold_name (parameter 0 (line.1))) (channels s earlier)) && keeps s.clears_queries (attached s earlier) && is_query_line (nick s earlier) line.1) i l
+    (λ e. query_named (nick s earlier) line.1 (is_storable line.1 && not (is_in (fold_name (parameter 0 (line.1))) (channels s earlier)) && keeps s.clears_queries (attached s earlier)) e)
     (aimed s earlier x line l))
 
 -- ---- any command

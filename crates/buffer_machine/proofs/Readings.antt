@@ -2,7 +2,9 @@
 use Rattle.std.proofs.Common.{◌≡◌, ℕ, Bool, true, false, not, ◌&&◌, ◌||◌, List, [], ◌∷◌, refl, ap, ◌∙◌, sym}
 use Rattle.std.specs.Prelude.{None, if◌then◌else◌, filter}
 use Rattle.irc_line.specs.Names.{fold_name, is_channel}
+use Rattle.irc_line.specs.Keys.{at_key, is_in}
 use Rattle.irc_line.specs.Lines.{Parts}
+use Rattle.irc_line.proofs.Order.{key_is}
 use Rattle.wire_bytes.specs.declared.origin.Origin.{Origin}
 use Rattle.buffer_commands.specs.Settings.{Settings}
 use Rattle.buffer_commands.specs.declared.command.Verb.{Verb}
@@ -13,15 +15,15 @@ use Rattle.buffer_commands.specs.declared.command.Command.TheVariants.{Client, U
 use Rattle.buffer_commands.specs.declared.effect.Effect.TheVariants.{Close}
 use Rattle.machine_laws.specs.Origins.{same_origin}
 use Rattle.buffer_machine.specs.Messages.{channel_of, is_among}
-use Rattle.buffer_machine.specs.Buffers.{floor, is_attach, is_taken, attached, nick, detached, is_known, stored, emptied, clears, plays, kept, size, playback}
-use Rattle.buffer_machine.specs.Effects.{shown, effects}
+use Rattle.buffer_machine.specs.Buffers.{channels, floor, is_attach, is_taken, attached, nick, detached, is_known, stored, emptied, clears, plays, kept, size, playback}
+use Rattle.buffer_machine.specs.Effects.{shown, effects, open_channels}
 use Rattle.buffer_machine.specs.Held.{Held, IsSound, held}
 use Rattle.buffer_machine.specs.Steps.{after, answers}
 use Rattle.buffer_machine.proofs.EffectsStep.{effects-step}
 use Rattle.buffer_machine.proofs.HeldStep.{held-step}
 use Rattle.buffer_machine.proofs.Kept.{kept-next}
 use Rattle.buffer_machine.proofs.Playing.{played-held, played-is}
-use Rattle.irc_line.proofs.Booleans.{and_both}
+use Rattle.irc_line.proofs.Booleans.{and_both, false_of, or_both_false}
 use Rattle.buffer_lines.proofs.Keeping.{keep_last-nil}
 
 -- ---- what is kept fits
@@ -187,3 +189,16 @@ held_stays s sound earlier o at a e f = nothing_changed s sound earlier o at a e
 pub closed_alone : (s : Settings) → IsSound s → (earlier : List Command) (o : Origin) (at : ℕ) (a : Action) → is_attach a ≡ false → is_among o (attached s earlier) ≡ false → effects s earlier (Client o at a) ≡ Close o ∷ []
 closed_alone s sound earlier o at a e f =
     sym (effects-step s sound earlier (Client o at a)) ∙ (any_floor_answers s (held s earlier) (floor earlier o.0) o at a e ∙ closed_only s (held s earlier) o at a e f)
+
+-- no channel that is shown at attaching has the key of a detached one
+none_left_by : (d : List ℕ → Bool) (k c : List ℕ) (cs : List (List ℕ)) (b : Bool) → d (fold_name c) ≡ b → d k ≡ true → is_in k cs ≡ false → is_in k (if not b then c ∷ cs else cs) ≡ false
+none_left_by d k c cs true e t ih = ih
+none_left_by d k c cs false e t ih = or_both_false (at_key k c) (is_in k cs) (false_of _ (λ h. sym e ∙ (sym (ap d (key_is k c h)) ∙ t))) ih
+
+none_left : (d : List ℕ → Bool) (k : List ℕ) (cs : List (List ℕ)) → d k ≡ true → is_in k (filter (λ c. not (d (fold_name c))) cs) ≡ false
+none_left d k [] t = refl
+none_left d k (c ∷ cs) t = none_left_by d k c (filter (λ x. not (d (fold_name x))) cs) (d (fold_name c)) refl t (none_left d k cs t)
+
+pub not_open : (s : Settings) (earlier : List Command) (c : List ℕ) → detached s earlier c ≡ true → is_in c (open_channels s earlier) ≡ false
+unfolding open_channels
+not_open s earlier c t = none_left (detached s earlier) c (channels s earlier) t

@@ -4,9 +4,8 @@ use Rattle.std.specs.Prelude.{Option, Some, None, if◌then◌else◌, filter, c
 use Rattle.std.specs.List.{list_all}
 use Rattle.irc_line.specs.Names.{fold_name, is_channel}
 use Rattle.irc_line.specs.Keys.{at_key, is_in, are_rising}
-use Rattle.irc_line.specs.Lines.{Parts}
+use Rattle.irc_line.specs.Lines.{Parts, parameter}
 use Rattle.irc_line.proofs.Booleans.{and_left, and_right, or_both_false, or_false}
-use Rattle.buffer_lines.specs.Stamps.{parameter}
 use Rattle.buffer_targets.specs.Targets.{newest}
 use Rattle.buffer_commands.specs.Settings.{Settings}
 use Rattle.buffer_commands.specs.declared.command.Command.{Command}
@@ -33,7 +32,7 @@ made_if false c p h = refl
 
 made-channel : (own : List ℕ) (x : Command) → IsMadeOf is_channel (made_by own x)
 made-channel own (Upstream at line) =
-    made_if (is_own (codes "JOIN") own line) (parameter 1 line) is_channel (λ e. and_right (has_command (codes "JOIN") line && is_by own line) _ e)
+    made_if (is_own (codes "JOIN") own line) (parameter 0 line) is_channel (λ e. and_right (has_command (codes "JOIN") line && is_by own line) _ e)
 made-channel own (Client o at action) = refl
 made-channel own (NodeGone n floor) = refl
 made-channel own Up = refl
@@ -92,8 +91,8 @@ known-next s earlier x k =
 aim_is_query : (cs : List (List ℕ)) (own : List ℕ) (line : Option (ℕ × Parts)) → IsMadeOf is_query_name (query_aim cs own line)
 aim_is_query cs own None = refl
 aim_is_query cs own (Some line) =
-    made_if (is_storable line.1 && not (is_in (fold_name (parameter 1 (line.1))) cs) && is_query_line own line.1) (source line.1) is_query_name
-    (λ e. and_right _ (is_query_name (source line.1)) (and_right (is_storable line.1 && not (is_in (fold_name (parameter 1 (line.1))) cs)) _ e))
+    made_if (is_storable line.1 && not (is_in (fold_name (parameter 0 (line.1))) cs) && is_query_line own line.1) (source line.1) is_query_name
+    (λ e. and_right _ (is_query_name (source line.1)) (and_right (is_storable line.1 && not (is_in (fold_name (parameter 0 (line.1))) cs)) _ e))
 
 if_made : (p : List ℕ → Bool) (b : Bool) (m : Option (List ℕ)) → IsMadeOf p m → IsMadeOf p (if b then m else None)
 if_made p true m h = h

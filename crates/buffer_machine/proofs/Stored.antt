@@ -2,9 +2,8 @@
 use Rattle.std.proofs.Common.{◌≡◌, ℕ, Bool, true, false, not, ◌&&◌, ◌||◌, List, refl, sym, ap, subst, ◌∙◌}
 use Rattle.std.specs.Prelude.{if◌then◌else◌, Option, Some, None, is_some, codes}
 use Rattle.irc_line.specs.Names.{fold_name, is_name}
-use Rattle.irc_line.specs.Lines.{Parts}
+use Rattle.irc_line.specs.Lines.{Parts, parameter}
 use Rattle.irc_line.proofs.Booleans.{and_left, and_right, or_second}
-use Rattle.buffer_lines.specs.Stamps.{parameter}
 use Rattle.buffer_targets.specs.Targets.{ChannelLines, StandsAt, TargetLines, at_channel, over, pushed, query_stored}
 use Rattle.buffer_targets.proofs.ChannelEdits.{none_set}
 use Rattle.buffer_commands.specs.Settings.{Settings}
@@ -22,9 +21,9 @@ first_by true xs ys e = refl
 first_by false xs ys e = cc
 
 -- a message names its channel first
-channel-of-storable : (line : Parts) → is_storable line ≡ true → channel_of line ≡ parameter 1 line
+channel-of-storable : (line : Parts) → is_storable line ≡ true → channel_of line ≡ parameter 0 line
 channel-of-storable line e =
-    first_by (names_first line) (parameter 1 line) _ (named_by (has_command (codes "JOIN") line) (has_command (codes "PART") line) (has_command (codes "KICK") line) (has_command (codes "TOPIC") line) (has_command (codes "MODE") line) (has_command (codes "PRIVMSG") line) (has_command (codes "NOTICE") line) (and_left _ _ (and_left _ _ e)))
+    first_by (names_first line) (parameter 0 line) _ (named_by (has_command (codes "JOIN") line) (has_command (codes "PART") line) (has_command (codes "KICK") line) (has_command (codes "TOPIC") line) (has_command (codes "MODE") line) (has_command (codes "PRIVMSG") line) (has_command (codes "NOTICE") line) (and_left _ _ (and_left _ _ e)))
 
 stored_by : {A : Type 0} (b k l : Bool) (x z y : A) → (b ≡ true → k ≡ l) → (b ≡ true → x ≡ z) → (if b then (if k then x else y) else y) ≡ (if b && l then z else y)
 stored_by true k l x z y f g = rw (f refl, g refl) refl
@@ -33,8 +32,8 @@ stored_by false k l x z y f g = refl
 channels-stored : (s : Settings) (h : Held) (at : ℕ) (line : Parts)
     → channels_storing s h (Some (at, line)) ≡ (if stores_in_channel s h line then at_channel (fold_name (channel_of line)) (over (pushed (at, line))) h.channels else h.channels)
 channels-stored s h at line =
-    stored_by (is_storable line) (keeps s.clears_channels h.clients || is_detached (found (parameter 1 line) h)) (keeps s.clears_channels h.clients || is_detached (found (channel_of line) h))
-    (at_channel (fold_name (parameter 1 line)) (over (pushed (at, line))) h.channels) (at_channel (fold_name (channel_of line)) (over (pushed (at, line))) h.channels) h.channels
+    stored_by (is_storable line) (keeps s.clears_channels h.clients || is_detached (found (parameter 0 line) h)) (keeps s.clears_channels h.clients || is_detached (found (channel_of line) h))
+    (at_channel (fold_name (parameter 0 line)) (over (pushed (at, line))) h.channels) (at_channel (fold_name (channel_of line)) (over (pushed (at, line))) h.channels) h.channels
     (λ e. ap (λ n. keeps s.clears_channels h.clients || is_detached (found n h)) (sym (channel-of-storable line e)))
     (λ e. ap (λ n. at_channel (fold_name n) (over (pushed (at, line))) h.channels) (sym (channel-of-storable line e)))
 
@@ -43,9 +42,9 @@ both_by true k l m n f = rw (f refl) refl
 both_by false k l m n f = refl
 
 query-stored-where : (s : Settings) (h : Held) (line : Parts)
-    → (is_storable line && not (is_some (found (parameter 1 line) h)) && keeps s.clears_queries h.clients && is_query_line h.nick line) ≡ stores_in_query s h line
+    → (is_storable line && not (is_some (found (parameter 0 line) h)) && keeps s.clears_queries h.clients && is_query_line h.nick line) ≡ stores_in_query s h line
 query-stored-where s h line =
-    both_by (is_storable line) (not (is_some (found (parameter 1 line) h))) (not (is_some (found (channel_of line) h))) (keeps s.clears_queries h.clients) (is_query_line h.nick line)
+    both_by (is_storable line) (not (is_some (found (parameter 0 line) h))) (not (is_some (found (channel_of line) h))) (keeps s.clears_queries h.clients) (is_query_line h.nick line)
     (λ e. ap (λ n. not (is_some (found n h))) (sym (channel-of-storable line e)))
 
 if_by : {A : Type 0} (b : Bool) (x y : A) → b ≡ true → x ≡ (if b then x else y)

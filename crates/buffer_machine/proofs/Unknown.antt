@@ -3,9 +3,8 @@ use Rattle.std.proofs.Common.{◌≡◌, ℕ, ◌≤◌, List, [], ◌∷◌, le
 use Rattle.std.specs.Prelude.{Option, Some, None, if◌then◌else◌, codes}
 use Rattle.irc_line.specs.Names.{fold_name, is_channel}
 use Rattle.irc_line.specs.Keys.{at_key, is_in}
-use Rattle.irc_line.specs.Lines.{Parts}
+use Rattle.irc_line.specs.Lines.{Parts, parameter}
 use Rattle.irc_line.proofs.Booleans.{and_left, and_false, or_true}
-use Rattle.buffer_lines.specs.Stamps.{parameter}
 use Rattle.buffer_targets.specs.Targets.{newest}
 use Rattle.wire_bytes.specs.declared.origin.Origin.{Origin}
 use Rattle.buffer_commands.specs.Settings.{Settings}
@@ -123,7 +122,7 @@ removed_unstored : (s : Settings) (earlier : List Command) (x : Command) (k : Li
 unfolding stored
 removed_unstored s earlier (Client o at (Part d)) k e = refl
 removed_unstored s earlier (Upstream at line) k e =
-    let part : has_command (codes "PART") line ≡ true = and_left _ (is_by (nick s earlier) line) (and_left _ (is_channel (parameter 1 line)) (and_left _ (at_key k (parameter 1 line)) e)) in
+    let part : has_command (codes "PART") line ≡ true = and_left _ (is_by (nick s earlier) line) (and_left _ (is_channel (parameter 0 line)) (and_left _ (at_key k (parameter 0 line)) e)) in
     unaimed _ (channels s earlier) (nick s earlier) k (at, line) (not_storable (codes "PART") line part refl refl)
 removed_unstored s earlier (Client o at Attach) k e = cc
 removed_unstored s earlier (Client o at Leave) k e = cc

@@ -2,9 +2,9 @@
 use Rattle.std.specs.Prelude.{◌≡◌, ℕ, ◌+◌, false, List, [], ◌∷◌, ◌++◌, map, codes, refl}
 use Rattle.irc_line.specs.Names.{same_name, is_name, is_channel}
 use Rattle.irc_line.specs.Keys.{at_key}
-use Rattle.irc_line.specs.Lines.{spelling}
+use Rattle.irc_line.specs.Lines.{spelling, line_of}
 use Rattle.buffer_lines.specs.Keeping.{stored_by, stays, kept_since, kept as kept_lines}
-use Rattle.buffer_lines.specs.Stamps.{stamped, timed, line_of}
+use Rattle.buffer_lines.specs.Stamps.{stamped, timed}
 use Rattle.machine_laws.specs.Runs.{came, all_effects}
 use Rattle.wire_bytes.specs.declared.origin.Origin.{Origin}
 use Rattle.buffer_commands.specs.Settings.{Settings, plain}

@@ -4,9 +4,9 @@
 use Rattle.std.specs.Prelude.{ℕ, Bool, true, false, not, ◌&&◌, ◌||◌, if◌then◌else◌, ◌==◌, nat_lt, nat_le, max, List, [], ◌∷◌, ◌++◌, Option, Some, None, filter, find, unwrap_or, codes}
 use Rattle.irc_line.specs.Names.{fold_name, is_channel}
 use Rattle.irc_line.specs.Keys.{at_key, is_in, put_in}
-use Rattle.irc_line.specs.Lines.{Parts}
+use Rattle.irc_line.specs.Lines.{Parts, parameter}
 use Rattle.buffer_lines.specs.Keeping.{kept as kept_lines}
-use Rattle.buffer_lines.specs.Stamps.{parameter, framed}
+use Rattle.buffer_lines.specs.Stamps.{framed}
 use Rattle.buffer_targets.specs.Targets.{newest}
 use Rattle.wire_bytes.specs.declared.origin.Origin.{Origin}
 use Rattle.buffer_commands.specs.Settings.{Settings}
@@ -55,7 +55,7 @@ attached s (x ∷ earlier) = attached_after s.many_clients (floor earlier) (atta
 -- The own nick
 
 abbrev pub nick_after : List ℕ → Command → List ℕ
-nick_after was (Upstream at line) = if is_new_nick was line then parameter 1 line else was
+nick_after was (Upstream at line) = if is_new_nick was line then parameter 0 line else was
 nick_after was _ = was
 
 -- the setup's, until the server's welcome or a change of it
@@ -67,12 +67,12 @@ nick s (x ∷ earlier) = nick_after (nick s earlier) x
 
 -- a line by the own nick, with this command, that names the channel of this key
 abbrev pub is_own_at : List ℕ → List ℕ → List ℕ → Parts → Bool
-is_own_at word nick c line = is_own word nick line && at_key c (parameter 1 line)
+is_own_at word nick c line = is_own word nick line && at_key c (parameter 0 line)
 
 -- JOIN by the own nick joins a channel; PART by it, a KICK of it and the end of the upstream leave one
 abbrev pub joined_after : List ℕ → List ℕ → Bool → Command → Bool
 joined_after nick c was (Upstream at line) =
-    (was || is_own_at (codes "JOIN") nick c line) && not (is_own_at (codes "PART") nick c line) && not (is_own_kick nick line && at_key c (parameter 1 line))
+    (was || is_own_at (codes "JOIN") nick c line) && not (is_own_at (codes "PART") nick c line) && not (is_own_kick nick line && at_key c (parameter 0 line))
 joined_after nick c was Down = false
 joined_after nick c was _ = was
 
@@ -92,7 +92,7 @@ is_removed s earlier c x = removes (attached s earlier) (nick s earlier) (joined
 
 -- JOIN by the own nick makes a channel
 abbrev pub made_by : List ℕ → Command → Option (List ℕ)
-made_by nick (Upstream at line) = if is_own (codes "JOIN") nick line then Some (parameter 1 line) else None
+made_by nick (Upstream at line) = if is_own (codes "JOIN") nick line then Some (parameter 0 line) else None
 made_by nick _ = None
 
 -- one name more, where none of its key is there
@@ -133,8 +133,8 @@ aim channels nick line =
     if not (is_storable line)
     then None
     else
-    if is_in (fold_name (parameter 1 line)) channels
-    then Some (parameter 1 line)
+    if is_in (fold_name (parameter 0 line)) channels
+    then Some (parameter 0 line)
     else
     if is_query_line nick line then Some (source line) else None
 
@@ -163,7 +163,7 @@ stored s t earlier x =
 abbrev pub query_aim : List (List ℕ) → List ℕ → Option (ℕ × Parts) → Option (List ℕ)
 query_aim channels nick None = None
 query_aim channels nick (Some line) =
-    if is_storable line.1 && not (is_in (fold_name (parameter 1 (line.1))) channels) && is_query_line nick line.1 then Some (source line.1) else None
+    if is_storable line.1 && not (is_in (fold_name (parameter 0 (line.1))) channels) && is_query_line nick line.1 then Some (source line.1) else None
 
 -- the query that a command stores a line in
 unfoldable pub stored_query : Settings → List Command → Command → Option (List ℕ)

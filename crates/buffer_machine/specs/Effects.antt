@@ -1,15 +1,14 @@
 -- What a command brings about: what is closed, then shown, then sent or joined again.
-use Rattle.std.specs.Prelude.{ℕ, Bool, not, ◌&&◌, ◌||◌, if◌then◌else◌, nat_lt, List, [], ◌∷◌, ◌++◌, map, filter, flat_map, find, unwrap_or, codes}
+use Rattle.std.specs.Prelude.{◌≡◌, ℕ, Bool, true, not, ◌&&◌, ◌||◌, if◌then◌else◌, nat_lt, List, [], ◌∷◌, ◌++◌, map, filter, flat_map, find, unwrap_or, codes, ⊤}
 use Rattle.irc_line.specs.Names.{fold_name, is_channel}
 use Rattle.irc_line.specs.Keys.{at_key, is_in}
-use Rattle.irc_line.specs.Lines.{Parts, spelling}
-use Rattle.buffer_lines.specs.Stamps.{line_of}
+use Rattle.irc_line.specs.Lines.{Parts, spelling, line_of}
 use Rattle.wire_bytes.specs.declared.origin.Origin.{Origin}
 use Rattle.buffer_commands.specs.Settings.{Settings}
 use Rattle.buffer_commands.specs.declared.command.Action.{Action}
 use Rattle.buffer_commands.specs.declared.command.Action.TheVariants.{Attach, Leave, Say, Join, Part, Detach, Reattach, Play, Clear, ClearChannels, ClearQueries, ClearAll, SetBuffer, Pass}
 use Rattle.buffer_commands.specs.declared.command.Command.{Command}
-use Rattle.buffer_commands.specs.declared.command.Command.TheVariants.{Client, Upstream, Up}
+use Rattle.buffer_commands.specs.declared.command.Command.TheVariants.{Client, Upstream, NodeGone, Up, Down}
 use Rattle.buffer_commands.specs.declared.effect.Effect.{Effect}
 use Rattle.buffer_commands.specs.declared.effect.Effect.TheVariants.{Close, Show, Send, Rejoin}
 use Rattle.machine_laws.specs.Origins.{same_origin}
@@ -147,3 +146,10 @@ sent s earlier _ = []
 -- all of it, in this order
 unfoldable pub effects : Settings → List Command → Command → List Effect
 effects s earlier x = closings s earlier x ++ shown s earlier x ++ sent s earlier x
+
+-- what asks for no memory: the end of the upstream, a node that is gone, and Leave of one who is attached
+abbrev pub TakesNone : List Origin → Command → Type 0
+TakesNone attached (Client o at Leave) = is_among o attached ≡ true
+TakesNone attached (NodeGone node boot) = ⊤
+TakesNone attached Down = ⊤
+TakesNone attached _ = ⊥

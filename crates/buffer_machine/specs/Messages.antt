@@ -1,9 +1,8 @@
 -- Origins, and the parts of a line that the buffers look at.
 use Rattle.std.specs.Prelude.{ℕ, Bool, true, false, not, ◌&&◌, ◌||◌, if◌then◌else◌, ◌==◌, List, [], ◌∷◌, ◌++◌, length, None, is_some, unwrap_or, codes}
 use Rattle.std.specs.List.{list_any, take_while}
-use Rattle.irc_line.specs.Names.{same_bytes, same_name, first_is, is_name, is_channel}
-use Rattle.irc_line.specs.Lines.{Parts}
-use Rattle.buffer_lines.specs.Stamps.{begins_with, action_mark, line_of, parameter}
+use Rattle.irc_line.specs.Names.{same_bytes, same_name, first_is, is_name, is_channel, begins_with, action_mark}
+use Rattle.irc_line.specs.Lines.{Parts, line_of, parameter}
 use Rattle.machine_laws.specs.Origins.{same_origin}
 use Rattle.wire_bytes.specs.declared.origin.Origin.{Origin}
 use Rattle.buffer_commands.specs.declared.command.Verb.{Verb}
@@ -30,7 +29,7 @@ is_plain_or_action text = not (first_is 1 text) || begins_with text action_mark
 
 -- a message with a target and a text
 abbrev pub is_storable : Parts → Bool
-is_storable line = is_message line && length line.parameters == 2 && is_plain_or_action (parameter 2 line)
+is_storable line = is_message line && length line.parameters == 2 && is_plain_or_action (parameter 1 line)
 
 -- the part of a prefix before its first `!`
 abbrev pub source : Parts → List ℕ
@@ -42,22 +41,22 @@ is_by nick line = is_some line.prefix && same_name (source line) nick
 
 -- a line by this nick that has this command and names a channel
 abbrev pub is_own : List ℕ → List ℕ → Parts → Bool
-is_own word nick line = has_command word line && is_by nick line && is_channel (parameter 1 line)
+is_own word nick line = has_command word line && is_by nick line && is_channel (parameter 0 line)
 
 -- a line that puts this nick out of a channel
 abbrev pub is_own_kick : List ℕ → Parts → Bool
-is_own_kick nick line = has_command (codes "KICK") line && same_name nick (parameter 2 line) && is_channel (parameter 1 line)
+is_own_kick nick line = has_command (codes "KICK") line && same_name nick (parameter 1 line) && is_channel (parameter 0 line)
 
 -- a line that gives this nick another: the server's welcome, or a change of the nick's own
 abbrev pub is_new_nick : List ℕ → Parts → Bool
-is_new_nick nick line = is_name (parameter 1 line) && (has_command (codes "001") line || (has_command (codes "NICK") line && is_by nick line))
+is_new_nick nick line = is_name (parameter 0 line) && (has_command (codes "001") line || (has_command (codes "NICK") line && is_by nick line))
 
 abbrev pub is_query_name : List ℕ → Bool
 is_query_name name = is_name name && not (is_channel name)
 
 -- a message to this nick from one who may have a query
 abbrev pub is_query_line : List ℕ → Parts → Bool
-is_query_line nick line = has_command (codes "PRIVMSG") line && is_some line.prefix && same_name nick (parameter 1 line) && is_query_name (source line)
+is_query_line nick line = has_command (codes "PRIVMSG") line && is_some line.prefix && same_name nick (parameter 0 line) && is_query_name (source line)
 
 -- a line whose first parameter is its channel
 abbrev pub names_first : Parts → Bool
@@ -72,12 +71,12 @@ names_second line = list_any (λ w. has_command w line) (codes "332" ∷ codes "
 abbrev pub channel_of : Parts → List ℕ
 channel_of line =
     if names_first line
-    then parameter 1 line
+    then parameter 0 line
     else
     if names_second line
-    then parameter 2 line
+    then parameter 1 line
     else
-    if has_command (codes "353") line then parameter 3 line else []
+    if has_command (codes "353") line then parameter 2 line else []
 
 -- a line with no prefix
 abbrev pub bare : List ℕ → List (List ℕ) → Parts

@@ -1,13 +1,15 @@
--- One step of the machine, on what it holds: what it holds next, and what it answers.
+-- One step of the machine, on what it holds: what it holds next, and what it answers. These steps need not be believed: that
+-- they come to what Buffers and Effects define is proved.
 use Rattle.std.specs.Prelude.{◌≡◌, ℕ, ◌<◌, Bool, true, false, not, ◌&&◌, ◌||◌, if◌then◌else◌, nat_lt, max, List, [], ◌∷◌, ◌++◌, length, map, Option, Some, None, is_some, filter, flat_map, codes, slice_index, slice_set, ⊤}
 use Rattle.irc_line.specs.Names.{fold_name, is_channel}
-use Rattle.irc_line.specs.Lines.{Parts}
-use Rattle.buffer_lines.specs.Stamps.{framed, parameter, ring}
+use Rattle.irc_line.specs.Lines.{Parts, parameter}
+use Rattle.buffer_lines.specs.Stamps.{framed, ring}
 use Rattle.buffer_targets.specs.Targets.{StandsAt, ChannelLines, TargetLines, channel, target, cleared, resized, pushed, over, with_joined, with_detached, at_channel, channel_of_key, joined_by, without_channel, open_cleared, at_query, query_of_key, query_stored}
 use Rattle.wire_bytes.specs.declared.origin.Origin.{Origin}
 use Rattle.buffer_commands.specs.Settings.{Settings}
 use Rattle.buffer_commands.specs.declared.command.Action.TheVariants.{Attach, Leave, Say, Join, Part, Detach, Reattach, Play, Clear, ClearChannels, ClearQueries, ClearAll, SetBuffer, Pass}
 use Rattle.buffer_commands.specs.declared.command.Command.{Command}
+use Rattle.buffer_commands.specs.declared.command.Verb.{Verb}
 use Rattle.buffer_commands.specs.declared.command.Command.TheVariants.{Client, Upstream, NodeGone, Up, Down}
 use Rattle.buffer_commands.specs.declared.effect.Effect.{Effect}
 use Rattle.buffer_commands.specs.declared.effect.Effect.TheVariants.{Close, Send, Rejoin}
@@ -21,13 +23,6 @@ use Rattle.buffer_machine.specs.Held.{Held, holding}
 abbrev pub IsWithinLimits : Command → Type 0
 IsWithinLimits (Client o at action) = o.0 < 8
 IsWithinLimits _ = ⊤
-
--- what asks for no memory: the end of the upstream, a node that is gone, and Leave of one who is attached
-abbrev pub TakesNone : List Origin → Command → Type 0
-TakesNone attached (Client o at Leave) = is_among o attached ≡ true
-TakesNone attached (NodeGone node boot) = ⊤
-TakesNone attached Down = ⊤
-TakesNone attached _ = ⊥
 
 -- a node's floor, raised to at least this one
 abbrev pub raised : ℕ → ℕ → List ℕ → List ℕ
@@ -93,15 +88,15 @@ channels_storing s h None = h.channels
 channels_storing s h (Some line) =
     if is_storable line.1
     then
-    (if keeps s.clears_channels h.clients || is_detached (channel_of_key (fold_name (parameter 1 (line.1))) h.channels)
-    then at_channel (fold_name (parameter 1 (line.1))) (over (pushed line)) h.channels else h.channels)
+    (if keeps s.clears_channels h.clients || is_detached (channel_of_key (fold_name (parameter 0 (line.1))) h.channels)
+    then at_channel (fold_name (parameter 0 (line.1))) (over (pushed line)) h.channels else h.channels)
     else h.channels
 
 -- a line is stored in a query where it is for no channel that is known
 abbrev pub queries_storing : Settings → Held → Option (ℕ × Parts) → List TargetLines
 queries_storing s h None = h.queries
 queries_storing s h (Some line) =
-    if is_storable line.1 && not (is_some (channel_of_key (fold_name (parameter 1 (line.1))) h.channels)) && keeps s.clears_queries h.clients && is_query_line h.nick line.1
+    if is_storable line.1 && not (is_some (channel_of_key (fold_name (parameter 0 (line.1))) h.channels)) && keeps s.clears_queries h.clients && is_query_line h.nick line.1
     then query_stored s.most_queries s.query_size (source line.1) line h.queries
     else h.queries
 
@@ -121,6 +116,16 @@ attached_again clears key cs found =
 abbrev pub let_go : List ℕ → List ChannelLines → Option ChannelLines → List ChannelLines
 let_go key cs found = if is_some found && not (is_joined found) then without_channel key cs else cs
 
+-- the channel of a name after a client's Join or Reattach, Part, and Detach
+abbrev pub reattached : Settings → List ℕ → Held → Held
+reattached s name h = with_channels h (attached_again s.clears_channels (fold_name name) h.channels (found name h))
+
+abbrev pub parted : List ℕ → Held → Held
+parted name h = with_channels h (let_go (fold_name name) h.channels (found name h))
+
+abbrev pub detached_now : List ℕ → Held → Held
+detached_now name h = with_channels h (at_channel (fold_name name) (with_detached true) h.channels)
+
 -- the target of a key emptied, where playing empties it
 abbrev pub played_out : Settings → List ℕ → Held → Held
 played_out s key h =
@@ -139,12 +144,16 @@ sized_unless_past n key h =
 abbrev pub channels_taking : Settings → Held → ℕ → Parts → List ChannelLines
 channels_taking s h at line =
     if is_own (codes "JOIN") h.nick line
-    then joined_by (parameter 1 line) s.channel_size h.channels
+    then joined_by (parameter 0 line) s.channel_size h.channels
     else
     if is_own (codes "PART") h.nick line
-    then without_channel (fold_name (parameter 1 line)) h.channels
+    then without_channel (fold_name (parameter 0 line)) h.channels
     else
-    if is_own_kick h.nick line then at_channel (fold_name (parameter 1 line)) (with_joined false) h.channels else channels_storing s h (Some (at, line))
+    if is_own_kick h.nick line then at_channel (fold_name (parameter 0 line)) (with_joined false) h.channels else channels_storing s h (Some (at, line))
+
+-- what is held after a line from upstream
+abbrev pub after_line : Settings → Held → ℕ → Parts → Held
+after_line s h at line = holding (nick_after h.nick (Upstream at line)) h.clients (channels_taking s h at line) (queries_storing s h (Some (at, line)))
 
 abbrev pub channels_after : Settings → ℕ → Held → Command → List ChannelLines
 channels_after s floor h (Client o at Attach) = if can_attach floor h.clients o && s.clears_channels then open_cleared h.channels else h.channels
@@ -289,6 +298,40 @@ done_or_status h o (Some t) = status h.nick o (codes "Done.")
 
 abbrev pub answers_sizing : Held → Origin → List ℕ → ℕ → List Effect
 answers_sizing h o t n = if is_past n then status h.nick o (codes "Size is past 500.") else done_or_status h o (target_of_key (fold_name t) h)
+
+-- what is answered to an asker that is attached, by the name that it asks for
+abbrev pub joining : Settings → Held → Origin → List ℕ → List Effect
+joining s h o name = answers_joining s h o name (found name h)
+
+abbrev pub parting : Held → Origin → List ℕ → List Effect
+parting h o name = answers_parting o name (found name h)
+
+abbrev pub detaching : Held → Origin → List ℕ → List Effect
+detaching h o name = answers_detaching h o (found name h)
+
+abbrev pub reattaching : Settings → Held → Origin → List ℕ → List Effect
+reattaching s h o name = answers_reattaching s h o (found name h)
+
+abbrev pub playing : Settings → Held → Origin → List ℕ → List Effect
+playing s h o name = played_or_status s h o (target_of_key (fold_name name) h)
+
+abbrev pub clearing : Held → Origin → List ℕ → List Effect
+clearing h o name = done_or_status h o (target_of_key (fold_name name) h)
+
+-- a line shown to the others, unless its channel is detached
+abbrev pub sharing : Held → Origin → Parts → List Effect
+sharing h o line = if not (is_detached (found (channel_of line) h)) then show_each (others o h.clients) (line ∷ []) else []
+
+-- what is shown and sent of what a client says, and what is held after it
+abbrev pub saying : Held → Origin → Verb → List ℕ → List ℕ → List Effect
+saying h o verb name text = answers_saying h o name (own_said h.nick verb name text) (bare (verb_word verb) (name ∷ text ∷ []) ∷ [])
+
+abbrev pub after_saying : Settings → Held → ℕ → Verb → List ℕ → List ℕ → Held
+after_saying s h at verb name text = storing s h (if is_channel name then Some (at, own_said h.nick verb name text) else None)
+
+-- a line of the own nick shown to all
+abbrev pub show_own : Held → List ℕ → List ℕ → List Parts → List Effect
+show_own h command name more = show_each h.clients (own_line h.nick command name ∷ more)
 
 -- a line from upstream is shown to all, but the server's welcome, and a line of a channel that is detached
 abbrev pub answers_taking : Held → Parts → List Effect

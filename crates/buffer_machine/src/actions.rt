@@ -28,9 +28,12 @@ pub fn act(
     at: Moment,
     action: &Action,
 ) -> Result<Vec<Effect>, AllocError>
-    ensures effects { IfOk result (λ v. v.items ≡ answers setup.now floor (held_of buffers.old) (Client origin at action.now)) }
-    ensures held { OnOk result (held_of buffers.new ≡ after setup.now floor (held_of buffers.old) (Client origin at action.now)) }
-    ensures memory { IsTrue (is_among origin buffers.old.clients) → action.now ≡ Action.Leave → IsOk result }
+    ensures effects { IfOk result (λ v. v.items ≡
+        answers setup.now floor (held_of buffers.old) (Client origin at action.now)) }
+    ensures held { OnOk result (held_of buffers.new ≡
+        after setup.now floor (held_of buffers.old) (Client origin at action.now)) }
+    ensures memory { IsTrue (is_among origin buffers.old.clients) → action.now ≡ Action.Leave
+        → IsOk result }
 {
     let attached = buffers.clients.is_attached(origin);
     match action {
@@ -72,8 +75,10 @@ fn attach(
     buffers: &mut Buffers,
     origin: Origin,
 ) -> Result<Vec<Effect>, AllocError>
-    ensures effects { IfOk result (λ v. v.items ≡ answers_attaching setup.now floor (held_of buffers.old) origin) }
-    ensures held { OnOk result (held_of buffers.new ≡ after setup.now floor (held_of buffers.old) (Client origin 0 Action.Attach)) }
+    ensures effects { IfOk result (λ v. v.items ≡
+        answers_attaching setup.now floor (held_of buffers.old) origin) }
+    ensures held { OnOk result (held_of buffers.new ≡
+        after setup.now floor (held_of buffers.old) (Client origin 0 Action.Attach)) }
 {
     let effects = answer_attach(alloc, setup, floor, buffers, origin)?;
     let_in(setup, floor, buffers, origin)?;
@@ -88,7 +93,8 @@ fn answer_attach(
     buffers: &Buffers,
     origin: Origin,
 ) -> Result<Vec<Effect>, AllocError>
-    ensures { IfOk result (λ v. v.items ≡ answers_attaching setup.now floor (held_of buffers.now) origin) }
+    ensures { IfOk result (λ v. v.items ≡
+        answers_attaching setup.now floor (held_of buffers.now) origin) }
 {
     if !buffers.clients.may_attach(floor, origin) {
         return close_out(alloc, &buffers.clients, origin);
@@ -125,7 +131,8 @@ fn let_in(
     buffers: &mut Buffers,
     origin: Origin,
 ) -> Result<(), AllocError>
-    ensures { OnOk result (held_of buffers.new ≡ after setup.now floor (held_of buffers.old) (Client origin 0 Action.Attach)) }
+    ensures { OnOk result (held_of buffers.new ≡
+        after setup.now floor (held_of buffers.old) (Client origin 0 Action.Attach)) }
 {
     if !buffers.clients.may_attach(floor, origin) {
         return Ok(());
@@ -146,7 +153,8 @@ fn let_in(
 /// A client leaves; one that is not attached is closed.
 fn leave(alloc: Global, clients: &mut Clients, origin: Origin) -> Result<Vec<Effect>, AllocError>
     ensures effects { IfOk result (λ v. v.items ≡ closed_out origin clients.old) }
-    ensures left { OnOk result (clients.new ≡ filter (λ x. not (same_origin origin x)) clients.old) }
+    ensures left { OnOk result (clients.new ≡
+        filter (λ x. not (same_origin origin x)) clients.old) }
     ensures memory { IsTrue (is_among origin clients.old) → IsOk result }
 {
     let effects = close_out(alloc, clients, origin)?;

@@ -34,7 +34,8 @@ impl Buffers {
 
     /// The target of a name, a channel or a query.
     pub fn target(&self, name: &Name) -> Option<&Target>
-        ensures { option_map (λ t. t.now) result ≡ target_of_key (fold_name name.now) (held_of self.now) }
+        ensures { option_map (λ t. t.now) result ≡
+            target_of_key (fold_name name.now) (held_of self.now) }
     {
         match self.channels.find(name.as_bytes()) {
             None => self.queries.find(name.as_bytes()),

@@ -5,7 +5,7 @@ ghost use Rattle.irc_line.specs.Names.{fold_name};
 ghost use Rattle.buffer_machine.specs.Effects.{show_each};
 ghost use Rattle.buffer_machine.specs.Machine.{held_of};
 ghost use Rattle.buffer_machine.specs.Messages.{bare, own_line, word_bytes};
-ghost use Rattle.buffer_machine.specs.Steps.{answers_again, answers_detaching, answers_joining, answers_parting, answers_reattaching, attached_again, found, is_detached, is_joined, let_go, played, with_channels};
+ghost use Rattle.buffer_machine.specs.Steps.{answers_again, answers_detaching, answers_joining, answers_parting, answers_reattaching, attached_again, found, is_detached, is_joined, let_go, played, with_channels, joining, reattached, show_own, parting, parted, detaching, detached_now, reattaching};
 ghost use Rattle.buffer_targets.specs.Targets.{at_channel, channel_of_key, with_detached};
 
 use crate::buffers::Buffers;
@@ -26,8 +26,10 @@ pub fn join(
     origin: Origin,
     name: &Name,
 ) -> Result<Vec<Effect>, AllocError>
-    ensures effects { IfOk result (λ v. v.items ≡ answers_joining setup.now (held_of buffers.old) origin name.now (found name.now (held_of buffers.old))) }
-    ensures held { OnOk result (held_of buffers.new ≡ with_channels (held_of buffers.old) (attached_again setup.now.clears_channels (fold_name name.now) buffers.old.channels (found name.now (held_of buffers.old)))) }
+    ensures effects { IfOk result (λ v. v.items ≡
+        joining setup.now (held_of buffers.old) origin name.now) }
+    ensures held { OnOk result (held_of buffers.new ≡
+        reattached setup.now name.now (held_of buffers.old)) }
 {
     let effects = answer_join(alloc, setup, buffers, origin, name)?;
     attach_again(setup, &mut buffers.channels, name.as_bytes());
@@ -41,8 +43,8 @@ pub fn part(
     origin: Origin,
     name: &Name,
 ) -> Result<Vec<Effect>, AllocError>
-    ensures effects { IfOk result (λ v. v.items ≡ answers_parting origin name.now (found name.now (held_of buffers.old))) }
-    ensures held { OnOk result (held_of buffers.new ≡ with_channels (held_of buffers.old) (let_go (fold_name name.now) buffers.old.channels (found name.now (held_of buffers.old)))) }
+    ensures effects { IfOk result (λ v. v.items ≡ parting (held_of buffers.old) origin name.now) }
+    ensures held { OnOk result (held_of buffers.new ≡ parted name.now (held_of buffers.old)) }
 {
     let effects = answer_part(alloc, buffers, origin, name)?;
     let_channel_go(&mut buffers.channels, name.as_bytes());
@@ -56,8 +58,8 @@ pub fn detach(
     origin: Origin,
     name: &Name,
 ) -> Result<Vec<Effect>, AllocError>
-    ensures effects { IfOk result (λ v. v.items ≡ answers_detaching (held_of buffers.old) origin (found name.now (held_of buffers.old))) }
-    ensures held { OnOk result (held_of buffers.new ≡ with_channels (held_of buffers.old) (at_channel (fold_name name.now) (with_detached true) buffers.old.channels)) }
+    ensures effects { IfOk result (λ v. v.items ≡ detaching (held_of buffers.old) origin name.now) }
+    ensures held { OnOk result (held_of buffers.new ≡ detached_now name.now (held_of buffers.old)) }
 {
     let effects = answer_detach(alloc, buffers, origin, name)?;
     buffers.channels.set_detached_at(name.as_bytes(), true);
@@ -72,8 +74,10 @@ pub fn reattach(
     origin: Origin,
     name: &Name,
 ) -> Result<Vec<Effect>, AllocError>
-    ensures effects { IfOk result (λ v. v.items ≡ answers_reattaching setup.now (held_of buffers.old) origin (found name.now (held_of buffers.old))) }
-    ensures held { OnOk result (held_of buffers.new ≡ with_channels (held_of buffers.old) (attached_again setup.now.clears_channels (fold_name name.now) buffers.old.channels (found name.now (held_of buffers.old)))) }
+    ensures effects { IfOk result (λ v. v.items ≡
+        reattaching setup.now (held_of buffers.old) origin name.now) }
+    ensures held { OnOk result (held_of buffers.new ≡
+        reattached setup.now name.now (held_of buffers.old)) }
 {
     let effects = answer_reattach(alloc, setup, buffers, origin, name)?;
     attach_again(setup, &mut buffers.channels, name.as_bytes());
@@ -88,7 +92,7 @@ fn answer_join(
     origin: Origin,
     name: &Name,
 ) -> Result<Vec<Effect>, AllocError>
-    ensures { IfOk result (λ v. v.items ≡ answers_joining setup.now (held_of buffers.now) origin name.now (found name.now (held_of buffers.now))) }
+    ensures { IfOk result (λ v. v.items ≡ joining setup.now (held_of buffers.now) origin name.now) }
 {
     match buffers.channels.find(name.as_bytes()) {
         None => send(alloc, origin, ChannelWord::Join, name),
@@ -111,7 +115,7 @@ fn answer_part(
     origin: Origin,
     name: &Name,
 ) -> Result<Vec<Effect>, AllocError>
-    ensures { IfOk result (λ v. v.items ≡ answers_parting origin name.now (found name.now (held_of buffers.now))) }
+    ensures { IfOk result (λ v. v.items ≡ parting (held_of buffers.now) origin name.now) }
 {
     match buffers.channels.find(name.as_bytes()) {
         None => send(alloc, origin, ChannelWord::Part, name),
@@ -132,7 +136,7 @@ fn answer_detach(
     origin: Origin,
     name: &Name,
 ) -> Result<Vec<Effect>, AllocError>
-    ensures { IfOk result (λ v. v.items ≡ answers_detaching (held_of buffers.now) origin (found name.now (held_of buffers.now))) }
+    ensures { IfOk result (λ v. v.items ≡ detaching (held_of buffers.now) origin name.now) }
 {
     match buffers.channels.find(name.as_bytes()) {
         None => tell(alloc, &buffers.nick, origin, NO_SUCH_TARGET),
@@ -154,7 +158,8 @@ fn answer_reattach(
     origin: Origin,
     name: &Name,
 ) -> Result<Vec<Effect>, AllocError>
-    ensures { IfOk result (λ v. v.items ≡ answers_reattaching setup.now (held_of buffers.now) origin (found name.now (held_of buffers.now))) }
+    ensures { IfOk result (λ v. v.items ≡
+        reattaching setup.now (held_of buffers.now) origin name.now) }
 {
     match buffers.channels.find(name.as_bytes()) {
         None => tell(alloc, &buffers.nick, origin, NO_SUCH_TARGET),
@@ -171,7 +176,8 @@ fn answer_reattach(
 /// All are shown that a channel is left.
 #[tactic(auto, using(crate::proofs::Shows::show_one_is))]
 fn show_left(alloc: Global, buffers: &Buffers, channel: &Channel) -> Result<Vec<Effect>, AllocError>
-    ensures { IfOk result (λ v. v.items ≡ show_each buffers.now.clients (own_line buffers.now.nick (codes "PART") channel.now.target.name ∷ [])) }
+    ensures { IfOk result (λ v. v.items ≡
+        show_own (held_of buffers.now) (codes "PART") channel.now.target.name []) }
 {
     let line = own_channel(
         alloc,
@@ -191,7 +197,8 @@ fn show_again(
     origin: Origin,
     channel: &Channel,
 ) -> Result<Vec<Effect>, AllocError>
-    ensures { IfOk result (λ v. v.items ≡ answers_again setup.now (held_of buffers.now) origin channel.now) }
+    ensures { IfOk result (λ v. v.items ≡
+        answers_again setup.now (held_of buffers.now) origin channel.now) }
 {
     let mut effects = show_joined(alloc, setup, buffers, channel)?;
     let line = bare_channel(alloc, word_again(channel), channel.target().name())?;
@@ -218,7 +225,8 @@ fn show_joined(
     buffers: &Buffers,
     channel: &Channel,
 ) -> Result<Vec<Effect>, AllocError>
-    ensures { IfOk result (λ v. v.items ≡ show_each buffers.now.clients (own_line buffers.now.nick (codes "JOIN") channel.now.target.name ∷ played setup.now.offset channel.now.target)) }
+    ensures { IfOk result (λ v. v.items ≡ show_own (held_of buffers.now)
+        (codes "JOIN") channel.now.target.name (played setup.now.offset channel.now.target)) }
 {
     let lines = lines_again(alloc, setup, &buffers.nick, channel)?;
     show_lines_to_all(alloc, buffers.clients.as_slice(), lines)
@@ -231,13 +239,14 @@ fn lines_again(
     nick: &Name,
     channel: &Channel,
 ) -> Result<Vec<Shown>, AllocError>
-    ensures { IfOk result (λ v. v.items ≡ map spelling (own_line nick.now (codes "JOIN") channel.now.target.name ∷ played setup.now.offset channel.now.target)) }
+    ensures { IfOk result (λ v. v.items ≡ map spelling (own_line nick.now
+        (codes "JOIN") channel.now.target.name ∷ played setup.now.offset channel.now.target)) }
 {
     let target = channel.target();
     let mut lines = vec![in alloc; own_channel(alloc, nick, ChannelWord::Join, target.name())?]?;
     let mut kept = target
         .lines()
-        .play(alloc, setup.offset(), target.name().as_bytes())?;
+        .play(setup.offset(), target.name().as_bytes())?;
     lines.append(&mut kept)?;
     Ok(lines)
 }
@@ -249,14 +258,16 @@ fn send(
     word: ChannelWord,
     channel: &Name,
 ) -> Result<Vec<Effect>, AllocError>
-    ensures { IfOk result (λ v. v.items ≡ Effect.Send origin (bare (word_bytes word) (channel.now ∷ [])) ∷ []) }
+    ensures { IfOk result (λ v. v.items ≡
+        Effect.Send origin (bare (word_bytes word) (channel.now ∷ [])) ∷ []) }
 {
     let line = bare_channel(alloc, word, channel)?;
     just(alloc, Effect::Send(origin, line))
 }
 /// Attaches the channel of a name again, where it is detached.
 fn attach_again(setup: &Setup, channels: &mut Channels, name: &[u8])
-    ensures { channels.new ≡ attached_again setup.now.clears_channels (fold_name name.now) channels.old (channel_of_key (fold_name name.now) channels.old) }
+    ensures { channels.new ≡ attached_again setup.now.clears_channels
+        (fold_name name.now) channels.old (channel_of_key (fold_name name.now) channels.old) }
 {
     if is_detached_at(channels, name) {
         channels.set_detached_at(name, false);
@@ -268,7 +279,8 @@ fn attach_again(setup: &Setup, channels: &mut Channels, name: &[u8])
 
 /// Lets the channel of a name go, where it is not joined.
 fn let_channel_go(channels: &mut Channels, name: &[u8])
-    ensures { channels.new ≡ let_go (fold_name name.now) channels.old (channel_of_key (fold_name name.now) channels.old) }
+    ensures { channels.new ≡ let_go (fold_name name.now) channels.old
+        (channel_of_key (fold_name name.now) channels.old) }
 {
     if is_idle_at(channels, name) {
         channels.remove_at(name);
@@ -287,7 +299,8 @@ fn is_detached_at(channels: &Channels, name: &[u8]) -> bool
 
 /// Whether the channel of a name is known and not joined.
 fn is_idle_at(channels: &Channels, name: &[u8]) -> bool
-    ensures { result ≡ (is_some (channel_of_key (fold_name name.now) channels.now) && not (is_joined (channel_of_key (fold_name name.now) channels.now))) }
+    ensures { result ≡ (is_some (channel_of_key (fold_name name.now) channels.now) && not
+        (is_joined (channel_of_key (fold_name name.now) channels.now))) }
 {
     match channels.find(name) {
         None => false,

@@ -107,7 +107,8 @@ impl Clients {
 }
 
 fn take_out(clients: &mut BTreeSet<Origin>, origin: Origin)
-    ensures { (o : Origin) → contains (⟦<Origin as Ord>⟧.cmp) clients.new o ≡ (not (same_origin origin o) && contains (⟦<Origin as Ord>⟧.cmp) clients.old o) }
+    ensures { (o : Origin) → contains (⟦<Origin as Ord>⟧.cmp) clients.new o ≡
+        (not (same_origin origin o) && contains (⟦<Origin as Ord>⟧.cmp) clients.old o) }
 {
     clients.remove(&origin);
 }
@@ -120,13 +121,15 @@ fn is_gone(client: Origin, node: u8, floor: Number) -> bool
 }
 
 fn remove_from(clients: &mut Vec<Origin>, node: u8, floor: Number)
-    ensures { clients.new.items ≡ filter (λ x. not (x.0 == node && nat_lt x.1 floor)) clients.old.items }
+    ensures { clients.new.items ≡
+        filter (λ x. not (x.0 == node && nat_lt x.1 floor)) clients.old.items }
 {
     clients.retain(|client| !is_gone(*client, node, floor));
 }
 
 fn remove_from_set(clients: &mut BTreeSet<Origin>, node: u8, floor: Number)
-    ensures { clients.new.keys ≡ filter (λ x. not (x.0 == node && nat_lt x.1 floor)) clients.old.keys }
+    ensures { clients.new.keys ≡
+        filter (λ x. not (x.0 == node && nat_lt x.1 floor)) clients.old.keys }
 {
     clients.retain(|client| !is_gone(*client, node, floor));
 }

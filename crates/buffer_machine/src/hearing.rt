@@ -1,13 +1,13 @@
 //! A line from upstream: what it brings about, and what is held after it. After an error a part may have been done.
 ghost use Rattle.std.specs.Prelude.{◌≡◌, IfOk, IsTrue, OnOk, if◌then◌else◌};
+ghost use Rattle.irc_line.specs.Lines.{parameter};
 ghost use Rattle.irc_line.specs.Names.{is_name};
-ghost use Rattle.buffer_lines.specs.Stamps.{parameter};
 ghost use Rattle.buffer_commands.specs.declared.command.Command.TheVariants.{Upstream};
 ghost use Rattle.buffer_machine.specs.Buffers.{nick_after};
 ghost use Rattle.buffer_machine.specs.Held.{holding};
 ghost use Rattle.buffer_machine.specs.Machine.{held_of};
 ghost use Rattle.buffer_machine.specs.Messages.{is_new_nick};
-ghost use Rattle.buffer_machine.specs.Steps.{HasPlace, after, answers_taking, channels_taking, queries_storing, with_channels};
+ghost use Rattle.buffer_machine.specs.Steps.{HasPlace, after, answers_taking, channels_taking, queries_storing, with_channels, after_line};
 ghost use Rattle.buffer_targets.specs.Targets.{joined_by};
 
 use crate::buffers::Buffers;
@@ -30,7 +30,8 @@ pub fn hear(
     line: &Line,
 ) -> Result<Vec<Effect>, AllocError>
     ensures effects { IfOk result (λ v. v.items ≡ answers_taking (held_of buffers.old) line.now) }
-    ensures held { OnOk result (held_of buffers.new ≡ after setup.now 0 (held_of buffers.old) (Upstream at line.now)) }
+    ensures held { OnOk result (held_of buffers.new ≡
+        after setup.now 0 (held_of buffers.old) (Upstream at line.now)) }
 {
     let place = buffers.channels.place_of(channel_of(line));
     let effects = show_heard(alloc, buffers, place, line)?;
@@ -69,7 +70,8 @@ fn take_line(
     line: &Line,
 ) -> Result<(), AllocError>
     requires { HasPlace line.now (held_of buffers.old) place }
-    ensures { OnOk result (held_of buffers.new ≡ holding (nick_after buffers.old.nick (Upstream at line.now)) buffers.old.clients (channels_taking setup.now (held_of buffers.old) at line.now) (queries_storing setup.now (held_of buffers.old) (Some (at, line.now)))) }
+    ensures { OnOk result (held_of buffers.new ≡
+        after_line setup.now (held_of buffers.old) at line.now) }
 {
     // the query before the channels: the line is for one where no channel of its name was known before it;
     // the own nick last: the line is still for the old one
@@ -90,7 +92,8 @@ fn take_for_channel(
     line: &Line,
 ) -> Result<(), AllocError>
     requires { HasPlace line.now (held_of buffers.old) place }
-    ensures { OnOk result (held_of buffers.new ≡ with_channels (held_of buffers.old) (channels_taking setup.now (held_of buffers.old) at line.now)) }
+    ensures { OnOk result (held_of buffers.new ≡ with_channels (held_of buffers.old)
+        (channels_taking setup.now (held_of buffers.old) at line.now)) }
 {
     let nick = buffers.nick.as_bytes();
     if is_own(line, b"JOIN", nick) {
@@ -122,7 +125,8 @@ fn join(alloc: Global, channels: &mut Channels, name: &[u8], size: usize) -> Res
 
 /// Takes the nick that a line gives, if it gives one.
 fn take_nick(alloc: Global, nick: &mut Name, line: &Line) -> Result<(), AllocError>
-    ensures { OnOk result (nick.new ≡ (if is_new_nick nick.old line.now then parameter 1 line.now else nick.old)) }
+    ensures { OnOk result (nick.new ≡
+        (if is_new_nick nick.old line.now then parameter 0 line.now else nick.old)) }
 {
     if is_new_nick(line, nick.as_bytes()) {
         let bytes = Vec::from_slice(alloc, line.parameter(0))?;

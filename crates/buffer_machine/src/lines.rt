@@ -1,14 +1,11 @@
 //! What the buffers look at in a line.
 ghost use Rattle.std.specs.Prelude.{◌≡◌, ◌==◌, not};
+ghost use Rattle.irc_line.specs.Lines.{parameter};
 ghost use Rattle.std.specs.List.{take_while};
-ghost use Rattle.irc_line.specs.Names.{is_channel, is_name};
-ghost use Rattle.buffer_lines.specs.Stamps.{action_mark, begins_with, parameter};
+ghost use Rattle.irc_line.specs.Names.{is_channel, is_name, action_mark, begins_with};
 ghost use Rattle.buffer_machine.specs.Messages.{channel_of, has_command, is_by, is_message, is_new_nick, is_own, is_own_kick, is_plain_or_action, is_query_line, is_query_name, is_storable, names_first, names_second, source};
 
-use irc_line::{Line, is_a_name, is_channel_name, is_same, is_same_name};
-
-/// What an ACTION begins with.
-const ACTION_MARK: &[u8] = b"\x01ACTION ";
+use irc_line::{Line, is_a_name, is_action, is_channel_name, is_same, is_same_name};
 
 pub fn has_command(line: &Line, word: &[u8]) -> bool
     ensures { result ≡ has_command word.now line.now }
@@ -37,17 +34,6 @@ fn is_plain_text(text: &[u8]) -> bool
         [1, ..] => is_action(text),
         _ => true,
     }
-}
-
-fn is_action(text: &[u8]) -> bool
-    ensures { result ≡ begins_with text.now action_mark }
-{
-    let front = if text.len() < ACTION_MARK.len() {
-        text
-    } else {
-        &text[..ACTION_MARK.len()]
-    };
-    is_same(front, ACTION_MARK)
 }
 
 /// The nick that a line came from: its prefix before the first `!`; no bytes where it has none.

@@ -1,9 +1,10 @@
-ghost use Rattle.std.specs.Prelude.{◌≡◌, map, IfOk, OnOk};
+ghost use Rattle.std.specs.Prelude.{◌≡◌, ◌∷◌, ◌↔◌, false, map, IfErr, IfOk, IsErr, IsOk, IsTrue, OnErr, OnOk};
 ghost use Rattle.irc_line.specs.Lines.{spelling};
 ghost use Rattle.irc_line.specs.Names.{fold_name};
 ghost use Rattle.machine_laws.specs.Runs.{History};
 ghost use Rattle.buffer_commands.specs.Settings.{Settings};
-ghost use Rattle.buffer_machine.specs.Buffers.{nick, playback};
+ghost use Rattle.buffer_machine.specs.Buffers.{attached, nick, playback};
+ghost use Rattle.buffer_machine.specs.Effects.{TakesNone};
 ghost use Rattle.buffer_machine.specs.Held.{IsSound, commands};
 ghost use Rattle.buffer_machine.specs.Machine.{held_of};
 ghost use Rattle.buffer_machine.specs.Steps.{beginning, played_of, target_of_key};
@@ -34,14 +35,17 @@ impl BufferMachine {
 
     /// What is kept of a target, between its frame lines; nothing of one that is not known. Nothing is emptied.
     pub fn playback(&self, target: &Name) -> Result<Vec<Shown>, AllocError>
-        ensures { (s : Settings) (history : History Command) → Stands self.now s history → IfOk result (λ v. v.items ≡ map spelling (playback s (commands history) (fold_name target.now))) }
+        ensures { (s : Settings) (history : History Command) → Stands self.now s history
+            → IfOk result (λ v. v.items ≡
+            map spelling (playback s (commands history) (fold_name target.now))) }
     {
         played_at(self.alloc, self.setup.offset(), &self.buffers, target)
     }
 
     /// The own nick.
     pub fn nick(&self) -> &Name
-        ensures { (s : Settings) (history : History Command) → Stands self.now s history → result.now ≡ nick s (commands history) }
+        ensures { (s : Settings) (history : History Command) → Stands self.now s history
+            → result.now ≡ nick s (commands history) }
     {
         &self.buffers.nick
     }
@@ -54,10 +58,11 @@ fn played_at(
     buffers: &Buffers,
     name: &Name,
 ) -> Result<Vec<Shown>, AllocError>
-    ensures { IfOk result (λ v. v.items ≡ map spelling (played_of offset (target_of_key (fold_name name.now) (held_of buffers.now)))) }
+    ensures { IfOk result (λ v. v.items ≡ map spelling
+        (played_of offset (target_of_key (fold_name name.now) (held_of buffers.now)))) }
 {
     match buffers.target(name) {
-        Some(target) => target.lines().play(alloc, offset, target.name().as_bytes()),
+        Some(target) => target.lines().play(offset, target.name().as_bytes()),
         None => Ok(Vec::new(alloc)),
     }
 }
@@ -89,7 +94,19 @@ impl Machine for BufferMachine {
         })
     }
 
-    fn apply(&mut self, _place: u64, command: &Command) -> Result<Vec<Effect>, ApplyFault> {
+    /// The end of the upstream, a node that is gone, and Leave of one who is attached take no memory.
+    fn apply(&mut self, place: u64, command: &Command) -> Result<Vec<Effect>, ApplyFault>
+        ensures stands { (s : Settings) (earlier : History Command) → Stands self.old s earlier
+            → OnOk result (Stands self.new s ((place, command.now) ∷ earlier)) }
+        ensures effects { (s : Settings) (earlier : History Command) → Stands self.old s earlier
+            → IfOk result (λ es. es.items ≡ effects_at s earlier place command.now) }
+        ensures fault { IfErr result (λ e. (e ≡ ApplyFault.Spoilt) ↔ IsTrue self.old.spoilt) }
+        ensures refuses { IsTrue self.old.spoilt → IsErr result }
+        ensures whole { OnOk result (self.new.spoilt ≡ false) }
+        ensures spoils { OnErr result (IsTrue self.new.spoilt) }
+        ensures memory { (s : Settings) (earlier : History Command) → Stands self.old s earlier
+            → TakesNone (attached s (commands earlier)) command.now → IsOk result }
+    {
         if self.spoilt {
             return Err(ApplyFault::Spoilt);
         }

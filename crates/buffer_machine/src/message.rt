@@ -1,7 +1,6 @@
 //! The lines that the buffers tell and send.
 ghost use Rattle.std.specs.Prelude.{◌≡◌, ◌∷◌, [], codes, IfOk, IsTrue};
-ghost use Rattle.irc_line.specs.Lines.{is_upper_command, is_word, spelling};
-ghost use Rattle.buffer_lines.specs.Stamps.{line_of};
+ghost use Rattle.irc_line.specs.Lines.{is_upper_command, is_word, spelling, line_of};
 ghost use Rattle.buffer_machine.specs.Messages.{bare, own_line, own_prefix, own_said, verb_word, word_bytes};
 
 use buffer_commands::Verb;
@@ -82,7 +81,8 @@ pub fn own_channel(
 
 /// The bouncer's own answer to a client of this nick.
 pub fn status_line(alloc: Global, nick: &Name, text: &[u8]) -> Result<Shown, AllocError>
-    ensures { IfOk result (λ x. x ≡ spelling (line_of (codes "*status!bouncer@local") (codes "PRIVMSG") (nick.now ∷ text.now ∷ []))) }
+    ensures { IfOk result (λ x. x ≡ spelling
+        (line_of (codes "*status!bouncer@local") (codes "PRIVMSG") (nick.now ∷ text.now ∷ []))) }
 {
     Shown::of_parts(
         alloc,

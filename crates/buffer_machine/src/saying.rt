@@ -4,7 +4,7 @@ ghost use Rattle.irc_line.specs.Names.{is_channel};
 ghost use Rattle.buffer_machine.specs.Effects.{show_each};
 ghost use Rattle.buffer_machine.specs.Machine.{held_of};
 ghost use Rattle.buffer_machine.specs.Messages.{bare, channel_of, own_said, verb_word};
-ghost use Rattle.buffer_machine.specs.Steps.{HasPlace, answers_saying, found, is_detached, others, storing};
+ghost use Rattle.buffer_machine.specs.Steps.{HasPlace, answers_saying, found, is_detached, others, storing, saying, after_saying, sharing};
 
 use crate::buffers::Buffers;
 use crate::lines::channel_of;
@@ -28,8 +28,10 @@ pub fn say(
     name: &Name,
     text: &Text,
 ) -> Result<Vec<Effect>, AllocError>
-    ensures effects { IfOk result (λ v. v.items ≡ answers_saying (held_of buffers.old) origin name.now (own_said buffers.old.nick verb name.now text.now) (bare (verb_word verb) (name.now ∷ text.now ∷ []) ∷ [])) }
-    ensures held { OnOk result (held_of buffers.new ≡ storing setup.now (held_of buffers.old) (if is_channel name.now then Some (at, own_said buffers.old.nick verb name.now text.now) else None)) }
+    ensures effects { IfOk result (λ v. v.items ≡
+        saying (held_of buffers.old) origin verb name.now text.now) }
+    ensures held { OnOk result (held_of buffers.new ≡
+        after_saying setup.now (held_of buffers.old) at verb name.now text.now) }
 {
     let sent = bare_message(alloc, verb, name, text)?;
     if !name.is_channel() {
@@ -50,8 +52,9 @@ fn share(
     at: Moment,
     line: Line,
 ) -> Result<Vec<Effect>, AllocError>
-    ensures effects { IfOk result (λ v. v.items ≡ (if not (is_detached (found (channel_of line) (held_of buffers.old))) then show_each (others origin buffers.old.clients) (line ∷ []) else [])) }
-    ensures held { OnOk result (held_of buffers.new ≡ storing setup.now (held_of buffers.old) (Some (at, line))) }
+    ensures effects { IfOk result (λ v. v.items ≡ sharing (held_of buffers.old) origin line) }
+    ensures held { OnOk result (held_of buffers.new ≡
+        storing setup.now (held_of buffers.old) (Some (at, line))) }
 {
     let place = buffers.channels.place_of(channel_of(&line));
     let effects = show_said(alloc, buffers, place, origin, &line)?;
@@ -69,7 +72,7 @@ fn show_said(
     line: &Line,
 ) -> Result<Vec<Effect>, AllocError>
     requires { HasPlace line.now (held_of buffers.now) place }
-    ensures { IfOk result (λ v. v.items ≡ (if not (is_detached (found (channel_of line.now) (held_of buffers.now))) then show_each (others origin buffers.now.clients) (line.now ∷ []) else [])) }
+    ensures { IfOk result (λ v. v.items ≡ sharing (held_of buffers.now) origin line.now) }
 {
     if buffers.is_detached(place) {
         return Ok(Vec::new(alloc));

@@ -45,11 +45,10 @@ pub fn show_target(
     origin: Origin,
     target: &Target,
 ) -> Result<(), AllocError>
-    ensures { OnOk result (effects.new.items ≡ effects.old.items ++ show_all origin (played offset target.now)) }
+    ensures { OnOk result (effects.new.items ≡
+        effects.old.items ++ show_all origin (played offset target.now)) }
 {
-    let shown = target
-        .lines()
-        .play(alloc, offset, target.name().as_bytes())?;
+    let shown = target.lines().play(offset, target.name().as_bytes())?;
     show_lines(effects, origin, shown)
 }
 
@@ -89,7 +88,8 @@ fn show_copies_to_all(
     origins: &[Origin],
     lines: &[Shown],
 ) -> Result<(), AllocError>
-    ensures { OnOk result (effects.new.items ≡ effects.old.items ++ flat_map (copies lines.now) origins.now) }
+    ensures { OnOk result (effects.new.items ≡
+        effects.old.items ++ flat_map (copies lines.now) origins.now) }
 {
     for origin in origins {
         show_copies(alloc, effects, *origin, lines)?;
@@ -162,7 +162,8 @@ fn show_last(
     last: Option<Origin>,
     line: Shown,
 ) -> Result<Vec<Effect>, AllocError>
-    ensures { IfOk result (λ v. v.items ≡ effects.items ++ flat_map (copies (line ∷ [])) (option_to_list last)) }
+    ensures { IfOk result (λ v. v.items ≡
+        effects.items ++ flat_map (copies (line ∷ [])) (option_to_list last)) }
 {
     let mut effects = effects;
     if let Some(client) = last {
@@ -173,7 +174,8 @@ fn show_last(
 
 /// Each of these clients is closed.
 pub fn close_all(effects: &mut Vec<Effect>, origins: &[Origin]) -> Result<(), AllocError>
-    ensures { OnOk result (effects.new.items ≡ effects.old.items ++ map (λ o. Effect.Close o) origins.now) }
+    ensures { OnOk result (effects.new.items ≡
+        effects.old.items ++ map (λ o. Effect.Close o) origins.now) }
 {
     for origin in origins {
         effects.push(Effect::Close(*origin))?;
@@ -190,7 +192,8 @@ pub fn show_channel(
     origin: Origin,
     channel: &Channel,
 ) -> Result<(), AllocError>
-    ensures { OnOk result (effects.new.items ≡ effects.old.items ++ shown_at_attach offset nick.now origin channel.now) }
+    ensures { OnOk result (effects.new.items ≡
+        effects.old.items ++ shown_at_attach offset nick.now origin channel.now) }
 {
     if channel.is_detached() {
         return Ok(());
@@ -211,7 +214,8 @@ pub fn show_channels(
     origin: Origin,
     channels: &[Channel],
 ) -> Result<(), AllocError>
-    ensures { OnOk result (effects.new.items ≡ effects.old.items ++ flat_map (shown_at_attach offset nick.now origin) channels.now) }
+    ensures { OnOk result (effects.new.items ≡
+        effects.old.items ++ flat_map (shown_at_attach offset nick.now origin) channels.now) }
 {
     for channel in channels {
         show_channel(alloc, effects, offset, nick, origin, channel)?;
@@ -227,7 +231,8 @@ pub fn show_queries(
     origin: Origin,
     queries: &[Target],
 ) -> Result<(), AllocError>
-    ensures { OnOk result (effects.new.items ≡ effects.old.items ++ flat_map (λ t. show_all origin (played offset t)) queries.now) }
+    ensures { OnOk result (effects.new.items ≡
+        effects.old.items ++ flat_map (λ t. show_all origin (played offset t)) queries.now) }
 {
     for query in queries {
         show_target(alloc, effects, offset, origin, query)?;
@@ -242,7 +247,8 @@ pub fn ask_for_names(
     origin: Origin,
     channel: &Channel,
 ) -> Result<(), AllocError>
-    ensures { OnOk result (effects.new.items ≡ effects.old.items ++ sent_at_attach origin channel.now) }
+    ensures { OnOk result (effects.new.items ≡
+        effects.old.items ++ sent_at_attach origin channel.now) }
 {
     if !channel.is_detached() && channel.is_joined() {
         let line = bare_channel(alloc, ChannelWord::Names, channel.target().name())?;
@@ -258,7 +264,8 @@ pub fn ask_for_all_names(
     origin: Origin,
     channels: &[Channel],
 ) -> Result<(), AllocError>
-    ensures { OnOk result (effects.new.items ≡ effects.old.items ++ flat_map (sent_at_attach origin) channels.now) }
+    ensures { OnOk result (effects.new.items ≡
+        effects.old.items ++ flat_map (sent_at_attach origin) channels.now) }
 {
     for channel in channels {
         ask_for_names(alloc, effects, origin, channel)?;

@@ -1,7 +1,8 @@
 //! One step: what a command brings about, and what is held after it.
 ghost use Rattle.std.specs.Prelude.{◌≡◌, IfOk, IsOk, OnOk};
+ghost use Rattle.buffer_machine.specs.Effects.{TakesNone};
 ghost use Rattle.buffer_machine.specs.Machine.{held_of};
-ghost use Rattle.buffer_machine.specs.Steps.{IsWithinLimits, TakesNone, after, answers, floor_for, floors_after};
+ghost use Rattle.buffer_machine.specs.Steps.{IsWithinLimits, after, answers, floor_for, floors_after};
 
 use crate::actions::act;
 use crate::buffers::Buffers;
@@ -21,8 +22,10 @@ pub fn step(
 ) -> Result<Vec<Effect>, AllocError>
     ensures limits { IsWithinLimits command.now }
     ensures floors { OnOk result (floors.new ≡ floors_after floors.old command.now) }
-    ensures held { OnOk result (held_of buffers.new ≡ after setup.now (floor_for floors.old command.now) (held_of buffers.old) command.now) }
-    ensures effects { IfOk result (λ v. v.items ≡ answers setup.now (floor_for floors.old command.now) (held_of buffers.old) command.now) }
+    ensures held { OnOk result (held_of buffers.new ≡
+        after setup.now (floor_for floors.old command.now) (held_of buffers.old) command.now) }
+    ensures effects { IfOk result (λ v. v.items ≡
+        answers setup.now (floor_for floors.old command.now) (held_of buffers.old) command.now) }
     ensures memory { TakesNone buffers.old.clients command.now → IsOk result }
 {
     match command {

@@ -25,7 +25,8 @@ pub fn store(
     line: Line,
 ) -> Result<(), AllocError>
     requires { HasPlace line (held_of buffers.old) place }
-    ensures { OnOk result (held_of buffers.new ≡ storing setup.now (held_of buffers.old) (Some (at, line))) }
+    ensures { OnOk result (held_of buffers.new ≡
+        storing setup.now (held_of buffers.old) (Some (at, line))) }
 {
     // the query first, while the line is still there to be copied
     store_in_query(alloc, setup, buffers, place, at, &line)?;
@@ -45,7 +46,8 @@ pub fn store_in_channel(
     line: &Line,
 ) -> Result<(), AllocError>
     requires { HasPlace line.now (held_of buffers.old) place }
-    ensures { OnOk result (held_of buffers.new ≡ with_channels (held_of buffers.old) (channels_storing setup.now (held_of buffers.old) (Some (at, line.now)))) }
+    ensures { OnOk result (held_of buffers.new ≡ with_channels (held_of buffers.old)
+        (channels_storing setup.now (held_of buffers.old) (Some (at, line.now)))) }
 {
     // tested before the line is copied: most lines may be for no channel that keeps them
     if place.is_none() {
@@ -69,7 +71,8 @@ pub fn store_in_query(
     line: &Line,
 ) -> Result<(), AllocError>
     requires { HasPlace line.now (held_of buffers.old) place }
-    ensures { OnOk result (held_of buffers.new ≡ with_queries (held_of buffers.old) (queries_storing setup.now (held_of buffers.old) (Some (at, line.now)))) }
+    ensures { OnOk result (held_of buffers.new ≡ with_queries (held_of buffers.old)
+        (queries_storing setup.now (held_of buffers.old) (Some (at, line.now)))) }
 {
     if !stores_in_query(setup, buffers, place, line) {
         return Ok(());

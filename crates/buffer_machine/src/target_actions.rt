@@ -3,7 +3,7 @@ ghost use Rattle.std.specs.Prelude.{◌≡◌, IfOk, OnOk};
 ghost use Rattle.irc_line.specs.Names.{fold_name};
 ghost use Rattle.buffer_machine.specs.Held.{holding};
 ghost use Rattle.buffer_machine.specs.Machine.{held_of};
-ghost use Rattle.buffer_machine.specs.Steps.{answers_sizing, cleared_of, done_or_status, played_or_status, played_out, sized_unless_past, target_of_key};
+ghost use Rattle.buffer_machine.specs.Steps.{answers_sizing, cleared_of, done_or_status, played_or_status, played_out, sized_unless_past, target_of_key, playing, clearing};
 ghost use Rattle.buffer_targets.specs.Targets.{at_channel, at_query, cleared, over};
 
 use crate::buffers::Buffers;
@@ -25,8 +25,10 @@ pub fn play(
     origin: Origin,
     name: &Name,
 ) -> Result<Vec<Effect>, AllocError>
-    ensures effects { IfOk result (λ v. v.items ≡ played_or_status setup.now (held_of buffers.old) origin (target_of_key (fold_name name.now) (held_of buffers.old))) }
-    ensures held { OnOk result (held_of buffers.new ≡ played_out setup.now (fold_name name.now) (held_of buffers.old)) }
+    ensures effects { IfOk result (λ v. v.items ≡
+        playing setup.now (held_of buffers.old) origin name.now) }
+    ensures held { OnOk result (held_of buffers.new ≡
+        played_out setup.now (fold_name name.now) (held_of buffers.old)) }
 {
     let effects = answer_play(alloc, setup, buffers, origin, name)?;
     empty_played(setup, buffers, name.as_bytes());
@@ -40,8 +42,9 @@ pub fn clear(
     origin: Origin,
     name: &Name,
 ) -> Result<Vec<Effect>, AllocError>
-    ensures effects { IfOk result (λ v. v.items ≡ done_or_status (held_of buffers.old) origin (target_of_key (fold_name name.now) (held_of buffers.old))) }
-    ensures held { OnOk result (held_of buffers.new ≡ cleared_of (fold_name name.now) (held_of buffers.old)) }
+    ensures effects { IfOk result (λ v. v.items ≡ clearing (held_of buffers.old) origin name.now) }
+    ensures held { OnOk result (held_of buffers.new ≡
+        cleared_of (fold_name name.now) (held_of buffers.old)) }
 {
     let effects = answer_known(alloc, buffers, origin, name)?;
     buffers.channels.clear_at(name.as_bytes());
@@ -57,8 +60,10 @@ pub fn resize(
     name: &Name,
     size: BufferSize,
 ) -> Result<Vec<Effect>, AllocError>
-    ensures effects { IfOk result (λ v. v.items ≡ answers_sizing (held_of buffers.old) origin name.now size) }
-    ensures held { OnOk result (held_of buffers.new ≡ sized_unless_past size (fold_name name.now) (held_of buffers.old)) }
+    ensures effects { IfOk result (λ v. v.items ≡
+        answers_sizing (held_of buffers.old) origin name.now size) }
+    ensures held { OnOk result (held_of buffers.new ≡
+        sized_unless_past size (fold_name name.now) (held_of buffers.old)) }
 {
     if size.lines() > MOST_LINES {
         return tell(alloc, &buffers.nick, origin, SIZE_IS_PAST);
@@ -77,7 +82,7 @@ fn answer_play(
     origin: Origin,
     name: &Name,
 ) -> Result<Vec<Effect>, AllocError>
-    ensures { IfOk result (λ v. v.items ≡ played_or_status setup.now (held_of buffers.now) origin (target_of_key (fold_name name.now) (held_of buffers.now))) }
+    ensures { IfOk result (λ v. v.items ≡ playing setup.now (held_of buffers.now) origin name.now) }
 {
     match buffers.target(name) {
         None => tell(alloc, &buffers.nick, origin, NO_SUCH_TARGET),
@@ -96,7 +101,7 @@ fn answer_known(
     origin: Origin,
     name: &Name,
 ) -> Result<Vec<Effect>, AllocError>
-    ensures { IfOk result (λ v. v.items ≡ done_or_status (held_of buffers.now) origin (target_of_key (fold_name name.now) (held_of buffers.now))) }
+    ensures { IfOk result (λ v. v.items ≡ clearing (held_of buffers.now) origin name.now) }
 {
     match buffers.target(name) {
         None => tell(alloc, &buffers.nick, origin, NO_SUCH_TARGET),
@@ -106,7 +111,8 @@ fn answer_known(
 
 /// Empties a target that was played, where playing empties it.
 fn empty_played(setup: &Setup, buffers: &mut Buffers, name: &[u8])
-    ensures { held_of buffers.new ≡ played_out setup.now (fold_name name.now) (held_of buffers.old) }
+    ensures { held_of buffers.new ≡
+        played_out setup.now (fold_name name.now) (held_of buffers.old) }
 {
     if setup.clears_channels() {
         buffers.channels.clear_at(name);
