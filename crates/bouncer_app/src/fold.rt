@@ -4,11 +4,11 @@ ghost use Rattle.machine_laws.specs.Runs.{History};
 ghost use Rattle.bouncer_app.specs.Lines.{lines_of, hex_bytes};
 ghost use Rattle.bouncer_app.specs.Words.{answer_lines};
 ghost use Rattle.bouncer_app.specs.Fold.{Request, body_of, fold_text, judged_line, plain_answers, printed};
-ghost use Rattle.bouncer_app.specs.Reads.{IsOfALine};
+ghost use Rattle.bouncer_app.specs.Reads.{IsOfALine, IsTooLong, IsWithin};
 ghost use Rattle.std.specs.Io.KnownBytes.{Appends};
 
 use crate::fault::FoldFault;
-use crate::input::{MOST_BYTES, read_whole};
+use crate::input::read_whole;
 use crate::lines::{decode_line, split_line};
 use crate::words::push_answers;
 use buffer_commands::{Action, Command, Effect, Setup};
@@ -19,10 +19,11 @@ use std::alloc::{AllocError, Global};
 use std::io::{Read, Write};
 use wire_bytes::{Wire, WireFault};
 
-/// Reads an input whole, folds its bodies through buffers that are set up plainly, each request taking effect once,
-/// and writes the text of their answers.
+/// Reads an input whole, folds its bodies through buffers that are set up plainly, each request
+/// taking effect once, and writes the text of their answers.
 ///
-/// Nothing is written before the last line is folded.
+/// Nothing is written before the last line is folded. When `Read`, `Write` and `Memory` come is no
+/// contract's matter: no clause says when a reader, a writer or an allocation fails.
 pub fn fold<R: Read, W: Write>(
     alloc: Global,
     input: &mut R,
@@ -30,10 +31,13 @@ pub fn fold<R: Read, W: Write>(
 ) -> Result<(), FoldFault>
     ensures written { OnOk result (IfSome (R.remaining input.old) (λ bytes. (text : List ℕ) × (fold_text plain_answers bytes ≡ Ok text) × Appends (W.contents output.old) (W.contents output.new) text)) }
     ensures line { IfErr result (λ e. IsOfALine e → IfSome (R.remaining input.old) (λ bytes. fold_text plain_answers bytes ≡ Err e)) }
-    ensures bounded { OnOk result (IfSome (R.remaining input.old) (λ bytes. length bytes ≤ MOST_BYTES)) }
-    ensures too_long { IfErr result (λ e. e ≡ FoldFault.InputTooLong → IfSome (R.remaining input.old) (λ bytes. MOST_BYTES < length bytes)) }
+    ensures bounded { OnOk result (IsWithin (R.remaining input.old)) }
+    ensures too_long {
+        IfErr result (λ e. e ≡ FoldFault.InputTooLong → IsTooLong (R.remaining input.old))
+    }
     ensures unwritten { IfErr result (λ e. e ≢ FoldFault.Write → output.new ≡ output.old) }
 {
+    // All is folded before the first byte is written, so that a refusal writes nothing.
     let bytes = read_whole(alloc, input)?;
     let text = plain_text(alloc, &bytes)?;
     output.write_all(&text).map_err(|_| FoldFault::Write)?;
@@ -49,7 +53,7 @@ fn plain_text(alloc: Global, input: &[u8]) -> Result<Vec<u8>, FoldFault>
 {
     let setup = Setup::plain(alloc)?;
     let mut machine: Once<BufferMachine> = Once::start(alloc, &setup)?;
-    fold_input(&mut machine, alloc, input)
+    fold_input(alloc, &mut machine, input)
 }
 
 /// The body that bytes spell, nothing before or behind it.
@@ -86,7 +90,6 @@ fn read_line(alloc: Global, number: u64, line: &[u8]) -> Result<Body<Command, Ac
 fn fold_body<M>(
     machine: &mut M,
     output: &mut Vec<u8>,
-    alloc: Global,
     place: u64,
     body: &Body<Command, Action>,
 ) -> Result<(), FoldFault>
@@ -99,7 +102,7 @@ where
     ensures whole { OnOk result (M.spoilt machine.new ≡ false) }
 {
     let answers = machine
-        .apply(alloc, place, body)
+        .apply(place, body)
         .map_err(|_| FoldFault::Memory)?;
     push_answers(output, place, &answers)?;
     Ok(())
@@ -109,7 +112,6 @@ where
 fn fold_line<M>(
     machine: &mut M,
     output: &mut Vec<u8>,
-    alloc: Global,
     place: u64,
     line: &[u8],
 ) -> Result<(), FoldFault>
@@ -123,13 +125,12 @@ where
     ensures fault { IfErr result (λ e. (e ≡ FoldFault.Memory) ⊎ IsOfALine e) }
     ensures whole { OnOk result (M.spoilt machine.new ≡ false) }
 {
-    let body = read_line(alloc, place, line)?;
-    fold_body(machine, output, alloc, place, &body)?;
-    Ok(())
+    let body = read_line(*output.allocator(), place, line)?;
+    fold_body(machine, output, place, &body)
 }
 
 /// The text of the answers of a machine to all bodies of an input, or the fault of its first bad line.
-pub fn fold_input<M>(machine: &mut M, alloc: Global, input: &[u8]) -> Result<Vec<u8>, FoldFault>
+pub fn fold_input<M>(alloc: Global, machine: &mut M, input: &[u8]) -> Result<Vec<u8>, FoldFault>
 where
     M: Machine<Command = Body<Command, Action>, Effect = Answer<Effect>>,
     requires { M.spoilt machine.old ≡ false }
@@ -143,7 +144,7 @@ where
     while !rest.is_empty() {
         let (line, after) = split_line(rest);
         place += 1;
-        fold_line(machine, &mut output, alloc, place, line)?;
+        fold_line(machine, &mut output, place, line)?;
         rest = after;
     }
     Ok(output)

@@ -1,26 +1,32 @@
 //! An input, read whole.
-ghost use Rattle.bouncer_app.specs.Reads.{IsOfReading, ReadGives};
+ghost use Rattle.bouncer_app.specs.Reads.{IsOfReading, IsReadJudged, IsTooLong, ReadGives, most_bytes};
 ghost use Rattle.std.specs.Prelude.{◌≡◌, ℕ, OnOk, ◌+◌, ◌<◌, ◌≤◌, List, [], ◌∷◌, ◌++◌, length, Some, IfOk, IfErr, IfSome};
 
 use crate::fault::FoldFault;
 use std::alloc::Global;
-use std::io::{Error, ErrorKind, Read};
+use std::io;
+use std::io::{ErrorKind, Read};
 
 /// The most bytes that an input may have.
-pub const MOST_BYTES: usize = 67_108_864;
+const MOST_BYTES: usize = 67_108_864;
 
 /// The most reads that are tried, those that were interrupted too.
-pub const MOST_READS: u64 = 100_000_000;
+const MOST_READS: u64 = 100_000_000;
 
 /// How many bytes are read at once.
 const CHUNK: usize = 65_536;
 
 /// All bytes of a reader. An input that is too long is known by its first byte past the limit.
 pub fn read_whole<R: Read>(alloc: Global, reader: &mut R) -> Result<Vec<u8>, FoldFault>
-    ensures whole { IfOk result (λ v. IfSome (R.remaining reader.old) (λ bytes. v.items ≡ bytes)) }
-    ensures bounded { IfOk result (λ v. length v.items ≤ MOST_BYTES) }
+    ensures whole {
+        IfOk result (λ v. IfSome (R.remaining reader.old) (λ bytes. v.items ≡ bytes))
+    }
+    ensures bounded { IfOk result (λ v. length v.items ≤ most_bytes) }
     ensures fault { IfErr result IsOfReading }
-    ensures too_long { IfErr result (λ e. e ≡ FoldFault.InputTooLong → IfSome (R.remaining reader.old) (λ bytes. MOST_BYTES < length bytes)) }
+    ensures too_long {
+        IfErr result (λ e. e ≡ FoldFault.InputTooLong →
+            IsTooLong (R.remaining reader.old))
+    }
 {
     let mut chunk = zeros(alloc, CHUNK)?;
     let mut input = Vec::new(alloc);
@@ -44,10 +50,20 @@ fn zeros(alloc: Global, count: usize) -> Result<Vec<u8>, FoldFault>
 
 /// One read: how many bytes came, or none where it was interrupted.
 fn read_chunk<R: Read>(reader: &mut R, chunk: &mut [u8]) -> Result<Option<usize>, FoldFault>
-    ensures gives { IfOk result (λ count. ReadGives (R.remaining reader.old) (R.remaining reader.new) count chunk.new) }
+    ensures gives {
+        IfOk result (λ count.
+            ReadGives (R.remaining reader.old) (R.remaining reader.new) count chunk.new)
+    }
     ensures fault { IfErr result (λ e. e ≡ FoldFault.Read) }
 {
-    match reader.read(chunk) {
+    judged(reader.read(chunk))
+}
+
+/// What becomes of one read: of its errors only an interruption is none.
+fn judged(outcome: io::Result<usize>) -> Result<Option<usize>, FoldFault>
+    ensures { IsReadJudged outcome result }
+{
+    match outcome {
         Ok(count) => Ok(Some(count)),
         Err(error) => if error.kind() == ErrorKind::Interrupted {
             Ok(None)
@@ -59,10 +75,13 @@ fn read_chunk<R: Read>(reader: &mut R, chunk: &mut [u8]) -> Result<Option<usize>
 
 /// Appends what was read, where it fits.
 fn push_within(input: &mut Vec<u8>, read: &[u8]) -> Result<(), FoldFault>
-    requires { length input.old.items ≤ MOST_BYTES }
+    requires { length input.old.items ≤ most_bytes }
     ensures pushed { OnOk result (input.new.items ≡ input.old.items ++ read.now) }
-    ensures bounded { OnOk result (length input.new.items ≤ MOST_BYTES) }
-    ensures too_long { IfErr result (λ e. e ≡ FoldFault.InputTooLong → MOST_BYTES < length input.old.items + length read.now) }
+    ensures bounded { OnOk result (length input.new.items ≤ most_bytes) }
+    ensures too_long {
+        IfErr result (λ e. e ≡ FoldFault.InputTooLong →
+            most_bytes < length input.old.items + length read.now)
+    }
     ensures fault { IfErr result IsOfReading }
 {
     if read.len() > MOST_BYTES - input.len() {

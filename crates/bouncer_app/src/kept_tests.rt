@@ -1,4 +1,5 @@
 //! What is kept of a channel while no client sees it, and of a run that is gone.
+use crate::folded::ended;
 use crate::tests::printed;
 use std::alloc::Global;
 use std::process::Abort;
@@ -69,11 +70,14 @@ const ATTACH_AGAIN: &str =
 const ATTACH_OF_RUN_2: &str =
     "0102000000000000000200000000000000010000000000000001000000006553f10001\n";
 
-/// These lines are answered by this text.
-fn check(rt: &impl Abort, alloc: Global, lines: &[&str], want: &str) -> Result<(), Fail> {
+/// These lines are answered by these.
+fn check(rt: &impl Abort, alloc: Global, lines: &[&str], want: &[&str]) -> Result<(), Fail> {
     let got = printed(alloc, lines)?;
-    assert!(rt; got.is_ok(), "at {want}");
-    assert_eq!(rt; got.unwrap_or(Vec::new(alloc)).as_slice(), want.as_bytes());
+    assert!(rt; got.is_ok());
+    assert_eq!(rt;
+        got.unwrap_or(Vec::new(alloc)).as_slice(),
+        ended(alloc, want)?.as_slice()
+    );
     Ok(())
 }
 
@@ -91,9 +95,23 @@ fn two_lines_after_shrink_and_growth(rt: HostRuntime) -> Result<(), Fail> {
         SET_BUFFER_TO_50,
         REATTACH,
     ];
-    let want =
-        "1 done 1.1.1 1\n2 show 1.1.1 :me!bouncer@local PART #x\n2 done 1.1.1 2\n8 show 1.1.1 :*status!bouncer@local PRIVMSG me :Done.\n8 done 1.1.1 3\n9 show 1.1.1 :*status!bouncer@local PRIVMSG me :Done.\n9 done 1.1.1 4\n10 show 1.1.1 :me!bouncer@local JOIN #x\n10 show 1.1.1 :***!bouncer@local PRIVMSG #x :Buffer Playback...\n10 show 1.1.1 :a!b@c PRIVMSG #x :[22:13:23] four\n10 show 1.1.1 :a!b@c PRIVMSG #x :[22:13:24] five\n10 show 1.1.1 :***!bouncer@local PRIVMSG #x :Playback Complete.\n10 send 1.1.1 JOIN #x\n10 done 1.1.1 5\n";
-    check(&rt, rt.alloc(), &lines, want)
+    let want = [
+        "1 done 1.1.1 1",
+        "2 show 1.1.1 :me!bouncer@local PART #x",
+        "2 done 1.1.1 2",
+        "8 show 1.1.1 :*status!bouncer@local PRIVMSG me :Done.",
+        "8 done 1.1.1 3",
+        "9 show 1.1.1 :*status!bouncer@local PRIVMSG me :Done.",
+        "9 done 1.1.1 4",
+        "10 show 1.1.1 :me!bouncer@local JOIN #x",
+        "10 show 1.1.1 :***!bouncer@local PRIVMSG #x :Buffer Playback...",
+        "10 show 1.1.1 :a!b@c PRIVMSG #x :[22:13:23] four",
+        "10 show 1.1.1 :a!b@c PRIVMSG #x :[22:13:24] five",
+        "10 show 1.1.1 :***!bouncer@local PRIVMSG #x :Playback Complete.",
+        "10 send 1.1.1 JOIN #x",
+        "10 done 1.1.1 5",
+    ];
+    check(&rt, rt.alloc(), &lines, &want)
 }
 
 #[test]
@@ -106,17 +124,36 @@ fn a_target_of_size_0(rt: HostRuntime) -> Result<(), Fail> {
         PLAY,
         SET_BUFFER_TO_501,
     ];
-    let want =
-        "1 done 1.1.1 1\n2 show 1.1.1 :*status!bouncer@local PRIVMSG me :Done.\n2 done 1.1.1 2\n3 show 1.1.1 :me!bouncer@local PART #x\n3 done 1.1.1 3\n5 done 1.1.1 4\n6 show 1.1.1 :*status!bouncer@local PRIVMSG me :Size is past 500.\n6 done 1.1.1 5\n";
-    check(&rt, rt.alloc(), &lines, want)
+    let want = [
+        "1 done 1.1.1 1",
+        "2 show 1.1.1 :*status!bouncer@local PRIVMSG me :Done.",
+        "2 done 1.1.1 2",
+        "3 show 1.1.1 :me!bouncer@local PART #x",
+        "3 done 1.1.1 3",
+        "5 done 1.1.1 4",
+        "6 show 1.1.1 :*status!bouncer@local PRIVMSG me :Size is past 500.",
+        "6 done 1.1.1 5",
+    ];
+    check(&rt, rt.alloc(), &lines, &want)
 }
 
 #[test]
 fn attached_again_by_a_join_of_another_case(rt: HostRuntime) -> Result<(), Fail> {
     let lines = [JOINED, ATTACH, DETACH_UPPER, HI, JOIN_UPPER];
-    let want =
-        "2 show 1.1.1 :me!bouncer@local JOIN #x\n2 send 1.1.1 NAMES #x\n2 done 1.1.1 1\n3 show 1.1.1 :me!bouncer@local PART #x\n3 done 1.1.1 2\n5 show 1.1.1 :me!bouncer@local JOIN #x\n5 show 1.1.1 :***!bouncer@local PRIVMSG #x :Buffer Playback...\n5 show 1.1.1 :a!b@c PRIVMSG #x :[22:13:20] hi\n5 show 1.1.1 :***!bouncer@local PRIVMSG #x :Playback Complete.\n5 send 1.1.1 NAMES #x\n5 done 1.1.1 3\n";
-    check(&rt, rt.alloc(), &lines, want)
+    let want = [
+        "2 show 1.1.1 :me!bouncer@local JOIN #x",
+        "2 send 1.1.1 NAMES #x",
+        "2 done 1.1.1 1",
+        "3 show 1.1.1 :me!bouncer@local PART #x",
+        "3 done 1.1.1 2",
+        "5 show 1.1.1 :me!bouncer@local JOIN #x",
+        "5 show 1.1.1 :***!bouncer@local PRIVMSG #x :Buffer Playback...",
+        "5 show 1.1.1 :a!b@c PRIVMSG #x :[22:13:20] hi",
+        "5 show 1.1.1 :***!bouncer@local PRIVMSG #x :Playback Complete.",
+        "5 send 1.1.1 NAMES #x",
+        "5 done 1.1.1 3",
+    ];
+    check(&rt, rt.alloc(), &lines, &want)
 }
 
 #[test]
@@ -128,7 +165,14 @@ fn a_run_that_is_gone(rt: HostRuntime) -> Result<(), Fail> {
         ATTACH_AGAIN,
         ATTACH_OF_RUN_2,
     ];
-    let want =
-        "1 done 2.1.1 1\n4 close 2.1.1\n4 done 2.1.1 2\n5 show 2.2.1 :***!bouncer@local PRIVMSG #x :Buffer Playback...\n5 show 2.2.1 :a!b@c PRIVMSG #x :[22:13:20] hi\n5 show 2.2.1 :***!bouncer@local PRIVMSG #x :Playback Complete.\n5 done 2.2.1 1\n";
-    check(&rt, rt.alloc(), &lines, want)
+    let want = [
+        "1 done 2.1.1 1",
+        "4 close 2.1.1",
+        "4 done 2.1.1 2",
+        "5 show 2.2.1 :***!bouncer@local PRIVMSG #x :Buffer Playback...",
+        "5 show 2.2.1 :a!b@c PRIVMSG #x :[22:13:20] hi",
+        "5 show 2.2.1 :***!bouncer@local PRIVMSG #x :Playback Complete.",
+        "5 done 2.2.1 1",
+    ];
+    check(&rt, rt.alloc(), &lines, &want)
 }

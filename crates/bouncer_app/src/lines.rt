@@ -1,10 +1,9 @@
 //! The lines of an input, and the bytes that they spell in hex.
-ghost use Rattle.std.specs.Prelude.{◌≡◌, ◌<◌, ◌==◌, length, option_map, ◌∷◌, Some, None, IfOk, position};
+ghost use Rattle.std.specs.Prelude.{◌≡◌, ◌<◌, ◌==◌, length, option_map, ◌∷◌, IfOk, IsTrue, position};
 ghost use Rattle.std.specs.List.{list_all};
-ghost use Rattle.bouncer_app.specs.Lines.{lines_of, is_lower, hex_bytes, of_result};
-ghost use Rattle.hex.specs.Hex.{decode_of};
+ghost use Rattle.bouncer_app.specs.Lines.{lines_of, hex_bytes};
+ghost use Rattle.bouncer_app.specs.Digits.{bytes_of, digit_value, is_digit};
 
-use hex::FromHexError;
 use std::alloc::{AllocError, Global};
 
 /// The first line of what is left of an input, without its LF, and what follows it.
@@ -28,31 +27,48 @@ fn line_end(rest: &[u8]) -> Option<usize>
 }
 
 /// The bytes that a line spells in lower-case hex digits, or none.
-#[tactic(auto, unfolding(crate::specs::Lines::hex_bytes))]
+#[tactic(auto, using(crate::proofs::Digits::not_digits, crate::proofs::Digits::not_even))]
 pub fn decode_line(alloc: Global, line: &[u8]) -> Result<Option<Vec<u8>>, AllocError>
     ensures { IfOk result (λ bytes. option_map (λ v. v.items) bytes ≡ hex_bytes line.now) }
 {
-    if are_lower(line) {
-        decoded(alloc, line)
-    } else {
-        Ok(None)
+    if line.len() % 2 == 1 || !are_digits(line) {
+        return Ok(None);
     }
+    Ok(Some(decoded(alloc, line)?))
 }
 
-/// Whether no letter is in upper case.
-fn are_lower(line: &[u8]) -> bool
-    ensures { result ≡ list_all is_lower line.now }
+/// Whether all are lower-case hex digits.
+fn are_digits(line: &[u8]) -> bool
+    ensures { result ≡ list_all is_digit line.now }
 {
-    line.iter().all(|b| !(65 <= *b && *b <= 70))
+    line.iter().all(|b| is_a_digit(*b))
 }
 
-/// The bytes that a line spells in hex digits of either case, or none.
-fn decoded(alloc: Global, line: &[u8]) -> Result<Option<Vec<u8>>, AllocError>
-    ensures { IfOk result (λ bytes. option_map (λ v. v.items) bytes ≡ of_result (decode_of line.now)) }
+fn is_a_digit(b: u8) -> bool
+    ensures { result ≡ is_digit b }
 {
-    match hex::decode(alloc, line) {
-        Ok(bytes) => Ok(Some(bytes)),
-        Err(FromHexError::OutOfMemory) => Err(AllocError),
-        Err(_) => Ok(None),
+    (b >= b'0' && b <= b'9') || (b >= b'a' && b <= b'f')
+}
+
+/// The bytes of digits, all of them judged before: no branch is left for what they are.
+fn decoded(alloc: Global, digits: &[u8]) -> Result<Vec<u8>, AllocError>
+    requires { IsTrue (list_all is_digit digits.now) }
+    ensures { IfOk result (λ v. v.items ≡ bytes_of digits.now) }
+{
+    let mut bytes = Vec::with_capacity(alloc, digits.len() / 2)?;
+    let mut left = digits;
+    while let [high, low, rest @ ..] = left {
+        bytes.push(digit_value(*high) * 16 + digit_value(*low))?;
+        left = rest;
     }
+    Ok(bytes)
+}
+
+/// The value of a lower-case hex digit.
+fn digit_value(digit: u8) -> u8
+    requires { IsTrue (is_digit digit) }
+    ensures value { result ≡ digit_value digit }
+    ensures limit { result < 16 }
+{
+    digit % 16 + 9 * (digit / 64)
 }

@@ -3,10 +3,14 @@
 
 mod fault;
 mod fold;
+#[cfg(test)]
+mod folded;
 mod input;
 #[cfg(test)]
 mod kept_tests;
 mod lines;
+#[cfg(test)]
+mod setup_tests;
 #[cfg(test)]
 mod tests;
 mod words;

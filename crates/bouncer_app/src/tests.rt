@@ -1,6 +1,7 @@
 //! Worked cases, and readers and writers that fail.
 use crate::fault::FoldFault;
 use crate::fold::fold;
+use crate::folded::ended;
 use std::alloc::Global;
 use std::io;
 use std::io::{Error, ErrorKind, Read, Write};
@@ -47,33 +48,44 @@ pub fn printed(alloc: Global, lines: &[&str]) -> Result<Result<Vec<u8>, FoldFaul
 fn bodies_are_answered_as_worked(rt: HostRuntime) -> Result<(), Fail> {
     let none: [&str; 0] = [];
     let without_end = [ATTACH, ATTACH.trim_end()];
-    let playback =
-        "2 show 1.1.1 :***!bouncer@local PRIVMSG #x :Buffer Playback...\n2 show 1.1.1 :a!b@c PRIVMSG #x :[22:13:20] hi\n2 show 1.1.1 :***!bouncer@local PRIVMSG #x :Playback Complete.\n2 done 1.1.1 1\n3 done 1.1.2 1\n";
+    let none_wanted: [&str; 0] = [];
+    let playback = [
+        "2 show 1.1.1 :***!bouncer@local PRIVMSG #x :Buffer Playback...",
+        "2 show 1.1.1 :a!b@c PRIVMSG #x :[22:13:20] hi",
+        "2 show 1.1.1 :***!bouncer@local PRIVMSG #x :Playback Complete.",
+        "2 done 1.1.1 1",
+        "3 done 1.1.2 1",
+    ];
+    let numbered = [
+        "1 done 1.1.1 1",
+        "2 done 2.1.1 1",
+        "3 repeat 1.1.1 1",
+        "4 gap 1.1.1 2",
+    ];
+    let said = [
+        "1 done 1.1.1 1",
+        "2 send 1.1.1 PRIVMSG #x :hi",
+        "2 done 1.1.1 2",
+        "3 repeat 1.1.1 2",
+    ];
+    let gone = ["1 rejoin JOIN #x", "2 done 1.1.1 1", "4 repeat 1.1.1 1"];
+    let repeated = ["1 done 1.1.1 1", "2 repeat 1.1.1 1"];
     let cases = [
-        (none.as_slice(), ""),
-        ([A_LINE, FIRST_ATTACH, SECOND_ATTACH].as_slice(), playback),
-        (
-            [ATTACH, ATTACH_OF_NODE_2, ATTACH, THIRD_LEAVE].as_slice(),
-            "1 done 1.1.1 1\n2 done 2.1.1 1\n3 repeat 1.1.1 1\n4 gap 1.1.1 2\n",
-        ),
-        (
-            [ATTACH, SAY, SAY].as_slice(),
-            "1 done 1.1.1 1\n2 send 1.1.1 PRIVMSG #x :hi\n2 done 1.1.1 2\n3 repeat 1.1.1 2\n",
-        ),
+        (none.as_slice(), none_wanted.as_slice()),
+        ([A_LINE, FIRST_ATTACH, SECOND_ATTACH].as_slice(), playback.as_slice()),
+        ([ATTACH, ATTACH_OF_NODE_2, ATTACH, THIRD_LEAVE].as_slice(), numbered.as_slice()),
+        ([ATTACH, SAY, SAY].as_slice(), said.as_slice()),
         // there is an upstream, a run of node 1 is gone, there is none
-        (
-            [UP, ATTACH, NODE_GONE, ATTACH, DOWN].as_slice(),
-            "1 rejoin JOIN #x\n2 done 1.1.1 1\n4 repeat 1.1.1 1\n",
-        ),
+        ([UP, ATTACH, NODE_GONE, ATTACH, DOWN].as_slice(), gone.as_slice()),
         // the last line lacks its end
-        (without_end.as_slice(), "1 done 1.1.1 1\n2 repeat 1.1.1 1\n"),
+        (without_end.as_slice(), repeated.as_slice()),
     ];
     for (lines, want) in cases {
         let got = printed(rt.alloc(), lines)?;
-        assert!(rt; got.is_ok(), "at {want}");
+        assert!(rt; got.is_ok());
         assert_eq!(rt;
             got.unwrap_or(Vec::new(rt.alloc())).as_slice(),
-            want.as_bytes()
+            ended(rt.alloc(), want)?.as_slice()
         );
     }
     Ok(())
@@ -148,17 +160,22 @@ fn a_line_from_upstream_has_at_most_511_bytes(rt: HostRuntime) -> Result<(), Fai
     Ok(())
 }
 
-/// A reader that gives some bytes, and then one answer for good.
+/// A reader that gives some bytes, and then one answer for good; or an error once, and then its end.
 #[derive(Drop)]
 struct Source {
     left: u64,
     then: Option<ErrorKind>,
+    once: bool,
 }
 
 impl Read for Source {
     fn read(&mut self, buf: &mut [u8]) -> io::Result<usize> {
         if self.left == 0 {
-            return match self.then {
+            let then = self.then;
+            if self.once {
+                self.then = None;
+            }
+            return match then {
                 None => Ok(0),
                 Some(kind) => Err(Error::from(kind)),
             };
@@ -184,7 +201,11 @@ fn check_source(
     then: Option<ErrorKind>,
     want: FoldFault,
 ) -> Result<(), Fail> {
-    let mut source = Source { left, then };
+    let mut source = Source {
+        left,
+        then,
+        once: false,
+    };
     let mut output = Vec::new(alloc);
     assert!(rt;
         fold(alloc, &mut source, &mut output) == Err(want),
@@ -208,10 +229,29 @@ fn an_input_that_is_not_read_whole_is_refused(rt: HostRuntime) -> Result<(), Fai
     Ok(())
 }
 
-/// A writer that takes so many bytes, and then none.
+#[test]
+fn a_reader_that_fails_once_is_refused(rt: HostRuntime) -> Result<(), Fail> {
+    for (kind, want) in [
+        (ErrorKind::TimedOut, Err(FoldFault::Read)),
+        (ErrorKind::WouldBlock, Err(FoldFault::Read)),
+        (ErrorKind::Interrupted, Ok(())),
+    ] {
+        let mut source = Source {
+            left: 0,
+            then: Some(kind),
+            once: true,
+        };
+        let mut output = Vec::new(rt.alloc());
+        assert!(rt; fold(rt.alloc(), &mut source, &mut output) == want);
+    }
+    Ok(())
+}
+
+/// A writer that takes so many bytes, and then none, and whose flush may fail.
 #[derive(Drop)]
 struct Sink {
     room: usize,
+    flushes: bool,
 }
 
 impl Write for Sink {
@@ -225,18 +265,23 @@ impl Write for Sink {
     }
 
     fn flush(&mut self) -> io::Result<()> {
-        Ok(())
+        if self.flushes {
+            Ok(())
+        } else {
+            Err(Error::from(ErrorKind::BrokenPipe))
+        }
     }
 }
 
 #[test]
 fn an_output_that_is_not_written_whole_is_a_fault(rt: HostRuntime) -> Result<(), Fail> {
-    for (room, want) in [
-        (0, Err(FoldFault::Write)),
-        (14, Err(FoldFault::Write)),
-        (15, Ok(())),
+    for (room, flushes, want) in [
+        (0, true, Err(FoldFault::Write)),
+        (14, true, Err(FoldFault::Write)),
+        (15, true, Ok(())),
+        (15, false, Err(FoldFault::Write)),
     ] {
-        let mut sink = Sink { room };
+        let mut sink = Sink { room, flushes };
         assert!(rt; fold(rt.alloc(), &mut ATTACH.as_bytes(), &mut sink) == want);
     }
     Ok(())

@@ -32,7 +32,7 @@ pub fn push_answers(
 }
 
 /// Appends the words of an answer.
-fn push_answer(out: &mut Vec<u8>, answer: &Answer<Effect>) -> Result<(), AllocError>
+pub fn push_answer(out: &mut Vec<u8>, answer: &Answer<Effect>) -> Result<(), AllocError>
     ensures { OnOk result (out.new.items ≡ out.old.items ++ answer_words answer.now) }
 {
     match answer {
