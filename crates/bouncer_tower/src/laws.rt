@@ -26,16 +26,20 @@ pub fn each_line_is_handed_once()
     ensures in_order { (s : Settings) (h : History TowerBody) → AreInOrder (claimed s h) }
     ensures once { (s : Settings) (h : History TowerBody) → AreDifferent (claimed s h) }
     ensures numbered { (s : Settings) (h : History TowerBody) → AreOf (outgoing s h) (claimed s h) }
-    ensures claims { (s : Settings) (h : _) (place : ℕ) (body : TowerBody) → AddsItsHands s h place body }
-    ensures lines { (s : Settings) (h : _) (place : ℕ) (body : TowerBody) → HandsOutLines s h place body }
-    ensures stay { (s : Settings) (h : _) (place : ℕ) (body : TowerBody) → KeepsNumbers s h place body }
+    ensures claims { (s : Settings) (h : _) (place : ℕ) (body : TowerBody)
+        → AddsItsHands s h place body }
+    ensures lines { (s : Settings) (h : _) (place : ℕ) (body : TowerBody)
+        → HandsOutLines s h place body }
+    ensures stay { (s : Settings) (h : _) (place : ℕ) (body : TowerBody)
+        → KeepsNumbers s h place body }
 {}
 
 /// Over a whole list of bodies, the lines that are handed out are those of the claims that took effect, in
 /// order: no number is handed out twice.
 #[tactic(auto, using(crate::proofs::Handed::all_hands_are_claims, crate::proofs::Handed::hands_differ))]
 pub fn no_number_is_handed_out_twice()
-    ensures claims { (s : Settings) (h : History TowerBody) → map (λ k. k.0) (handed_over s h) ≡ claimed s h }
+    ensures claims { (s : Settings) (h : History TowerBody)
+        → map (λ k. k.0) (handed_over s h) ≡ claimed s h }
     ensures once { (s : Settings) (h : History TowerBody) → HaveDifferentNumbers (handed_over s h) }
 {}
 

@@ -67,7 +67,8 @@ impl<C: Wire, A: Wire> Wire for Body<C, A> {
         }
     }
 
-    ghost is_codec = { body_is_codec C.spelled C.fits C.taken A.spelled A.fits A.taken C.is_codec A.is_codec };
+    ghost is_codec = { body_is_codec C.spelled C.fits C.taken A.spelled A.fits A.taken
+        C.is_codec A.is_codec };
 }
 
 /// Appends what a request has, behind its kind byte, or leaves the items as they were.

@@ -85,7 +85,8 @@ impl<C: Wire, L: Wire> Wire for FenceCommand<C, L> {
         }
     }
 
-    ghost is_codec = { command_is_codec C.spelled C.fits C.taken L.spelled L.fits L.taken C.is_codec L.is_codec };
+    ghost is_codec = { command_is_codec C.spelled C.fits C.taken L.spelled L.fits L.taken
+        C.is_codec L.is_codec };
 }
 
 /// Appends what a line of a session has, behind its kind byte, or leaves the items as they were.

@@ -40,5 +40,6 @@ impl<A: Wire, B: Wire> Wire for (A, B) {
         Ok(((first, second), end))
     }
 
-    ghost is_codec = { both-codec A.spelled A.fits A.taken B.spelled B.fits B.taken A.is_codec B.is_codec };
+    ghost is_codec = { both-codec A.spelled A.fits A.taken B.spelled B.fits B.taken
+        A.is_codec B.is_codec };
 }
