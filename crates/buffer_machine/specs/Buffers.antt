@@ -19,6 +19,7 @@ use Rattle.buffer_machine.specs.Messages.{is_among, is_none_of, is_storable, is_
 
 -- Who is attached
 
+-- a node's floor after one command more
 abbrev pub floor_after : ℕ → ℕ → Command → ℕ
 floor_after was node (NodeGone n floor) = if n == node then max was floor else was
 floor_after was node _ = was
@@ -28,6 +29,7 @@ unfoldable pub floor : List Command → ℕ → ℕ
 floor [] node = 0
 floor (x ∷ earlier) node = floor_after (floor earlier node) node x
 
+-- the one request that one who is not attached may make
 abbrev pub is_attach : Action → Bool
 is_attach Attach = true
 is_attach _ = false
@@ -36,10 +38,12 @@ is_attach _ = false
 abbrev pub can_attach : ℕ → List Origin → Origin → Bool
 can_attach floor was o = not (is_among o was) && nat_le floor o.1
 
+-- whether a command is an Attach that is taken
 abbrev pub is_taken : (ℕ → ℕ) → List Origin → Command → Bool
 is_taken floors was (Client o at Attach) = can_attach (floors o.0) was o
 is_taken floors was _ = false
 
+-- who is attached after one command more
 abbrev pub attached_after : Bool → (ℕ → ℕ) → List Origin → Command → List Origin
 attached_after many floors was (Client o at Attach) =
     if can_attach (floors o.0) was o then ((if many then was else []) ++ o ∷ []) else was
@@ -54,6 +58,7 @@ attached s (x ∷ earlier) = attached_after s.many_clients (floor earlier) (atta
 
 -- The own nick
 
+-- the own nick after one command more
 abbrev pub nick_after : List ℕ → Command → List ℕ
 nick_after was (Upstream at line) = if is_new_nick was line then parameter 0 line else was
 nick_after was _ = was
@@ -81,6 +86,7 @@ unfoldable pub joined : Settings → List Command → List ℕ → Bool
 joined s [] c = false
 joined s (x ∷ earlier) c = joined_after (nick s earlier) c (joined s earlier c) x
 
+-- whether a command removes the channel of this key, by what was so before it
 abbrev pub removes : List Origin → List ℕ → Bool → List ℕ → Command → Bool
 removes attached nick joined c (Client o at (Part d)) = is_among o attached && at_key c d && not joined
 removes attached nick joined c (Upstream at line) = is_own_at (codes "PART") nick c line
@@ -106,6 +112,7 @@ channels s [] = s.channels
 channels s (x ∷ earlier) =
     filter (λ c. not (is_removed s earlier (fold_name c) x)) (with_made (made_by (nick s earlier) x) (channels s earlier))
 
+-- whether a channel is detached after one command more
 abbrev pub detached_after : List Origin → Bool → List ℕ → Bool → Command → Bool
 detached_after attached known c was (Client o at (Detach d)) = was || (is_among o attached && known && at_key c d)
 detached_after attached known c was (Client o at (Reattach d)) = was && not (is_among o attached && at_key c d)
@@ -138,6 +145,7 @@ aim channels nick line =
     else
     if is_query_line nick line then Some (source line) else None
 
+-- whether this is the name of the target of this key
 abbrev pub is_for : List ℕ → Option (List ℕ) → Bool
 is_for t None = false
 is_for t (Some name) = at_key t name
@@ -146,6 +154,7 @@ is_for t (Some name) = at_key t name
 abbrev pub clears : Settings → List ℕ → Bool
 clears s t = if is_channel t then s.clears_channels else s.clears_queries
 
+-- a line, where the target keeps lines now and the line is for it
 abbrev pub stored_where : Bool → List (List ℕ) → List ℕ → List ℕ → Option (ℕ × Parts) → Option (ℕ × Parts)
 stored_where keeps channels nick t None = None
 stored_where keeps channels nick t (Some line) = if keeps && is_for t (aim channels nick line.1) then Some line else None
@@ -189,6 +198,7 @@ queries s (x ∷ earlier) = newest s.most_queries (with_new (stored_query s earl
 unfoldable pub targets : Settings → List Command → List (List ℕ)
 targets s history = channels s history ++ queries s history
 
+-- whether a target is a channel or a query that lines are kept of
 unfoldable pub is_known : Settings → List Command → List ℕ → Bool
 is_known s history t = is_in t (targets s history)
 
@@ -200,9 +210,11 @@ made_as s history t = unwrap_or (find (at_key t) (targets s history)) t
 unfoldable pub is_pushed_out : Settings → List Command → List ℕ → Command → Bool
 is_pushed_out s earlier t x = is_in t (queries s earlier) && not (is_in t (queries s (x ∷ earlier)))
 
+-- whether a command removes a target
 unfoldable pub removes_target : Settings → List Command → List ℕ → Command → Bool
 removes_target s earlier t x = if is_channel t then is_removed s earlier t x else is_pushed_out s earlier t x
 
+-- how many lines a target keeps when it is made
 abbrev pub first_size : Settings → List ℕ → ℕ
 first_size s t = if is_channel t then s.channel_size else s.query_size
 
@@ -210,6 +222,7 @@ first_size s t = if is_channel t then s.channel_size else s.query_size
 abbrev pub is_past : ℕ → Bool
 is_past size = nat_lt 500 size
 
+-- how many lines a target keeps after one command more that does not remove it
 abbrev pub size_after : List Origin → Bool → List ℕ → ℕ → Command → ℕ
 size_after attached known t was (Client o at (SetBuffer u n)) =
     if is_among o attached && not (is_past n) && known && at_key t u then n else was
@@ -223,6 +236,7 @@ size s t (x ∷ earlier) =
 
 -- What is kept
 
+-- whether a command plays a target: an Attach that is taken, Reattach or Join of a detached channel, or Play
 abbrev pub plays : Bool → List Origin → Bool → List ℕ → Bool → Command → Bool
 plays taken attached detached t known (Client o at Attach) = taken && known && not detached
 plays taken attached detached t known (Client o at (Reattach c)) = is_among o attached && known && detached && at_key t c

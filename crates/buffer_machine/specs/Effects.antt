@@ -15,9 +15,11 @@ use Rattle.machine_laws.specs.Origins.{same_origin}
 use Rattle.buffer_machine.specs.Messages.{is_among, has_command, channel_of, bare, own_line, own_said, verb_word}
 use Rattle.buffer_machine.specs.Buffers.{floor, can_attach, is_taken, attached, nick, channels, queries, is_known, joined, detached, is_past, playback}
 
+-- lines shown to a client
 abbrev pub show_all : Origin → List Parts → List Effect
 show_all o lines = map (λ line. Show o (spelling line)) lines
 
+-- lines sent for a client
 abbrev pub send_all : Origin → List Parts → List Effect
 send_all o lines = map (λ line. Send o line) lines
 
@@ -37,6 +39,7 @@ status nick o text = Show o (spelling (line_of (codes "*status!bouncer@local") (
 unfoldable pub named : Settings → List Command → List ℕ → List ℕ
 named s history c = unwrap_or (find (at_key (fold_name c)) (channels s history)) c
 
+-- whether a channel of this name is known
 unfoldable pub is_channel_known : Settings → List Command → List ℕ → Bool
 is_channel_known s history c = is_in (fold_name c) (channels s history)
 
@@ -46,12 +49,14 @@ open_channels s earlier = filter (λ c. not (detached s earlier (fold_name c))) 
 
 -- What is closed: an asker that is not attached, one below its node's floor, and the others where one client alone may be attached
 
+-- who is closed, by what was so before the command
 abbrev pub closed : Bool → Bool → ℕ → List Origin → Command → List Effect
 closed many taken floor os (Client o at Attach) =
     if taken then (if many then [] else map Close os) else (if nat_lt o.1 floor && not (is_among o os) then Close o ∷ [] else [])
 closed many taken floor os (Client o at _) = if is_among o os then [] else Close o ∷ []
 closed many taken floor os _ = []
 
+-- who is closed by a command
 unfoldable pub closings : Settings → List Command → Command → List Effect
 closings s earlier (Client o at a) =
     closed s.many_clients (is_taken (floor earlier) (attached s earlier) (Client o at a)) (floor earlier o.0) (attached s earlier) (Client o at a)
@@ -59,6 +64,7 @@ closings s earlier _ = []
 
 -- What is shown
 
+-- a list where this is so
 abbrev pub if_some : {A : Type 0} → Bool → List A → List A
 if_some b xs = if b then xs else []
 
@@ -107,6 +113,7 @@ shown_attaching s earlier own o =
 abbrev pub is_shown : Settings → List Command → Parts → Bool
 is_shown s earlier line = not (has_command (codes "001") line || detached s earlier (fold_name (channel_of line)))
 
+-- who is shown what by a command
 unfoldable pub shown : Settings → List Command → Command → List Effect
 shown s earlier (Client o at Attach) =
     if can_attach (floor earlier o.0) (attached s earlier) o then shown_attaching s earlier (nick s earlier) o else []
@@ -121,6 +128,7 @@ shown s earlier _ = []
 abbrev pub sent_again : Settings → List Command → List ℕ → List Parts
 sent_again s earlier c = bare (if joined s earlier (fold_name c) then codes "NAMES" else codes "JOIN") (named s earlier c ∷ []) ∷ []
 
+-- what is sent for an action of an attached client
 abbrev pub sent_by : Settings → List Command → Action → List Parts
 sent_by s earlier (Say verb target text) = bare (verb_word verb) (target ∷ text ∷ []) ∷ []
 sent_by s earlier (Join c) =
@@ -134,6 +142,7 @@ sent_by s earlier (Reattach c) = if detached s earlier (fold_name c) then sent_a
 sent_by s earlier (Pass line) = line ∷ []
 sent_by s earlier _ = []
 
+-- what goes upstream by a command
 unfoldable pub sent : Settings → List Command → Command → List Effect
 sent s earlier (Client o at Attach) =
     if can_attach (floor earlier o.0) (attached s earlier) o

@@ -33,6 +33,7 @@ pub record Held : Type 0 where
   pub channels : List ChannelLines
   pub queries : List TargetLines
 
+-- what is held, of its four parts
 abbrev pub holding : List ℕ → List Origin → List ChannelLines → List TargetLines → Held
 holding nick clients channels queries = record { nick = nick; clients = clients; channels = channels; queries = queries }
 
@@ -40,6 +41,7 @@ holding nick clients channels queries = record { nick = nick; clients = clients;
 abbrev pub target_held : Settings → List Command → List ℕ → TargetLines
 target_held s history t = target t (ring (kept s history (fold_name t)) (size s (fold_name t) history))
 
+-- a channel with what it keeps
 abbrev pub channel_held : Settings → List Command → List ℕ → ChannelLines
 channel_held s history c = channel (target_held s history c) (joined s history (fold_name c)) (detached s history (fold_name c))
 

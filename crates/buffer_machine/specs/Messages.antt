@@ -10,16 +10,20 @@ use Rattle.buffer_commands.specs.declared.command.Verb.TheVariants.{Privmsg, Not
 use Rattle.buffer_machine.specs.declared.message.ChannelWord.{ChannelWord}
 use Rattle.buffer_machine.specs.declared.message.ChannelWord.TheVariants.{Join, Part, Names}
 
+-- an origin is one of these
 abbrev pub is_among : Origin → List Origin → Bool
 is_among o os = list_any (same_origin o) os
 
+-- there is no origin here
 abbrev pub is_none_of : List Origin → Bool
 is_none_of [] = true
 is_none_of (o ∷ os) = false
 
+-- a line has this command, letter by letter
 abbrev pub has_command : List ℕ → Parts → Bool
 has_command word line = same_bytes line.command word
 
+-- a PRIVMSG or a NOTICE
 abbrev pub is_message : Parts → Bool
 is_message line = has_command (codes "PRIVMSG") line || has_command (codes "NOTICE") line
 
@@ -51,6 +55,7 @@ is_own_kick nick line = has_command (codes "KICK") line && same_name nick (param
 abbrev pub is_new_nick : List ℕ → Parts → Bool
 is_new_nick nick line = is_name (parameter 0 line) && (has_command (codes "001") line || (has_command (codes "NICK") line && is_by nick line))
 
+-- a name that is no channel's
 abbrev pub is_query_name : List ℕ → Bool
 is_query_name name = is_name name && not (is_channel name)
 
@@ -82,12 +87,15 @@ channel_of line =
 abbrev pub bare : List ℕ → List (List ℕ) → Parts
 bare command parameters = record { prefix = None; command = command; parameters = parameters }
 
+-- the prefix of what a client of this nick says
 abbrev pub own_prefix : List ℕ → List ℕ
 own_prefix nick = nick ++ codes "!bouncer@local"
 
+-- a command of this nick about a channel
 abbrev pub own_line : List ℕ → List ℕ → List ℕ → Parts
 own_line nick command channel = line_of (own_prefix nick) command (channel ∷ [])
 
+-- the command of a message
 abbrev pub verb_word : Verb → List ℕ
 verb_word Privmsg = codes "PRIVMSG"
 verb_word Notice = codes "NOTICE"

@@ -28,6 +28,7 @@ IsWithinLimits _ = ⊤
 abbrev pub raised : ℕ → ℕ → List ℕ → List ℕ
 raised node floor floors = if nat_lt node (length floors) then slice_set floors node (max (slice_index floors node) floor) else floors
 
+-- the floors after a command
 abbrev pub floors_after : List ℕ → Command → List ℕ
 floors_after floors (NodeGone node floor) = raised node floor floors
 floors_after floors _ = floors
@@ -43,10 +44,12 @@ floor_for floors _ = 0
 abbrev pub keeps : Bool → List Origin → Bool
 keeps clears os = not clears || is_none_of os
 
+-- there is a channel, and it is detached
 abbrev pub is_detached : Option ChannelLines → Bool
 is_detached None = false
 is_detached (Some c) = c.detached
 
+-- there is a channel, and the own nick is in it
 abbrev pub is_joined : Option ChannelLines → Bool
 is_joined None = false
 is_joined (Some c) = c.joined
@@ -155,6 +158,7 @@ channels_taking s h at line =
 abbrev pub after_line : Settings → Held → ℕ → Parts → Held
 after_line s h at line = holding (nick_after h.nick (Upstream at line)) h.clients (channels_taking s h at line) (queries_storing s h (Some (at, line)))
 
+-- the channels after a command
 abbrev pub channels_after : Settings → ℕ → Held → Command → List ChannelLines
 channels_after s floor h (Client o at Attach) = if can_attach floor h.clients o && s.clears_channels then open_cleared h.channels else h.channels
 channels_after s floor h (Client o at Leave) = h.channels
@@ -180,6 +184,7 @@ channels_after s floor h (NodeGone node boot) = h.channels
 channels_after s floor h Up = h.channels
 channels_after s floor h Down = map (with_joined false) h.channels
 
+-- the queries after a command
 abbrev pub queries_after : Settings → ℕ → Held → Command → List TargetLines
 queries_after s floor h (Client o at Attach) = if can_attach floor h.clients o && s.clears_queries then map cleared h.queries else h.queries
 queries_after s floor h (Client o at Leave) = h.queries
@@ -221,6 +226,7 @@ first_some (Some c) t = Some c.target
 abbrev pub target_of_key : List ℕ → Held → Option TargetLines
 target_of_key key h = first_some (channel_of_key key h.channels) (query_of_key key h.queries)
 
+-- what is played of a target, if there is one
 abbrev pub played_of : ℕ → Option TargetLines → List Parts
 played_of offset None = []
 played_of offset (Some t) = played offset t
@@ -234,18 +240,22 @@ name_of asked (Some c) = c.target.name
 abbrev pub closed_out : Origin → List Origin → List Effect
 closed_out o os = if is_among o os then [] else Close o ∷ []
 
+-- the clients but one
 abbrev pub others : Origin → List Origin → List Origin
 others o os = filter (λ p. not (same_origin o p)) os
 
 -- Attach: the others are closed where one client alone may be attached, and all that is not detached is played
 
+-- what a client that attaches is shown of a channel
 abbrev pub shown_at_attach : ℕ → List ℕ → Origin → ChannelLines → List Effect
 shown_at_attach offset nick o c =
     if c.detached then [] else show_all o (if_some c.joined (own_line nick (codes "JOIN") c.target.name ∷ []) ++ played offset c.target)
 
+-- what is sent of a channel for a client that attaches
 abbrev pub sent_at_attach : Origin → ChannelLines → List Effect
 sent_at_attach o c = if not c.detached && c.joined then Send o (bare (codes "NAMES") (c.target.name ∷ [])) ∷ [] else []
 
+-- what is answered to an Attach
 abbrev pub answers_attaching : Settings → ℕ → Held → Origin → List Effect
 answers_attaching s floor h o =
     if can_attach floor h.clients o
@@ -268,6 +278,7 @@ answers_again s h o c =
     show_each h.clients (own_line h.nick (codes "JOIN") c.target.name ∷ played s.offset c.target)
     ++ Send o (bare (if c.joined then codes "NAMES" else codes "JOIN") (c.target.name ∷ [])) ∷ []
 
+-- what is answered to a Join, by the channel of its name
 abbrev pub answers_joining : Settings → Held → Origin → List ℕ → Option ChannelLines → List Effect
 answers_joining s h o name None = Send o (bare (codes "JOIN") (name ∷ [])) ∷ []
 answers_joining s h o name (Some c) =
@@ -276,26 +287,32 @@ answers_joining s h o name (Some c) =
     else
     if c.joined then [] else Send o (bare (codes "JOIN") (c.target.name ∷ [])) ∷ []
 
+-- what is answered to a Part
 abbrev pub answers_parting : Origin → List ℕ → Option ChannelLines → List Effect
 answers_parting o name None = Send o (bare (codes "PART") (name ∷ [])) ∷ []
 answers_parting o name (Some c) = if c.joined then Send o (bare (codes "PART") (c.target.name ∷ [])) ∷ [] else []
 
+-- what is answered to a Detach
 abbrev pub answers_detaching : Held → Origin → Option ChannelLines → List Effect
 answers_detaching h o None = status h.nick o (codes "No such target.")
 answers_detaching h o (Some c) = if c.detached then [] else show_each h.clients (own_line h.nick (codes "PART") c.target.name ∷ [])
 
+-- what is answered to a Reattach
 abbrev pub answers_reattaching : Settings → Held → Origin → Option ChannelLines → List Effect
 answers_reattaching s h o None = status h.nick o (codes "No such target.")
 answers_reattaching s h o (Some c) = if c.detached then answers_again s h o c else []
 
+-- what is answered to a Play, by the target of its name
 abbrev pub played_or_status : Settings → Held → Origin → Option TargetLines → List Effect
 played_or_status s h o None = status h.nick o (codes "No such target.")
 played_or_status s h o (Some t) = show_all o (played s.offset t)
 
+-- what is answered to a Clear
 abbrev pub done_or_status : Held → Origin → Option TargetLines → List Effect
 done_or_status h o None = status h.nick o (codes "No such target.")
 done_or_status h o (Some t) = status h.nick o (codes "Done.")
 
+-- what is answered to a SetBuffer
 abbrev pub answers_sizing : Held → Origin → List ℕ → ℕ → List Effect
 answers_sizing h o t n = if is_past n then status h.nick o (codes "Size is past 500.") else done_or_status h o (target_of_key (fold_name t) h)
 
@@ -348,6 +365,7 @@ rejoins cs = map (λ c. Rejoin (bare (codes "JOIN") (c.target.name ∷ []))) cs
 abbrev pub if_attached : Origin → Held → List Effect → List Effect
 if_attached o h effects = if is_among o h.clients then effects else Close o ∷ []
 
+-- what is answered to a command
 abbrev pub answers : Settings → ℕ → Held → Command → List Effect
 answers s floor h (Client o at Attach) = answers_attaching s floor h o
 answers s floor h (Client o at Leave) = closed_out o h.clients

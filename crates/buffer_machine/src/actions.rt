@@ -80,6 +80,7 @@ fn attach(
     ensures held { OnOk result (held_of buffers.new ≡
         after setup.now floor (held_of buffers.old) (Client origin 0 Action.Attach)) }
 {
+    // answered first: what is shown is what stands before the client is among those that are attached
     let effects = answer_attach(alloc, setup, floor, buffers, origin)?;
     let_in(setup, floor, buffers, origin)?;
     Ok(effects)
@@ -140,6 +141,7 @@ fn let_in(
     if !setup.many_clients() {
         buffers.clients.clear();
     }
+    // what was played is emptied last: a client that finds no room is shown nothing
     buffers.clients.attach(origin)?;
     if setup.clears_channels() {
         buffers.channels.clear_open();

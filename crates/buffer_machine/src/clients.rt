@@ -28,7 +28,8 @@ impl Model for Clients {
 
     ghost view = { λ c. c.order.items };
 
-    ghost invariant = { λ c. (o : Origin) → contains (⟦<Origin as Ord>⟧.cmp) c.set o ≡ is_among o c.order.items };
+    ghost invariant = { λ c. (o : Origin)
+        → contains (⟦<Origin as Ord>⟧.cmp) c.set o ≡ is_among o c.order.items };
 }
 
 impl Clients {
@@ -73,6 +74,7 @@ impl Clients {
         ensures ok { OnOk result (self.new ≡ self.old ++ origin ∷ []) }
         ensures err { OnErr result (self.new ≡ self.old) }
     {
+        // the list first: its end is taken back without fail where the set finds no room
         self.order.push(origin)?;
         match self.set.insert(origin) {
             Ok(_) => Ok(()),

@@ -34,6 +34,7 @@ pub fn hear(
         after setup.now 0 (held_of buffers.old) (Upstream at line.now)) }
 {
     let place = buffers.channels.place_of(channel_of(line));
+    // shown first: who is shown a line goes by what stands before it
     let effects = show_heard(alloc, buffers, place, line)?;
     take_line(alloc, setup, buffers, place, at, line)?;
     Ok(effects)
@@ -73,8 +74,7 @@ fn take_line(
     ensures { OnOk result (held_of buffers.new ≡
         after_line setup.now (held_of buffers.old) at line.now) }
 {
-    // the query before the channels: the line is for one where no channel of its name was known before it;
-    // the own nick last: the line is still for the old one
+    // the query first: its line is for no channel that was known before; the nick last: the line is for the old one
     store_in_query(alloc, setup, buffers, place, at, line)?;
     take_for_channel(alloc, setup, buffers, place, at, line)?;
     take_nick(alloc, &mut buffers.nick, line)?;

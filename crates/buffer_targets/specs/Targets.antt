@@ -14,6 +14,7 @@ pub record TargetLines : Type 0 where
   pub name : List ℕ
   pub lines : Ring
 
+-- a target, of its two parts
 abbrev pub target : List ℕ → Ring → TargetLines
 target name lines = record { name = name; lines = lines }
 
@@ -41,9 +42,11 @@ pub record ChannelLines : Type 0 where
   pub joined : Bool
   pub detached : Bool
 
+-- a channel, of its three parts
 abbrev pub channel : TargetLines → Bool → Bool → ChannelLines
 channel target joined detached = record { target = target; joined = joined; detached = detached }
 
+-- a channel is stored as its three parts
 abbrev pub channel_code : Coded ChannelLines
 channel_code = code_by (TargetLines × (Bool × Bool)) (coded× target_code (coded× coded_bool coded_bool)) (λ c. (c.target, (c.joined, c.detached))) (λ p. channel p.0 p.1.0 p.1.1) (λ _. refl)
 
@@ -51,12 +54,15 @@ channel_code = code_by (TargetLines × (Bool × Bool)) (coded× target_code (cod
 abbrev pub over : (TargetLines → TargetLines) → ChannelLines → ChannelLines
 over f c = channel (f c.target) c.joined c.detached
 
+-- the own nick is in the channel from now on, or is not
 abbrev pub with_joined : Bool → ChannelLines → ChannelLines
 with_joined joined c = channel c.target joined c.detached
 
+-- clients are shown the channel no more, or again
 abbrev pub with_detached : Bool → ChannelLines → ChannelLines
 with_detached detached c = channel c.target c.joined detached
 
+-- a channel has this key
 abbrev pub has_key : List ℕ → ChannelLines → Bool
 has_key key c = at_key key c.target.name
 
@@ -119,6 +125,7 @@ open_cleared cs = map (λ c. if c.detached then c else over cleared c) cs
 
 -- Queries, in order of making
 
+-- a query has this key
 abbrev pub has_name_key : List ℕ → TargetLines → Bool
 has_name_key key t = at_key key t.name
 

@@ -57,6 +57,7 @@ pub fn insert(
     ensures err { OnErr result (targets.new.items ≡ targets.old.items) }
     ensures index { IsIndex (query_names targets.new.items) places.new.items }
 {
+    // all room is asked for before anything is put in
     targets.reserve(1)?;
     places.insert(gap, targets.len())?;
     Ok(targets.push(target)?)
