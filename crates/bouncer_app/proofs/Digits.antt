@@ -73,9 +73,9 @@ pub not_digits : (s : List ℕ) → list_all is_digit s ≡ false → hex_bytes 
 unfolding hex_bytes
 not_digits s d = hex_by s (list_all is_lower s) refl d
 
-even_by : (b : Bool) (s : List ℕ) → (if b then of_result (Err {E = FromHexError} {T = List ℕ} OddLength) else None) ≡ None
-even_by true s = refl
-even_by false s = refl
+even_by : (b : Bool) (r : Result (List ℕ) FromHexError) → of_result r ≡ None → (if b then of_result r else None) ≡ None
+even_by true r h = h
+even_by false r h = refl
 
 odd_is : (n : ℕ) → n % 2 ≡ 1 → (n % 2 == 1) ≡ true
 odd_is n h = grind (arith, nat_tests)
@@ -86,7 +86,7 @@ even_is n h = grind (arith, nat_tests)
 -- an odd number of digits spells nothing
 pub not_even : (s : List ℕ) → length s % 2 ≡ 1 → hex_bytes s ≡ None
 unfolding hex_bytes
-not_even s h = rw (odd_is (length s) h) (even_by (list_all is_lower s) s)
+not_even s h = rw (odd_is (length s) h) (even_by (list_all is_lower s) (Err OddLength) refl)
 
 -- and an even number of digits their bytes
 pub digits_spell : (s : List ℕ) → list_all is_digit s ≡ true → length s % 2 ≢ 1 → hex_bytes s ≡ Some (bytes_of s)

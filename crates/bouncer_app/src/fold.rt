@@ -32,9 +32,7 @@ pub fn fold<R: Read, W: Write>(
     ensures written { OnOk result (IfSome (R.remaining input.old) (λ bytes. (text : List ℕ) × (fold_text plain_answers bytes ≡ Ok text) × Appends (W.contents output.old) (W.contents output.new) text)) }
     ensures line { IfErr result (λ e. IsOfALine e → IfSome (R.remaining input.old) (λ bytes. fold_text plain_answers bytes ≡ Err e)) }
     ensures bounded { OnOk result (IsWithin (R.remaining input.old)) }
-    ensures too_long {
-        IfErr result (λ e. e ≡ FoldFault.InputTooLong → IsTooLong (R.remaining input.old))
-    }
+    ensures too_long { IfErr result (λ e. e ≡ FoldFault.InputTooLong → IsTooLong (R.remaining input.old)) }
     ensures unwritten { IfErr result (λ e. e ≢ FoldFault.Write → output.new ≡ output.old) }
 {
     // All is folded before the first byte is written, so that a refusal writes nothing.
@@ -101,9 +99,7 @@ where
     ensures fault { IfErr result (λ e. e ≡ FoldFault.Memory) }
     ensures whole { OnOk result (M.spoilt machine.new ≡ false) }
 {
-    let answers = machine
-        .apply(place, body)
-        .map_err(|_| FoldFault::Memory)?;
+    let answers = machine.apply(place, body).map_err(|_| FoldFault::Memory)?;
     push_answers(output, place, &answers)?;
     Ok(())
 }
@@ -126,7 +122,8 @@ where
     ensures whole { OnOk result (M.spoilt machine.new ≡ false) }
 {
     let body = read_line(*output.allocator(), place, line)?;
-    fold_body(machine, output, place, &body)
+    fold_body(machine, output, place, &body)?;
+    Ok(())
 }
 
 /// The text of the answers of a machine to all bodies of an input, or the fault of its first bad line.

@@ -18,15 +18,11 @@ const CHUNK: usize = 65_536;
 
 /// All bytes of a reader. An input that is too long is known by its first byte past the limit.
 pub fn read_whole<R: Read>(alloc: Global, reader: &mut R) -> Result<Vec<u8>, FoldFault>
-    ensures whole {
-        IfOk result (λ v. IfSome (R.remaining reader.old) (λ bytes. v.items ≡ bytes))
-    }
+    ensures whole { IfOk result (λ v. IfSome (R.remaining reader.old) (λ bytes. v.items ≡ bytes)) }
     ensures bounded { IfOk result (λ v. length v.items ≤ most_bytes) }
     ensures fault { IfErr result IsOfReading }
-    ensures too_long {
-        IfErr result (λ e. e ≡ FoldFault.InputTooLong →
-            IsTooLong (R.remaining reader.old))
-    }
+    ensures too_long { IfErr result (λ e. e ≡ FoldFault.InputTooLong →
+        IsTooLong (R.remaining reader.old)) }
 {
     let mut chunk = zeros(alloc, CHUNK)?;
     let mut input = Vec::new(alloc);
@@ -50,10 +46,8 @@ fn zeros(alloc: Global, count: usize) -> Result<Vec<u8>, FoldFault>
 
 /// One read: how many bytes came, or none where it was interrupted.
 fn read_chunk<R: Read>(reader: &mut R, chunk: &mut [u8]) -> Result<Option<usize>, FoldFault>
-    ensures gives {
-        IfOk result (λ count.
-            ReadGives (R.remaining reader.old) (R.remaining reader.new) count chunk.new)
-    }
+    ensures gives { IfOk result (λ count.
+        ReadGives (R.remaining reader.old) (R.remaining reader.new) count chunk.new) }
     ensures fault { IfErr result (λ e. e ≡ FoldFault.Read) }
 {
     judged(reader.read(chunk))
@@ -78,10 +72,8 @@ fn push_within(input: &mut Vec<u8>, read: &[u8]) -> Result<(), FoldFault>
     requires { length input.old.items ≤ most_bytes }
     ensures pushed { OnOk result (input.new.items ≡ input.old.items ++ read.now) }
     ensures bounded { OnOk result (length input.new.items ≤ most_bytes) }
-    ensures too_long {
-        IfErr result (λ e. e ≡ FoldFault.InputTooLong →
-            most_bytes < length input.old.items + length read.now)
-    }
+    ensures too_long { IfErr result (λ e. e ≡ FoldFault.InputTooLong →
+        most_bytes < length input.old.items + length read.now) }
     ensures fault { IfErr result IsOfReading }
 {
     if read.len() > MOST_BYTES - input.len() {

@@ -27,7 +27,6 @@ fn line_end(rest: &[u8]) -> Option<usize>
 }
 
 /// The bytes that a line spells in lower-case hex digits, or none.
-#[tactic(auto, using(crate::proofs::Digits::not_digits, crate::proofs::Digits::not_even))]
 pub fn decode_line(alloc: Global, line: &[u8]) -> Result<Option<Vec<u8>>, AllocError>
     ensures { IfOk result (λ bytes. option_map (λ v. v.items) bytes ≡ hex_bytes line.now) }
 {

@@ -72,11 +72,20 @@ fn bodies_are_answered_as_worked(rt: HostRuntime) -> Result<(), Fail> {
     let repeated = ["1 done 1.1.1 1", "2 repeat 1.1.1 1"];
     let cases = [
         (none.as_slice(), none_wanted.as_slice()),
-        ([A_LINE, FIRST_ATTACH, SECOND_ATTACH].as_slice(), playback.as_slice()),
-        ([ATTACH, ATTACH_OF_NODE_2, ATTACH, THIRD_LEAVE].as_slice(), numbered.as_slice()),
+        (
+            [A_LINE, FIRST_ATTACH, SECOND_ATTACH].as_slice(),
+            playback.as_slice(),
+        ),
+        (
+            [ATTACH, ATTACH_OF_NODE_2, ATTACH, THIRD_LEAVE].as_slice(),
+            numbered.as_slice(),
+        ),
         ([ATTACH, SAY, SAY].as_slice(), said.as_slice()),
         // there is an upstream, a run of node 1 is gone, there is none
-        ([UP, ATTACH, NODE_GONE, ATTACH, DOWN].as_slice(), gone.as_slice()),
+        (
+            [UP, ATTACH, NODE_GONE, ATTACH, DOWN].as_slice(),
+            gone.as_slice(),
+        ),
         // the last line lacks its end
         (without_end.as_slice(), repeated.as_slice()),
     ];
