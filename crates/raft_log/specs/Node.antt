@@ -7,6 +7,7 @@ use Rattle.raft_log.specs.declared.role.Role.{Role}
 use Rattle.raft_log.specs.declared.role.Role.TheVariants.{Follower, Candidate, Leader}
 use Rattle.raft_log.specs.declared.node_state.Live.{Live}
 
+-- what a node holds, and what it sent so far: Figure 2 of the paper of Raft, State
 pub record Node (B : Type 0) : Type 0 where
   pub boot : ℕ
   pub term : ℕ
@@ -23,20 +24,24 @@ pub record Node (B : Type 0) : Type 0 where
   pub attempts : ℕ
   pub sent : List (Message B)  -- only grows, restarts included
 
+-- it leads
 abbrev pub is_leader : Role → Bool
 is_leader Follower = false
 is_leader Candidate = false
 is_leader Leader = true
 
+-- it asks for votes
 abbrev pub is_candidate : Role → Bool
 is_candidate Follower = false
 is_candidate Candidate = true
 is_candidate Leader = false
 
 module _ {B : Type 0} where
+  -- a message of this term from one node to another
   abbrev pub message : ℕ → ℕ → ℕ → Kind B → Message B
   message t i j k = record { term = t; from = i; to = j; kind = k }
 
+  -- these messages are sent
   abbrev pub sending : Node B → List (Message B) → Node B
   sending s ms = record s { sent = s.sent ++ ms }
 

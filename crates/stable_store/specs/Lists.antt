@@ -41,6 +41,7 @@ module _ {X : Type 0} where
   abbrev pub wants_many : ℕ → Wants → Reading X → Wants
   wants_many n wants reading input = nat_lt 0 n && (wants input || is_ok (reading input))
 
+  -- so many items, where their number was read
   abbrev pub wants_by : Result (ℕ × ℕ) WireFault → Wants → Reading X → Wants
   wants_by (Ok r) wants reading input = wants_many r.0 wants reading (drop r.1 input)
   wants_by (Err e) wants reading input = false

@@ -55,6 +55,7 @@ pub record Condition : Type 0 where
   pub broken : Bool
   pub failures : ℕ
 
+-- it keeps what it is told
 abbrev pub IsHonest : Condition → Type 0
 IsHonest c = IsTrue c.honest
 
