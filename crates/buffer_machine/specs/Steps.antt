@@ -138,6 +138,11 @@ played_out s key h =
 abbrev pub cleared_of : List ℕ → Held → Held
 cleared_of key h = holding h.nick h.clients (at_channel key (over cleared) h.channels) (at_query key cleared h.queries)
 
+-- all channels, all queries, or all of both emptied
+abbrev pub kinds_cleared : Bool → Bool → Held → Held
+kinds_cleared channels queries h =
+    holding h.nick h.clients (if channels then map (over cleared) h.channels else h.channels) (if queries then map cleared h.queries else h.queries)
+
 -- another size for the target of a key, unless it is past what there may be
 abbrev pub sized_unless_past : ℕ → List ℕ → Held → Held
 sized_unless_past n key h =

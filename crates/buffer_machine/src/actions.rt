@@ -2,7 +2,6 @@
 ghost use Rattle.std.specs.Prelude.{◌≡◌, ◌∷◌, [], filter, not, IfOk, IsOk, IsTrue, OnOk};
 ghost use Rattle.buffer_commands.specs.declared.command.Command.TheVariants.{Client};
 ghost use Rattle.machine_laws.specs.Origins.{same_origin};
-ghost use Rattle.buffer_machine.specs.Held.{holding};
 ghost use Rattle.buffer_machine.specs.Machine.{held_of};
 ghost use Rattle.buffer_machine.specs.Messages.{is_among};
 ghost use Rattle.buffer_machine.specs.Steps.{after, answers, answers_attaching, closed_out};
@@ -10,13 +9,12 @@ ghost use Rattle.buffer_machine.specs.Steps.{after, answers, answers_attaching, 
 use crate::buffers::Buffers;
 use crate::channel_actions::{detach, join, part, reattach};
 use crate::clients::Clients;
-use crate::message::DONE;
 use crate::saying::say;
-use crate::showing::{ask_for_all_names, close_all, just, show_channels, show_queries, tell};
-use crate::target_actions::{clear, play, resize};
+use crate::showing::{ask_for_all_names, close_all, just, show_channels, show_queries};
+use crate::target_actions::{clear, clear_kinds, play, resize};
 use buffer_commands::{Action, Effect, Setup, WireLine};
 use std::alloc::{AllocError, Global};
-use wire_bytes::{Copied, Moment, Origin};
+use wire_bytes::{Moment, Origin};
 
 /// Does what a client asks for, where this is the floor of its node.
 pub fn act(
@@ -48,19 +46,9 @@ pub fn act(
         Action::Reattach(c) if attached => reattach(alloc, setup, buffers, origin, c.name()),
         Action::Play(name) if attached => play(alloc, setup, buffers, origin, name),
         Action::Clear(name) if attached => clear(alloc, buffers, origin, name),
-        Action::ClearChannels if attached => {
-            buffers.channels.clear_all();
-            tell(alloc, &buffers.nick, origin, DONE)
-        }
-        Action::ClearQueries if attached => {
-            buffers.queries.clear_all();
-            tell(alloc, &buffers.nick, origin, DONE)
-        }
-        Action::ClearAll if attached => {
-            buffers.channels.clear_all();
-            buffers.queries.clear_all();
-            tell(alloc, &buffers.nick, origin, DONE)
-        }
+        Action::ClearChannels if attached => clear_kinds(alloc, buffers, origin, true, false),
+        Action::ClearQueries if attached => clear_kinds(alloc, buffers, origin, false, true),
+        Action::ClearAll if attached => clear_kinds(alloc, buffers, origin, true, true),
         Action::SetBuffer(name, size) if attached => resize(alloc, buffers, origin, name, *size),
         Action::Pass(line) if attached => pass(alloc, origin, line),
         _ => just(alloc, Effect::Close(origin)),

@@ -1,19 +1,17 @@
 //! What clients ask of channels: what is answered, and what is held after it.
-ghost use Rattle.std.specs.Prelude.{◌≡◌, ◌∷◌, ◌&&◌, [], codes, if◌then◌else◌, is_some, map, not, option_map, true, IfOk, OnOk};
+ghost use Rattle.std.specs.Prelude.{◌≡◌, ◌∷◌, [], codes, if◌then◌else◌, map, not, true, IfOk, OnOk};
 ghost use Rattle.irc_line.specs.Lines.{spelling};
-ghost use Rattle.irc_line.specs.Names.{fold_name};
-ghost use Rattle.buffer_machine.specs.Effects.{show_each};
 ghost use Rattle.buffer_machine.specs.Machine.{held_of};
 ghost use Rattle.buffer_machine.specs.Messages.{bare, own_line, word_bytes};
-ghost use Rattle.buffer_machine.specs.Steps.{answers_again, answers_detaching, answers_joining, answers_parting, answers_reattaching, attached_again, found, is_detached, is_joined, let_go, played, with_channels, joining, reattached, show_own, parting, parted, detaching, detached_now, reattaching};
-ghost use Rattle.buffer_targets.specs.Targets.{at_channel, channel_of_key, with_detached};
+ghost use Rattle.buffer_machine.specs.Steps.{answers_again, is_detached, is_joined, played, joining, reattached, show_own, parting, parted, detaching, detached_now, reattaching};
 
 use crate::buffers::Buffers;
+use crate::channel_changes::{attach_again, let_channel_go};
 use crate::message::{ChannelWord, NO_SUCH_TARGET, bare_channel, own_channel};
 use crate::showing::{just, show_lines_to_all, tell};
 use buffer_commands::{Effect, Setup};
 use buffer_lines::Shown;
-use buffer_targets::{Channel, Channels};
+use buffer_targets::Channel;
 use irc_line::Name;
 use std::alloc::{AllocError, Global};
 use wire_bytes::Origin;
@@ -263,47 +261,4 @@ fn send(
 {
     let line = bare_channel(alloc, word, channel)?;
     just(alloc, Effect::Send(origin, line))
-}
-/// Attaches the channel of a name again, where it is detached.
-fn attach_again(setup: &Setup, channels: &mut Channels, name: &[u8])
-    ensures { channels.new ≡ attached_again setup.now.clears_channels
-        (fold_name name.now) channels.old (channel_of_key (fold_name name.now) channels.old) }
-{
-    if is_detached_at(channels, name) {
-        channels.set_detached_at(name, false);
-        if setup.clears_channels() {
-            channels.clear_at(name);
-        }
-    }
-}
-
-/// Lets the channel of a name go, where it is not joined.
-fn let_channel_go(channels: &mut Channels, name: &[u8])
-    ensures { channels.new ≡ let_go (fold_name name.now) channels.old
-        (channel_of_key (fold_name name.now) channels.old) }
-{
-    if is_idle_at(channels, name) {
-        channels.remove_at(name);
-    }
-}
-
-/// Whether the channel of a name is known and detached.
-fn is_detached_at(channels: &Channels, name: &[u8]) -> bool
-    ensures { result ≡ is_detached (channel_of_key (fold_name name.now) channels.now) }
-{
-    match channels.find(name) {
-        None => false,
-        Some(channel) => channel.is_detached(),
-    }
-}
-
-/// Whether the channel of a name is known and not joined.
-fn is_idle_at(channels: &Channels, name: &[u8]) -> bool
-    ensures { result ≡ (is_some (channel_of_key (fold_name name.now) channels.now) && not
-        (is_joined (channel_of_key (fold_name name.now) channels.now))) }
-{
-    match channels.find(name) {
-        None => false,
-        Some(channel) => !channel.is_joined(),
-    }
 }

@@ -1,5 +1,5 @@
 //! The clients that are attached.
-ghost use Rattle.std.specs.Prelude.{◌≡◌, ◌&&◌, ◌==◌, ◌++◌, ◌∷◌, [], not, false, nat_lt, filter, OnOk, OnErr};
+ghost use Rattle.std.specs.Prelude.{◌≡◌, ◌&&◌, ◌==◌, ◌++◌, ◌∷◌, [], not, nat_lt, filter, OnOk, OnErr};
 ghost use Rattle.std.specs.BTreeSet.{contains};
 ghost use Rattle.wire_bytes.specs.declared.origin.Origin.{Origin};
 ghost use Rattle.machine_laws.specs.Origins.{same_origin};

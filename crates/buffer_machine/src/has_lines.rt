@@ -1,5 +1,5 @@
 //! The buffers are told of the lines from upstream, and send lines there.
-ghost use Rattle.std.specs.Prelude.{◌≡◌, Some, None, MatchResult};
+ghost use Rattle.std.specs.Prelude.{Some, None};
 
 use crate::machine::BufferMachine;
 use buffer_commands::{Command, Effect, WireLine};

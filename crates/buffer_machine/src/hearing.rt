@@ -3,11 +3,9 @@ ghost use Rattle.std.specs.Prelude.{◌≡◌, IfOk, IsTrue, OnOk, if◌then◌e
 ghost use Rattle.irc_line.specs.Lines.{parameter};
 ghost use Rattle.irc_line.specs.Names.{is_name};
 ghost use Rattle.buffer_commands.specs.declared.command.Command.TheVariants.{Upstream};
-ghost use Rattle.buffer_machine.specs.Buffers.{nick_after};
-ghost use Rattle.buffer_machine.specs.Held.{holding};
 ghost use Rattle.buffer_machine.specs.Machine.{held_of};
 ghost use Rattle.buffer_machine.specs.Messages.{is_new_nick};
-ghost use Rattle.buffer_machine.specs.Steps.{HasPlace, after, answers_taking, channels_taking, queries_storing, with_channels, after_line};
+ghost use Rattle.buffer_machine.specs.Steps.{HasPlace, after, answers_taking, channels_taking, with_channels, after_line};
 ghost use Rattle.buffer_targets.specs.Targets.{joined_by};
 
 use crate::buffers::Buffers;

@@ -4,6 +4,7 @@
 mod actions;
 mod buffers;
 mod channel_actions;
+mod channel_changes;
 mod clients;
 mod floors;
 mod has_lines;

@@ -2,7 +2,6 @@
 ghost use Rattle.std.specs.Prelude.{◌≡◌, ◌==◌, not};
 ghost use Rattle.irc_line.specs.Lines.{parameter};
 ghost use Rattle.std.specs.List.{take_while};
-ghost use Rattle.irc_line.specs.Names.{is_channel, is_name, action_mark, begins_with};
 ghost use Rattle.buffer_machine.specs.Messages.{channel_of, has_command, is_by, is_message, is_new_nick, is_own, is_own_kick, is_plain_or_action, is_query_line, is_query_name, is_storable, names_first, names_second, source};
 
 use irc_line::{Line, is_a_name, is_action, is_channel_name, is_same, is_same_name};

@@ -1,10 +1,9 @@
 //! What a client says: what it brings about, and what is held after it. After an error a part may have been done.
-ghost use Rattle.std.specs.Prelude.{◌≡◌, ◌∷◌, [], not, Some, None, if◌then◌else◌, IfOk, OnOk};
+ghost use Rattle.std.specs.Prelude.{◌≡◌, Some, IfOk, OnOk};
 ghost use Rattle.irc_line.specs.Names.{is_channel};
-ghost use Rattle.buffer_machine.specs.Effects.{show_each};
 ghost use Rattle.buffer_machine.specs.Machine.{held_of};
-ghost use Rattle.buffer_machine.specs.Messages.{bare, channel_of, own_said, verb_word};
-ghost use Rattle.buffer_machine.specs.Steps.{HasPlace, answers_saying, found, is_detached, others, storing, saying, after_saying, sharing};
+ghost use Rattle.buffer_machine.specs.Messages.{channel_of};
+ghost use Rattle.buffer_machine.specs.Steps.{HasPlace, is_detached, others, storing, saying, after_saying, sharing};
 
 use crate::buffers::Buffers;
 use crate::lines::channel_of;

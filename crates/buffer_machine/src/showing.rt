@@ -1,8 +1,5 @@
 //! Effects, appended to those before them. After an error a part may have been appended.
-ghost use Rattle.std.specs.Prelude.{◌≡◌, ◌++◌, ◌∷◌, [], map, flat_map, not, filter, option_to_list, IfOk, OnOk};
-ghost use Rattle.irc_line.specs.Lines.{spelling};
-ghost use Rattle.machine_laws.specs.Origins.{same_origin};
-ghost use Rattle.buffer_machine.specs.Messages.{bare, word_bytes};
+ghost use Rattle.std.specs.Prelude.{◌≡◌, ◌++◌, ◌∷◌, [], map, flat_map, not, option_to_list, IfOk, OnOk};
 ghost use Rattle.buffer_machine.specs.Effects.{copies, show_all, status};
 ghost use Rattle.buffer_machine.specs.Steps.{others, played, rejoins, sent_at_attach, shown_at_attach};
 

@@ -1,7 +1,6 @@
 //! Where a line is stored: in the query or the channel that it is for. Each call takes the place of the line's channel.
-ghost use Rattle.std.specs.Prelude.{◌≡◌, true, Some, IfOk, IsTrue, OnOk};
+ghost use Rattle.std.specs.Prelude.{◌≡◌, Some, IfOk, IsTrue, OnOk};
 ghost use Rattle.irc_line.specs.Names.{is_name};
-ghost use Rattle.buffer_machine.specs.Held.{holding};
 ghost use Rattle.buffer_machine.specs.Machine.{held_of};
 ghost use Rattle.buffer_machine.specs.Messages.{is_query_line, source};
 ghost use Rattle.buffer_machine.specs.Steps.{HasPlace, channels_storing, keeps, queries_storing, storing, stores_in_channel, stores_in_query, with_channels, with_queries};

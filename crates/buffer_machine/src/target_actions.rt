@@ -1,10 +1,9 @@
 //! What clients ask of targets: what is answered, and what is held after it.
-ghost use Rattle.std.specs.Prelude.{◌≡◌, IfOk, OnOk};
+ghost use Rattle.std.specs.Prelude.{◌≡◌, codes, IfOk, OnOk};
 ghost use Rattle.irc_line.specs.Names.{fold_name};
-ghost use Rattle.buffer_machine.specs.Held.{holding};
+ghost use Rattle.buffer_machine.specs.Effects.{status};
 ghost use Rattle.buffer_machine.specs.Machine.{held_of};
-ghost use Rattle.buffer_machine.specs.Steps.{answers_sizing, cleared_of, done_or_status, played_or_status, played_out, sized_unless_past, target_of_key, playing, clearing};
-ghost use Rattle.buffer_targets.specs.Targets.{at_channel, at_query, cleared, over};
+ghost use Rattle.buffer_machine.specs.Steps.{kinds_cleared, answers_sizing, cleared_of, played_out, sized_unless_past, playing, clearing};
 
 use crate::buffers::Buffers;
 use crate::message::{DONE, NO_SUCH_TARGET, SIZE_IS_PAST};
@@ -50,6 +49,27 @@ pub fn clear(
     buffers.channels.clear_at(name.as_bytes());
     buffers.queries.clear_at(name.as_bytes());
     Ok(effects)
+}
+
+/// All channels, all queries, or all of both are emptied.
+pub fn clear_kinds(
+    alloc: Global,
+    buffers: &mut Buffers,
+    origin: Origin,
+    channels: bool,
+    queries: bool,
+) -> Result<Vec<Effect>, AllocError>
+    ensures effects { IfOk result (λ v. v.items ≡ status buffers.old.nick origin (codes "Done.")) }
+    ensures held { OnOk result (held_of buffers.new ≡
+        kinds_cleared channels queries (held_of buffers.old)) }
+{
+    if channels {
+        buffers.channels.clear_all();
+    }
+    if queries {
+        buffers.queries.clear_all();
+    }
+    tell(alloc, &buffers.nick, origin, DONE)
 }
 
 /// A target keeps so many lines from now on, unless that is past what there may be.
