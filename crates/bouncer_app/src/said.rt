@@ -1,5 +1,6 @@
-//! Bodies in words: `up`, `down`, `gone 2 2` (the runs of node 2 below its second), `heard 0 :a!b@c PRIVMSG #x :hi`
-//! (a line from upstream at the second 0), and `1.1.1 #2 play #x` (a client's second request, at the second 0).
+//! Bodies in words: `up`, `down`, `gone 2 2` (the runs of node 2 below its second),
+//! `heard 0 :a!b@c PRIVMSG #x :hi` (a line from upstream at the second 0), and `1.1.1 #2 play #x`
+//! (a client's second request, at the second 0).
 use std::alloc::Global;
 use std::test::Fail;
 

@@ -38,7 +38,6 @@ pub fn check(rt: &impl Abort, alloc: Global, bodies: &[&str], want: &[&str]) -> 
 #[test]
 fn bodies_are_answered_as_worked(rt: HostRuntime) -> Result<(), Fail> {
     let alloc = rt.alloc();
-    check(&rt, alloc, &[], &[])?;
     let attached = [
         "heard 0 :a!b@c PRIVMSG #x :hi",
         "1.1.1 #1 attach",
@@ -51,6 +50,7 @@ fn bodies_are_answered_as_worked(rt: HostRuntime) -> Result<(), Fail> {
         "2 done 1.1.1 1",
         "3 done 1.1.2 1",
     ];
+    check(&rt, alloc, &[], &[])?;
     check(&rt, alloc, &attached, &playback)?;
     let numbered = [
         "1.1.1 #1 attach",
@@ -172,8 +172,7 @@ fn a_line_from_upstream_has_at_most_511_bytes(rt: HostRuntime) -> Result<(), Fai
     Ok(())
 }
 
-/// A reader that gives some bytes, and then one answer for good; or an error once, and then
-/// its end.
+/// A reader that gives some bytes, then one answer for good, or once and then its end.
 #[derive(Drop)]
 struct Source {
     left: u64,
