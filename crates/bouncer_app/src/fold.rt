@@ -29,10 +29,14 @@ pub fn fold<R: Read, W: Write>(
     input: &mut R,
     output: &mut W,
 ) -> Result<(), FoldFault>
-    ensures written { OnOk result (IfSome (R.remaining input.old) (λ bytes. (text : List ℕ) × (fold_text plain_answers bytes ≡ Ok text) × Appends (W.contents output.old) (W.contents output.new) text)) }
-    ensures line { IfErr result (λ e. IsOfALine e → IfSome (R.remaining input.old) (λ bytes. fold_text plain_answers bytes ≡ Err e)) }
+    ensures written { OnOk result (IfSome (R.remaining input.old) (λ bytes.
+        (text : List ℕ) × (fold_text plain_answers bytes ≡ Ok text)
+        × Appends (W.contents output.old) (W.contents output.new) text)) }
+    ensures line { IfErr result (λ e. IsOfALine e → IfSome (R.remaining input.old)
+        (λ bytes. fold_text plain_answers bytes ≡ Err e)) }
     ensures bounded { OnOk result (IsWithin (R.remaining input.old)) }
-    ensures too_long { IfErr result (λ e. e ≡ FoldFault.InputTooLong → IsTooLong (R.remaining input.old)) }
+    ensures too_long { IfErr result (λ e. e ≡ FoldFault.InputTooLong →
+        IsTooLong (R.remaining input.old)) }
     ensures unwritten { IfErr result (λ e. e ≢ FoldFault.Write → output.new ≡ output.old) }
 {
     // All is folded before the first byte is written, so that a refusal writes nothing.
@@ -46,7 +50,8 @@ pub fn fold<R: Read, W: Write>(
 #[tactic(auto, unfolding(crate::specs::Fold::plain_answers))]
 fn plain_text(alloc: Global, input: &[u8]) -> Result<Vec<u8>, FoldFault>
     ensures ok { IfOk result (λ text. fold_text plain_answers input.now ≡ Ok text.items) }
-    ensures err { IfErr result (λ e. e ≢ FoldFault.Memory → fold_text plain_answers input.now ≡ Err e) }
+    ensures err { IfErr result (λ e. e ≢ FoldFault.Memory →
+        fold_text plain_answers input.now ≡ Err e) }
     ensures fault { IfErr result (λ e. (e ≡ FoldFault.Memory) ⊎ IsOfALine e) }
 {
     let setup = Setup::plain(alloc)?;
@@ -94,8 +99,10 @@ fn fold_body<M>(
 where
     M: Machine<Command = Body<Command, Action>, Effect = Answer<Effect>>,
     requires { M.spoilt machine.old ≡ false }
-    ensures applied { OnOk result ((s : M.Setup) (earlier : History Request) → M.stands machine.old s earlier → output.old.items ≡ printed (M.effects s) earlier
-        → M.stands machine.new s ((place, body.now) ∷ earlier) × (output.new.items ≡ printed (M.effects s) ((place, body.now) ∷ earlier))) }
+    ensures applied { OnOk result ((s : M.Setup) (earlier : History Request)
+        → M.stands machine.old s earlier → output.old.items ≡ printed (M.effects s) earlier
+        → M.stands machine.new s ((place, body.now) ∷ earlier)
+        × (output.new.items ≡ printed (M.effects s) ((place, body.now) ∷ earlier))) }
     ensures fault { IfErr result (λ e. e ≡ FoldFault.Memory) }
     ensures whole { OnOk result (M.spoilt machine.new ≡ false) }
 {
@@ -115,8 +122,10 @@ where
     M: Machine<Command = Body<Command, Action>, Effect = Answer<Effect>>,
     requires { M.spoilt machine.old ≡ false }
     ensures applied { OnOk result ((body : Request) × (judged_line place line.now ≡ Ok body)
-        × ((s : M.Setup) (earlier : History Request) → M.stands machine.old s earlier → output.old.items ≡ printed (M.effects s) earlier
-        → M.stands machine.new s ((place, body) ∷ earlier) × (output.new.items ≡ printed (M.effects s) ((place, body) ∷ earlier)))) }
+        × ((s : M.Setup) (earlier : History Request)
+        → M.stands machine.old s earlier → output.old.items ≡ printed (M.effects s) earlier
+        → M.stands machine.new s ((place, body) ∷ earlier)
+        × (output.new.items ≡ printed (M.effects s) ((place, body) ∷ earlier)))) }
     ensures err { IfErr result (λ e. e ≢ FoldFault.Memory → judged_line place line.now ≡ Err e) }
     ensures fault { IfErr result (λ e. (e ≡ FoldFault.Memory) ⊎ IsOfALine e) }
     ensures whole { OnOk result (M.spoilt machine.new ≡ false) }
@@ -126,13 +135,16 @@ where
     Ok(())
 }
 
-/// The text of the answers of a machine to all bodies of an input, or the fault of its first bad line.
+/// The text of the answers of a machine to all bodies of an input, or the fault of its first
+/// bad line.
 pub fn fold_input<M>(alloc: Global, machine: &mut M, input: &[u8]) -> Result<Vec<u8>, FoldFault>
 where
     M: Machine<Command = Body<Command, Action>, Effect = Answer<Effect>>,
     requires { M.spoilt machine.old ≡ false }
-    ensures ok { (s : M.Setup) → M.stands machine.old s [] → IfOk result (λ text. fold_text (M.effects s) input.now ≡ Ok text.items) }
-    ensures err { (s : M.Setup) → IfErr result (λ e. e ≢ FoldFault.Memory → fold_text (M.effects s) input.now ≡ Err e) }
+    ensures ok { (s : M.Setup) → M.stands machine.old s [] →
+        IfOk result (λ text. fold_text (M.effects s) input.now ≡ Ok text.items) }
+    ensures err { (s : M.Setup) → IfErr result (λ e. e ≢ FoldFault.Memory →
+        fold_text (M.effects s) input.now ≡ Err e) }
     ensures fault { IfErr result (λ e. (e ≡ FoldFault.Memory) ⊎ IsOfALine e) }
 {
     let mut output = Vec::new(alloc);

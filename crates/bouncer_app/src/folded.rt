@@ -1,4 +1,5 @@
-//! Setups, bodies by their bytes, and their answers as lines of text.
+//! Setups, bodies in words, and their answers as lines of text.
+use crate::said::said;
 use crate::words::{push_answer, push_answers};
 use buffer_commands::{Action, Command, Effect, Options, Setup};
 use buffer_machine::BufferMachine;
@@ -24,9 +25,10 @@ pub fn setup(alloc: Global, channels: &[&[u8]], options: Options) -> Result<Setu
     Ok(Setup::new(name(alloc, b"me")?, names, options).map_err(|_| "setup")?)
 }
 
-/// The body that these bytes spell, nothing behind it.
-fn body(alloc: Global, bytes: &[u8]) -> Result<Body<Command, Action>, Fail> {
-    let (body, len) = Body::<Command, Action>::take(alloc, bytes).map_err(|_| "spelling")?;
+/// The body that these words say.
+fn body(alloc: Global, words: &str) -> Result<Body<Command, Action>, Fail> {
+    let bytes = said(alloc, words)?;
+    let (body, len) = Body::<Command, Action>::take(alloc, &bytes).map_err(|_| "spelling")?;
     if len == bytes.len() {
         Ok(body)
     } else {
@@ -45,13 +47,13 @@ pub fn ended(alloc: Global, lines: &[&str]) -> Result<Vec<u8>, Fail> {
 }
 
 /// The answers to all bodies, at places from 1.
-fn answered(alloc: Global, setup: &Setup, bodies: &[&[u8]]) -> Result<Vec<u8>, Fail> {
+fn answered(alloc: Global, setup: &Setup, bodies: &[&str]) -> Result<Vec<u8>, Fail> {
     let mut machine: Once<BufferMachine> = Once::start(alloc, setup)?;
     let mut out = Vec::new(alloc);
     let mut place = 0u64;
-    for bytes in bodies {
+    for words in bodies {
         place = place.wrapping_add(1);
-        let answers = machine.apply(place, &body(alloc, bytes)?)?;
+        let answers = machine.apply(place, &body(alloc, words)?)?;
         push_answers(&mut out, place, &answers)?;
     }
     Ok(out)
@@ -62,7 +64,7 @@ pub fn check(
     rt: &impl Abort,
     alloc: Global,
     setup: &Setup,
-    bodies: &[&[u8]],
+    bodies: &[&str],
     want: &[&str],
 ) -> Result<(), Fail> {
     assert_eq!(rt;
@@ -73,10 +75,10 @@ pub fn check(
 }
 
 /// What all bodies bring about from a new machine, in one run.
-fn run(alloc: Global, setup: &Setup, bodies: &[&[u8]]) -> Result<Vec<Answer<Effect>>, Fail> {
+fn run(alloc: Global, setup: &Setup, bodies: &[&str]) -> Result<Vec<Answer<Effect>>, Fail> {
     let mut all = Vec::new(alloc);
-    for bytes in bodies {
-        all.push(body(alloc, bytes)?)?;
+    for words in bodies {
+        all.push(body(alloc, words)?)?;
     }
     let mut machine: Once<BufferMachine> = Once::start(alloc, setup)?;
     Ok(run_all(alloc, &mut machine, &all)?)
@@ -87,7 +89,7 @@ pub fn check_run(
     rt: &impl Abort,
     alloc: Global,
     setup: &Setup,
-    bodies: &[&[u8]],
+    bodies: &[&str],
     want: &[&str],
 ) -> Result<(), Fail> {
     let mut out = Vec::new(alloc);

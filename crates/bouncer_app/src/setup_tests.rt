@@ -4,52 +4,6 @@ use buffer_commands::Options;
 use buffer_lines::Offset;
 use std::test::Fail;
 
-/// The client 1.1.1 attaches by its first request, 1,700,000,000 seconds after 1970.
-const ATTACH: &[u8] =
-    b"\x01\x01\0\0\0\0\0\0\0\x01\0\0\0\0\0\0\0\x01\0\0\0\0\0\0\0\x01\0\0\0\0\x65\x53\xf1\0\x01";
-
-/// So does the client 1.1.2.
-const ATTACH_OTHER: &[u8] =
-    b"\x01\x01\0\0\0\0\0\0\0\x01\0\0\0\0\0\0\0\x02\0\0\0\0\0\0\0\x01\0\0\0\0\x65\x53\xf1\0\x01";
-
-/// The first one asks for what is kept of the channel `#x`.
-const PLAY: &[u8] =
-    b"\x01\x01\0\0\0\0\0\0\0\x01\0\0\0\0\0\0\0\x01\0\0\0\0\0\0\0\x02\0\0\0\0\x65\x53\xf1\0\x08\0\x02#x";
-
-/// The other one asks for it.
-const PLAY_TO_OTHER: &[u8] =
-    b"\x01\x01\0\0\0\0\0\0\0\x01\0\0\0\0\0\0\0\x02\0\0\0\0\0\0\0\x02\0\0\0\0\x65\x53\xf1\0\x08\0\x02#x";
-
-/// A message to the channel `#x`, and one a second later.
-const HI: &[u8] = b"\0\x02\0\0\0\0\x65\x53\xf1\0\0\x15:a!b@c PRIVMSG #x :hi";
-
-const HO: &[u8] = b"\0\x02\0\0\0\0\x65\x53\xf1\x01\0\x15:a!b@c PRIVMSG #x :ho";
-
-/// And one a second after it.
-const HA: &[u8] = b"\0\x02\0\0\0\0\x65\x53\xf1\x02\0\x15:a!b@c PRIVMSG #x :ha";
-
-/// Messages to the nick `me`.
-const BOB: &[u8] = b"\0\x02\0\0\0\0\x65\x53\xf1\0\0\x17:bob!b@c PRIVMSG me :yo";
-
-const BOB_LATER: &[u8] = b"\0\x02\0\0\0\0\x65\x53\xf1\x01\0\x17:bob!b@c PRIVMSG me :ya";
-
-const CAROL: &[u8] = b"\0\x02\0\0\0\0\x65\x53\xf1\0\0\x19:carol!d@e PRIVMSG me :yo";
-
-/// Messages to the channels `#b` and `#A`, the latter in lower case.
-const BEE: &[u8] = b"\0\x02\0\0\0\0\x65\x53\xf1\0\0\x16:a!b@c PRIVMSG #b :bee";
-
-const AY: &[u8] = b"\0\x02\0\0\0\0\x65\x53\xf1\x01\0\x15:a!b@c PRIVMSG #a :ay";
-
-/// The nick `me` joined three channels.
-const JOINED_B: &[u8] = b"\0\x02\0\0\0\0\x65\x53\xf1\0\0\x0f:me!u@h JOIN #b";
-
-const JOINED_AA: &[u8] = b"\0\x02\0\0\0\0\x65\x53\xf1\0\0\x10:me!u@h JOIN #AA";
-
-const JOINED_A: &[u8] = b"\0\x02\0\0\0\0\x65\x53\xf1\0\0\x0f:me!u@h JOIN #a";
-
-/// There is an upstream.
-const UP: &[u8] = b"\0\x04";
-
 #[test]
 fn one_client_at_a_time(rt: HostRuntime) -> Result<(), Fail> {
     let options = Options {
@@ -57,7 +11,12 @@ fn one_client_at_a_time(rt: HostRuntime) -> Result<(), Fail> {
         ..Options::default()
     };
     let setup = setup(rt.alloc(), &[b"#x".as_slice()], options)?;
-    let bodies = [ATTACH, ATTACH_OTHER, HI, PLAY];
+    let bodies = [
+        "1.1.1 #1 attach",
+        "1.1.2 #1 attach",
+        "heard 0 :a!b@c PRIVMSG #x :hi",
+        "1.1.1 #2 play #x",
+    ];
     let want = [
         "1 done 1.1.1 1",
         "2 close 1.1.1",
@@ -76,7 +35,12 @@ fn one_client_at_a_time_in_one_run(rt: HostRuntime) -> Result<(), Fail> {
         ..Options::default()
     };
     let setup = setup(rt.alloc(), &[b"#x".as_slice()], options)?;
-    let bodies = [ATTACH, ATTACH_OTHER, HI, PLAY];
+    let bodies = [
+        "1.1.1 #1 attach",
+        "1.1.2 #1 attach",
+        "heard 0 :a!b@c PRIVMSG #x :hi",
+        "1.1.1 #2 play #x",
+    ];
     let want = [
         "done 1.1.1 1",
         "close 1.1.1",
@@ -101,7 +65,11 @@ fn one_query_at_most(rt: HostRuntime) -> Result<(), Fail> {
         ..Options::default()
     };
     let setup = setup(rt.alloc(), &[b"#x".as_slice()], options)?;
-    let bodies = [BOB, CAROL, ATTACH];
+    let bodies = [
+        "heard 0 :bob!b@c PRIVMSG me :yo",
+        "heard 0 :carol!d@e PRIVMSG me :yo",
+        "1.1.1 #1 attach",
+    ];
     let want = [
         "3 show 1.1.1 :***!bouncer@local PRIVMSG carol :Buffer Playback...",
         "3 show 1.1.1 :carol!d@e PRIVMSG me :[22:13:20] yo",
@@ -118,7 +86,11 @@ fn two_queries_in_the_order_made(rt: HostRuntime) -> Result<(), Fail> {
         ..Options::default()
     };
     let setup = setup(rt.alloc(), &[b"#x".as_slice()], options)?;
-    let bodies = [CAROL, BOB, ATTACH];
+    let bodies = [
+        "heard 0 :carol!d@e PRIVMSG me :yo",
+        "heard 0 :bob!b@c PRIVMSG me :yo",
+        "1.1.1 #1 attach",
+    ];
     let want = [
         "3 show 1.1.1 :***!bouncer@local PRIVMSG carol :Buffer Playback...",
         "3 show 1.1.1 :carol!d@e PRIVMSG me :[22:13:20] yo",
@@ -138,7 +110,13 @@ fn lines_of_a_channel_that_is_not_cleared(rt: HostRuntime) -> Result<(), Fail> {
         ..Options::default()
     };
     let setup = setup(rt.alloc(), &[b"#x".as_slice()], options)?;
-    let bodies = [HI, ATTACH, ATTACH_OTHER, HO, PLAY_TO_OTHER];
+    let bodies = [
+        "heard 0 :a!b@c PRIVMSG #x :hi",
+        "1.1.1 #1 attach",
+        "1.1.2 #1 attach",
+        "heard 1 :a!b@c PRIVMSG #x :ho",
+        "1.1.2 #2 play #x",
+    ];
     let want = [
         "2 show 1.1.1 :***!bouncer@local PRIVMSG #x :Buffer Playback...",
         "2 show 1.1.1 :a!b@c PRIVMSG #x :[22:13:20] hi",
@@ -166,7 +144,12 @@ fn lines_of_a_query_that_is_not_cleared(rt: HostRuntime) -> Result<(), Fail> {
         ..Options::default()
     };
     let setup = setup(rt.alloc(), &[b"#x".as_slice()], options)?;
-    let bodies = [BOB, HI, ATTACH, ATTACH_OTHER];
+    let bodies = [
+        "heard 0 :bob!b@c PRIVMSG me :yo",
+        "heard 0 :a!b@c PRIVMSG #x :hi",
+        "1.1.1 #1 attach",
+        "1.1.2 #1 attach",
+    ];
     let want = [
         "3 show 1.1.1 :***!bouncer@local PRIVMSG #x :Buffer Playback...",
         "3 show 1.1.1 :a!b@c PRIVMSG #x :[22:13:20] hi",
@@ -191,7 +174,14 @@ fn sizes_of_2_and_1(rt: HostRuntime) -> Result<(), Fail> {
         ..Options::default()
     };
     let setup = setup(rt.alloc(), &[b"#x".as_slice()], options)?;
-    let bodies = [HI, HO, HA, BOB, BOB_LATER, ATTACH];
+    let bodies = [
+        "heard 0 :a!b@c PRIVMSG #x :hi",
+        "heard 1 :a!b@c PRIVMSG #x :ho",
+        "heard 2 :a!b@c PRIVMSG #x :ha",
+        "heard 0 :bob!b@c PRIVMSG me :yo",
+        "heard 1 :bob!b@c PRIVMSG me :ya",
+        "1.1.1 #1 attach",
+    ];
     let want = [
         "6 show 1.1.1 :***!bouncer@local PRIVMSG #x :Buffer Playback...",
         "6 show 1.1.1 :a!b@c PRIVMSG #x :[22:13:21] ho",
@@ -212,7 +202,7 @@ fn an_hour_ahead(rt: HostRuntime) -> Result<(), Fail> {
         ..Options::default()
     };
     let setup = setup(rt.alloc(), &[b"#x".as_slice()], options)?;
-    let bodies = [HI, ATTACH];
+    let bodies = ["heard 0 :a!b@c PRIVMSG #x :hi", "1.1.1 #1 attach"];
     let want = [
         "2 show 1.1.1 :***!bouncer@local PRIVMSG #x :Buffer Playback...",
         "2 show 1.1.1 :a!b@c PRIVMSG #x :[23:13:20] hi",
@@ -229,7 +219,7 @@ fn two_hours_ahead_is_past_midnight(rt: HostRuntime) -> Result<(), Fail> {
         ..Options::default()
     };
     let setup = setup(rt.alloc(), &[b"#x".as_slice()], options)?;
-    let bodies = [HI, ATTACH];
+    let bodies = ["heard 0 :a!b@c PRIVMSG #x :hi", "1.1.1 #1 attach"];
     let want = [
         "2 show 1.1.1 :***!bouncer@local PRIVMSG #x :Buffer Playback...",
         "2 show 1.1.1 :a!b@c PRIVMSG #x :[00:13:20] hi",
@@ -246,7 +236,7 @@ fn all_but_a_day_behind(rt: HostRuntime) -> Result<(), Fail> {
         ..Options::default()
     };
     let setup = setup(rt.alloc(), &[b"#x".as_slice()], options)?;
-    let bodies = [HI, ATTACH];
+    let bodies = ["heard 0 :a!b@c PRIVMSG #x :hi", "1.1.1 #1 attach"];
     let want = [
         "2 show 1.1.1 :***!bouncer@local PRIVMSG #x :Buffer Playback...",
         "2 show 1.1.1 :a!b@c PRIVMSG #x :[22:14:20] hi",
@@ -260,7 +250,11 @@ fn all_but_a_day_behind(rt: HostRuntime) -> Result<(), Fail> {
 fn channels_are_played_in_rising_order(rt: HostRuntime) -> Result<(), Fail> {
     let options = Options::default();
     let setup = setup(rt.alloc(), &[b"#A".as_slice(), b"#b"], options)?;
-    let bodies = [BEE, AY, ATTACH];
+    let bodies = [
+        "heard 0 :a!b@c PRIVMSG #b :bee",
+        "heard 1 :a!b@c PRIVMSG #a :ay",
+        "1.1.1 #1 attach",
+    ];
     let want = [
         "3 show 1.1.1 :***!bouncer@local PRIVMSG #A :Buffer Playback...",
         "3 show 1.1.1 :a!b@c PRIVMSG #a :[22:13:21] ay",
@@ -277,7 +271,14 @@ fn channels_are_played_in_rising_order(rt: HostRuntime) -> Result<(), Fail> {
 fn channels_are_joined_in_rising_order(rt: HostRuntime) -> Result<(), Fail> {
     let options = Options::default();
     let setup = setup(rt.alloc(), &[b"#A".as_slice(), b"#b"], options)?;
-    let bodies = [UP, JOINED_B, JOINED_AA, JOINED_A, ATTACH, UP];
+    let bodies = [
+        "up",
+        "heard 0 :me!u@h JOIN #b",
+        "heard 0 :me!u@h JOIN #AA",
+        "heard 0 :me!u@h JOIN #a",
+        "1.1.1 #1 attach",
+        "up",
+    ];
     let want = [
         "1 rejoin JOIN #A",
         "1 rejoin JOIN #b",

@@ -2,36 +2,14 @@
 use crate::fault::FoldFault;
 use crate::fold::fold;
 use crate::folded::ended;
+use crate::said::said;
 use std::alloc::Global;
 use std::io;
 use std::io::{Error, ErrorKind, Read, Write};
 use std::process::Abort;
 use std::test::Fail;
 
-const A_LINE: &str = "0002000000006553f10000153a612162406320505249564d5347202378203a6869\n";
-
-const FIRST_ATTACH: &str =
-    "0101000000000000000100000000000000010000000000000001000000006553f13c01\n";
-
-const SECOND_ATTACH: &str =
-    "0101000000000000000100000000000000020000000000000001000000006553f13d01\n";
-
 const ATTACH: &str = "0101000000000000000100000000000000010000000000000001000000006553f10001\n";
-
-const SAY: &str =
-    "0101000000000000000100000000000000010000000000000002000000006553f10003000002237800026869\n";
-
-const ATTACH_OF_NODE_2: &str =
-    "0102000000000000000100000000000000010000000000000001000000006553f10001\n";
-
-const THIRD_LEAVE: &str =
-    "0101000000000000000100000000000000010000000000000003000000006553f10002\n";
-
-const UP: &str = "0004\n";
-
-const DOWN: &str = "0005\n";
-
-const NODE_GONE: &str = "0003010000000000000002\n";
 
 /// What a fold of these lines writes.
 pub fn printed(alloc: Global, lines: &[&str]) -> Result<Result<Vec<u8>, FoldFault>, Fail> {
@@ -44,11 +22,27 @@ pub fn printed(alloc: Global, lines: &[&str]) -> Result<Result<Vec<u8>, FoldFaul
     Ok(fold(alloc, &mut reader, &mut output).map(|_| output))
 }
 
+/// These bodies, in words, are answered by these lines.
+pub fn check(rt: &impl Abort, alloc: Global, bodies: &[&str], want: &[&str]) -> Result<(), Fail> {
+    let mut input = Vec::new(alloc);
+    for words in bodies {
+        push_hex(&mut input, &said(alloc, words)?)?;
+        input.push(b'\n')?;
+    }
+    let mut output = Vec::new(alloc);
+    assert!(rt; fold(alloc, &mut input.as_slice(), &mut output).is_ok());
+    assert_eq!(rt; output.as_slice(), ended(alloc, want)?.as_slice());
+    Ok(())
+}
+
 #[test]
 fn bodies_are_answered_as_worked(rt: HostRuntime) -> Result<(), Fail> {
-    let none: [&str; 0] = [];
-    let without_end = [ATTACH, ATTACH.trim_end()];
-    let none_wanted: [&str; 0] = [];
+    let alloc = rt.alloc();
+    let attached = [
+        "heard 0 :a!b@c PRIVMSG #x :hi",
+        "1.1.1 #1 attach",
+        "1.1.2 #1 attach",
+    ];
     let playback = [
         "2 show 1.1.1 :***!bouncer@local PRIVMSG #x :Buffer Playback...",
         "2 show 1.1.1 :a!b@c PRIVMSG #x :[22:13:20] hi",
@@ -56,47 +50,56 @@ fn bodies_are_answered_as_worked(rt: HostRuntime) -> Result<(), Fail> {
         "2 done 1.1.1 1",
         "3 done 1.1.2 1",
     ];
+    check(&rt, alloc, &[], &[])?;
+    check(&rt, alloc, &attached, &playback)?;
     let numbered = [
+        "1.1.1 #1 attach",
+        "2.1.1 #1 attach",
+        "1.1.1 #1 attach",
+        "1.1.1 #3 leave",
+    ];
+    let told = [
         "1 done 1.1.1 1",
         "2 done 2.1.1 1",
         "3 repeat 1.1.1 1",
         "4 gap 1.1.1 2",
     ];
-    let said = [
+    check(&rt, alloc, &numbered, &told)
+}
+
+#[test]
+fn a_request_is_repeated_without_effect(rt: HostRuntime) -> Result<(), Fail> {
+    let said_twice = [
+        "1.1.1 #1 attach",
+        "1.1.1 #2 say #x hi",
+        "1.1.1 #2 say #x hi",
+    ];
+    let once = [
         "1 done 1.1.1 1",
         "2 send 1.1.1 PRIVMSG #x :hi",
         "2 done 1.1.1 2",
         "3 repeat 1.1.1 2",
     ];
-    let gone = ["1 rejoin JOIN #x", "2 done 1.1.1 1", "4 repeat 1.1.1 1"];
-    let repeated = ["1 done 1.1.1 1", "2 repeat 1.1.1 1"];
-    let cases = [
-        (none.as_slice(), none_wanted.as_slice()),
-        (
-            [A_LINE, FIRST_ATTACH, SECOND_ATTACH].as_slice(),
-            playback.as_slice(),
-        ),
-        (
-            [ATTACH, ATTACH_OF_NODE_2, ATTACH, THIRD_LEAVE].as_slice(),
-            numbered.as_slice(),
-        ),
-        ([ATTACH, SAY, SAY].as_slice(), said.as_slice()),
-        // there is an upstream, a run of node 1 is gone, there is none
-        (
-            [UP, ATTACH, NODE_GONE, ATTACH, DOWN].as_slice(),
-            gone.as_slice(),
-        ),
-        // the last line lacks its end
-        (without_end.as_slice(), repeated.as_slice()),
+    check(&rt, rt.alloc(), &said_twice, &once)?;
+    let gone = [
+        "up",
+        "1.1.1 #1 attach",
+        "gone 1 2",
+        "1.1.1 #1 attach",
+        "down",
     ];
-    for (lines, want) in cases {
-        let got = printed(rt.alloc(), lines)?;
-        assert!(rt; got.is_ok());
-        assert_eq!(rt;
-            got.unwrap_or(Vec::new(rt.alloc())).as_slice(),
-            ended(rt.alloc(), want)?.as_slice()
-        );
-    }
+    let want = ["1 rejoin JOIN #x", "2 done 1.1.1 1", "4 repeat 1.1.1 1"];
+    check(&rt, rt.alloc(), &gone, &want)
+}
+
+#[test]
+fn the_last_line_may_lack_its_end(rt: HostRuntime) -> Result<(), Fail> {
+    let got = printed(rt.alloc(), &[ATTACH, ATTACH.trim_end()])?;
+    assert!(rt; got.is_ok());
+    assert_eq!(rt;
+        got.unwrap_or(Vec::new(rt.alloc())).as_slice(),
+        b"1 done 1.1.1 1\n2 repeat 1.1.1 1\n".as_slice()
+    );
     Ok(())
 }
 
@@ -169,7 +172,7 @@ fn a_line_from_upstream_has_at_most_511_bytes(rt: HostRuntime) -> Result<(), Fai
     Ok(())
 }
 
-/// A reader that gives some bytes, and then one answer for good; or an error once, and then its end.
+/// A reader that gives some bytes, then one answer for good, or once and then its end.
 #[derive(Drop)]
 struct Source {
     left: u64,

@@ -14,7 +14,8 @@ use wire_bytes::Origin;
 /// How many bytes of a line's spelling are printed at most.
 const LINE_LEN: usize = 510;
 
-/// Appends a line for each answer to the body at a place. After an error a part may have been appended.
+/// Appends a line for each answer to the body at a place. After an error a part may have been
+/// appended.
 pub fn push_answers(
     out: &mut Vec<u8>,
     place: u64,
@@ -73,7 +74,8 @@ fn push_numbered(
     origin: Origin,
     number: u64,
 ) -> Result<(), AllocError>
-    ensures { OnOk result (out.new.items ≡ out.old.items ++ (to_origin word.now origin ++ 32 ∷ decimal number)) }
+    ensures { OnOk result (out.new.items ≡ out.old.items ++
+        (to_origin word.now origin ++ 32 ∷ decimal number)) }
 {
     push_to_origin(out, word, origin)?;
     out.push(b' ')?;
