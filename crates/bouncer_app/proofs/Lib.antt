@@ -1,3 +1,4 @@
 pub mod Splitting
 pub mod Folding
 pub mod Digits
+pub mod Decoding

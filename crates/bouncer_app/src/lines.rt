@@ -1,5 +1,5 @@
 //! The lines of an input, and the bytes that they spell in hex.
-ghost use Rattle.std.specs.Prelude.{◌≡◌, ◌<◌, ◌==◌, length, option_map, ◌∷◌, IfOk, IsTrue, position};
+ghost use Rattle.std.specs.Prelude.{◌≡◌, ◌<◌, ◌*◌, ◌%◌, ◌==◌, length, option_map, ◌∷◌, IfOk, IsTrue, position};
 ghost use Rattle.std.specs.List.{list_all};
 ghost use Rattle.bouncer_app.specs.Lines.{lines_of, hex_bytes};
 ghost use Rattle.bouncer_app.specs.Digits.{bytes_of, digit_value, is_digit};
@@ -37,10 +37,16 @@ pub fn decode_line(alloc: Global, line: &[u8]) -> Result<Option<Vec<u8>>, AllocE
 }
 
 /// Whether all are lower-case hex digits.
+#[tactic(auto, using(std::proofs::lemmas::List::Folds::list_all_more))]
 fn are_digits(line: &[u8]) -> bool
     ensures { result ≡ list_all is_digit line.now }
 {
-    line.iter().all(|b| is_a_digit(*b))
+    // No early end: the compiler turns a loop without one into steps of many bytes.
+    let mut all = true;
+    for b in line {
+        all &= is_a_digit(*b);
+    }
+    all
 }
 
 fn is_a_digit(b: u8) -> bool
@@ -49,18 +55,26 @@ fn is_a_digit(b: u8) -> bool
     (b >= b'0' && b <= b'9') || (b >= b'a' && b <= b'f')
 }
 
-/// The bytes of digits, all of them judged before: no branch is left for what they are.
+/// The bytes of digits, all of them judged before.
 fn decoded(alloc: Global, digits: &[u8]) -> Result<Vec<u8>, AllocError>
-    requires { IsTrue (list_all is_digit digits.now) }
+    requires digits { IsTrue (list_all is_digit digits.now) }
+    requires even { length digits.now % 2 ≡ 0 }
     ensures { IfOk result (λ v. v.items ≡ bytes_of digits.now) }
 {
-    let mut bytes = Vec::with_capacity(alloc, digits.len() / 2)?;
-    let mut left = digits;
-    while let [high, low, rest @ ..] = left {
-        bytes.push(digit_value(*high) * 16 + digit_value(*low))?;
-        left = rest;
-    }
+    let mut bytes = vec![in alloc; 0; digits.len() / 2]?;
+    decode_into(&mut bytes, digits);
     Ok(bytes)
+}
+
+/// Writes the bytes of digits over these.
+fn decode_into(bytes: &mut [u8], digits: &[u8])
+    requires digits { IsTrue (list_all is_digit digits.now) }
+    requires twice { length digits.now ≡ 2 * length bytes.old }
+    ensures { bytes.new ≡ bytes_of digits.now }
+{
+    for i in 0..bytes.len() {
+        bytes[i] = digit_value(digits[2 * i]) * 16 + digit_value(digits[2 * i + 1]);
+    }
 }
 
 /// The value of a lower-case hex digit.

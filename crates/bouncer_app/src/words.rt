@@ -23,8 +23,11 @@ pub fn push_answers(
 ) -> Result<(), AllocError>
     ensures { OnOk result (out.new.items ≡ out.old.items ++ answer_lines place answers.now) }
 {
+    // One place for all answers: its digits are made once.
+    let mut buffer = Buffer::new();
+    let digits = buffer.format(place).as_bytes();
     for answer in answers {
-        push_number(out, place)?;
+        out.extend_from_slice(digits)?;
         out.push(b' ')?;
         push_answer(out, answer)?;
         out.push(b'\n')?;
@@ -96,9 +99,13 @@ fn push_to_origin(out: &mut Vec<u8>, word: &[u8], origin: Origin) -> Result<(), 
 }
 
 /// Appends a number in decimal.
+#[tactic(auto, using(std::proofs::lemmas::Fmt::decimal_digit))]
 fn push_number(out: &mut Vec<u8>, number: u64) -> Result<(), AllocError>
     ensures { OnOk result (out.new.items ≡ out.old.items ++ decimal number) }
 {
+    if number < 10 {
+        return Ok(out.push(b'0' + number as u8)?);
+    }
     let mut buffer = Buffer::new();
     out.extend_from_slice(buffer.format(number).as_bytes())
 }

@@ -10,7 +10,7 @@ use buffer_lines::Offset;
 use irc_line::{Name, is_name_below};
 use std::alloc::{AllocError, Global};
 use std::marker::Model;
-use wire_bytes::Copied;
+use wire_bytes::{Copied, copied_all};
 
 /// The most channels that may stand at the start.
 const MOST_CHANNELS: usize = 100;
@@ -219,21 +219,11 @@ fn named(alloc: Global, bytes: &[u8]) -> Result<Name, AllocError>
 impl Copied for Setup {
     fn copy(&self, alloc: Global) -> Result<Self, AllocError> {
         let nick = self.nick.copy(alloc)?;
-        let channels = copied_names(alloc, &self.channels)?;
+        let channels = copied_all(alloc, &self.channels)?;
         Ok(Setup {
             nick,
             channels,
             options: self.options,
         })
     }
-}
-
-fn copied_names(alloc: Global, names: &[Name]) -> Result<Vec<Name>, AllocError>
-    ensures { IfOk result (λ v. v.items ≡ names.now) }
-{
-    let mut all = Vec::new(alloc);
-    for name in names {
-        all.push(name.copy(alloc)?)?;
-    }
-    Ok(all)
 }

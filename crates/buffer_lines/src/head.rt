@@ -13,10 +13,8 @@ pub(crate) fn push_head(
     command: &[u8],
     target: &[u8],
 ) -> Result<(), AllocError>
-    ensures {
-        OnOk result (out.new.items ≡ out.old.items ++
-            head (lent_prefix prefix.entry) command.now target.now)
-    }
+    ensures { OnOk result (out.new.items ≡ out.old.items ++
+        head (lent_prefix prefix.entry) command.now target.now) }
 {
     if let Some(prefix) = prefix {
         out.push(b':')?;

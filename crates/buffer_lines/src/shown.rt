@@ -40,10 +40,8 @@ impl Shown {
         command: &[u8],
         parameters: &[&[u8]],
     ) -> Result<Shown, AllocError>
-        ensures {
-            IfOk result (λ s. s ≡
-                spelled_parts prefix.entry command.now (map (λ x. x.now) parameters.now))
-        }
+        ensures { IfOk result (λ s. s ≡
+            spelled_parts prefix.entry command.now (map (λ x. x.now) parameters.now)) }
     {
         let mut bytes = Vec::with_capacity(alloc, SHORT_LINE)?;
         write_parts(&mut bytes, prefix, command, parameters)?;

@@ -8,13 +8,10 @@ ghost use Rattle.buffer_machine.specs.Steps.{kinds_cleared, answers_sizing, clea
 use crate::buffers::Buffers;
 use crate::message::{DONE, NO_SUCH_TARGET, SIZE_IS_PAST};
 use crate::showing::{show_target, tell};
-use buffer_commands::{BufferSize, Effect, Setup};
+use buffer_commands::{BufferSize, Effect, MOST_LINES, Setup};
 use irc_line::Name;
 use std::alloc::{AllocError, Global};
 use wire_bytes::Origin;
-
-/// The most lines that a target may keep.
-const MOST_LINES: usize = 500;
 
 /// A target is played to a client, and emptied where playing empties it.
 pub fn play(
@@ -85,7 +82,7 @@ pub fn resize(
     ensures held { OnOk result (held_of buffers.new ≡
         sized_unless_past size (fold_name name.now) (held_of buffers.old)) }
 {
-    if size.lines() > MOST_LINES {
+    if size.lines() > usize::from(MOST_LINES) {
         return tell(alloc, &buffers.nick, origin, SIZE_IS_PAST);
     }
     let effects = answer_known(alloc, buffers, origin, name)?;

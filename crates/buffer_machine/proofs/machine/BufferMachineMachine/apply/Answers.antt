@@ -1,4 +1,4 @@
-use Rattle.std.proofs.Common.{subst, sym, ap, ◌∙◌}
+use Rattle.std.proofs.Common.{subst, sym, ap}
 use Rattle.buffer_machine.specs.Effects.{TakesNone}
 use Rattle.buffer_machine.specs.Held.{commands}
 use Rattle.buffer_machine.proofs.FloorLemmas.{floors-step, floor-is}
