@@ -5,7 +5,7 @@ use Rattle.wire_bytes.specs.declared.origin.Origin.{Origin}
 use Rattle.buffer_commands.specs.declared.effect.Effect.{Effect}
 use Rattle.buffer_commands.specs.declared.effect.Effect.TheVariants.{Close, Show, Send, Rejoin}
 use Rattle.request_once.specs.declared.answer.Answer.{Answer}
-use Rattle.request_once.specs.declared.answer.Answer.TheVariants.{Effect as Passed, Done, Repeat, Gap}
+use Rattle.request_once.specs.declared.answer.Answer.TheVariants.{Effect as Passed, Done, Repeat, Gap, Marked}
 
 -- an origin as `node.boot.client`
 abbrev pub origin_words : Origin → List ℕ
@@ -30,6 +30,7 @@ answer_words (Passed e) = effect_words e
 answer_words (Done o number) = to_origin (codes "done") o ++ 32 ∷ decimal number
 answer_words (Repeat o number) = to_origin (codes "repeat") o ++ 32 ∷ decimal number
 answer_words (Gap o number) = to_origin (codes "gap") o ++ 32 ∷ decimal number
+answer_words (Marked mark) = codes "marked " ++ decimal mark.number
 
 -- a line of output: the place of the body, the words of one of its answers, LF
 abbrev pub answer_line : ℕ → Answer Effect → List ℕ

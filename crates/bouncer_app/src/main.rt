@@ -10,6 +10,8 @@ mod input;
 mod kept_tests;
 mod lines;
 #[cfg(test)]
+mod mark_tests;
+#[cfg(test)]
 mod said;
 #[cfg(test)]
 mod setup_tests;

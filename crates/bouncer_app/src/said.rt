@@ -1,6 +1,7 @@
 //! Bodies in words: `up`, `down`, `gone 2 2` (the runs of node 2 below its second),
-//! `heard 0 :a!b@c PRIVMSG #x :hi` (a line from upstream at the second 0), and `1.1.1 #2 play #x`
-//! (a client's second request, at the second 0).
+//! `heard 0 :a!b@c PRIVMSG #x :hi` (a line from upstream at the second 0), `1.1.1 #2 play #x`
+//! (a client's second request, at the second 0), `blank`, and `mark 2.5.7` (the mark 7 of the run 5
+//! of node 2).
 use std::alloc::Global;
 use std::test::Fail;
 
@@ -45,7 +46,7 @@ fn push_field(out: &mut Vec<u8>, field: &str) -> Result<(), Fail> {
     Ok(())
 }
 
-/// Appends `node.boot.client`.
+/// Appends `node.boot.client`, or `node.boot.number` of a mark.
 fn push_origin(out: &mut Vec<u8>, word: &str) -> Result<(), Fail> {
     let (node, run) = word.split_once('.').ok_or("no origin")?;
     let (boot, client) = run.split_once('.').ok_or("no origin")?;
@@ -123,6 +124,11 @@ pub fn said(alloc: Global, words: &str) -> Result<Vec<u8>, Fail> {
         out.extend_from_slice(&[0, 2])?;
         push_moment(&mut out, second)?;
         push_field(&mut out, last)?;
+    } else if first == "blank" {
+        out.push(2)?;
+    } else if first == "mark" {
+        out.push(3)?;
+        push_origin(&mut out, second)?;
     } else {
         push_request(&mut out, words)?;
     }

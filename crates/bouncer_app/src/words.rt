@@ -44,6 +44,10 @@ pub fn push_answer(out: &mut Vec<u8>, answer: &Answer<Effect>) -> Result<(), All
         Answer::Done(origin, number) => push_numbered(out, b"done", *origin, *number),
         Answer::Repeat(origin, number) => push_numbered(out, b"repeat", *origin, *number),
         Answer::Gap(origin, number) => push_numbered(out, b"gap", *origin, *number),
+        Answer::Marked(mark) => {
+            out.extend_from_slice(b"marked ")?;
+            push_number(out, mark.number.value())
+        }
     }
 }
 

@@ -21,12 +21,13 @@ use Rattle.upstream_claim.specs.Numbered as lines
 use Rattle.upstream_claim.proofs.Sound as sound
 use Rattle.upstream_claim.proofs.Handing as handing
 use Rattle.std.proofs.lemmas.List.{append-nil}
-use Rattle.request_once.specs.declared.body.Body.TheVariants.{Inner, Asked}
+use Rattle.wire_bytes.specs.declared.mark.Mark as mark
+use Rattle.request_once.specs.declared.body.Body.TheVariants.{Inner, Asked, Blank, Mark}
 use Rattle.request_once.specs.declared.answer.Answer.TheVariants as answer
 use Rattle.request_once.specs.Fresh as requests
-use Rattle.request_once.proofs.Requests.{plain-nil, plain-inner, plain-next, plain-skip}
+use Rattle.request_once.proofs.Requests.{plain-nil, plain-inner, plain-blank, plain-mark, plain-next, plain-skip}
 use Rattle.bouncer_tower.specs.Bodies.{TowerBody, TowerEffect, Claimed, client, accepted, outgoing, claimed, answers, sent, sessioned_effects, claimed_effects}
-use Rattle.bouncer_tower.specs.Hosting.{buffer_class, session_class, claim_class, hand_of, hands, handed_over}
+use Rattle.bouncer_tower.specs.Hosting.{buffer_class, session_class, claim_class, is_node, hand_of, hands, handed_over}
 use Rattle.irc_line.proofs.Numbers.{eq_of}
 
 -- the buffers and the sessions hand out nothing
@@ -62,6 +63,11 @@ hands-refused : (o : Origin) (n was : ℕ) (b : Bool) → nat_le n was ≡ b →
 hands-refused o n was true e = rw e refl
 hands-refused o n was false e = rw e refl
 
+-- word of a mark hands out nothing
+hands-marked : (m : mark.Mark) (b : Bool) → is_node m.node ≡ b → hands (answer.Marked m ∷ []) ≡ []
+hands-marked m true e = rw e refl
+hands-marked m false e = rw e refl
+
 -- whether a request is the next of its origin
 is_not_next : (n m : ℕ) → (n == m) ≡ false → n ≢ m
 is_not_next n m e = grind (arith, nat_tests)
@@ -92,6 +98,8 @@ module _ (s : Settings) where
   comes : (h : History TowerBody) (place : ℕ) (x : TowerBody) → comes_to h place x
   unfolding accepted requests.answers
   comes h place (Inner c) = inl (c, plain-inner client h place c, hands-below (claimed_effects s (requests.plain client h) place c))
+  comes h place Blank = inr (plain-blank client h place, refl)
+  comes h place (Mark m) = inr (plain-mark client h place m, hands-marked m (is_node m.node) refl)
   comes h place (Asked o n at a) = comes-asked h place o n at a (n == requests.last h o + 1) refl
 
   claims-by : (h : History TowerBody) (place : ℕ) (x : TowerBody) → comes_to h place x → claimed s ((place, x) ∷ h) ≡ claimed s h ++ map (λ k. k.0) (hands (answers s h place x))

@@ -1,7 +1,8 @@
 -- What a node has to know of bodies and effects.
-use Rattle.std.specs.Prelude.{ℕ, List, [], ◌∷◌, ◌++◌, map}
+use Rattle.std.specs.Prelude.{ℕ, Bool, ◌&&◌, nat_le, if◌then◌else◌, List, [], ◌∷◌, ◌++◌, map}
 use Rattle.irc_line.specs.Lines.{Parts, spelling}
 use Rattle.irc_line.specs.Names.{fold_name}
+use Rattle.wire_bytes.specs.declared.mark.Mark as mark
 use Rattle.machine_laws.specs.Runs.{History, all_effects}
 use Rattle.machine_laws.specs.Classes.{Handed, handed_by}
 use Rattle.machine_laws.specs.declared.class.Class.{Class}
@@ -35,7 +36,7 @@ of_sessions c = body.Inner (claims.Inner c)
 abbrev pub of_claims : Claimed → TowerBody
 of_claims c = body.Inner c
 
--- Who may bring a body: the client of a request; a node, that another is gone; else the leader alone
+-- Who may bring a body: the client of a request; a run of a node, its marks; a node, that another is gone; else the leader alone
 
 abbrev pub command_source : Command → Source
 command_source (command.NodeGone node floor) = source.Node
@@ -52,6 +53,8 @@ claim_source (claims.Claim id n) = source.Leader
 abbrev pub source_of : TowerBody → Source
 source_of (body.Inner c) = claim_source c
 source_of (body.Asked o n at a) = source.Client o
+source_of body.Blank = source.Leader
+source_of (body.Mark m) = source.Run m.node m.boot
 
 -- Where an effect goes
 
@@ -71,11 +74,20 @@ claim_class (claims_effect.Inner e) = session_class e
 claim_class (claims_effect.Busy o) = To o
 claim_class (claims_effect.Hand id n line) = Hand id n line
 
+-- this is the number of a node
+abbrev pub is_node : ℕ → Bool
+is_node n = nat_le 1 n && nat_le n 7
+
+-- word of a mark goes to the run of its node, as the client 0; nowhere where there is no such node
+abbrev pub mark_class : mark.Mark → Class Parts
+mark_class m = if is_node m.node then To (m.node, m.boot, 0) else Nowhere
+
 abbrev pub class_of : TowerEffect → Class Parts
 class_of (answer.Effect e) = claim_class e
 class_of (answer.Done o n) = To o
 class_of (answer.Repeat o n) = To o
 class_of (answer.Gap o n) = To o
+class_of (answer.Marked m) = mark_class m
 
 -- what an effect hands out, by where it goes
 abbrev pub hand_of : TowerEffect → List Handed

@@ -1,5 +1,5 @@
--- What is promised over a list of bodies: requests that are dropped change nothing, and each line is handed out once.
-use Rattle.std.specs.Prelude.{◌≡◌, ◌≤◌, ◌+◌, ◌-◌, ◌++◌, ◌∷◌, ℕ, Some, false, List, length, map, slice_get, take}
+-- What is promised over a list of bodies: requests that are dropped, blanks and marks change nothing, and each line is handed out once.
+use Rattle.std.specs.Prelude.{◌≡◌, ◌≤◌, ◌+◌, ◌-◌, ◌++◌, ◌∷◌, ℕ, Some, false, true, List, length, map, slice_get, take}
 use Rattle.irc_line.specs.Lines.{Parts}
 use Rattle.machine_laws.specs.Classes.{Handed}
 use Rattle.machine_laws.specs.Runs.{History}
@@ -8,7 +8,7 @@ use Rattle.wire_bytes.specs.declared.session_id.SessionId.{SessionId}
 use Rattle.buffer_commands.specs.Settings.{Settings}
 use Rattle.buffer_commands.specs.declared.command.Action.{Action}
 use Rattle.request_once.specs.declared.body.Body.TheVariants.{Asked}
-use Rattle.request_once.specs.Fresh.{fresh, stays}
+use Rattle.request_once.specs.Fresh.{fresh, is_blank_or_mark, stays}
 use Rattle.bouncer_tower.specs.Bodies.{TowerBody, answers, claimed, outgoing}
 use Rattle.bouncer_tower.specs.Hosting.{hands}
 
@@ -18,6 +18,11 @@ IgnoresDropped what =
     (later earlier : History TowerBody) (place : ℕ) (origin : Origin) (number at : ℕ) (action : Action)
     → stays (fresh earlier) (Asked origin number at action) ≡ false
     → what (later ++ (place, Asked origin number at action) ∷ earlier) ≡ what (later ++ earlier)
+
+-- a blank or a mark changes nothing of this, then or later
+abbrev pub IgnoresBlanksAndMarks : {X : Type 0} → (History TowerBody → X) → Type 0
+IgnoresBlanksAndMarks what =
+    (later earlier : History TowerBody) (place : ℕ) (body : TowerBody) → is_blank_or_mark body ≡ true → what (later ++ (place, body) ∷ earlier) ≡ what (later ++ earlier)
 
 -- the numbers of these claims are those from 1 on
 abbrev pub AreInOrder : List (ℕ × SessionId) → Type 0

@@ -1,8 +1,11 @@
 //! The tower, as a node hosts it.
-ghost use Rattle.std.specs.Prelude.{◌≡◌};
+ghost use Rattle.std.specs.Prelude.{◌≡◌, ◌≤◌, length};
 ghost use Rattle.machine_laws.specs.Classes.{class_map};
-ghost use Rattle.bouncer_tower.specs.Hosting.{buffer_class, claim_class, claim_source, command_source, session_class, session_source};
+ghost use Rattle.bouncer_tower.specs.Bodies.{within_limit};
+ghost use Rattle.bouncer_tower.specs.Hosting.{buffer_class, claim_class, mark_class, session_class};
+ghost use Rattle.bouncer_tower.specs.Hosting.{claim_source, command_source, session_source};
 
+use crate::fits::body_fits;
 use crate::tower::{Tower, TowerBody, TowerEffect};
 use buffer_commands::{Action, Command, Effect, WireLine};
 use buffer_lines::Shown;
@@ -12,13 +15,19 @@ use request_once::{Answer, Body};
 use session_fence::{FenceCommand, FenceEffect};
 use std::alloc::AllocError;
 use upstream_claim::{ClaimsCommand, ClaimsEffect};
-use wire_bytes::{Moment, Number, Origin, SessionId};
+use wire_bytes::{Mark, Moment, Number, Origin, SessionId};
+
+/// The largest number that a claim may have.
+const MOST_NUMBER: u64 = 1 << 60;
+
+/// The nodes are numbered from 1 to this.
+const MOST_NODE: u8 = 7;
 
 impl Hosted for Tower {
     ghost use Rattle.buffer_commands.specs.declared.command.Command.TheVariants.{NodeGone};
     ghost use Rattle.session_fence.specs.declared.command.FenceCommand.TheVariants.{Opened, Shut, Heard};
     ghost use Rattle.upstream_claim.specs.declared.command.ClaimsCommand.TheVariants.{Claim};
-    ghost use Rattle.request_once.specs.declared.body.Body.TheVariants.{Asked};
+    ghost use Rattle.request_once.specs.declared.body.Body.TheVariants.{Asked, Blank, Mark};
     ghost use Rattle.bouncer_tower.specs.Bodies.{next_claim};
     ghost use Rattle.bouncer_tower.specs.Hosting.{class_of, of_buffers, of_claims, of_sessions, playback, source_of};
 
@@ -33,6 +42,10 @@ impl Hosted for Tower {
     ghost asked = { Asked };
 
     ghost node_gone = { λ node floor. of_buffers (NodeGone node floor) };
+
+    ghost blank = { Blank };
+
+    ghost mark = { Mark };
 
     ghost opened = { λ id. of_sessions (Opened id) };
 
@@ -59,6 +72,14 @@ impl Hosted for Tower {
         Body::Inner(ClaimsCommand::Inner(FenceCommand::Inner(command)))
     }
 
+    fn blank() -> TowerBody {
+        Body::Blank
+    }
+
+    fn mark(made: Mark) -> TowerBody {
+        Body::Mark(made)
+    }
+
     fn opened(id: SessionId) -> TowerBody {
         Body::Inner(ClaimsCommand::Inner(FenceCommand::Opened(id)))
     }
@@ -76,16 +97,23 @@ impl Hosted for Tower {
         Body::Inner(ClaimsCommand::Claim(id, number))
     }
 
+    #[tactic(auto, using(crate::proofs::Lengths::body_fits_a_log))]
+    fn fits(body: &TowerBody) {
+        body_fits(body);
+    }
+
     fn source(body: &TowerBody) -> Source {
         match body {
             Body::Inner(command) => claim_source(command),
             Body::Asked(origin, _, _, _) => Source::Client(*origin),
+            Body::Blank => Source::Leader,
+            Body::Mark(mark) => Source::Run(mark.node, mark.boot.value()),
         }
     }
 
     #[tactic(auto, unfolding(crate::specs::Bodies::next_claim, crate::specs::Bodies::accepted))]
-    fn next_claim(&self) -> Option<u64> {
-        self.layers().machine().next_claim()
+    fn next_claim(&self) -> Option<Number> {
+        within_limit(self.layers().machine().next_claim())
     }
 
     #[tactic(auto, unfolding(crate::specs::Hosting::playback, crate::specs::Bodies::plain, crate::specs::Bodies::unclaimed, crate::specs::Bodies::accepted))]
@@ -102,7 +130,29 @@ impl Hosted for Tower {
             Answer::Done(origin, _) => Class::To(*origin),
             Answer::Repeat(origin, _) => Class::To(*origin),
             Answer::Gap(origin, _) => Class::To(*origin),
+            Answer::Marked(mark) => mark_class(mark),
         }
+    }
+}
+
+/// A number, where a claim may have it.
+fn within_limit(number: Option<u64>) -> Option<Number>
+    ensures { result ≡ within_limit number }
+{
+    match number {
+        Some(number) if number <= MOST_NUMBER => Some(Number::new(number)),
+        _ => None,
+    }
+}
+
+/// The run of its node is told of a mark, as the client 0 of that run.
+fn mark_class(mark: &Mark) -> Class<&Line>
+    ensures { class_map (λ l. l.now) result ≡ mark_class mark.now }
+{
+    if 1 <= mark.node && mark.node <= MOST_NODE {
+        Class::To(Origin::new(mark.node, mark.boot.value(), 0))
+    } else {
+        Class::Nowhere
     }
 }
 

@@ -1,4 +1,4 @@
-//! That a request which is dropped changes nothing, and that each line is handed out once.
+//! That requests which are dropped, blanks and marks change nothing, and that each line is handed out once.
 ghost use Rattle.std.specs.Prelude.{◌≡◌, ◌≤◌, ℕ, map};
 ghost use Rattle.machine_laws.specs.Runs.{History, all_effects};
 ghost use Rattle.wire_bytes.specs.declared.origin.Origin.{Origin};
@@ -7,7 +7,8 @@ ghost use Rattle.buffer_commands.specs.Settings.{Settings};
 ghost use Rattle.bouncer_tower.specs.Bodies.{TowerBody, answers, claimed, outgoing, plain, session};
 ghost use Rattle.bouncer_tower.specs.Hosting.{handed_over};
 ghost use Rattle.bouncer_tower.specs.Laws.{AddsItsHands, AreDifferent, AreInOrder, AreOf};
-ghost use Rattle.bouncer_tower.specs.Laws.{HandsOutLines, HaveDifferentNumbers, IgnoresDropped, KeepsNumbers};
+ghost use Rattle.bouncer_tower.specs.Laws.{HandsOutLines, HaveDifferentNumbers, IgnoresBlanksAndMarks};
+ghost use Rattle.bouncer_tower.specs.Laws.{IgnoresDropped, KeepsNumbers};
 
 /// A request that is not the next of its origin changes neither the commands of the buffers nor the
 /// session in force, the lines for upstream or their claims, then or later: what follows it comes to the
@@ -17,6 +18,16 @@ pub fn a_dropped_request_changes_nothing()
     ensures session { IgnoresDropped session }
     ensures outgoing { (s : Settings) → IgnoresDropped (outgoing s) }
     ensures claimed { (s : Settings) → IgnoresDropped (claimed s) }
+{}
+
+/// A blank or a mark changes none of these either, nor what any later body brings about.
+pub fn a_blank_or_a_mark_changes_nothing()
+    ensures plain { IgnoresBlanksAndMarks plain }
+    ensures session { IgnoresBlanksAndMarks session }
+    ensures outgoing { (s : Settings) → IgnoresBlanksAndMarks (outgoing s) }
+    ensures claimed { (s : Settings) → IgnoresBlanksAndMarks (claimed s) }
+    ensures answers { (s : Settings) (place : ℕ) (body : TowerBody)
+        → IgnoresBlanksAndMarks (λ h. answers s h place body) }
 {}
 
 /// The claims that took effect have the numbers from 1 on, each once, and are of lines that were

@@ -3,7 +3,10 @@
 #![tactic(auto)]
 
 mod answers;
+mod fits;
 mod hosted;
+#[cfg(test)]
+mod hosted_tests;
 mod laws;
 #[cfg(test)]
 mod tests;
@@ -11,7 +14,7 @@ mod tower;
 
 pub use answers::answer_all;
 pub use laws::{
-    a_dropped_request_changes_nothing, each_line_is_handed_once, each_request_is_done_once,
-    no_number_is_handed_out_twice,
+    a_blank_or_a_mark_changes_nothing, a_dropped_request_changes_nothing, each_line_is_handed_once,
+    each_request_is_done_once, no_number_is_handed_out_twice,
 };
 pub use tower::{Layers, Tower, TowerBody, TowerEffect};

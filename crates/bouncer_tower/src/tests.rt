@@ -2,12 +2,13 @@
 ghost use Rattle.std.specs.Prelude.{◌<◌};
 
 use crate::answers::answer_all;
-use crate::laws::{a_dropped_request_changes_nothing, each_line_is_handed_once};
+use crate::laws::{
+    a_blank_or_a_mark_changes_nothing, a_dropped_request_changes_nothing, each_line_is_handed_once,
+};
 use crate::tower::{Tower, TowerBody, TowerEffect};
 use buffer_commands::{Action, Command, Setup};
 use buffer_machine::BufferMachine;
-use irc_line::Name;
-use machine_laws::{Class, HasClients, HasSession, Hosted, Machine, Source};
+use machine_laws::{Class, HasClients, HasSession, Hosted, Machine};
 use request_once::{Answer, Body, each_request_takes_effect_once};
 use session_fence::{Fence, FenceCommand};
 use std::alloc::{AllocError, Global};
@@ -16,22 +17,22 @@ use upstream_claim::{Claims, ClaimsEffect, each_hand_is_a_claim, each_line_is_cl
 use wire_bytes::{Copied, Number, Origin, SessionId, Wire};
 
 /// The client 1.1.1 attaches by its first request.
-const ATTACH: &[u8] =
+pub const ATTACH: &[u8] =
     b"\x01\x01\0\0\0\0\0\0\0\x01\0\0\0\0\0\0\0\x01\0\0\0\0\0\0\0\x01\0\0\0\0\x65\x53\xf1\0\x01";
 
 /// By its second one it says `hi` to the channel `#x`.
-const SAY: &[u8] =
+pub const SAY: &[u8] =
     b"\x01\x01\0\0\0\0\0\0\0\x01\0\0\0\0\0\0\0\x01\0\0\0\0\0\0\0\x02\0\0\0\0\x65\x53\xf1\0\x03\0\0\x02#x\0\x02hi";
 
 /// The session 1.1 is opened, claims the first line, hears one and is shut.
-const OPENED: &[u8] = b"\0\0\x01\0\0\0\0\0\0\0\x01\0\0\0\0\0\0\0\x01";
+pub const OPENED: &[u8] = b"\0\0\x01\0\0\0\0\0\0\0\x01\0\0\0\0\0\0\0\x01";
 
-const CLAIM: &[u8] = b"\0\x01\0\0\0\0\0\0\0\x01\0\0\0\0\0\0\0\x01\0\0\0\0\0\0\0\x01";
+pub const CLAIM: &[u8] = b"\0\x01\0\0\0\0\0\0\0\x01\0\0\0\0\0\0\0\x01\0\0\0\0\0\0\0\x01";
 
-const HEARD: &[u8] =
+pub const HEARD: &[u8] =
     b"\0\0\x03\0\0\0\0\0\0\0\x01\0\0\0\0\0\0\0\x01\0\0\0\0\0\0\0\x01\0\0\0\0\x65\x53\xf1\0\0\x14:a!b@c PRIVMSG #x :w";
 
-const SHUT: &[u8] = b"\0\0\x02\0\0\0\0\0\0\0\x01\0\0\0\0\0\0\0\x01";
+pub const SHUT: &[u8] = b"\0\0\x02\0\0\0\0\0\0\0\x01\0\0\0\0\0\0\0\x01";
 
 /// The session 1.2 is opened and claims the second line.
 const OPENED_LATER: &[u8] = b"\0\0\x01\0\0\0\0\0\0\0\x01\0\0\0\0\0\0\0\x02";
@@ -39,12 +40,12 @@ const OPENED_LATER: &[u8] = b"\0\0\x01\0\0\0\0\0\0\0\x01\0\0\0\0\0\0\0\x02";
 const CLAIM_LATER: &[u8] = b"\0\x01\0\0\0\0\0\0\0\x01\0\0\0\0\0\0\0\x02\0\0\0\0\0\0\0\x02";
 
 /// A copy of the body that these bytes spell.
-fn body(alloc: Global, bytes: &[u8]) -> Result<TowerBody, Fail> {
+pub fn body(alloc: Global, bytes: &[u8]) -> Result<TowerBody, Fail> {
     let (body, _) = TowerBody::take(alloc, bytes).map_err(|_| "spelling")?;
     Ok(body.copy(alloc)?)
 }
 
-fn bodies(alloc: Global, spelled: &[&[u8]]) -> Result<Vec<TowerBody>, Fail> {
+pub fn bodies(alloc: Global, spelled: &[&[u8]]) -> Result<Vec<TowerBody>, Fail> {
     let mut all = Vec::new(alloc);
     for bytes in spelled {
         all.push(body(alloc, bytes)?)?;
@@ -113,7 +114,7 @@ fn push_effects(out: &mut Vec<u8>, place: u64, effects: &[TowerEffect]) -> Resul
 }
 
 /// A tower to which these bodies came, and a line for each effect of each.
-fn answered(alloc: Global, bodies: &[TowerBody]) -> Result<(Tower, Vec<u8>), Fail> {
+pub fn answered(alloc: Global, bodies: &[TowerBody]) -> Result<(Tower, Vec<u8>), Fail> {
     let mut tower = Tower::start(alloc, &Setup::plain(alloc)?)?;
     let mut out = Vec::new(alloc);
     let mut place = 0u64;
@@ -155,7 +156,7 @@ fn say(alloc: Global, number: u64) -> Result<TowerBody, Fail>
         Body::Asked(origin, _was, at, action) => {
             Ok(Tower::asked(origin, Number::new(number), at, action))
         }
-        Body::Inner(_command) => Err(Fail::from("request")),
+        _ => Err(Fail::from("request")),
     }
 }
 
@@ -256,60 +257,10 @@ fn each_layer_stands_alone(rt: HostRuntime) -> Result<(), Fail> {
     Ok(())
 }
 
-/// A tower to which these bodies came.
-fn tower_after(alloc: Global, spelled: &[&[u8]]) -> Result<Tower, Fail> {
-    let (tower, _) = answered(alloc, &bodies(alloc, spelled)?)?;
-    Ok(tower)
-}
-
-#[test]
-fn the_next_claim_is_of_the_first_line_that_waits(rt: HostRuntime) -> Result<(), Fail> {
-    let waiting = tower_after(rt.alloc(), &[OPENED, ATTACH, SAY])?;
-    assert_eq!(rt; waiting.next_claim(), Some(1));
-    let claimed = tower_after(rt.alloc(), &[OPENED, ATTACH, SAY, CLAIM])?;
-    assert_eq!(rt; claimed.next_claim(), None);
-    Ok(())
-}
-
-#[test]
-fn what_is_kept_is_played_without_emptying_it(rt: HostRuntime) -> Result<(), Fail> {
-    let tower = tower_after(rt.alloc(), &[OPENED, HEARD])?;
-    let name = Name::from_bytes(Vec::from_slice(rt.alloc(), b"#X")?).ok_or("name")?;
-    assert_eq!(rt; tower.playback(&name)?.len(), 3);
-    let played = tower.playback(&name)?;
-    let line = played.get(1).ok_or("line")?;
-    assert_eq!(rt;
-        line.spelling(),
-        b":a!b@c PRIVMSG #x :[22:13:20] w".as_slice()
-    );
-    Ok(())
-}
-
-#[test]
-fn the_bodies_of_a_session_are_made(rt: HostRuntime) -> Result<(), Fail> {
-    let id = SessionId::new(1, 1);
-    let mut out = Vec::new(rt.alloc());
-    Tower::opened(id).put(&mut out)?;
-    Tower::shut(id).put(&mut out)?;
-    Tower::claim(id, Number::new(1)).put(&mut out)?;
-    let want =
-        b"\0\0\x01\0\0\0\0\0\0\0\x01\0\0\0\0\0\0\0\x01\0\0\x02\0\0\0\0\0\0\0\x01\0\0\0\0\0\0\0\x01\0\x01\0\0\0\0\0\0\0\x01\0\0\0\0\0\0\0\x01\0\0\0\0\0\0\0\x01";
-    assert_eq!(rt; out.as_slice(), want.as_slice());
-    Ok(())
-}
-
-#[test]
-fn each_body_has_its_source(rt: HostRuntime) -> Result<(), Fail> {
-    let asked = Tower::source(&body(rt.alloc(), ATTACH)?);
-    assert!(rt; asked == Source::Client(Origin::new(1, 1, 1)));
-    assert!(rt; Tower::source(&Tower::node_gone(2, Number::new(5))) == Source::Node);
-    assert!(rt; Tower::source(&Tower::shut(SessionId::new(1, 1))) == Source::Leader);
-    Ok(())
-}
-
 #[test]
 fn the_laws_can_be_called(_rt: HostRuntime) -> Result<(), Fail> {
     a_dropped_request_changes_nothing();
+    a_blank_or_a_mark_changes_nothing();
     each_line_is_handed_once();
     each_line_is_claimed_once::<Fence<BufferMachine>>();
     each_hand_is_a_claim::<Fence<BufferMachine>>();

@@ -1,5 +1,5 @@
 //! Machines that a node of a cluster hosts.
-ghost use Rattle.std.specs.Prelude.{◌≡◌, ℕ, ◌+◌, List, Option, option_map, IfOk};
+ghost use Rattle.std.specs.Prelude.{◌≡◌, ◌≤◌, ℕ, List, Option, IfOk, length};
 ghost use Rattle.irc_line.specs.Lines.{Parts};
 ghost use Rattle.machine_laws.specs.Runs.{After, Brings, History};
 ghost use Rattle.machine_laws.specs.Classes.{class_map};
@@ -10,10 +10,11 @@ use crate::class::{Class, Source};
 use crate::machine::Machine;
 use irc_line::Line;
 use std::alloc::{AllocError, Global};
-use wire_bytes::{Copied, Moment, Number, Origin, SessionId, Wire};
+use wire_bytes::{Copied, Mark, Moment, Number, Origin, SessionId, Wire};
 
 /// A machine that a node of a cluster hosts. Its commands are the bodies of the node's log.
 pub trait Hosted: Machine {
+    ghost use Rattle.wire_bytes.specs.declared.mark.Mark.{Mark};
     ghost use Rattle.wire_bytes.specs.declared.origin.Origin.{Origin};
     ghost use Rattle.wire_bytes.specs.declared.session_id.SessionId.{SessionId};
 
@@ -34,6 +35,12 @@ pub trait Hosted: Machine {
     /// The body that raises a node's floor.
     ghost node_gone: { ℕ → ℕ → Self.Command };
 
+    /// The body that changes nothing and has no answer.
+    ghost blank: { Self.Command };
+
+    /// The body by which a run of a node marks a place. It changes nothing.
+    ghost mark: { Mark → Self.Command };
+
     /// The body of a session that is opened.
     ghost opened: { SessionId → Self.Command };
 
@@ -49,7 +56,7 @@ pub trait Hosted: Machine {
     /// Who may bring a body.
     ghost source: { Self.Command → Source };
 
-    /// The number of the line that is to be claimed next, where a line is numbered and not claimed.
+    /// The number of the line that is to be claimed next, where a line is numbered and not claimed; none past 2^60.
     ghost next_claim: { Self.Setup → History Self.Command → Option ℕ };
 
     /// What is played of a target after a history.
@@ -65,6 +72,14 @@ pub trait Hosted: Machine {
     /// Takes no memory.
     fn node_gone(node: u8, floor: Number) -> Self::Command
         ensures { result ≡ node_gone node floor };
+
+    /// What a new leader appends first. Takes no memory.
+    fn blank() -> Self::Command
+        ensures { result ≡ blank };
+
+    /// Takes no memory.
+    fn mark(made: Mark) -> Self::Command
+        ensures { result ≡ mark made };
 
     /// Takes no memory.
     fn opened(id: SessionId) -> Self::Command
@@ -82,13 +97,18 @@ pub trait Hosted: Machine {
     fn claim(id: SessionId, number: Number) -> Self::Command
         ensures { result ≡ claim id number };
 
+    /// Does nothing. Every body has a spelling, of at most 65,536 bytes.
+    fn fits(body: &Self::Command)
+        ensures fits { Self.Command.fits body.now }
+        ensures short { length (Self.Command.spelled body.now) ≤ 65536 };
+
     /// Who may bring a body. Takes no memory.
     fn source(body: &Self::Command) -> Source
         ensures { result ≡ source body.now };
 
     /// The number of the line that is to be claimed next: the first that is numbered and not claimed, whichever
-    /// session is in force. Takes no memory.
-    fn next_claim(&self) -> Option<u64>
+    /// session is in force. Nothing where that number would pass 2^60. Takes no memory.
+    fn next_claim(&self) -> Option<Number>
         ensures { After (Self.stands self.now) (λ s earlier. result ≡ next_claim s earlier) };
 
     /// What is played of a target; nothing of one that is not known. Nothing is emptied.

@@ -5,7 +5,7 @@ use Rattle.wire_bytes.specs.declared.origin.Origin.{Origin}
 use Rattle.machine_laws.specs.Runs.{History, all_effects}
 use Rattle.machine_laws.specs.Origins.{same_origin}
 use Rattle.request_once.specs.declared.body.Body.{Body}
-use Rattle.request_once.specs.declared.body.Body.TheVariants.{Inner, Asked}
+use Rattle.request_once.specs.declared.body.Body.TheVariants.{Inner, Asked, Blank, Mark}
 use Rattle.request_once.specs.declared.answer.Answer.{Answer}
 use Rattle.request_once.specs.declared.answer.Answer.TheVariants.{Effect, Done}
 use Rattle.request_once.specs.Fresh.{asked, fresh, last, plain, refused, answers, times, if_stays, is_done, dones}
@@ -46,6 +46,8 @@ module _ {C A E : Type 0} (client : Origin → ℕ → A → C) (effects : Histo
   one_body : (earlier : History (Body C A)) (place : ℕ) (x : Body C A) → times o n (fresh earlier) + dones o n (answers client effects earlier place x) ≡ times o n (fresh ((place, x) ∷ earlier))
   unfolding answers fresh last
   one_body earlier place (Inner c) = ap (λ k. times o n (fresh earlier) + k) (no_dones o n (effects (plain client earlier) place c)) ∙ omega arith
+  one_body earlier place Blank = omega arith
+  one_body earlier place (Mark m) = omega arith
   one_body earlier place (Asked p m at a) = asked_by earlier place p m at a (m == asked p (fresh earlier) + 1) refl
 
   -- over a whole list, Done is answered for each request that stays

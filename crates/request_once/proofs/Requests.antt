@@ -1,11 +1,12 @@
 -- How one more body changes what is kept.
 use Rattle.std.proofs.Common.{◌≡◌, ℕ, ◌+◌, ◌<◌, ◌≤◌, ◌≢◌, Bool, true, false, List, [], ◌∷◌, ◌++◌, map, refl, ap, ◌∙◌, sym, arith}
 use Rattle.std.specs.Prelude.{if◌then◌else◌}
+use Rattle.wire_bytes.specs.declared.mark.Mark as mark
 use Rattle.wire_bytes.specs.declared.origin.Origin.{Origin}
 use Rattle.machine_laws.specs.Runs.{History}
 use Rattle.request_once.specs.declared.body.Body.{Body}
-use Rattle.request_once.specs.declared.body.Body.TheVariants.{Inner, Asked}
-use Rattle.request_once.specs.declared.answer.Answer.TheVariants.{Effect, Done, Repeat, Gap}
+use Rattle.request_once.specs.declared.body.Body.TheVariants.{Inner, Asked, Blank, Mark}
+use Rattle.request_once.specs.declared.answer.Answer.TheVariants.{Effect, Done, Repeat, Gap, Marked}
 use Rattle.machine_laws.specs.Origins.{same_origin}
 use Rattle.request_once.specs.Fresh.{asked, fresh, last, plain, answers}
 use Rattle.irc_line.proofs.Numbers.{of_eq, of_gt, of_le, of_ne}
@@ -23,6 +24,14 @@ module _ {C A : Type 0} where
   pub last-inner : (earlier : History (Body C A)) (place : ℕ) (c : C) (o : Origin) → last ((place, Inner c) ∷ earlier) o ≡ last earlier o
   unfolding last fresh
   last-inner earlier place c o = refl
+
+  pub last-blank : (earlier : History (Body C A)) (place : ℕ) (o : Origin) → last ((place, Blank) ∷ earlier) o ≡ last earlier o
+  unfolding last fresh
+  last-blank earlier place o = refl
+
+  pub last-mark : (earlier : History (Body C A)) (place : ℕ) (m : mark.Mark) (o : Origin) → last ((place, Mark m) ∷ earlier) o ≡ last earlier o
+  unfolding last fresh
+  last-mark earlier place m o = refl
 
   fresh-next : (earlier : History (Body C A)) (place : ℕ) (o : Origin) (n at : ℕ) (a : A) → n ≡ last earlier o + 1 → fresh ((place, Asked o n at a) ∷ earlier) ≡ (place, Asked o n at a) ∷ fresh earlier
   unfolding last fresh
@@ -46,6 +55,14 @@ module _ {C A : Type 0} where
     unfolding plain fresh
     plain-inner earlier place c = refl
 
+    pub plain-blank : (earlier : History (Body C A)) (place : ℕ) → plain client ((place, Blank) ∷ earlier) ≡ plain client earlier
+    unfolding plain fresh
+    plain-blank earlier place = refl
+
+    pub plain-mark : (earlier : History (Body C A)) (place : ℕ) (m : mark.Mark) → plain client ((place, Mark m) ∷ earlier) ≡ plain client earlier
+    unfolding plain fresh
+    plain-mark earlier place m = refl
+
     pub plain-next : (earlier : History (Body C A)) (place : ℕ) (o : Origin) (n at : ℕ) (a : A) → n ≡ last earlier o + 1 → plain client ((place, Asked o n at a) ∷ earlier) ≡ (place, client o at a) ∷ plain client earlier
     unfolding plain
     plain-next earlier place o n at a e = rw (fresh-next earlier place o n at a e)
@@ -58,6 +75,14 @@ module _ {C A : Type 0} where
       pub answers-inner : (earlier : History (Body C A)) (place : ℕ) (c : C) → answers client effects earlier place (Inner c) ≡ map Effect (effects (plain client earlier) place c)
       unfolding answers
       answers-inner earlier place c = refl
+
+      pub answers-blank : (earlier : History (Body C A)) (place : ℕ) → answers client effects earlier place Blank ≡ []
+      unfolding answers
+      answers-blank earlier place = refl
+
+      pub answers-mark : (earlier : History (Body C A)) (place : ℕ) (m : mark.Mark) → answers client effects earlier place (Mark m) ≡ Marked m ∷ []
+      unfolding answers
+      answers-mark earlier place m = refl
 
       pub answers-next : (earlier : History (Body C A)) (place : ℕ) (o : Origin) (n at : ℕ) (a : A) → n ≡ last earlier o + 1 → answers client effects earlier place (Asked o n at a) ≡ map Effect (effects (plain client earlier) place (client o at a)) ++ Done o n ∷ []
       unfolding answers

@@ -1,18 +1,20 @@
 -- Requests that are numbered by their client. A history has each body with its place, the newest first.
-use Rattle.std.specs.Prelude.{◌≡◌, ℕ, ◌+◌, Bool, true, false, ◌&&◌, if◌then◌else◌, ◌==◌, nat_le, List, [], ◌∷◌, ◌++◌, map, Option, unwrap_or}
+use Rattle.std.specs.Prelude.{◌≡◌, ℕ, ◌+◌, Bool, true, false, ◌&&◌, if◌then◌else◌, ◌==◌, nat_le, List, [], ◌∷◌, ◌++◌, map, Option, Some, None, unwrap_or}
 use Rattle.machine_laws.specs.Runs.{History}
 use Rattle.machine_laws.specs.Origins.{same_origin}
 use Rattle.wire_bytes.specs.declared.origin.Origin.{Origin}
 use Rattle.request_once.specs.declared.body.Body.{Body}
-use Rattle.request_once.specs.declared.body.Body.TheVariants.{Inner, Asked}
+use Rattle.request_once.specs.declared.body.Body.TheVariants.{Inner, Asked, Blank, Mark}
 use Rattle.request_once.specs.declared.answer.Answer.{Answer}
-use Rattle.request_once.specs.declared.answer.Answer.TheVariants.{Effect, Done, Repeat, Gap}
+use Rattle.request_once.specs.declared.answer.Answer.TheVariants.{Effect, Done, Repeat, Gap, Marked}
 
 module _ {C A : Type 0} where
   -- a request of this origin
   abbrev pub is_asked_by : Origin → Body C A → Bool
   is_asked_by o (Inner c) = false
   is_asked_by o (Asked p n at a) = same_origin o p
+  is_asked_by o Blank = false
+  is_asked_by o (Mark m) = false
 
   -- how many requests of an origin there are
   abbrev pub asked : Origin → History (Body C A) → ℕ
@@ -23,6 +25,8 @@ module _ {C A : Type 0} where
   abbrev pub stays : History (Body C A) → Body C A → Bool
   stays kept (Inner c) = true
   stays kept (Asked o n at a) = n == asked o kept + 1
+  stays kept Blank = true
+  stays kept (Mark m) = true
 
   -- with this body, where it stays
   abbrev pub if_stays : Bool → ℕ × Body C A → History (Body C A) → History (Body C A)
@@ -42,20 +46,41 @@ module _ {C A : Type 0} where
   abbrev pub is_request : Origin → ℕ → Body C A → Bool
   is_request o n (Inner c) = false
   is_request o n (Asked p m at a) = same_origin o p && m == n
+  is_request o n Blank = false
+  is_request o n (Mark m) = false
 
   -- how many requests there are of this origin and number
   abbrev pub times : Origin → ℕ → History (Body C A) → ℕ
   times o n [] = 0
   times o n (x ∷ earlier) = if is_request o n x.1 then times o n earlier + 1 else times o n earlier
 
--- the command of a body, by that of a client's request
-abbrev pub plain_one : {C A : Type 0} → (Origin → ℕ → A → C) → Body C A → C
-plain_one client (Inner c) = c
-plain_one client (Asked o n at a) = client o at a
+-- a blank or a mark
+abbrev pub is_blank_or_mark : {C A : Type 0} → Body C A → Bool
+is_blank_or_mark (Inner c) = false
+is_blank_or_mark (Asked o n at a) = false
+is_blank_or_mark Blank = true
+is_blank_or_mark (Mark m) = true
+
+-- the command of a body, by that of a client's request; a blank and a mark have none
+abbrev pub plain_one : {C A : Type 0} → (Origin → ℕ → A → C) → Body C A → Option C
+plain_one client (Inner c) = Some c
+plain_one client (Asked o n at a) = Some (client o at a)
+plain_one client Blank = None
+plain_one client (Mark m) = None
+
+-- a history with one more command at a place, where there is one
+abbrev pub with_command : {C : Type 0} → ℕ → Option C → History C → History C
+with_command place None earlier = earlier
+with_command place (Some c) earlier = (place, c) ∷ earlier
+
+-- the commands of bodies, each at its place
+abbrev pub plain_of : {C A : Type 0} → (Origin → ℕ → A → C) → History (Body C A) → History C
+plain_of client [] = []
+plain_of client (x ∷ earlier) = with_command x.0 (plain_one client x.1) (plain_of client earlier)
 
 -- the commands of the bodies that stay, each at its place
 unfoldable pub plain : {C A : Type 0} → (Origin → ℕ → A → C) → History (Body C A) → History C
-plain client bodies = map (λ x. (x.0, plain_one client x.1)) (fresh bodies)
+plain client bodies = plain_of client (fresh bodies)
 
 -- what a request brings about that is not the next of its origin
 abbrev pub refused : {E : Type 0} → Origin → ℕ → ℕ → Answer E
@@ -68,6 +93,8 @@ answers client effects earlier place (Asked o n at a) =
     if n == last earlier o + 1
     then map Effect (effects (plain client earlier) place (client o at a)) ++ Done o n ∷ []
     else refused o n (last earlier o) ∷ []
+answers client effects earlier place Blank = []
+answers client effects earlier place (Mark m) = Marked m ∷ []
 
 -- a map holds the numbers of the last requests that stayed
 abbrev pub HasNumbers : {C A : Type 0} → (Origin → Option ℕ) → History (Body C A) → Type 0

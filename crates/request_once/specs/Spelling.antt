@@ -1,11 +1,12 @@
--- Bodies as bytes: a kind byte, 0 for a command of the machine below and 1 for a numbered request, and what it has.
+-- Bodies as bytes: a kind byte, 0 for a command of the machine below, 1 for a numbered request, 2 for a blank and 3 for a mark,
+-- and what it has.
 use Rattle.std.specs.Prelude.{ℕ, List, [], ◌∷◌, ◌++◌}
-use Rattle.wire_bytes.specs.Fields.{Reading, through, both, choice}
+use Rattle.wire_bytes.specs.Fields.{Reading, done, through, both, choice}
 use Rattle.wire_bytes.specs.Wants.{Wants, wants_behind, wants_choice}
-use Rattle.wire_bytes.specs.Values.{spelled_origin, spelled_number, FitsOrigin, FitsNumber, FitsMoment, origin, number, moment}
+use Rattle.wire_bytes.specs.Values.{spelled_origin, spelled_number, spelled_mark, FitsOrigin, FitsNumber, FitsMoment, FitsMark, origin, number, moment, mark_taken}
 use Rattle.wire_bytes.specs.declared.origin.Origin.{Origin}
 use Rattle.request_once.specs.declared.body.Body.{Body}
-use Rattle.request_once.specs.declared.body.Body.TheVariants.{Inner, Asked}
+use Rattle.request_once.specs.declared.body.Body.TheVariants.{Inner, Asked, Blank, Mark}
 
 -- a request: its origin, its number, its moment and its action
 abbrev pub spelled_asked : {A : Type 0} → (A → List ℕ) → Origin → ℕ → ℕ → A → List ℕ
@@ -24,11 +25,15 @@ module _ {C A : Type 0} where
   abbrev pub body_kind : Body C A → ℕ
   body_kind (Inner c) = 0
   body_kind (Asked o n at a) = 1
+  body_kind Blank = 2
+  body_kind (Mark m) = 3
 
   -- what stands behind the kind byte
   abbrev pub spelled_parts : (C → List ℕ) → (A → List ℕ) → Body C A → List ℕ
   spelled_parts command action (Inner c) = command c
   spelled_parts command action (Asked o n at a) = spelled_asked action o n at a
+  spelled_parts command action Blank = []
+  spelled_parts command action (Mark m) = spelled_mark m
 
   -- a body as bytes
   abbrev pub spelled_body : (C → List ℕ) → (A → List ℕ) → Body C A → List ℕ
@@ -38,6 +43,8 @@ module _ {C A : Type 0} where
   abbrev pub FitsBody : (C → Type 0) → (A → Type 0) → Body C A → Type 0
   FitsBody command action (Inner c) = command c
   FitsBody command action (Asked o n at a) = ((FitsOrigin o × FitsNumber n) × FitsMoment at) × action a
+  FitsBody command action Blank = Unit {0}
+  FitsBody command action (Mark m) = FitsMark m
 
   -- a command below, behind the kind byte
   abbrev pub inner_taken : Reading C → Reading (Body C A)
@@ -51,6 +58,10 @@ module _ {C A : Type 0} where
   abbrev pub asked_taken : Reading A → Reading (Body C A)
   asked_taken action = through asked_of (both (both (both origin number) moment) action)
 
+  -- a mark, behind the kind byte
+  abbrev pub marking_taken : Reading (Body C A)
+  marking_taken = through Mark mark_taken
+
   -- the body at the front of an input
   abbrev pub body_taken : Reading C → Reading A → Reading (Body C A)
-  body_taken command action = choice ((0, inner_taken command) ∷ (1, asked_taken action) ∷ [])
+  body_taken command action = choice ((0, inner_taken command) ∷ (1, asked_taken action) ∷ (2, done Blank) ∷ (3, marking_taken) ∷ [])

@@ -2,7 +2,7 @@
 ghost use Rattle.std.specs.Prelude.{◌≡◌, IfOk};
 
 use std::alloc::{AllocError, Global};
-use wire_bytes::{Copied, Origin};
+use wire_bytes::{Copied, Mark, Origin};
 
 /// What a body brings about.
 #[derive(Drop)]
@@ -15,6 +15,8 @@ pub enum Answer<E> {
     Repeat(Origin, u64),
     /// The request came too early; this is the number of the one that is to come next.
     Gap(Origin, u64),
+    /// This mark came.
+    Marked(Mark),
 }
 
 impl<E: Copied> Copied for Answer<E> {
@@ -24,6 +26,7 @@ impl<E: Copied> Copied for Answer<E> {
             Answer::Done(origin, number) => Ok(Answer::Done(*origin, *number)),
             Answer::Repeat(origin, number) => Ok(Answer::Repeat(*origin, *number)),
             Answer::Gap(origin, number) => Ok(Answer::Gap(*origin, *number)),
+            Answer::Marked(mark) => Ok(Answer::Marked(*mark)),
         }
     }
 }

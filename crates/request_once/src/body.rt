@@ -1,21 +1,26 @@
 //! What comes to a machine whose requests are numbered.
 ghost use Rattle.std.specs.Prelude.{◌≡◌, ◌≢◌, ◌<◌, ◌≤◌, ◌+◌, drop, length, vec_capacity, vec_len, IfOk, IfErr, IsTrue, OnErr, Ok, Err};
 ghost use Rattle.wire_bytes.specs.Fields.{appended, behind};
-ghost use Rattle.request_once.specs.Spelling.{FitsBody, asked_taken, asked_wants, body_taken, body_wants, inner_taken, spelled_asked, spelled_body};
+ghost use Rattle.request_once.specs.Spelling.{FitsBody, asked_taken, asked_wants, body_taken, body_wants};
+ghost use Rattle.request_once.specs.Spelling.{inner_taken, marking_taken, spelled_asked, spelled_body};
 ghost use Rattle.request_once.specs.BodyCodec.{body_is_codec};
 ghost use Rattle.irc_line.specs.Lines.{LacksRoom};
 ghost use Rattle.wire_bytes.specs.Reads.{Reads, Refuses, WantsWhere};
 
 use std::alloc::{AllocError, Global};
-use wire_bytes::{Copied, Moment, Number, Origin, Wire, WireFault, take_behind, undo};
+use wire_bytes::{Copied, Mark, Moment, Number, Origin, Wire, WireFault, take_behind, undo};
 
-/// A command of the machine below, or a numbered request of a client.
+/// A command of the machine below, a numbered request of a client, or one of two that change nothing.
 ///
 /// An origin numbers its requests from 1.
 #[derive(Drop)]
 pub enum Body<C, A> {
     Inner(C),
     Asked(Origin, Number, Moment, A),
+    /// Has no answer.
+    Blank,
+    /// Is answered `Marked`.
+    Mark(Mark),
 }
 
 impl<C: Copied, A: Copied> Copied for Body<C, A> {
@@ -28,11 +33,14 @@ impl<C: Copied, A: Copied> Copied for Body<C, A> {
                 *at,
                 action.copy(alloc)?,
             )),
+            Body::Blank => Ok(Body::Blank),
+            Body::Mark(mark) => Ok(Body::Mark(*mark)),
         }
     }
 }
 
-/// A kind byte, 0 for a command and 1 for a request; a request is spelled origin, number, moment, action.
+/// A kind byte, 0 for a command, 1 for a request, 2 for a blank and 3 for a mark; a request is spelled origin, number,
+/// moment, action.
 impl<C: Wire, A: Wire> Wire for Body<C, A> {
     ghost spelled = { spelled_body C.spelled A.spelled };
 
@@ -55,14 +63,23 @@ impl<C: Wire, A: Wire> Wire for Body<C, A> {
                 let outcome = put_asked(out, *origin, *number, *at, action);
                 undo(out, len, outcome)
             }
+            Body::Blank => Ok(out.push(2)?),
+            Body::Mark(mark) => {
+                out.push(3)?;
+                let outcome = mark.put(out);
+                undo(out, len, outcome)
+            }
         }
     }
 
+    #[tactic(auto, using(wire_bytes::proofs::Steps::composed))]
     fn take(alloc: Global, input: &[u8]) -> Result<(Self, usize), WireFault> {
         match input {
             [] => Err(WireFault::Short),
             [0, ..] => take_inner(alloc, input),
             [1, ..] => take_asked(alloc, input),
+            [2, ..] => Ok((Body::Blank, 1)),
+            [3, ..] => take_mark(alloc, input),
             _ => Err(WireFault::Bad(0)),
         }
     }
@@ -120,4 +137,19 @@ fn take_asked<C: Wire, A: Wire>(
         alloc, input, 1,
     )?;
     Ok((Body::Asked(origin, number, at, action), end))
+}
+
+/// The mark behind a kind byte.
+#[tactic(auto, using(wire_bytes::proofs::Steps::composed))]
+fn take_mark<C: Drop, A: Drop>(
+    alloc: Global,
+    input: &[u8],
+) -> Result<(Body<C, A>, usize), WireFault>
+    requires { 1 ≤ length input.now }
+    ensures ok { Reads result (behind 1 (marking_taken {C = C} {A = A})) input.now }
+    ensures err { Refuses result (behind 1 (marking_taken {C = C} {A = A})) input.now }
+    ensures no_memory { IfErr result (λ e. e ≢ WireFault.Memory) }
+{
+    let (mark, end) = take_behind::<Mark>(alloc, input, 1)?;
+    Ok((Body::Mark(mark), end))
 }

@@ -14,6 +14,7 @@ use wire_bytes::Origin;
 
 /// A machine each of whose requests takes effect once: one with the next number of its origin is applied and answered
 /// `Done`, one with an earlier number is answered `Repeat`, one with a later number `Gap`, and these two change nothing.
+/// Nor does a blank, which has no answer, or a mark, which is answered `Marked`.
 ///
 /// The last numbers are kept for good, in a map by origin.
 #[derive(Drop)]

@@ -113,5 +113,7 @@ pub fn step<M: HasClients>(
         Body::Asked(origin, number, at, action) => {
             ask(alloc, machine, last, place, *origin, *number, *at, action)
         }
+        Body::Blank => Ok(Vec::new(alloc)),
+        Body::Mark(mark) => Ok(single(alloc, Answer::Marked(*mark))?),
     }
 }

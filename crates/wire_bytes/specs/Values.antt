@@ -1,6 +1,7 @@
 -- The spelling, the limits and the reading of the small values.
 use Rattle.std.specs.Prelude.{ℕ, ◌^◌, ◌≤◌, List, ◌∷◌, ◌++◌}
 use Rattle.std.specs.Int.{w64, to_be_bytes}
+use Rattle.wire_bytes.specs.declared.mark.Mark.{Mark}
 use Rattle.wire_bytes.specs.Fields.{Reading, byte_within, number_to, both, through}
 
 -- at most 2^60
@@ -34,6 +35,22 @@ spelled_origin o = o.0 ∷ (spelled_number o.1 ++ spelled_number o.2)
 -- a node from 1 to 7, and two numbers
 unfoldable pub origin : Reading (ℕ × ℕ × ℕ)
 origin = through (λ p. (p.0, p.1.0, p.1.1)) (both (byte_within 1 7) (both number number))
+
+-- a node, its run and a number make a mark
+abbrev pub mark_of : ℕ × (ℕ × ℕ) → Mark
+mark_of p = record { node = p.0; boot = p.1.0; number = p.1.1 }
+
+-- any byte as the node, its run and the number
+abbrev pub FitsMark : Mark → Type 0
+FitsMark m = (m.node ≤ 255) × FitsNumber m.boot × FitsNumber m.number
+
+-- the node, its run and the number
+unfoldable pub spelled_mark : Mark → List ℕ
+spelled_mark m = m.node ∷ (spelled_number m.boot ++ spelled_number m.number)
+
+-- a byte, and two numbers
+unfoldable pub mark_taken : Reading Mark
+mark_taken = through mark_of (both (byte_within 0 255) (both number number))
 
 -- a term and an attempt
 abbrev pub FitsSession : ℕ × ℕ → Type 0

@@ -12,6 +12,7 @@ mod contents;
 mod copied;
 mod fields;
 mod laws;
+mod mark;
 mod moment;
 mod number;
 mod origin;
@@ -25,6 +26,7 @@ pub use fields::{
     put_sized, take_behind, take_byte, take_sized, take_u16, take_u32, take_u64, undo,
 };
 pub use laws::{none_begins_another, the_front_is_read};
+pub use mark::Mark;
 pub use moment::Moment;
 pub use number::Number;
 pub use origin::Origin;

@@ -48,6 +48,25 @@ fn a_field_of_an_origin_is_refused_at_its_place(rt: HostRuntime) {
 }
 
 #[test]
+fn a_mark_is_of_any_byte_as_its_node(rt: HostRuntime) -> Result<(), Fail> {
+    for node in [0u8, 2, 9, 255] {
+        let bytes = [node, 0, 0, 0, 0, 0, 0, 0, 5, 0, 0, 0, 0, 0, 0, 0, 7];
+        let (boot, number) = (Number::new(5), Number::new(7));
+        let mark = Mark { node, boot, number };
+        let mut out = Vec::new(rt.alloc());
+        mark.fits();
+        mark.put(&mut out)?;
+        assert_eq!(rt; out.as_slice(), bytes.as_slice());
+        assert_eq!(rt; Mark::take(rt.alloc(), &bytes)?, (mark, 17));
+        assert_eq!(rt; mark.copy(rt.alloc())?, mark);
+    }
+    let past = [3, 0x10, 0, 0, 0, 0, 0, 0, 1];
+    assert!(rt; Mark::take(rt.alloc(), &past[..8]).err() == Some(WireFault::Short));
+    assert!(rt; Mark::take(rt.alloc(), &past).err() == Some(WireFault::Bad(1)));
+    Ok(())
+}
+
+#[test]
 fn a_moment_is_eight_bytes(rt: HostRuntime) -> Result<(), Fail> {
     let bytes = [0, 0, 0, 0, 0x65, 0x53, 0xf1, 0];
     let mut out = Vec::new(rt.alloc());
