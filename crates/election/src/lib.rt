@@ -3,11 +3,9 @@
 
 mod timeout;
 mod vote;
-mod voters;
 
 pub use timeout::begin;
-pub use vote::{on_request_vote, on_vote, raise};
-pub use voters::majority;
+pub use vote::{on_request_vote, on_vote};
 
 #[cfg(test)]
 mod tests;

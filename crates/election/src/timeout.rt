@@ -1,9 +1,8 @@
-ghost use Rattle.std.specs.Prelude.{◌≡◌, IfOk, OnErr};
-ghost use Rattle.raft_log.specs.Seen.{BecomesSending};
+ghost use Rattle.std.specs.Prelude.{◌≡◌, IfOk};
+ghost use Rattle.raft_log.specs.Steps.{Prepares, IsSavable, KeepsWithinLog};
 ghost use Rattle.election.specs.Elections.{timed_out, vote_requests};
 
-use crate::voters::{alone, others};
-use raft_log::{Kind, Message, NodeState, Role};
+use raft_log::{Kind, Log, Message, NodeId, Peers, Position, Standing, Step};
 use std::alloc::{AllocError, Global};
 use wire_bytes::{Number, Wire};
 
@@ -13,46 +12,46 @@ use wire_bytes::{Number, Wire};
 /// A leader does nothing, and no term follows 2^60.
 pub fn begin<B: Wire>(
     alloc: Global,
-    state: &mut NodeState<B>,
-    size: u8,
-    id: u8,
-) -> Result<Vec<Message<B>>, AllocError>
-    ensures ok { IfOk result (λ ms. BecomesSending (timed_out size id)
-        state.old ms.items state.new) }
-    ensures err { OnErr result (state.new ≡ state.old) }
+    standing: Standing,
+    log: &Log<B>,
+    id: NodeId,
+) -> Result<Step<B>, AllocError>
+    ensures step { IfOk result (Prepares (timed_out standing.peers.size id) standing log.now) }
+    ensures savable { IfOk result (IsSavable standing log.now) }
+    ensures places { IfOk result (KeepsWithinLog standing log.now) }
 {
-    if let Role::Leader = state.role {
-        return Ok(Vec::new(alloc));
+    if let Position::Leader(_) = standing.position {
+        return Ok(Step::still(alloc, standing, log));
     }
-    let term = state.term.value();
+    let term = standing.term.value();
     if 1 << 60 <= term {
-        return Ok(Vec::new(alloc));
+        return Ok(Step::still(alloc, standing, log));
     }
     let next = Number::new(term + 1);
-    let (last_index, last_term) = state.log.last();
-    // both lists first: nothing changes where there is no memory for one of them
-    let messages = vote_requests(alloc, size, id, next, last_index, last_term)?;
-    let voters = alone(alloc, size, id)?;
-    state.term = next;
-    state.vote = Some(id);
-    state.role = Role::Candidate;
-    state.leader = None;
-    state.voters = voters;
-    Ok(messages)
+    let (last_index, last_term) = log.last();
+    let messages = vote_requests(alloc, standing.peers, id, next, last_index, last_term)?;
+    let begun = Standing {
+        term: next,
+        vote: Some(id),
+        position: Position::Candidate,
+        peers: standing.peers.only(id),
+        ..standing
+    };
+    Ok(Step::sending(begun, log, messages))
 }
 
 /// What is sent to each other node, by rising number.
 fn vote_requests<B: Wire>(
     alloc: Global,
-    size: u8,
-    id: u8,
+    peers: Peers,
+    id: NodeId,
     term: Number,
     last_index: Number,
     last_term: Number,
 ) -> Result<Vec<Message<B>>, AllocError>
-    ensures { IfOk result (λ ms. ms.items ≡ vote_requests size id term last_index last_term) }
+    ensures { IfOk result (λ ms. ms.items ≡ vote_requests peers.size id term last_index last_term) }
 {
-    let nodes = others(alloc, size, id)?;
+    let nodes = peers.others(alloc, id)?;
     let mut all = Vec::with_capacity(alloc, nodes.len())?;
     for node in &nodes {
         let kind = Kind::RequestVote {
@@ -61,8 +60,8 @@ fn vote_requests<B: Wire>(
         };
         all.push(Message {
             term,
-            from: id,
-            to: *node,
+            from: id.value(),
+            to: node.value(),
             kind,
         })?;
     }

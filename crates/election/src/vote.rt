@@ -1,26 +1,13 @@
-ghost use Rattle.std.specs.Prelude.{◌≡◌, ◌∷◌, [], OnOk, OnErr};
-ghost use Rattle.raft_log.specs.Node.{raised};
-ghost use Rattle.raft_log.specs.Seen.{Becomes, BecomesSending};
-ghost use Rattle.election.specs.Elections.{on_request_vote, on_vote};
+ghost use Rattle.std.specs.Prelude.{◌≡◌, [], true, IfOk};
+ghost use Rattle.raft_log.specs.declared.position.Position.TheVariants.{Candidate};
+ghost use Rattle.raft_log.specs.Lists.{with_item};
+ghost use Rattle.raft_log.specs.Seen.{Becomes, node_of};
+ghost use Rattle.raft_log.specs.Steps.{Prepares, IsSavable, IsWithinLog, KeepsWithinLog};
+ghost use Rattle.election.specs.Elections.{on_request_vote, on_vote, elected, grants};
 
-use crate::voters::{majority, mark};
-use raft_log::{Kind, Message, NodeState, Role};
+use raft_log::{Kind, Log, Message, NodeId, Position, Standing, Step};
 use std::alloc::{AllocError, Global};
 use wire_bytes::{Number, Wire};
-
-/// Takes a larger term, with no vote; its node follows, and a session that it led is over. Each message
-/// of a larger term asks for it: section 5.1 of the Raft paper, and "All Servers" in its Figure 2.
-pub fn raise<B: Wire>(state: &mut NodeState<B>, term: Number)
-    ensures { Becomes (λ s. raised s term) state.old state.new }
-{
-    if state.term < term {
-        state.term = term;
-        state.vote = None;
-        state.role = Role::Follower;
-        state.leader = None;
-        state.live = None;
-    }
-}
 
 /// Answers a request for a vote, of a term that is not larger than the own, with the own term, as a
 /// receiver of RequestVote does in Figure 2 of the Raft paper.
@@ -28,64 +15,100 @@ pub fn raise<B: Wire>(state: &mut NodeState<B>, term: Number)
 /// Granted where the term is the own, the vote is none or the candidate (section 5.2), and its log is at
 /// least as up to date (section 5.4.1).
 pub fn on_request_vote<B: Wire>(
-    state: &mut NodeState<B>,
-    id: u8,
-    from: u8,
+    alloc: Global,
+    standing: Standing,
+    log: &Log<B>,
+    id: NodeId,
+    from: NodeId,
     term: Number,
     last_index: Number,
     last_term: Number,
-) -> Message<B>
-    ensures { BecomesSending (λ s. on_request_vote id s from term last_index last_term)
-        state.old (result ∷ []) state.new }
+) -> Result<Step<B>, AllocError>
+    ensures step { IfOk result (Prepares
+        (λ s. on_request_vote id s from term last_index last_term) standing log.now) }
+    ensures savable { IfOk result (IsSavable standing log.now) }
+    ensures places { IfOk result (KeepsWithinLog standing log.now) }
 {
-    let free = match state.vote {
+    let mut voted = standing;
+    let granted = grants(&standing, log, from, term, last_index, last_term);
+    if granted {
+        voted.vote = Some(from);
+    }
+    Step::answering(
+        alloc,
+        voted,
+        log,
+        Message {
+            term: voted.term,
+            from: id.value(),
+            to: from.value(),
+            kind: Kind::Vote { granted },
+        },
+    )
+}
+
+/// Whether a candidate gets the vote.
+fn grants<B: Wire>(
+    standing: &Standing,
+    log: &Log<B>,
+    from: NodeId,
+    term: Number,
+    last_index: Number,
+    last_term: Number,
+) -> bool
+    ensures { result ≡ grants (node_of standing.now log.now []) from term last_index last_term }
+{
+    let free = match standing.vote {
         None => true,
         Some(other) => other == from,
     };
-    let good = state.log.up_to_date(last_index, last_term);
-    let granted = state.term == term && free && good;
-    if granted {
-        state.vote = Some(from);
-    }
-    Message {
-        term: state.term,
-        from: id,
-        to: from,
-        kind: Kind::Vote { granted },
-    }
+    standing.term == term && free && log.up_to_date(last_index, last_term)
 }
 
 /// Takes an answer to a request for a vote. A majority makes a candidate the leader of its term: section
 /// 5.2 of the Raft paper. It then sends to each node from the end of its log on (Figure 2).
 ///
-/// A node is counted once, however often it answers.
+/// A node is counted once, however often it answers. Nothing is sent, and nothing of it is saved.
 pub fn on_vote<B: Wire>(
-    alloc: Global,
-    state: &mut NodeState<B>,
-    size: u8,
-    from: u8,
+    standing: Standing,
+    log: &Log<B>,
+    from: NodeId,
     term: Number,
     granted: bool,
-) -> Result<(), AllocError>
-    ensures ok { OnOk result (Becomes (λ s. on_vote size s from term granted) state.old state.new) }
-    ensures err { OnErr result (state.new ≡ state.old) }
+) -> Standing
+    ensures step { Becomes (λ s. on_vote standing.peers.size s from term granted)
+        standing log.now result }
+    ensures saved { (result.boot ≡ standing.boot) × (result.term ≡ standing.term) }
+    ensures commit { result.commit ≡ standing.commit }
+    ensures places { IsWithinLog standing log.now → IsWithinLog result log.now }
 {
-    let waits = match state.role {
-        Role::Candidate => true,
-        _ => false,
-    };
-    if waits && state.term == term && granted {
-        // both lists first: the vote is not counted where there is no memory to lead
-        let next = Number::new(state.log.len().value() + 1);
-        let next = vec![in alloc; next; size as usize]?;
-        let matched = vec![in alloc; Number::new(0); size as usize]?;
-        mark(state.voters.as_mut_slice(), from);
-        if majority(size, &state.voters) {
-            state.role = Role::Leader;
-            state.leader = None;
-            state.next = next;
-            state.matched = matched;
+    if let Position::Candidate = standing.position {
+        if standing.term == term && granted {
+            return counted(standing, log, from);
         }
     }
-    Ok(())
+    standing
+}
+
+/// With the vote of a node, and leading where that makes a majority.
+fn counted<B: Wire>(standing: Standing, log: &Log<B>, from: NodeId) -> Standing
+    requires { standing.position ≡ Candidate }
+    ensures step { Becomes
+        (λ s. elected standing.peers.size (record s { voters = with_item s.voters from true }))
+        standing log.now result }
+    ensures saved { (result.boot ≡ standing.boot) × (result.term ≡ standing.term) }
+    ensures commit { result.commit ≡ standing.commit }
+    ensures places { IsWithinLog standing log.now → IsWithinLog result log.now }
+{
+    let peers = standing.peers.with_vote(from);
+    if peers.is_elected() {
+        let next = Number::new(log.len().value() + 1);
+        Standing {
+            position: Position::Leader(None),
+            peers: peers.leading(next),
+            ..standing
+        }
+    } else {
+        Standing { peers, ..standing }
+    }
 }

@@ -1,3 +1,5 @@
 pub mod Measures
 pub mod Repairs
 pub mod Conflicts
+pub mod Others
+pub mod Sending

@@ -1,5 +1,6 @@
 -- What an append leaves of a log, by the number of entries that stand already.
-use Rattle.std.proofs.Common.{false, get_or, take-append-drop, ◌<◌, ◌+◌, ◌≡◌, ℕ, zero, suc, ◌-◌, ◌≤◌, true, eqb, ltb, List, [], ◌∷◌, ◌++◌, length, take, drop, refl, sym, ap, ◌∙◌, arith, append_assoc, take-add, length-drop, ⊎_elim}
+use Rattle.std.proofs.Common.{length-append, length-take, ◌≢◌, append-nil, false, get_or, take-append-drop, ◌<◌, ◌+◌, ◌≡◌, ℕ, zero, suc, ◌-◌, ◌≤◌, true, eqb, ltb, List, [], ◌∷◌, ◌++◌, length, take, drop, refl, sym, ap, ◌∙◌, arith, append_assoc, take-add, length-drop, ⊎_elim}
+use Rattle.std.proofs.lemmas.List.{take_all}
 use Rattle.std.proofs.lemmas.Bool.{cond_both, cases_Bool, cases_lt, lt-ltb, le-ltb, cond-true, cond-false}
 use Rattle.raft_log.specs.declared.entry.Entry.{Entry}
 use Rattle.raft_log.specs.Logs.{last_after, last_term, merged, repair, conflicts_within, standing}
@@ -100,3 +101,25 @@ module _ {B : Type 0} where
   term_at_index log k d pos h =
       let e : k ≡ suc (k - 1) = omega arith in
       sym (ap (λ i. last_term (take i log)) e ∙ last_after_take 0 log (k - 1) d (omega arith))
+
+  -- what stays and what follows it: the whole log where all stand already, else the first ones stay
+  pub repaired-whole : (log es : List (Entry B)) (prev count : ℕ) → count ≡ standing (drop prev log) es → count ≡ length es → take (length log) log ++ [] ≡ repair log prev es
+  repaired-whole log es prev count e whole =
+      append-nil (take (length log) log) ∙ (take_all (length log) log (omega arith) ∙ sym (repair_all log prev es (omega arith)))
+
+  pub repaired-part : (log es : List (Entry B)) (prev count keep : ℕ) → count ≡ standing (drop prev log) es → count ≢ length es → count ≤ length es → keep ≡ prev + count → take keep log ++ drop count es ≡ repair log prev es
+  repaired-part log es prev count keep e part few k =
+      ap (λ (n : ℕ). take n log ++ drop count es) k
+      ∙ (ap (λ (n : ℕ). take (prev + n) log ++ drop n es) e ∙ sym (repair_part log prev es (omega arith)))
+
+  merged_long : (rest es : List (Entry B)) → length es ≤ length (merged rest es)
+  merged_long [] [] = omega arith
+  merged_long [] (e ∷ es) = omega arith
+  merged_long (x ∷ rest) [] = omega arith
+  merged_long (x ∷ rest) (e ∷ es) =
+      cond_both (eqb x.term e.term) (x ∷ merged rest es) (e ∷ es) (λ z. length (e ∷ es) ≤ length z) (λ t. omega (arith, merged_long rest es)) (λ f. omega arith)
+
+  -- a repaired log reaches as far as the entries
+  pub repair_long : (log : List (Entry B)) (prev : ℕ) (es : List (Entry B)) → prev ≤ length log → prev + length es ≤ length (repair log prev es)
+  repair_long log prev es le =
+      omega (arith, length-append (take prev log) (merged (drop prev log) es), length-take prev log, merged_long (drop prev log) es)

@@ -7,5 +7,9 @@ pub mod Logs
 pub mod Batches
 pub mod Laws
 pub mod Votes
+pub mod Peers
+pub mod Padding
+pub mod Positions
 pub mod Node
 pub mod Seen
+pub mod Steps

@@ -1,34 +1,37 @@
 -- What the code's state is as plain data.
-use Rattle.std.specs.Prelude.{◌≡◌, List, ◌++◌}
+use Rattle.std.specs.Prelude.{◌≡◌, List}
+use Rattle.raft_log.specs.declared.entry.Entry.{Entry}
 use Rattle.raft_log.specs.declared.message.Message.{Message}
 use Rattle.raft_log.specs.declared.node_state.NodeState.{NodeState}
+use Rattle.raft_log.specs.declared.node_state.Standing.{Standing}
+use Rattle.raft_log.specs.Positions.{role_of, leader_of, live_of}
 use Rattle.raft_log.specs.Node.{Node}
 
--- the code keeps no list of what was sent
-abbrev pub seen : {B : Type 0} → NodeState B → List (Message B) → Node B
-seen s sent =
-    record {
-      boot = s.boot;
-      term = s.term;
-      vote = s.vote;
-      log = s.log;
-      role = s.role;
-      leader = s.leader;
-      commit = s.commit;
-      applied = s.applied;
-      voters = s.voters.items;
-      next = s.next.items;
-      matched = s.matched.items;
-      live = s.live;
-      attempts = s.attempts;
-      sent = sent;
-    }
-
 module _ {B : Type 0} where
-  -- a state comes to another by this step, and nothing is sent
-  abbrev pub Becomes : (Node B → Node B) → NodeState B → NodeState B → Type 0
-  Becomes step old new = (sent : List (Message B)) → seen new sent ≡ step (seen old sent)
+  -- the node with this standing and this log, which sent these messages so far
+  abbrev pub node_of : Standing → List (Entry B) → List (Message B) → Node B
+  node_of s log sent =
+      record {
+        boot = s.boot;
+        term = s.term;
+        vote = s.vote;
+        log = log;
+        role = role_of s.position;
+        leader = leader_of s.position;
+        commit = s.commit;
+        applied = s.applied;
+        voters = s.peers.voters;
+        next = s.peers.next;
+        matched = s.peers.matched;
+        live = live_of s.position;
+        attempts = s.attempts;
+        sent = sent;
+      }
 
-  -- the same, and these messages are sent
-  abbrev pub BecomesSending : (Node B → Node B) → NodeState B → List (Message B) → NodeState B → Type 0
-  BecomesSending step old messages new = (sent : List (Message B)) → seen new (sent ++ messages) ≡ step (seen old sent)
+  -- the code keeps no list of what was sent
+  abbrev pub seen : NodeState B → List (Message B) → Node B
+  seen state sent = node_of state.standing state.log sent
+
+  -- with the same log, the standing becomes this one by a step that sends nothing
+  abbrev pub Becomes : (Node B → Node B) → Standing → List (Entry B) → Standing → Type 0
+  Becomes step old log new = (sent : List (Message B)) → node_of new log sent ≡ step (node_of old log sent)

@@ -67,6 +67,12 @@ impl<B: Wire> Batch<B> {
         self.entries.as_slice()
     }
 
+    pub fn into_entries(self) -> Vec<Entry<B>>
+        ensures { result.items ≡ self.entries }
+    {
+        self.entries
+    }
+
     /// The sender's commit.
     pub fn commit(&self) -> Number
         ensures { result ≡ self.now.commit }

@@ -4,24 +4,32 @@
 mod batch;
 mod body;
 mod entry;
+mod group_size;
 mod laws;
 mod log;
 mod message;
 mod node_id;
 mod node_state;
+mod peers;
+mod position;
 mod role;
+mod step;
 
 pub use batch::Batch;
 pub use body::LoggedBody;
 pub use entry::Entry;
+pub use group_size::GroupSize;
 pub use laws::{
     the_first_conflict_cuts, what_does_not_conflict_is_added, what_stands_before_a_conflict_is_kept,
 };
 pub use log::Log;
 pub use message::{Kind, Message};
 pub use node_id::NodeId;
-pub use node_state::{Live, NodeState};
+pub use node_state::{Live, NodeState, Standing};
+pub use peers::Peers;
+pub use position::Position;
 pub use role::Role;
+pub use step::Step;
 
 #[cfg(test)]
 mod tests;

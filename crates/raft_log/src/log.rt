@@ -165,25 +165,48 @@ impl<B: Wire> Log<B> {
         ensures err { OnErr result (self.new ≡ self.old) }
     {
         let added = copied_all(*self.entries.allocator(), entries)?;
-        replace_tail(&mut self.entries, place.value() as usize, added)
+        self.put_behind(place, added)
     }
 
-    /// Takes entries that follow a place, as steps 3 and 4 of a receiver of AppendEntries do in Figure 2
-    /// of the Raft paper (section 5.3): the first that conflicts goes with all behind it, missing ones
-    /// are added.
-    pub fn repair(&mut self, prev: Number, entries: &[Entry<B>]) -> Result<(), AllocError>
-        requires within { prev ≤ length self.old }
-        requires room { prev + length entries.now ≤ entry_limit }
-        ensures ok { OnOk result (self.new ≡ repair self.old prev entries.now) }
+    /// These entries in the place of all that follow a place.
+    pub fn put_behind(&mut self, place: Number, entries: Vec<Entry<B>>) -> Result<(), AllocError>
+        requires within { place ≤ length self.old }
+        requires room { place + length entries.items ≤ entry_limit }
+        ensures ok { OnOk result (self.new ≡ take place self.old ++ entries.items) }
         ensures err { OnErr result (self.new ≡ self.old) }
     {
-        let count = self.standing(prev, entries);
+        replace_tail(&mut self.entries, place.value() as usize, entries)
+    }
+
+    /// How many entries stay where the log takes these behind a place, and which ones follow them, as
+    /// steps 3 and 4 of a receiver of AppendEntries say in Figure 2 of the Raft paper (section 5.3): the
+    /// first that conflicts goes with all behind it, missing ones are added.
+    pub fn repaired(&self, prev: Number, entries: Vec<Entry<B>>) -> (Number, Vec<Entry<B>>)
+        requires within { prev ≤ length self.now }
+        requires room { prev + length entries.items ≤ entry_limit }
+        ensures value { take result.0 self.now ++ result.1.items ≡ repair self.now prev entries.items }
+        ensures kept { result.0 ≤ length self.now }
+        ensures few { length result.1.items ≤ length entries.items }
+        ensures room { result.0 + length result.1.items ≤ entry_limit }
+    {
+        let count = self.standing(prev, &entries);
         // an append that stands already leaves what follows it, which a late copy of it must not cut
         if count == entries.len() {
-            return Ok(());
+            return (self.len(), Vec::new(*entries.allocator()));
         }
-        let place = Number::new(prev.value() + count as u64);
-        self.replace_from(place, &entries[count..])
+        let keep = Number::new(prev.value() + count as u64);
+        (keep, without_first(entries, count))
+    }
+
+    /// Takes entries that follow a place, as `repaired` says.
+    pub fn repair(&mut self, prev: Number, entries: Vec<Entry<B>>) -> Result<(), AllocError>
+        requires within { prev ≤ length self.old }
+        requires room { prev + length entries.items ≤ entry_limit }
+        ensures ok { OnOk result (self.new ≡ repair self.old prev entries.items) }
+        ensures err { OnErr result (self.new ≡ self.old) }
+    {
+        let (keep, rest) = self.repaired(prev, entries);
+        self.put_behind(keep, rest)
     }
 }
 
@@ -211,6 +234,15 @@ fn standing<B: Wire>(log: &[Entry<B>], prev: usize, entries: &[Entry<B>]) -> usi
         }
     }
     count
+}
+
+/// The items but for so many at the front.
+fn without_first<T: Drop>(mut items: Vec<T>, count: usize) -> Vec<T>
+    requires { count ≤ vec_len items }
+    ensures { result.items ≡ drop count items.items }
+{
+    items.drain(..count);
+    items
 }
 
 /// Puts these items in the place of all that follow so many.

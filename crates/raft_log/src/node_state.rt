@@ -1,39 +1,61 @@
-use crate::entry::Entry;
+ghost use Rattle.raft_log.specs.Node.{raised};
+ghost use Rattle.raft_log.specs.Seen.{Becomes};
+
 use crate::log::Log;
-use crate::role::Role;
+use crate::node_id::NodeId;
+use crate::peers::Peers;
+use crate::position::Position;
 use wire_bytes::{Number, SessionId, Wire};
 
 /// The upstream session that a leader holds, and the number of the next line heard in it.
-#[derive(Clone, Copy, Drop)]
+#[derive(Clone, Copy)]
 pub struct Live {
     pub id: SessionId,
     pub next: Number,
 }
 
-/// A node's own state. Boot, term, vote and log are saved; all else is as at start after a restart.
-///
-/// `voters`, `next` and `matched` are by node: that of node 1 is the first.
-#[derive(Drop)]
-pub struct NodeState<B: Wire> {
+/// A node's own state but for its log. Boot, term and vote are saved, with the log; all else is as at
+/// start after a restart.
+#[derive(Clone, Copy)]
+pub struct Standing {
     /// Which run of the node it is.
     pub boot: Number,
     pub term: Number,
-    pub vote: Option<u8>,
-    pub log: Log<B>,
-    pub role: Role,
-    /// The sender of the last Append of the current term.
-    pub leader: Option<u8>,
+    pub vote: Option<NodeId>,
+    pub position: Position,
     /// The place up to which entries are agreed, as far as the node knows.
     pub commit: Number,
     /// The place up to which entries were applied.
     pub applied: Number,
-    /// Of each node, whether its vote for this one came.
-    pub voters: Vec<bool>,
-    /// The place of the next entry for each node.
-    pub next: Vec<Number>,
-    /// The place up to which each node's log is known to be the own.
-    pub matched: Vec<Number>,
-    pub live: Option<Live>,
+    pub peers: Peers,
     /// How many sessions this run had.
     pub attempts: Number,
+}
+
+/// A node's own state.
+#[derive(Drop)]
+pub struct NodeState<B: Wire> {
+    pub standing: Standing,
+    pub log: Log<B>,
+}
+
+impl<B: Wire> NodeState<B> {
+    /// The standing that a message of this term is handled in. A larger term is taken, with no vote; the
+    /// node follows, and a session that it led is over: section 5.1 of the Raft paper, and "All Servers"
+    /// in its Figure 2.
+    pub fn raised(&self, term: Number) -> Standing
+        ensures { Becomes (λ s. raised s term) self.now.standing self.now.log result }
+    {
+        let standing = self.standing;
+        if standing.term < term {
+            Standing {
+                term,
+                vote: None,
+                position: Position::Follower(None),
+                ..standing
+            }
+        } else {
+            standing
+        }
+    }
 }

@@ -42,7 +42,9 @@ fn repaired(alloc: Global, prev: u8, term: u8) -> Result<Vec<u64>, AllocError> {
     let mut log = log_of(alloc, &[1, 1, 2])?;
     let prev = place(prev);
     if prev <= log.len() {
-        log.repair(prev, &[entry(term, 0)])?;
+        let mut entries = Vec::new(alloc);
+        entries.push(entry(term, 0))?;
+        log.repair(prev, entries)?;
     }
     terms_of(alloc, &log)
 }

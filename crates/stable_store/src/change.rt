@@ -94,6 +94,13 @@ impl<B: Wire> Change<B> {
     {
         self.entries.as_slice()
     }
+
+    /// Gives the entries that follow back, unchanged.
+    pub fn into_entries(self) -> Vec<Entry<B>>
+        ensures { result.items ≡ self.entries }
+    {
+        self.entries.into_vec()
+    }
 }
 
 impl<B: Wire> Copied for Change<B> {

@@ -41,6 +41,12 @@ impl<B: Wire> Entries<B> {
     {
         self.entries.as_slice()
     }
+
+    pub fn into_vec(self) -> Vec<Entry<B>>
+        ensures { result.items ≡ self }
+    {
+        self.entries
+    }
 }
 
 impl<B: Wire> Copied for Entries<B> {

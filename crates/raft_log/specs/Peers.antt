@@ -1,0 +1,31 @@
+-- What a node keeps of each node of its group, and the allowed sizes of a group.
+use Rattle.std.specs.Prelude.{◌≡◌, ℕ, ◌-◌, ◌⊎◌, Bool, false, List, ◌++◌, length, map, drop, replicate, nat_le}
+use Rattle.raft_log.specs.Votes.{majority}
+
+-- a group has 3, 5 or 7 nodes
+abbrev pub IsGroupSize : ℕ → Type 0
+IsGroupSize n = (n ≡ 3) ⊎ ((n ≡ 5) ⊎ (n ≡ 7))
+
+-- of each node, whether its vote came, the next place to send from, and the place up to which its log is known to be the same
+pub record PeerLists : Type 0 where
+  pub size : ℕ
+  pub voters : List Bool
+  pub next : List ℕ
+  pub matched : List ℕ
+
+-- at start: no vote came, and nothing is known of any log
+abbrev pub no_peers : ℕ → PeerLists
+no_peers size = record { size = size; voters = replicate size false; next = replicate size 0; matched = replicate size 0 }
+
+-- a majority's logs are known to be the same up to this place
+abbrev pub majority_has : PeerLists → ℕ → Bool
+majority_has p place = majority p.size (map (λ m. nat_le place m) p.matched)
+
+-- seven items that begin with these
+abbrev pub padded : {A : Type 0} → A → List A → List A
+padded x xs = xs ++ replicate (7 - length xs) x
+
+-- seven items, of which those past the size are all this one
+pub record IsPadded {A : Type 0} (x : A) (size : ℕ) (xs : List A) : Type 0 where
+  pub seven : length xs ≡ 7
+  pub rest : drop size xs ≡ replicate (7 - size) x

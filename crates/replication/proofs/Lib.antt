@@ -1,0 +1,4 @@
+pub mod Appends
+pub mod Asking
+pub mod Committing
+pub mod Places

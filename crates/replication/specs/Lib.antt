@@ -1,0 +1,2 @@
+pub mod Replication
+pub mod Committed

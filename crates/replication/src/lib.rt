@@ -1,0 +1,17 @@
+//! How entries come from a leader to the other nodes, and how they are committed: the steps of a node that sends them, takes them, is answered, or is given a body.
+#![tactic(auto)]
+
+mod append;
+mod bodies;
+mod replies;
+mod sends;
+mod vote;
+
+pub use append::on_append;
+pub use bodies::{ask, on_forward};
+pub use replies::{commit_place, on_append_reply};
+pub use sends::beat;
+pub use vote::on_vote;
+
+#[cfg(test)]
+mod tests;

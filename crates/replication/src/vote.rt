@@ -1,0 +1,30 @@
+ghost use Rattle.std.specs.Prelude.{IfOk};
+ghost use Rattle.raft_log.specs.Steps.{IsStep};
+ghost use Rattle.replication.specs.Replication.{on_vote};
+
+use crate::bodies::on_forward;
+use raft_log::{Log, LoggedBody, NodeId, Position, Standing, Step};
+use std::alloc::{AllocError, Global};
+use wire_bytes::{Number, Wire};
+
+/// Takes an answer to a request for a vote, as `election::on_vote` says. Where it makes the node leader,
+/// the log gets this blank body in the new term in the same step, if it has room: an entry of the own
+/// term is what a leader may commit (sections 5.4.2 and 8 of the Raft paper).
+pub fn on_vote<B: Wire>(
+    alloc: Global,
+    standing: Standing,
+    log: &Log<B>,
+    from: NodeId,
+    term: Number,
+    granted: bool,
+    blank: LoggedBody<B>,
+) -> Result<Step<B>, AllocError>
+    ensures { IfOk result (IsStep
+        (λ s. on_vote blank standing.peers.size s from term granted) standing log.now) }
+{
+    if let Position::Candidate = standing.position {
+        let known = election::on_vote(standing, log, from, term, granted);
+        return on_forward(alloc, known, log, blank);
+    }
+    Ok(Step::still(alloc, standing, log))
+}
