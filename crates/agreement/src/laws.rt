@@ -1,0 +1,27 @@
+//! What holds over every list of events of a group, for bodies of any type.
+ghost use Rattle.agreement.specs.Laws.{AgreedGrows, AllBrought, InAgreed, LeadersHold, LogsMatch};
+ghost use Rattle.agreement.specs.Laws.{OneLeader, OneList, OneRun, OneVote};
+ghost use Rattle.agreement.specs.Laws.{FullLeads, LeadsWithBlank, StopKeepsBlank};
+
+/// Over every list of timeouts, deliveries, losses, repeats, reorderings, requests, restarts and stops within a step,
+/// in a group of any size. Figure 3 of Raft's paper: election safety, leader append-only and log matching (`logs_match`),
+/// leader completeness (`leaders_hold`), state machine safety (`one_list`, `in_agreed`).
+pub fn the_nodes_agree<B>()
+    ensures one_list { (blank : B) → OneList B blank }
+    ensures in_agreed { (blank : B) → InAgreed B blank }
+    ensures agreed_grows { (blank : B) → AgreedGrows B blank }
+    ensures all_brought { (blank : B) → AllBrought B blank }
+    ensures one_leader { (blank : B) → OneLeader B blank }
+    ensures one_run { (blank : B) → OneRun B blank }
+    ensures one_vote { (blank : B) → OneVote B blank }
+    ensures logs_match { (blank : B) → LogsMatch B blank }
+    ensures leaders_hold { (blank : B) → LeadersHold B blank }
+{}
+
+/// Whatever makes a node a leader leaves a blank entry of its term behind its log, in the same step, so that a stop after
+/// that step keeps it. A full log takes none.
+pub fn a_new_leader_appends_a_blank_entry<B>()
+    ensures leads { (blank : B) → LeadsWithBlank B blank }
+    ensures full { (blank : B) → FullLeads B blank }
+    ensures stop { (blank : B) → StopKeepsBlank B blank }
+{}

@@ -1,0 +1,31 @@
+-- That a request is done leaves at most once.
+use Rattle.std.proofs.Common.{◌≡◌, ℕ, suc, ◌+◌, ◌≤◌, Bool, true, false, List, [], ◌∷◌, refl, arith}
+use Rattle.std.specs.Prelude.{if◌then◌else◌}
+use Rattle.machine_laws.specs.Runs.{all_effects}
+use Rattle.wire_bytes.specs.declared.origin.Origin.{Origin}
+use Rattle.buffer_commands.specs.Settings.{Settings}
+use Rattle.request_once.specs.Fresh.{dones, is_done}
+use Rattle.request_once.proofs.Stays.{stays_once}
+use Rattle.request_once.proofs.Answered as answered
+use Rattle.bouncer_tower.specs.Bodies.{TowerEffect, answers, client, claimed_effects}
+use Rattle.world_run.specs.World.{count}
+use Rattle.world_run.proofs.Holds as holds
+use Rattle.headline.specs.Tower.{tower}
+use Rattle.headline.specs.Promises.{bodies, DoneOnce, RequestsActOnce}
+
+one_more : (b : Bool) (k l : ℕ) → k ≡ l → (if b then suc k else k) ≡ (if b then l + 1 else l)
+one_more true k l e = omega (arith, e)
+one_more false k l e = e
+
+count_dones : (o : Origin) (n : ℕ) (es : List TowerEffect) → count (is_done o n) es ≡ dones o n es
+count_dones o n [] = refl
+count_dones o n (e ∷ es) = one_more (is_done o n e) (count (is_done o n) es) (dones o n es) (count_dones o n es)
+
+module _ (s : Settings) where
+  pub requests_act_once : RequestsActOnce s
+  requests_act_once size es o n = stays_once (bodies s size es) o n
+
+  pub done_once : DoneOnce s
+  done_once size es o n =
+      let few : dones o n (all_effects (answers s) (bodies s size es)) ≤ 1 = answered.done_once client (claimed_effects s) o n (bodies s size es) in
+      omega (arith, holds.no_more (tower s) size es (is_done o n), count_dones o n (all_effects (answers s) (bodies s size es)), few)

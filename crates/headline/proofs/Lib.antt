@@ -1,0 +1,4 @@
+pub mod Dones
+pub mod Hands
+pub mod Marks
+mod Cases

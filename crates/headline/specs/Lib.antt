@@ -1,0 +1,2 @@
+pub mod Tower
+pub mod Promises

@@ -1,0 +1,103 @@
+-- What holds of the bouncer over every list of events: requests act once, lines are handed once, confirmed looks are current.
+use Rattle.std.specs.Prelude.{true, false, ◌≡◌, ◌⊎◌, ◌<◌, ◌≤◌, ◌-◌, ℕ, pred, List, [], ◌∷◌, ◌++◌, length, take, Some, slice_get}
+use Rattle.irc_line.specs.Lines.{Parts}
+use Rattle.wire_bytes.specs.declared.origin.Origin.{Origin}
+use Rattle.wire_bytes.specs.declared.session_id.SessionId.{SessionId}
+use Rattle.wire_bytes.specs.declared.mark.Mark as mark
+use Rattle.machine_laws.specs.Runs.{History}
+use Rattle.buffer_commands.specs.Settings.{Settings}
+use Rattle.request_once.specs.declared.body.Body.TheVariants.{Mark}
+use Rattle.request_once.specs.Fresh.{fresh, times, is_done}
+use Rattle.bouncer_tower.specs.Bodies.{TowerBody, outgoing, claimed}
+use Rattle.bouncer_tower.specs.Hosting.{playback}
+use Rattle.raft_log.specs.declared.entry.Entry.{Entry}
+use Rattle.raft_log.specs.Lists.{item}
+use Rattle.raft_log.specs.Node.{Node}
+use Rattle.raft_node.specs.Machine.{history}
+use Rattle.raft_node.specs.Steps.{Out, Looked}
+use Rattle.agreement.specs.World.{Begins, committed}
+use Rattle.world_run.specs.World.{Input, Timeout, Beat, Deliver, Ask, Opened, Closed, Heard, Claim, Event, Does, Restart, StopIn, Look, Apply, count, moment, outputs, agreed, left, handed}
+use Rattle.headline.specs.Tower.{tower}
+
+module _ (s : Settings) where
+  -- the bodies that are agreed, each at its place
+  abbrev pub bodies : ℕ → List (Event (tower s)) → History TowerBody
+  bodies size es = history (agreed (tower s) size es)
+
+  -- this is what is agreed
+  abbrev pub IsAgreed : ℕ → List (Event (tower s)) → List (Entry TowerBody) → Type 0
+  IsAgreed size es entries = entries ≡ agreed (tower s) size es
+
+  -- this is what comes out
+  abbrev pub ComesOut : ℕ → List (Event (tower s)) → List (Out (tower s)) → Type 0
+  ComesOut size es outs = outs ≡ outputs (tower s) size es
+
+  -- of the requests that take effect no two have the same origin and number
+  abbrev pub RequestsActOnce : Type 0
+  RequestsActOnce = (size : ℕ) (es : List (Event (tower s))) (o : Origin) (n : ℕ) → times o n (fresh (bodies size es)) ≤ 1
+
+  -- and that one is done leaves at most once, of all nodes and all their runs
+  abbrev pub DoneOnce : Type 0
+  DoneOnce = (size : ℕ) (es : List (Event (tower s))) (o : Origin) (n : ℕ) → count (is_done o n) (left (tower s) size es) ≤ 1
+
+  -- the numbers of the lines that are handed upstream are all different
+  abbrev pub HandedOnce : Type 0
+  HandedOnce =
+      (size : ℕ) (es : List (Event (tower s))) (i j n : ℕ) (one other : Parts) →
+      slice_get (handed (tower s) size es) i ≡ Some (n, one) → slice_get (handed (tower s) size es) j ≡ Some (n, other) → i ≡ j
+
+  -- and each is a place and line of the outgoing lines of the agreed list, with a claim that took effect
+  abbrev pub HandedIsOutgoing : Type 0
+  HandedIsOutgoing =
+      (size : ℕ) (es : List (Event (tower s))) (i n : ℕ) (line : Parts) →
+      slice_get (handed (tower s) size es) i ≡ Some (n, line) →
+      (slice_get (outgoing s (bodies size es)) (n - 1) ≡ Some line) × ((c : ℕ) × (id : SessionId) × (slice_get (claimed s (bodies size es)) c ≡ Some (n, id)))
+
+  -- an event that asks for a mark
+  abbrev pub AsksIn : mark.Mark → Input (tower s) → Type 0
+  AsksIn m (Timeout i) = ⊥
+  AsksIn m (Beat i) = ⊥
+  AsksIn m (Deliver j k) = ⊥
+  AsksIn m (Ask i asked) = Mark m ≡ asked
+  AsksIn m (Opened i) = ⊥
+  AsksIn m (Closed i) = ⊥
+  AsksIn m (Heard i at line) = ⊥
+  AsksIn m (Claim i) = ⊥
+  AsksIn m (Apply i) = ⊥
+  AsksIn m (Look i from target) = ⊥
+
+  -- an event that does; a stop before its input is saved does not
+  abbrev pub Asks : mark.Mark → Event (tower s) → Type 0
+  Asks m (Does x) = AsksIn m x
+  Asks m (Restart i) = ⊥
+  Asks m (StopIn x false) = ⊥
+  Asks m (StopIn x true) = AsksIn m x
+
+  -- one of these events asks for it
+  abbrev pub IsAsked : mark.Mark → List (Event (tower s)) → Type 0
+  IsAsked m [] = ⊥
+  IsAsked m (e ∷ es) = Asks m e ⊎ IsAsked m es
+
+  -- a mark that no event asked so far: each of its places in what is agreed later is above all that any node has committed
+  abbrev pub MarksAreAbove : Type 0
+  MarksAreAbove =
+      (size : ℕ) (early late : List (Event (tower s))) (m : mark.Mark) (p : ℕ) (e : Entry TowerBody) →
+      (IsAsked m early → ⊥) → item (agreed (tower s) size (early ++ late)) p ≡ Some e → e.body ≡ Mark m →
+      (k a : ℕ) → length (committed (moment (tower s) size early k) a) < p
+
+  -- a node that has applied such a mark has applied, below it, all that any node had committed by then
+  abbrev pub AppliedMarks : Type 0
+  AppliedMarks =
+      (size : ℕ) (early late : List (Event (tower s))) (m : mark.Mark) (j c p : ℕ) (n : Node TowerBody) (e : Entry TowerBody) →
+      (IsAsked m early → ⊥) → item (moment (tower s) size (early ++ late) j) c ≡ Some n → item (take n.applied n.log) p ≡ Some e → e.body ≡ Mark m →
+      (k a : ℕ) → Begins (committed (moment (tower s) size early k) a) (take (pred p) (take n.applied n.log))
+
+  -- a look that is answered at or behind the place of such a mark is the playback of a list that begins with all that any node had committed by then
+  abbrev pub ConfirmedLooks : Type 0
+  ConfirmedLooks =
+      (size : ℕ) (early late : List (Event (tower s))) (m : mark.Mark) (p : ℕ) (e : Entry TowerBody) (j i from place : ℕ) (target : List ℕ) (lines : List (List ℕ)) →
+      (IsAsked m early → ⊥) → item (agreed (tower s) size (early ++ late)) p ≡ Some e → e.body ≡ Mark m → p ≤ place →
+      item (early ++ late) j ≡ Some (Does (Look i from target)) → item (outputs (tower s) size (early ++ late)) j ≡ Some (Looked place lines) →
+      (k a : ℕ) →
+      (lines ≡ playback s (history (take place (agreed (tower s) size (early ++ late)))) target)
+      × Begins (committed (moment (tower s) size early k) a) (take place (agreed (tower s) size (early ++ late)))

@@ -1,0 +1,10 @@
+//! What holds of the bouncer, replicated over a group of nodes, over every list of timeouts, deliveries, losses, repeats,
+//! reorderings, requests, upstream lines, restarts and stops.
+#![tactic(auto)]
+
+mod laws;
+
+pub use laws::{
+    confirmed_looks_are_current, lines_are_handed_once, playback_is_faithful, requests_act_once,
+    the_nodes_agree, the_tower_is_so_described,
+};

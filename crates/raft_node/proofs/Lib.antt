@@ -1,0 +1,9 @@
+pub mod ByMessage
+pub mod Items
+pub mod Fares
+pub mod Grows
+pub mod Sent
+pub mod Turns
+pub mod Unread
+pub mod Fits
+pub mod Keeps

@@ -1,0 +1,26 @@
+//! What one node keeps by its own steps alone, whatever it hears.
+ghost use Rattle.raft_node.specs.Sound.{BeginsSound, StaysSound, TurnKeepsApplied};
+ghost use Rattle.raft_node.specs.Sound.{SentGrows, SentIsNotRead};
+
+use crate::described::Described;
+use machine_laws::Hosted;
+
+/// A node begins sound, and whatever happens to it keeps it so: what it applied is committed, and that stands in its log;
+/// a live session is of the term in which it leads; it knows a leader only while it follows; its lists by node are of the
+/// group's size, and while it leads its next places and matches are within its log.
+pub fn a_node_stays_sound<M: Hosted>()
+    ensures begins { BeginsSound M.Command }
+    ensures stays { (s : M.Setup) → StaysSound (⟦<M as Described>⟧.machine s) }
+{}
+
+/// In a turn of a sound node the bodies that were applied stay in their places, and at most one more is applied.
+pub fn a_turn_keeps_what_was_applied<M: Hosted>()
+    ensures { (s : M.Setup) → TurnKeepsApplied (⟦<M as Described>⟧.machine s) }
+{}
+
+/// What a node sent stays at its number, restarts included, and what it sends names it. Nothing reads what was sent: each
+/// event only adds to it.
+pub fn what_was_sent_stays_and_is_not_read<M: Hosted>()
+    ensures grows { (s : M.Setup) → SentGrows (⟦<M as Described>⟧.machine s) }
+    ensures is_not_read { (s : M.Setup) → SentIsNotRead (⟦<M as Described>⟧.machine s) }
+{}

@@ -1,0 +1,10 @@
+//! One node of a group that agrees on a log by Raft, with the machine that it hosts.
+#![tactic(auto)]
+
+mod described;
+mod laws;
+
+pub use described::Described;
+pub use laws::{
+    a_node_stays_sound, a_turn_keeps_what_was_applied, what_was_sent_stays_and_is_not_read,
+};

@@ -1,0 +1,9 @@
+pub mod Lowers
+pub mod Tallies
+pub mod Places
+pub mod Leaving
+pub mod Holds
+pub mod Answers
+pub mod Above
+pub mod Elects
+pub mod Soundness

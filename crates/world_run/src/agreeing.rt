@@ -1,0 +1,46 @@
+//! That the nodes agree, over every list of events.
+ghost use Rattle.world_run.specs.Laws.{AgreedGrows, EachBrought, InAgreed, OneList};
+ghost use Rattle.world_run.specs.Laws.{LeadersHold, LogsMatch, OneLeader, OneVote};
+ghost use Rattle.world_run.specs.Laws.{FullLeads, LeadsWithBlank, StopKeepsBlank};
+
+use machine_laws::Hosted;
+use raft_node::Described;
+
+/// Of what any two nodes commit at any two moments, one list begins the other; what a node commits begins the agreed list,
+/// of which nothing is ever taken back, and each body in it is blank or was brought by an event. State machine safety of
+/// Raft's paper, Figure 3.
+pub fn committed_lists_agree<M: Hosted>()
+    ensures one_list { (s : M.Setup) → OneList (⟦<M as Described>⟧.machine s) }
+    ensures in_agreed { (s : M.Setup) → InAgreed (⟦<M as Described>⟧.machine s) }
+    ensures agreed_grows { (s : M.Setup) → AgreedGrows (⟦<M as Described>⟧.machine s) }
+    ensures each_brought { (s : M.Setup) → EachBrought (⟦<M as Described>⟧.machine s) }
+{}
+
+/// A term has at most one leader, at all moments together, and it leads in one run. Election safety of Raft's paper,
+/// Figure 3.
+pub fn one_leader_a_term<M: Hosted>()
+    ensures { (s : M.Setup) → OneLeader (⟦<M as Described>⟧.machine s) }
+{}
+
+/// A node's vote in a term stays, restarts included. Raft's paper, section 5.2.
+pub fn a_vote_is_never_changed<M: Hosted>()
+    ensures { (s : M.Setup) → OneVote (⟦<M as Described>⟧.machine s) }
+{}
+
+/// Two logs that have the same term at a place are the same up to it. Log matching of Raft's paper, Figure 3.
+pub fn logs_match<M: Hosted>()
+    ensures { (s : M.Setup) → LogsMatch (⟦<M as Described>⟧.machine s) }
+{}
+
+/// What a node commits stands in the log of each leader of a later term. Leader completeness of Raft's paper, Figure 3.
+pub fn later_leaders_hold_what_is_committed<M: Hosted>()
+    ensures { (s : M.Setup) → LeadersHold (⟦<M as Described>⟧.machine s) }
+{}
+
+/// Whatever makes a node a leader leaves a blank entry of its term behind its log, in the same step; a stop after that step
+/// keeps the entry, a stop before it nothing. A full log takes none, and its node leads without. Raft's paper, section 8.
+pub fn a_new_leader_appends_a_blank_entry<M: Hosted>()
+    ensures leads { (s : M.Setup) → LeadsWithBlank (⟦<M as Described>⟧.machine s) }
+    ensures full { (s : M.Setup) → FullLeads (⟦<M as Described>⟧.machine s) }
+    ensures stop { (s : M.Setup) → StopKeepsBlank (⟦<M as Described>⟧.machine s) }
+{}

@@ -1,0 +1,15 @@
+//! What a body that is asked now tells of what was committed before.
+ghost use Rattle.world_run.specs.Laws.{AppliedHas, ConfirmedHas, LaterIsAbove, LookHas};
+
+use machine_laws::Hosted;
+use raft_node::Described;
+
+/// A body, not blank, that no event brought so far: each of its places in the agreed list is above all that any node has
+/// committed by now. So a node that has committed it, has applied it, or answers a look at its place or behind it, has all
+/// of that.
+pub fn what_is_asked_later_stands_above<M: Hosted>()
+    ensures above { (s : M.Setup) → LaterIsAbove (⟦<M as Described>⟧.machine s) }
+    ensures confirmed { (s : M.Setup) → ConfirmedHas (⟦<M as Described>⟧.machine s) }
+    ensures applied { (s : M.Setup) → AppliedHas (⟦<M as Described>⟧.machine s) }
+    ensures look { (s : M.Setup) → LookHas (⟦<M as Described>⟧.machine s) }
+{}

@@ -1,0 +1,17 @@
+//! Groups of whole nodes, over every list of events, for every machine that keeps the laws.
+#![tactic(auto)]
+
+mod agreeing;
+mod confirmed;
+mod event;
+mod faithful;
+mod running;
+
+pub use agreeing::{
+    a_new_leader_appends_a_blank_entry, a_vote_is_never_changed, committed_lists_agree,
+    later_leaders_hold_what_is_committed, logs_match, one_leader_a_term,
+};
+pub use confirmed::what_is_asked_later_stands_above;
+pub use event::{Event, Input};
+pub use faithful::{no_more_leaves_than_is_agreed, what_leaves_is_of_the_agreed_list};
+pub use running::{each_node_is_sound, runs_are_apart, sessions_are_apart};
