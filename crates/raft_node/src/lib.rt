@@ -2,9 +2,15 @@
 #![tactic(auto)]
 
 mod described;
+mod input;
 mod laws;
+mod node;
+mod node_fault;
 
 pub use described::Described;
+pub use input::{Input, Looked, Output};
 pub use laws::{
     a_node_stays_sound, a_turn_keeps_what_was_applied, what_was_sent_stays_and_is_not_read,
 };
+pub use node::Node;
+pub use node_fault::{Cause, NodeFault};
