@@ -8,4 +8,5 @@ pub mod Inputs
 pub mod Parts
 pub mod Kept
 pub mod Stepping
+pub mod Stood
 pub mod Starting

@@ -60,6 +60,7 @@ module _ {Store B : Type 0} (k : Keeper Store B) where
   -- A run began over a store, or did not.
   pub record IsBegun (size : ℕ) (old : Store) (result : Result (NodeState B) NodeFault) (new : Store) : Type 0 where
     pub honest : (k.condition new).honest ≡ (k.condition old).honest
+    pub counts : (k.condition old).failures ≤ (k.condition new).failures
     pub answers : HasBegun size old result new
     pub may_begin : MayBegin size old new
 

@@ -1,11 +1,15 @@
 //! One node of a group that agrees on a log by Raft, with the machine that it hosts.
 #![tactic(auto)]
 
+mod begin;
 mod described;
 mod input;
+mod keep;
 mod laws;
+mod leaving;
 mod node;
 mod node_fault;
+mod prepare;
 
 pub use described::Described;
 pub use input::{Input, Looked, Output};

@@ -1,18 +1,27 @@
 //! One node with what it keeps: its state, its machine and its store.
-ghost use Rattle.std.specs.Prelude.{◌≡◌, ◌≤◌, take};
-ghost use Rattle.raft_node.specs.Parts.{IsWhole, keeper};
+ghost use Rattle.std.specs.Prelude.{◌≡◌, ◌≤◌, false, length, take, IfOk, None};
+ghost use Rattle.node_steps.specs.Plans.{IsPrepared};
+ghost use Rattle.raft_node.specs.Inputs.{bodies, input_plan, is_apply};
+ghost use Rattle.raft_node.specs.Parts.{IsWhole, applied_bodies, keeper, size_of};
+ghost use Rattle.raft_node.specs.Kept.{MayStand};
 ghost use Rattle.raft_node.specs.Stepping.{IsLooked, IsStepped};
+ghost use Rattle.raft_node.specs.Stood.{IsApplied, IsStood};
 ghost use Rattle.raft_node.specs.Starting.{IsRestarted, IsStarted};
 
+use crate::begin::{begin, begin_again};
 use crate::described::Described;
 use crate::input::{Input, Looked, Output};
+use crate::keep::keep;
+use crate::leaving::leaving;
 use crate::node_fault::{Cause, NodeFault};
-use machine_laws::Hosted;
-use raft_log::{Entry, GroupSize, NodeId, NodeState};
+use crate::prepare::prepare;
+use machine_laws::{Hosted, Machine};
+use node_steps::{Refusal, Unprepared};
+use raft_log::{Entry, GroupSize, NodeId, NodeState, Step};
 use stable_store::Stable;
 use std::alloc::Global;
 use std::marker::Model;
-use wire_bytes::{Copied, Number};
+use wire_bytes::{Copied, Number, Wire};
 
 /// A node of a group, with the machine that it hosts and the store that it keeps.
 ///
@@ -62,7 +71,20 @@ impl<M: Hosted, S: Stable<M::Command>> Node<M, S> {
         requires { id ≤ size }
         ensures { IsStarted (keeper S.saved S.may_stand S.condition) id size setup.now store result }
     {
-        Err(NodeFault::Down(Cause::Memory))
+        let mut store = store;
+        id.value();
+        let setup = setup.copy(alloc)?;
+        let machine = M::start(alloc, &setup)?;
+        let state = begin(alloc, &mut store, size)?;
+        Ok(Node {
+            alloc,
+            id,
+            setup,
+            machine,
+            store,
+            state,
+            down: None,
+        })
     }
 
     /// The node stops, and begins its next run, over what its store holds. Where that fails it is down:
@@ -70,8 +92,26 @@ impl<M: Hosted, S: Stable<M::Command>> Node<M, S> {
     pub fn restart(&mut self) -> Result<(), NodeFault>
         ensures { IsRestarted (keeper S.saved S.may_stand S.condition) self.old result self.new }
     {
-        self.down = Some(Cause::Memory);
-        Err(NodeFault::Down(Cause::Memory))
+        let machine = match M::start(self.alloc, &self.setup) {
+            Ok(machine) => machine,
+            Err(_) => {
+                self.down = Some(Cause::Memory);
+                return Err(NodeFault::Down(Cause::Memory));
+            }
+        };
+        let size = self.state.standing.peers.size();
+        match begin_again(self.alloc, &mut self.store, size) {
+            Ok(state) => {
+                self.machine = machine;
+                self.state = state;
+                self.down = None;
+                Ok(())
+            }
+            Err(fault) => {
+                self.down = Some(fault.cause());
+                Err(fault)
+            }
+        }
     }
 
     /// What happens to it, done and saved. What changes term, vote or log is saved before anything
@@ -86,8 +126,96 @@ impl<M: Hosted, S: Stable<M::Command>> Node<M, S> {
         if let Some(cause) = self.down {
             return Err(NodeFault::Down(cause));
         }
-        self.down = Some(Cause::Memory);
-        Err(NodeFault::Down(Cause::Memory))
+        if input.is_apply() {
+            return self.apply();
+        }
+        match self.plan(input) {
+            Ok(step) => self.stand(step),
+            Err(Unprepared::Refused(refusal)) => Err(NodeFault::Refused(refusal)),
+            Err(Unprepared::Memory) => {
+                self.down = Some(Cause::Memory);
+                Err(NodeFault::Down(Cause::Memory))
+            }
+        }
+    }
+
+    /// What it is about to do. Nothing changes.
+    fn plan(
+        &self,
+        input: Input<M::Command, M::Line>,
+    ) -> Result<Step<M::Command>, Unprepared>
+        requires up { self.now.down ≡ None }
+        requires saves { is_apply input ≡ false }
+        ensures planned { IsPrepared
+            (input_plan (bodies M.blank M.opened M.shut M.heard M.claim M.source)
+                (M.next_claim self.now.setup (applied_bodies self.now.state))
+                (size_of self.now.state) self.now.id input)
+            self.now.state.standing self.now.state.log result }
+        ensures may { IfOk result (MayStand self.now.state) }
+    {
+        match prepare::<M>(self.alloc, self.id, &self.state, &self.machine, input) {
+            Ok(step) => {
+                has_size(&step);
+                Ok(step)
+            }
+            Err(fault) => Err(fault),
+        }
+    }
+
+    /// Saves a step, and then makes it stand.
+    fn stand(
+        &mut self,
+        step: Step<M::Command>,
+    ) -> Result<Output<M::Command, M::Effect>, NodeFault>
+        requires up { self.old.down ≡ None }
+        requires may { MayStand self.old.state step }
+        ensures { IsStood (keeper S.saved S.may_stand S.condition) step self.old result self.new }
+    {
+        match keep(&mut self.store, &mut self.state, step) {
+            Ok(messages) => Ok(Output {
+                messages,
+                place: Number::new(0),
+                effects: Vec::new(self.alloc),
+            }),
+            Err(cause) => {
+                self.down = Some(cause);
+                Err(NodeFault::Down(cause))
+            }
+        }
+    }
+
+    /// The next entry is applied, where it is committed.
+    fn apply(&mut self) -> Result<Output<M::Command, M::Effect>, NodeFault>
+        requires up { self.old.down ≡ None }
+        ensures { IsApplied M.effects M.class (keeper S.saved S.may_stand S.condition)
+            self.old result self.new }
+    {
+        let standing = self.state.standing;
+        let applied = standing.applied.value();
+        if standing.commit.value() <= applied {
+            return Ok(Output {
+                messages: Vec::new(self.alloc),
+                place: Number::new(0),
+                effects: Vec::new(self.alloc),
+            });
+        }
+        let place = Number::new(applied + 1);
+        let entry = self.state.log.entry(place);
+        match self.machine.apply(place.value(), entry.body.get()) {
+            Ok(effects) => {
+                self.state.standing.applied = place;
+                let live = standing.position.live();
+                Ok(Output {
+                    messages: Vec::new(self.alloc),
+                    place,
+                    effects: leaving::<M>(self.id, standing.boot, live, effects),
+                })
+            }
+            Err(_) => {
+                self.down = Some(Cause::Memory);
+                Err(NodeFault::Down(Cause::Memory))
+            }
+        }
     }
 
     /// The playback of a target by what was applied, where that reaches to a place; before it, `Behind`.
@@ -103,7 +231,14 @@ impl<M: Hosted, S: Stable<M::Command>> Node<M, S> {
         if let Some(cause) = self.down {
             return Err(NodeFault::Down(cause));
         }
-        Err(NodeFault::Down(Cause::Memory))
+        let place = self.state.standing.applied;
+        if place < from_place {
+            return Err(NodeFault::Refused(Refusal::Behind(place)));
+        }
+        match self.machine.playback(target) {
+            Ok(lines) => Ok(Looked { place, lines }),
+            Err(_) => Err(NodeFault::Down(Cause::Memory)),
+        }
     }
 
     pub fn id(&self) -> NodeId
@@ -140,4 +275,12 @@ impl<M: Hosted, S: Stable<M::Command>> Node<M, S> {
     {
         let _ = &self.down;
     }
+}
+
+/// Does nothing. A step keeps an item for each node of the group.
+fn has_size<B: Wire>(step: &Step<B>)
+    ensures { length step.now.standing.peers.voters ≡ step.now.standing.peers.size }
+{
+    let peers = step.standing.peers;
+    peers.has_size();
 }

@@ -1,6 +1,6 @@
 //! Why a call of a node failed.
 ghost use Rattle.std.specs.Prelude.{◌≡◌};
-ghost use Rattle.raft_node.specs.Faults.{cause_of, fault_number};
+ghost use Rattle.raft_node.specs.Faults.{cause_after, cause_of, fault_number};
 
 use node_steps::Refusal;
 use stable_store::StoreFault;
@@ -42,6 +42,16 @@ pub enum NodeFault {
 }
 
 impl NodeFault {
+    /// Why a node is down after this fault of a restart: what it can't begin from is its store's fault.
+    pub fn cause(&self) -> Cause
+        ensures { result ≡ cause_after self.now }
+    {
+        match self {
+            NodeFault::Down(cause) => *cause,
+            NodeFault::Refused(_) => Cause::Store,
+        }
+    }
+
     /// From 1 to 7, as they are printed.
     pub fn number(self) -> u8
         ensures { result ≡ fault_number self }
@@ -55,5 +65,16 @@ impl NodeFault {
             NodeFault::Refused(Refusal::Behind(_)) => 6,
             NodeFault::Refused(Refusal::BadOrigin) => 7,
         }
+    }
+}
+
+impl From<AllocError> for NodeFault {
+    ghost use Rattle.raft_node.specs.declared.node_fault.Cause.TheVariants.{Memory};
+    ghost use Rattle.raft_node.specs.declared.node_fault.NodeFault.TheVariants.{Down};
+
+    ghost from_gives = { λ _ e. e ≡ Down Memory };
+
+    fn from(_: AllocError) -> Self {
+        NodeFault::Down(Cause::Memory)
     }
 }
