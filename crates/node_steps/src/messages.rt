@@ -55,6 +55,7 @@ fn raised<B: Wire>(state: &NodeState<B>, term: Number) -> Standing
     ensures group { result.peers ≡ state.now.standing.peers }
 {
     let raised = state.raised(term);
+    // what is known of the others stays; so does the size, of which `raised` tells nothing
     Standing {
         peers: state.standing.peers,
         ..raised
