@@ -4,8 +4,9 @@ ghost use Rattle.raft_log.specs.Node.{is_leader};
 ghost use Rattle.raft_log.specs.Positions.{role_of};
 ghost use Rattle.node_steps.specs.Plans.{IsPrepared, own_plan};
 
+use crate::refusal::Refusal;
 use crate::unprepared::Unprepared;
-use raft_log::{Live, Log, LoggedBody, Standing, Step};
+use raft_log::{Live, Log, LoggedBody, Position, Standing, Step};
 use std::alloc::Global;
 use wire_bytes::{Number, Wire};
 
@@ -23,5 +24,23 @@ pub(crate) fn append_own<B: Wire>(
     requires { is_leader (role_of standing.position) ≡ true }
     ensures { IsPrepared (own_plan live attempts body) standing log.now result }
 {
-    Err(Unprepared::Memory)
+    if log.is_full() {
+        return Err(Unprepared::Refused(Refusal::LogFull));
+    }
+    let led = Standing {
+        position: Position::Leader(live),
+        attempts,
+        ..standing
+    };
+    Ok(replication::on_forward(alloc, led, log, body)?)
+}
+
+/// Whether a node leads.
+pub(crate) fn leads(standing: &Standing) -> bool
+    ensures { result ≡ is_leader (role_of standing.now.position) }
+{
+    match standing.position {
+        Position::Leader(_) => true,
+        Position::Follower(_) | Position::Candidate => false,
+    }
 }
