@@ -1,5 +1,5 @@
 -- What a node does by its plan is its turn.
-use Rattle.std.proofs.Common.{◌≡◌, ℕ, zero, suc, false, List, [], ◌++◌, inl, inr, Option, None, Some, Result, Ok, Err, refl, sym, ap, subst, ◌∙◌, arith}
+use Rattle.std.proofs.Common.{◌≡◌, ℕ, zero, suc, false, List, [], ◌++◌, inl, None, Result, Ok, Err, refl, sym, ap, subst, ◌∙◌, arith}
 use Rattle.raft_log.specs.declared.message.Message.{Message}
 use Rattle.raft_log.specs.declared.node_state.NodeState.{NodeState}
 use Rattle.raft_log.specs.declared.step.Step.{Step}
@@ -15,9 +15,9 @@ use Rattle.raft_node.specs.declared.node_fault.NodeFault.TheVariants.{Down, Refu
 use Rattle.raft_node.specs.Inputs.{act_of, bodies_of, input_plan, is_apply}
 use Rattle.raft_node.specs.Machine.{Machine}
 use Rattle.raft_node.specs.Parts.{Keeper, MayHold, Parts, applied_bodies, size_of}
-use Rattle.raft_node.specs.Stepping.{IsSameNode, IsStepped, given, turned}
-use Rattle.raft_node.specs.Steps.{Out, Quiet, Turn, quiet, refused}
-use Rattle.raft_node.specs.Stood.{IsStood, Stands, Falls}
+use Rattle.raft_node.specs.Stepping.{IsStepped, given, turned}
+use Rattle.raft_node.specs.Steps.{Out, Quiet, Turn, quiet}
+use Rattle.raft_node.specs.Stood.{IsStood, Stands}
 use Rattle.raft_node.proofs.Planned.{turn_goes, turn_declines}
 
 module _ (M : Machine) {Setup Hosted Store : Type 0} (k : Keeper Store M.Body) (input : Input M.Body M.Line) (saves : is_apply input ≡ false)
@@ -68,6 +68,7 @@ module _ (M : Machine) {Setup Hosted Store : Type 0} (k : Keeper Store M.Body) (
   pub declined : (refusal : Refusal) → ((sent : List (Message M.Body)) → plan (node_of old.state.standing old.state.log sent) ≡ Declines refusal)
       → (new : Parts Setup Hosted Store M.Body) → new ≡ old → IsStepped M k input old (Err (Refused refusal)) new
   declined refusal h new e =
-      subst (λ (x : Parts Setup Hosted Store M.Body). IsStepped M k input old (Err (Refused refusal)) x) (sym e)
-      (record { was_up = up; turns = λ sent. turn_declines M (seen old.state sent) (size_of old.state) old.id input saves refusal (h sent); same = refl },
-      record { id = refl; setup = refl; size = refl; honest = refl })
+      subst (λ (x : Parts Setup Hosted Store M.Body). IsStepped M k input old (Err (Refused refusal)) x) (sym e) (
+        record { was_up = up; turns = λ sent. turn_declines M (seen old.state sent) (size_of old.state) old.id input saves refusal (h sent); same = refl },
+        record { id = refl; setup = refl; size = refl; honest = refl },
+      )

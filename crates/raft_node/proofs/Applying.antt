@@ -1,24 +1,21 @@
 -- The next entry comes to a node's machine.
-use Rattle.std.proofs.Common.{◌≡◌, ℕ, zero, suc, ◌+◌, ◌-◌, ◌<◌, ◌≤◌, ◌⊎◌, inl, inr, false, true, List, [], ◌∷◌, ◌++◌, Option, None, Some, Result, Ok, length, map, take, refl, sym, ap, subst, ◌∙◌, arith, length-take}
+use Rattle.std.proofs.Common.{◌≡◌, ℕ, zero, suc, ◌+◌, ◌<◌, inr, List, [], ◌∷◌, ◌++◌, None, Some, Result, Ok, length, map, take, refl, sym, ap, subst, ◌∙◌, arith, length-take}
 use Rattle.std.specs.Prelude.{filter}
 use Rattle.std.proofs.lemmas.List.{map-append, length-map}
 use Rattle.irc_line.specs.Lines.{Parts as LineParts}
 use Rattle.machine_laws.specs.declared.class.Class.{Class}
-use Rattle.machine_laws.specs.Runs.{History, came, run}
+use Rattle.machine_laws.specs.Runs.{History, run}
 use Rattle.machine_laws.proofs.Come.{came_one_more}
 use Rattle.raft_log.specs.declared.entry.Entry.{Entry}
 use Rattle.raft_log.specs.declared.node_state.NodeState.{NodeState}
 use Rattle.raft_log.specs.Lists.{item}
 use Rattle.raft_log.specs.Positions.{live_of}
-use Rattle.raft_log.specs.Seen.{seen}
 use Rattle.raft_node.specs.declared.input.Output.{Output}
 use Rattle.raft_node.specs.declared.node_fault.NodeFault.{NodeFault}
 use Rattle.raft_node.specs.Machine.{history}
-use Rattle.raft_node.specs.Parts.{Holds, IsWhole, Keeper, Parts, applied_bodies, size_of}
-use Rattle.raft_node.specs.Sound.{IsSound}
+use Rattle.raft_node.specs.Parts.{IsWhole, Keeper, Parts, applied_bodies}
 use Rattle.raft_node.specs.Steps.{leaves}
-use Rattle.raft_node.specs.Stepping.{IsSameNode}
-use Rattle.raft_node.specs.Stood.{Applies, IsApplied, IsIdle, one_applied}
+use Rattle.raft_node.specs.Stood.{IsApplied, one_applied}
 
 module _ {B : Type 0} where
   item_in : (log : List (Entry B)) (n : ℕ) (e : Entry B) → item log (suc n) ≡ Some e → n < length log
@@ -80,17 +77,19 @@ module _ {Setup Hosted Store B : Type 0} (stands : Hosted → Setup → History 
             → output.effects.items ≡ filter (λ x. leaves n.id n.state.standing.boot (live_of n.state.standing.position) (class x)) (effects n.setup (applied_bodies n.state) (suc n.state.standing.applied) e.body)
             → IsApplied effects class k n answered (next machine (one_applied n.state))
         one_applies machine m p f = (
-          (m,
-          inr (record {
-            entry = e;
-            committed = lt;
-            stood = at;
-            place = p;
-            effects_are = f;
-            state = refl;
-            is_up = up_here;
-            holds = w.holds up_here;
-          })),
+          (
+            m,
+            inr (record {
+              entry = e;
+              committed = lt;
+              stood = at;
+              place = p;
+              effects_are = f;
+              state = refl;
+              is_up = up_here;
+              holds = w.holds up_here;
+            }),
+          ),
           record { id = refl; setup = refl; size = refl; honest = refl },
         )
 

@@ -1,5 +1,5 @@
 -- A run begins over a store.
-use Rattle.std.proofs.Common.{◌≡◌, ℕ, suc, ◌+◌, ◌<◌, ◌≤◌, ◌^◌, ◌↔◌, ◌⊎◌, List, [], ◌++◌, inl, inr, ⊎_elim, IsTrue, Bool, true, false, length, take, Option, Result, Ok, Err, refl, sym, ap, subst, ◌∙◌, arith, append-nil}
+use Rattle.std.proofs.Common.{◌≡◌, ℕ, suc, ◌≤◌, ◌↔◌, ◌⊎◌, List, [], ◌++◌, inl, inr, ⊎_elim, IsTrue, Bool, true, false, length, take, Option, Result, Ok, Err, sym, ap, subst, ◌∙◌, arith, append-nil}
 use Rattle.std.proofs.Math.Seq.{take-length}
 use Rattle.std.proofs.lemmas.Bool.{cases_lt}
 use Rattle.node_steps.specs.declared.refusal.Refusal.TheVariants.{LogFull, TermsSpent, NoLeader, Behind, BadOrigin}
@@ -16,7 +16,7 @@ use Rattle.raft_node.specs.declared.node_fault.Cause.TheVariants.{Store as Store
 use Rattle.raft_node.specs.declared.node_fault.NodeFault.{NodeFault}
 use Rattle.raft_node.specs.declared.node_fault.NodeFault.TheVariants.{Down, Refused}
 use Rattle.raft_node.specs.Kept.{IsTaken, MayTake}
-use Rattle.raft_node.specs.Parts.{Holds, Keeper, saved_by}
+use Rattle.raft_node.specs.Parts.{Keeper, saved_by}
 use Rattle.raft_node.specs.Starting.{BeganWith, HasBegun, IsBegun, MayFail, begun}
 
 module _ {B : Type 0} (size : ℕ) (v : Saved B) (state : NodeState B) (began : BeganWith size v state) where
@@ -92,13 +92,14 @@ module _ {Store B : Type 0} (k : Keeper Store B) (sure : (s : Store) (v : Saved 
     begins_saved {A} a x e s h =
         let t : IsTaken k old c new (done a) = subst (λ (y : ChangeParts B). IsTaken k old y new (done a)) e h in
         record {
-          honest = t.honest; counts = t.counts;
+          honest = t.honest;
+          counts = t.counts;
           answers = (
             (v, stood, began, s),
             λ honest.
-            let was : IsHonest (k.condition old) = subst (λ (b : Bool). IsTrue b) t.honest honest in
-            let d = t.done was in
-            (d.0, d.1 ∙ saved_now was),
+                let was : IsHonest (k.condition old) = subst (λ (b : Bool). IsTrue b) t.honest honest in
+                let d = t.done was in
+                (d.0, d.1 ∙ saved_now was),
           );
           may_begin = after_save (done a) t;
         }

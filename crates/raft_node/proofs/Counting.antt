@@ -1,8 +1,7 @@
 -- A session's next line is not past the entries, whatever its node plans.
-use Rattle.std.proofs.Common.{◌≡◌, ℕ, suc, ◌+◌, ◌≤◌, Bool, true, false, ◌&&◌, ◌||◌, not, if◌then◌else◌, ltb, leb, eqb, List, [], ◌∷◌, ◌++◌, Option, Some, None, length, drop, ◌-◌, refl, sym, ap, subst, ◌∙◌, arith, length-append}
+use Rattle.std.proofs.Common.{◌≡◌, ℕ, suc, ◌≤◌, Bool, true, false, ◌&&◌, ◌||◌, not, ltb, leb, eqb, [], ◌∷◌, Option, Some, None, length, drop, ◌-◌, refl, sym, ap, subst, ◌∙◌, arith, length-append}
 use Rattle.std.specs.Prelude.{◌^◌}
-use Rattle.std.proofs.lemmas.Bool.{cond_both, and_parts}
-use Rattle.raft_log.specs.declared.entry.Entry.{Entry}
+use Rattle.std.proofs.lemmas.Bool.{cond_both}
 use Rattle.raft_log.specs.declared.message.Kind.{Kind}
 use Rattle.raft_log.specs.declared.message.Kind.TheVariants.{RequestVote, Vote, Append, AppendReply, Forward}
 use Rattle.raft_log.specs.declared.message.Message.{Message}
@@ -16,7 +15,6 @@ use Rattle.election.specs.Elections as election
 use Rattle.election.specs.Elections.{timed_out, leading}
 use Rattle.replication.specs.Replication.{beat, with_match, advanced, stepped_back, on_forward, forwarded, ask}
 use Rattle.node_steps.specs.Messages.{handled, is_heard, on_message}
-use Rattle.node_steps.specs.declared.refusal.Refusal.{Refusal}
 use Rattle.node_steps.specs.declared.refusal.Refusal.TheVariants.{LogFull, TermsSpent, NoLeader, BadOrigin}
 use Rattle.node_steps.specs.Asking.{is_full, may_ask, finds_leader, new_session}
 use Rattle.node_steps.specs.Plans.{CountsLines, Plan, Goes, Declines, own_plan, ask_plan, opening, closing, hearing, claiming}

@@ -1,8 +1,7 @@
 -- A step of a state is saved, or needs no save.
-use Rattle.std.proofs.Common.{◌≡◌, ℕ, ◌≤◌, ◌↔◌, List, [], ◌∷◌, ◌++◌, inl, inr, length, take, Option, Result, Ok, Err, refl, sym, ap, subst, ◌∙◌, arith, append-nil, Bool, true, false, IsTrue, ⊎_elim}
+use Rattle.std.proofs.Common.{◌≡◌, ℕ, ◌↔◌, List, [], ◌∷◌, ◌++◌, inl, inr, length, take, Option, Result, Ok, Err, refl, sym, ap, subst, ◌∙◌, arith, append-nil, Bool, true, false, IsTrue, ⊎_elim}
 use Rattle.std.specs.Prelude.{OnErr, OnOk}
 use Rattle.std.specs.Result.{is_err}
-use Rattle.std.proofs.Math.Seq.{take-length}
 use Rattle.std.proofs.lemmas.List.{take_all}
 use Rattle.raft_log.specs.declared.entry.Entry.{Entry}
 use Rattle.raft_log.specs.declared.node_state.NodeState.{NodeState}
@@ -49,9 +48,11 @@ module _ {Store B : Type 0} (k : Keeper Store B) where
   pub may_take : (store : Store) (state : NodeState B) (step : Step B) → Holds k store state → IsSavable state.standing state.log step
       → NamesNode step.standing.vote → MayTake k store (change_of step)
   may_take store state step h s v honest =
-      let r = h honest in
-      (r.0, subst (λ (x : Saved B). MayFollow x (change_of step)) (sym r.1)
-      (record { kept = s.kept; room = s.room; boot = omega (arith, s.boot); term = s.term; vote = v }))
+      let r = h honest in (
+        r.0,
+        subst (λ (x : Saved B). MayFollow x (change_of step)) (sym r.1)
+            (record { kept = s.kept; room = s.room; boot = omega (arith, s.boot); term = s.term; vote = v }),
+      )
 
   -- A step of a state stands in the store, or did before.
   pub record IsSaved (old : Store) (state after : NodeState B) (new : Store) : Type 0 where

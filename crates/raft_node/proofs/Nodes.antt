@@ -1,5 +1,5 @@
 -- A node that is up, whose step stands, or that goes down; what is kept by that.
-use Rattle.std.proofs.Common.{◌≡◌, ℕ, ◌≤◌, List, [], Option, None, Some, Result, Ok, Err, IsTrue, Bool, length, refl, sym, ap, subst, ◌∙◌, arith}
+use Rattle.std.proofs.Common.{◌≡◌, ℕ, ◌≤◌, [], None, Some, Result, Ok, Err, length, refl, sym, ap, subst, ◌∙◌, arith}
 use Rattle.machine_laws.specs.Runs.{History}
 use Rattle.raft_log.specs.declared.node_state.NodeState.{NodeState}
 use Rattle.raft_log.specs.declared.step.Step.{Step}
@@ -12,10 +12,9 @@ use Rattle.raft_node.specs.declared.node_fault.Cause.{Cause}
 use Rattle.raft_node.specs.declared.node_fault.NodeFault.{NodeFault}
 use Rattle.raft_node.specs.declared.node_fault.NodeFault.TheVariants.{Down}
 use Rattle.raft_node.specs.Kept.{IsKept, MayStand}
-use Rattle.raft_node.specs.Parts.{Holds, IsWhole, Keeper, Parts, applied_bodies, size_of}
+use Rattle.raft_node.specs.Parts.{Holds, IsWhole, Keeper, Parts, size_of}
 use Rattle.raft_node.specs.Sound.{IsSound}
-use Rattle.raft_node.specs.Stepping.{IsSameNode}
-use Rattle.raft_node.specs.Stood.{Falls, IsStood, Stands}
+use Rattle.raft_node.specs.Stood.{IsStood}
 
 abbrev done : {A : Type 0} → A → Result A Cause
 done a = Ok a
@@ -74,16 +73,17 @@ module _ {Setup Hosted Store B : Type 0} (stands : Hosted → Setup → History 
           → output.messages.items ≡ step.messages.items → output.place ≡ 0 → output.effects.items ≡ []
           → IsStood k step old answered (record n { store = store; state = state })
       stood a h sent place effects =
-          subst (λ (x : Parts Setup Hosted Store B). IsStood k step x answered (record n { store = store; state = state })) same
-          (record {
-            is_up = up_here;
-            state = h.stands.0;
-            sent = sent;
-            place = place;
-            effects = effects;
-            holds = subst (λ (s : NodeState B). Holds k store s) (sym h.stands.0) h.stands.1;
-          },
-          record { id = refl; setup = refl; size = ap (λ (s : NodeState B). size_of s) h.stands.0 ∙ may_here.size; honest = h.honest })
+          subst (λ (x : Parts Setup Hosted Store B). IsStood k step x answered (record n { store = store; state = state })) same (
+            record {
+              is_up = up_here;
+              state = h.stands.0;
+              sent = sent;
+              place = place;
+              effects = effects;
+              holds = subst (λ (s : NodeState B). Holds k store s) (sym h.stands.0) h.stands.1;
+            },
+            record { id = refl; setup = refl; size = ap (λ (s : NodeState B). size_of s) h.stands.0 ∙ may_here.size; honest = h.honest },
+          )
 
     module _ (E : Type 0) (cause : Cause) (store : Store) (state : NodeState B) where
       abbrev fallen : Result (Output B E) NodeFault
@@ -92,6 +92,7 @@ module _ {Setup Hosted Store B : Type 0} (stands : Hosted → Setup → History 
       pub fell : {A : Type 0} → IsKept k {A = A} n.store n.state (after n.state step) store state (failed cause)
           → IsStood k step old fallen (record n { store = store; state = state; down = Some cause })
       fell h =
-          subst (λ (x : Parts Setup Hosted Store B). IsStood k step x fallen (record n { store = store; state = state; down = Some cause })) same
-          (record { is_down = refl; state = h.blamed.0; blamed = h.blamed.1; may_hold = h.may_hold },
-          record { id = refl; setup = refl; size = ap (λ (s : NodeState B). size_of s) h.blamed.0; honest = h.honest })
+          subst (λ (x : Parts Setup Hosted Store B). IsStood k step x fallen (record n { store = store; state = state; down = Some cause })) same (
+            record { is_down = refl; state = h.blamed.0; blamed = h.blamed.1; may_hold = h.may_hold },
+            record { id = refl; setup = refl; size = ap (λ (s : NodeState B). size_of s) h.blamed.0; honest = h.honest },
+          )

@@ -1,5 +1,5 @@
 -- What a node plans is what its turn comes to.
-use Rattle.std.proofs.Common.{◌≡◌, ℕ, suc, Bool, true, false, ◌&&◌, not, if◌then◌else◌, List, Option, Some, None, refl, ap, ◌∙◌}
+use Rattle.std.proofs.Common.{◌≡◌, ℕ, suc, Bool, true, false, ◌&&◌, not, if◌then◌else◌, Option, Some, None, refl, ap, ◌∙◌}
 use Rattle.std.specs.Prelude.{◌^◌, nat_le}
 use Rattle.raft_log.specs.declared.node_state.Live.{Live}
 use Rattle.raft_log.specs.Node.{Node, is_leader}
@@ -14,7 +14,7 @@ use Rattle.raft_node.specs.declared.input.Input.{Input}
 use Rattle.raft_node.specs.declared.input.Input.TheVariants.{Timeout, Beat, Deliver, Ask, Opened, Closed, Heard, Claim, Apply}
 use Rattle.raft_node.specs.Inputs.{act_of, bodies_of, input_plan, is_apply}
 use Rattle.raft_node.specs.Machine.{Machine}
-use Rattle.raft_node.specs.Steps.{Turn, quiet, refused, adds, asked, asks, opened, closed, heard, claimed, if_leading, applied_history, turn}
+use Rattle.raft_node.specs.Steps.{Turn, quiet, refused, adds, asked, opened, closed, heard, claimed, if_leading, applied_history, turn}
 
 module _ (M : Machine) (s : Node M.Body) where
   -- the turn that a plan comes to

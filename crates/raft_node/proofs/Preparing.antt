@@ -1,5 +1,5 @@
 -- Steps as plans that go on.
-use Rattle.std.proofs.Common.{List, [], sym, ap, ◌∙◌, refl, arith}
+use Rattle.std.proofs.Common.{List, [], sym, ap, refl, arith}
 use Rattle.raft_log.specs.declared.entry.Entry.{Entry}
 use Rattle.raft_log.specs.declared.node_state.Standing.{Standing}
 use Rattle.raft_log.specs.declared.step.Step.{Step}

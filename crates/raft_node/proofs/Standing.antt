@@ -1,22 +1,21 @@
 -- A node stays whole where a step that it planned stands.
-use Rattle.std.proofs.Common.{◌≡◌, ℕ, false, List, [], ◌++◌, Option, Some, None, length, take, refl, sym, ap, subst, ◌∙◌, arith, append-nil}
+use Rattle.std.proofs.Common.{◌≡◌, ℕ, false, List, [], ◌++◌, Option, Some, length, take, sym, ap, subst, ◌∙◌}
 use Rattle.machine_laws.specs.declared.class.Class.TheVariants.{Nowhere}
 use Rattle.raft_log.specs.declared.entry.Entry.{Entry}
-use Rattle.raft_log.specs.declared.message.Message.{Message}
 use Rattle.raft_log.specs.declared.node_state.NodeState.{NodeState}
 use Rattle.raft_log.specs.declared.step.Step.{Step}
 use Rattle.raft_log.specs.Node.{Node}
 use Rattle.raft_log.specs.Positions.{live_of}
 use Rattle.raft_log.specs.Seen.{node_of, seen}
-use Rattle.raft_log.specs.Steps.{after, log_after}
-use Rattle.node_steps.specs.Plans.{CountsLines, Plan, Goes, IsStepOf}
+use Rattle.raft_log.specs.Steps.{log_after}
+use Rattle.node_steps.specs.Plans.{CountsLines, Goes, IsStepOf}
 use Rattle.raft_node.specs.declared.input.Input.{Input}
 use Rattle.raft_node.specs.Inputs.{Bodies, act_of, input_plan, is_apply}
 use Rattle.raft_node.specs.Kept.{MayStand}
 use Rattle.raft_node.specs.Machine.{Machine, history}
-use Rattle.raft_node.specs.Parts.{applied_bodies, size_of}
+use Rattle.raft_node.specs.Parts.{size_of}
 use Rattle.raft_node.specs.Sound.{IsSound}
-use Rattle.raft_node.specs.Steps.{Acts, Out, Quiet, Left, Turn, quiet, turn, applied}
+use Rattle.raft_node.specs.Steps.{Acts, Turn, quiet, turn, applied}
 use Rattle.raft_node.proofs.Counting.{goes_counts}
 use Rattle.raft_node.proofs.Fares.{Turned, GoesOn, Applied, turn_step}
 use Rattle.raft_node.proofs.Keeps.{stays_sound, turn_keeps_applied}

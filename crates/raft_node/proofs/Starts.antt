@@ -1,18 +1,16 @@
 -- A node is whole as its run begins.
-use Rattle.std.proofs.Common.{◌≡◌, ℕ, suc, ◌≤◌, false, List, [], Option, None, Some, Result, Ok, replicate, take, refl, sym, ap, subst, ◌∙◌, arith}
+use Rattle.std.proofs.Common.{◌≡◌, ℕ, suc, ◌≤◌, false, List, [], Option, None, Result, Ok, take, refl, sym, ap, subst, arith}
 use Rattle.std.proofs.Math.ListN.{length-replicate}
 use Rattle.machine_laws.specs.Runs.{History}
 use Rattle.raft_log.specs.declared.entry.Entry.{Entry}
 use Rattle.raft_log.specs.declared.message.Message.{Message}
-use Rattle.raft_log.specs.declared.node_state.Live.{Live}
 use Rattle.raft_log.specs.declared.node_state.NodeState.{NodeState}
 use Rattle.raft_log.specs.Node.{Node}
-use Rattle.raft_log.specs.Positions.{live_of}
 use Rattle.raft_log.specs.Seen.{seen}
 use Rattle.stable_store.specs.declared.saved.Saved.{Saved}
 use Rattle.raft_node.specs.declared.node_fault.NodeFault.{NodeFault}
 use Rattle.raft_node.specs.Machine.{history}
-use Rattle.raft_node.specs.Parts.{Holds, IsWhole, Keeper, Parts, applied_bodies, size_of}
+use Rattle.raft_node.specs.Parts.{Holds, IsWhole, Keeper, Parts, size_of}
 use Rattle.raft_node.specs.Raft.{started}
 use Rattle.raft_node.specs.Sound.{IsSound}
 use Rattle.raft_node.specs.Starting.{Begins, IsBegun, IsRestarted, begun}

@@ -1,5 +1,5 @@
 -- What comes of a start of a node from its store.
-use Rattle.std.specs.Prelude.{◌≡◌, ◌≤◌, ◌^◌, ◌⊎◌, ℕ, suc, IsTrue, List, [], Option, None, Some, Result, Ok, Err}
+use Rattle.std.specs.Prelude.{◌≡◌, ◌≤◌, ◌^◌, ◌⊎◌, ℕ, suc, IsTrue, List, [], None, Some, Result, Ok, Err}
 use Rattle.raft_log.specs.declared.message.Message.{Message}
 use Rattle.raft_log.specs.declared.node_state.NodeState.{NodeState}
 use Rattle.raft_log.specs.Node.{Node}
@@ -7,7 +7,6 @@ use Rattle.raft_log.specs.Seen.{seen}
 use Rattle.stable_store.specs.declared.saved.Saved.{Saved}
 use Rattle.stable_store.specs.Stores.{Condition, HasRisen, IsHonest}
 use Rattle.node_steps.specs.declared.refusal.Refusal.TheVariants.{LogFull, TermsSpent, NoLeader, Behind, BadOrigin}
-use Rattle.raft_node.specs.declared.node_fault.Cause.{Cause}
 use Rattle.raft_node.specs.declared.node_fault.Cause.TheVariants.{Store as StoreFailed, Memory}
 use Rattle.raft_node.specs.declared.node_fault.NodeFault.{NodeFault}
 use Rattle.raft_node.specs.declared.node_fault.NodeFault.TheVariants.{Down, Refused}

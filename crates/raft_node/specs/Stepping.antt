@@ -1,5 +1,5 @@
 -- What comes of a step of a node, and of a look at it.
-use Rattle.std.specs.Prelude.{◌≡◌, ◌⊎◌, ℕ, zero, suc, List, [], ◌++◌, None, Option, Some, Result, Ok, Err}
+use Rattle.std.specs.Prelude.{◌≡◌, ◌⊎◌, ℕ, zero, suc, List, [], ◌++◌, None, Some, Result, Ok, Err}
 use Rattle.raft_log.specs.declared.message.Message.{Message}
 use Rattle.raft_log.specs.Seen.{seen}
 use Rattle.raft_node.specs.declared.input.Input.{Input}

@@ -1,5 +1,5 @@
 -- What comes of a step that is saved and stands, and of an entry that is applied, at a node that is up.
-use Rattle.std.specs.Prelude.{◌≡◌, ◌<◌, ◌≤◌, ◌⊎◌, ℕ, suc, List, [], None, Option, Some, Result, Ok, Err, filter}
+use Rattle.std.specs.Prelude.{◌≡◌, ◌<◌, ◌≤◌, ◌⊎◌, ℕ, suc, List, [], None, Some, Result, Ok, Err, filter}
 use Rattle.irc_line.specs.Lines.{Parts as LineParts}
 use Rattle.machine_laws.specs.declared.class.Class.{Class}
 use Rattle.machine_laws.specs.Runs.{History}
@@ -10,7 +10,6 @@ use Rattle.raft_log.specs.Lists.{item}
 use Rattle.raft_log.specs.Positions.{live_of}
 use Rattle.raft_log.specs.Seen.{seen}
 use Rattle.raft_log.specs.Steps.{after}
-use Rattle.node_steps.specs.declared.refusal.Refusal.{Refusal}
 use Rattle.raft_node.specs.declared.input.Output.{Output}
 use Rattle.raft_node.specs.declared.node_fault.Cause.{Cause}
 use Rattle.raft_node.specs.declared.node_fault.Cause.TheVariants.{Memory}

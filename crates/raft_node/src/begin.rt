@@ -11,8 +11,8 @@ use stable_store::{Saved, Stable};
 use std::alloc::Global;
 use wire_bytes::{Number, Wire};
 
-/// Begins a run over what the store holds, which holds the new run's number then. `TermsSpent` where no
-/// number follows that of the last run.
+/// Begins a run over what the store holds, which holds the new run's number then. `TermsSpent`
+/// where no number follows that of the last run.
 pub fn begin<B: Wire, S: Stable<B>>(
     alloc: Global,
     store: &mut S,

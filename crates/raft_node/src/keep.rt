@@ -56,8 +56,8 @@ fn is_still<B: Wire>(state: &NodeState<B>, standing: &Standing, keep: Number, ad
         && added == 0
 }
 
-/// Saves the boot, term and vote of a standing, with these entries behind so many, and gives the entries
-/// back.
+/// Saves the boot, term and vote of a standing, with these entries behind so many, and gives the
+/// entries back.
 pub fn save<B: Wire, S: Stable<B>>(
     store: &mut S,
     standing: &Standing,
@@ -65,7 +65,8 @@ pub fn save<B: Wire, S: Stable<B>>(
     entries: Vec<Entry<B>>,
 ) -> Result<Vec<Entry<B>>, Cause>
     requires few { length entries.items ≤ 256 }
-    requires may { NamesNode standing.now.vote → MayTake (keeper S.saved S.may_stand S.condition) store.old
+    requires may { NamesNode standing.now.vote
+        → MayTake (keeper S.saved S.may_stand S.condition) store.old
         (change standing.now.boot standing.now.term standing.now.vote keep entries.items) }
     ensures taken { IsTaken (keeper S.saved S.may_stand S.condition) store.old
         (change standing.now.boot standing.now.term standing.now.vote keep entries.items)

@@ -20,8 +20,8 @@ pub fn leaving<M: Hosted>(
     effects
 }
 
-/// What goes to a client leaves at the client's node, in its run; what goes upstream where its session
-/// is live.
+/// What goes to a client leaves at the client's node, in its run; what goes upstream where its
+/// session is live.
 fn leaves<M: Hosted>(id: NodeId, boot: Number, live: Option<Live>, effect: &M::Effect) -> bool
     ensures { result ≡ leaves id boot live (M.class effect.now) }
 {

@@ -25,9 +25,9 @@ use wire_bytes::{Copied, Number, Wire};
 
 /// A node of a group, with the machine that it hosts and the store that it keeps.
 ///
-/// While it is up its store holds its boot, term, vote and log, and its machine stands after the first
-/// bodies of its log, as many as it applied. Once it is down it shows the state from before what took it
-/// down, and answers that until it is started again.
+/// While it is up its store holds its boot, term, vote and log, and its machine stands after the
+/// first bodies of its log, as many as it applied. Once it is down it shows the state from before
+/// what took it down, and answers that until it is started again.
 #[derive(Drop)]
 pub struct Node<M: Hosted, S: Stable<M::Command>> {
     alloc: Global,
@@ -45,22 +45,29 @@ impl<M: Hosted, S: Stable<M::Command>> Model for Node<M, S> {
     ghost Value = { Parts M.Setup M S M.Command };
 
     ghost view = { λ n. record {
-        id = n.id;
-        setup = n.setup;
-        machine = n.machine;
-        store = n.store;
-        state = n.state;
-        down = n.down;
+      id = n.id;
+      setup = n.setup;
+      machine = n.machine;
+      store = n.store;
+      state = n.state;
+      down = n.down;
     } };
 
     ghost invariant = { λ n. IsWhole M.stands (keeper S.saved S.may_stand S.condition)
-        (record { id = n.id; setup = n.setup; machine = n.machine; store = n.store;
-        state = n.state; down = n.down }) };
+        (record {
+          id = n.id;
+          setup = n.setup;
+          machine = n.machine;
+          store = n.store;
+          state = n.state;
+          down = n.down;
+        }) };
 }
 
 impl<M: Hosted, S: Stable<M::Command>> Node<M, S> {
-    /// A node of this number in a group of this size begins its next run, over what the store holds. It
-    /// follows, knows no leader, and has applied nothing. Where it fails, the store is dropped.
+    /// A node of this number in a group of this size begins its next run, over what the store
+    /// holds. It follows, knows no leader, and has applied nothing. Where it fails, the store is
+    /// dropped. `TermsSpent` where 2^60 runs were begun.
     pub fn start(
         alloc: Global,
         id: NodeId,
@@ -69,7 +76,8 @@ impl<M: Hosted, S: Stable<M::Command>> Node<M, S> {
         store: S,
     ) -> Result<Self, NodeFault>
         requires { id ≤ size }
-        ensures { IsStarted (keeper S.saved S.may_stand S.condition) id size setup.now store result }
+        ensures { IsStarted (keeper S.saved S.may_stand S.condition) id size setup.now
+            store result }
     {
         let mut store = store;
         id.value();
@@ -87,8 +95,8 @@ impl<M: Hosted, S: Stable<M::Command>> Node<M, S> {
         })
     }
 
-    /// The node stops, and begins its next run, over what its store holds. Where that fails it is down:
-    /// after a refusal too, since it can begin no run over that store.
+    /// The node stops, and begins its next run, over what its store holds. Where that fails it is
+    /// down, after a refusal too, since it can begin no run over that store.
     pub fn restart(&mut self) -> Result<(), NodeFault>
         ensures { IsRestarted (keeper S.saved S.may_stand S.condition) self.old result self.new }
     {
@@ -140,16 +148,13 @@ impl<M: Hosted, S: Stable<M::Command>> Node<M, S> {
     }
 
     /// What it is about to do. Nothing changes.
-    fn plan(
-        &self,
-        input: Input<M::Command, M::Line>,
-    ) -> Result<Step<M::Command>, Unprepared>
+    fn plan(&self, input: Input<M::Command, M::Line>) -> Result<Step<M::Command>, Unprepared>
         requires up { self.now.down ≡ None }
         requires saves { is_apply input ≡ false }
         ensures planned { IsPrepared
             (input_plan (bodies M.blank M.opened M.shut M.heard M.claim M.source)
-                (M.next_claim self.now.setup (applied_bodies self.now.state))
-                (size_of self.now.state) self.now.id input)
+            (M.next_claim self.now.setup (applied_bodies self.now.state))
+            (size_of self.now.state) self.now.id input)
             self.now.state.standing self.now.state.log result }
         ensures may { IfOk result (MayStand self.now.state) }
     {
@@ -163,10 +168,7 @@ impl<M: Hosted, S: Stable<M::Command>> Node<M, S> {
     }
 
     /// Saves a step, and then makes it stand.
-    fn stand(
-        &mut self,
-        step: Step<M::Command>,
-    ) -> Result<Output<M::Command, M::Effect>, NodeFault>
+    fn stand(&mut self, step: Step<M::Command>) -> Result<Output<M::Command, M::Effect>, NodeFault>
         requires up { self.old.down ≡ None }
         requires may { MayStand self.old.state step }
         ensures { IsStood (keeper S.saved S.may_stand S.condition) step self.old result self.new }
@@ -218,8 +220,8 @@ impl<M: Hosted, S: Stable<M::Command>> Node<M, S> {
         }
     }
 
-    /// The playback of a target by what was applied, where that reaches to a place; before it, `Behind`.
-    /// Nothing changes. Of a target that is not known nothing is played.
+    /// The playback of a target by what was applied, where that reaches to a place; before it,
+    /// `Behind`. Nothing changes. Of a target that is not known nothing is played.
     pub fn look(
         &self,
         target: &M::Target,
@@ -268,8 +270,16 @@ impl<M: Hosted, S: Stable<M::Command>> Node<M, S> {
         &self.state.log.entries()[..self.state.standing.commit.value() as usize]
     }
 
-    /// Does nothing. A node is sound; while it is up its machine stands after what it applied, and an
-    /// honest store holds what is to be saved of it.
+    /// The number of the line that is to be claimed next, by what was applied, where the node is up.
+    pub fn next_claim(&self) -> Option<Number>
+        ensures { self.now.down ≡ None
+            → result ≡ M.next_claim self.now.setup (applied_bodies self.now.state) }
+    {
+        self.machine.next_claim()
+    }
+
+    /// Does nothing. A node is sound; while it is up its machine stands after what it applied, and
+    /// an honest store holds what is to be saved of it.
     pub fn is_whole(&self)
         ensures { IsWhole M.stands (keeper S.saved S.may_stand S.condition) self.now }
     {

@@ -42,7 +42,7 @@ pub enum NodeFault {
 }
 
 impl NodeFault {
-    /// Why a node is down after this fault of a restart: what it can't begin from is its store's fault.
+    /// Why a node is down after this fault of a restart: a refusal is its store's fault.
     pub fn cause(&self) -> Cause
         ensures { result ≡ cause_after self.now }
     {

@@ -27,7 +27,7 @@ pub fn prepare<M: Hosted>(
     requires counts { CountsLines (live_of state.now.standing.position) (length state.now.log) }
     ensures { (s : M.Setup) → M.stands machine.now s (applied_bodies state.now) → IsPrepared
         (input_plan (bodies M.blank M.opened M.shut M.heard M.claim M.source)
-            (M.next_claim s (applied_bodies state.now)) (size_of state.now) id input)
+        (M.next_claim s (applied_bodies state.now)) (size_of state.now) id input)
         state.now.standing state.now.log result }
 {
     let standing = state.standing;

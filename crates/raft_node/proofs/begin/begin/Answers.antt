@@ -1,4 +1,3 @@
-use Rattle.std.proofs.Common.{◌≡◌}
 use Rattle.raft_node.specs.Parts.{Keeper, keeper}
 use Rattle.raft_node.proofs.Beginning.{first_by, may_take_first, begins_saved, fails_unsaved}
 use Rattle.raft_node.proofs.begin.begin.Goals as goal

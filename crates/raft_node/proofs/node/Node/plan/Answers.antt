@@ -1,4 +1,4 @@
-use Rattle.std.proofs.Common.{◌≡◌, Ok, Err, subst}
+use Rattle.std.proofs.Common.{Ok, Err, subst}
 use Rattle.node_steps.specs.Plans.{IsPrepared}
 use Rattle.raft_node.specs.Inputs.{Bodies, bodies, input_plan}
 use Rattle.raft_node.specs.Kept.{MayStand}

@@ -1,4 +1,4 @@
-use Rattle.std.proofs.Common.{◌≡◌, ◌≤◌, arith}
+use Rattle.std.proofs.Common.{◌≤◌, arith}
 use Rattle.raft_node.proofs.Starts.{new_whole, restarts}
 use Rattle.raft_node.proofs.node.Node.restart.Goals as goal
 

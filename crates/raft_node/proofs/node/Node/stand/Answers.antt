@@ -1,5 +1,3 @@
-use Rattle.std.proofs.Common.{◌≡◌}
-use Rattle.raft_node.specs.Parts.{Keeper, Parts, keeper}
 use Rattle.raft_node.proofs.Nodes.{stands_whole, falls_whole, stood, fell}
 use Rattle.raft_node.proofs.node.Node.stand.Goals as goal
 
