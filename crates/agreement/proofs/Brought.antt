@@ -11,7 +11,8 @@ use Rattle.raft_log.specs.declared.message.Message.{Message}
 use Rattle.raft_log.specs.Node.{Node, is_leader, is_candidate, raised}
 use Rattle.raft_log.specs.Logs.{merged, agrees_at, conflicts_within}
 use Rattle.raft_log.specs.Votes.{majority}
-use Rattle.raft_node.specs.Raft.{is_heard, handled, restarted, newborn}
+use Rattle.node_steps.specs.Messages.{is_heard, handled}
+use Rattle.raft_node.specs.Raft.{restarted, newborn}
 use Rattle.election.specs.Elections.{timed_out, leading, elected}
 use Rattle.replication.specs.Replication.{append_for, beat, with_match, advanced, stepped_back, on_forward, forwarded, ask}
 use Rattle.raft_node.proofs.ByMessage.{grants}

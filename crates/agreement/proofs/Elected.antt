@@ -10,7 +10,7 @@ use Rattle.raft_log.specs.declared.role.Role.TheVariants.{Follower, Leader}
 use Rattle.raft_log.specs.Node.{Node, is_leader, is_candidate, raised}
 use Rattle.raft_log.specs.Votes.{majority}
 use Rattle.raft_log.specs.Logs.{agrees_at, conflicts_within}
-use Rattle.raft_node.specs.Raft.{is_heard, on_message, handled}
+use Rattle.node_steps.specs.Messages.{is_heard, on_message, handled}
 use Rattle.raft_node.proofs.ByMessage.{grants}
 use Rattle.election.specs.Elections.{leading}
 use Rattle.replication.specs.Replication.{with_match, advanced, stepped_back, on_forward, forwarded, ask}

@@ -10,7 +10,8 @@ use Rattle.raft_log.specs.declared.message.Message.{Message}
 use Rattle.raft_log.specs.Node.{Node, is_leader, message, raised}
 use Rattle.raft_log.specs.declared.node_state.Live.{Live}
 use Rattle.raft_log.specs.Logs.{last_term}
-use Rattle.raft_node.specs.Raft.{is_heard, on_message, handled, newborn}
+use Rattle.node_steps.specs.Messages.{is_heard, on_message, handled}
+use Rattle.raft_node.specs.Raft.{newborn}
 use Rattle.replication.specs.Replication.{ask, forwarded}
 use Rattle.agreement.specs.World.{lifted, Act, Expires, Beats, Hears, Asks, Lifts, Nothing, Own, Acts, Restarts, Stops, acted, own, Input, Timeout, Beat, Deliver, Ask, Lift, Idle, Event, Does, Restart, StopIn, sent_of, hears, act_of, stepper, own_of, placed, happens, run, start, committed_of, committed, Begins}
 use Rattle.raft_node.specs.Steps.{stopped}

@@ -8,7 +8,8 @@ use Rattle.raft_log.specs.Lists.{item, with_item}
 use Rattle.raft_log.specs.Node.{Node}
 use Rattle.election.specs.Elections.{timed_out}
 use Rattle.replication.specs.Replication.{beat, on_forward, ask}
-use Rattle.raft_node.specs.Raft.{on_message, newborn, restarted}
+use Rattle.node_steps.specs.Messages.{on_message}
+use Rattle.raft_node.specs.Raft.{newborn, restarted}
 use Rattle.raft_node.specs.Steps.{stopped}
 
 -- what one node does, with what it hears

@@ -27,7 +27,8 @@ use Rattle.raft_log.specs.declared.role.Role.TheVariants.{Follower, Leader}
 use Rattle.raft_log.specs.Node.{Node}
 use Rattle.raft_log.specs.Logs.{last_term}
 use Rattle.agreement.specs.World.{start}
-use Rattle.raft_node.specs.Steps.{Out, Quiet, Left, Looked, Refused, Missing, Behind, BadOrigin}
+use Rattle.node_steps.specs.declared.refusal.Refusal.TheVariants.{Behind, BadOrigin}
+use Rattle.raft_node.specs.Steps.{Out, Quiet, Left, Looked, Refused, Missing}
 use Rattle.world_run.specs.World.{Input, Timeout, Beat, Deliver, Ask, Opened, Claim, Apply, Look, Event, Does, Restart, outputs, run, handed}
 use Rattle.wire_bytes.specs.declared.mark.Mark as mark
 use Rattle.headline.specs.Tower.{tower}

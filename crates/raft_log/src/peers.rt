@@ -1,4 +1,4 @@
-ghost use Rattle.std.specs.Prelude.{◌≡◌, true, false, map, nat_le, replicate, take, IfOk};
+ghost use Rattle.std.specs.Prelude.{◌≡◌, true, false, length, map, nat_le, replicate, take, IfOk};
 ghost use Rattle.raft_log.specs.Lists.{item_or, with_item, others};
 ghost use Rattle.raft_log.specs.Votes.{majority, tally};
 ghost use Rattle.raft_log.specs.Peers.{no_peers, majority_has, IsPadded};
@@ -71,6 +71,15 @@ impl Peers {
         ensures { result ≡ self.size }
     {
         self.size
+    }
+
+    /// Does nothing. Each list has an item for each node of the group.
+    pub fn has_size(self)
+        ensures voters { length self.voters ≡ self.size }
+        ensures next { length self.next ≡ self.size }
+        ensures matched { length self.matched ≡ self.size }
+    {
+        let _ = self.size.value();
     }
 
     /// The next place to send from to a node, 0 past the group.

@@ -17,9 +17,11 @@ use Rattle.raft_log.specs.Logs.{agrees_at, conflicts_within}
 use Rattle.election.specs.Elections.{timed_out, leading}
 use Rattle.replication.specs.Replication.{beat, with_match, advanced, stepped_back, on_forward, forwarded, ask}
 use Rattle.raft_node.proofs.ByMessage.{grants}
-use Rattle.raft_node.specs.Raft.{is_heard, on_message, handled}
+use Rattle.node_steps.specs.Messages.{is_heard, on_message, handled}
 use Rattle.raft_node.specs.Machine.{Machine}
-use Rattle.raft_node.specs.Steps.{LogFull, TermsSpent, NoLeader, Behind, BadOrigin, Out, Turn, Act, Expires, Beats, Hears, Asks, Opens, Closes, HearsLine, Claims, Applies, Looks, Idles, Own, Acts, Restarts, Stops, quiet, refused, is_full, applied_history, expired, asks, may_ask, finds_leader, asked, adds, new_session, opened, closed, heard, claimed, if_leading, applied, apply_next, looked, turn, own, effects_of}
+use Rattle.node_steps.specs.declared.refusal.Refusal.TheVariants.{LogFull, TermsSpent, NoLeader, Behind, BadOrigin}
+use Rattle.node_steps.specs.Asking.{is_full, may_ask, finds_leader, new_session}
+use Rattle.raft_node.specs.Steps.{Out, Turn, Act, Expires, Beats, Hears, Asks, Opens, Closes, HearsLine, Claims, Applies, Looks, Idles, Own, Acts, Restarts, Stops, quiet, refused, applied_history, expired, asks, asked, adds, opened, closed, heard, claimed, if_leading, applied, apply_next, looked, turn, own, effects_of}
 use Rattle.election.specs.Elections as election
 
 pub role_leader : (r : Role) → is_leader r ≡ true → r ≡ Leader

@@ -15,7 +15,7 @@ use Rattle.raft_log.specs.Votes.{majority}
 use Rattle.election.specs.Elections as election
 use Rattle.election.specs.Elections.{timed_out, grants, leading}
 use Rattle.replication.specs.Replication.{beat, with_match, advanced, stepped_back, on_append_reply, on_forward, forwarded, ask}
-use Rattle.raft_node.specs.Raft.{handled, is_heard, on_message}
+use Rattle.node_steps.specs.Messages.{handled, is_heard, on_message}
 use Rattle.raft_node.proofs.Items.{item-with_cases, length-with_item}
 
 -- next places and matches of a log of this length

@@ -14,7 +14,7 @@ use Rattle.raft_log.specs.Logs.{term_at, agrees_at, merged, repair, conflicts_wi
 use Rattle.election.specs.Elections.{timed_out, leading}
 use Rattle.replication.specs.Replication.{beat, with_match, advanced, stepped_back, on_forward, forwarded, ask}
 use Rattle.raft_node.proofs.ByMessage.{grants}
-use Rattle.raft_node.specs.Raft.{is_heard, on_message, handled}
+use Rattle.node_steps.specs.Messages.{is_heard, on_message, handled}
 use Rattle.election.specs.Elections as election
 use Rattle.raft_node.proofs.Fares.{commit_place_up}
 

@@ -7,3 +7,13 @@ pub mod Turns
 pub mod Unread
 pub mod Fits
 pub mod Keeps
+pub mod Keeping
+pub mod Beginning
+pub mod Preparing
+pub mod Planned
+pub mod Counting
+pub mod Standing
+pub mod Nodes
+pub mod Applying
+pub mod Acting
+pub mod Starts

@@ -14,7 +14,7 @@ use Rattle.election.specs.Elections.{timed_out, leading}
 use Rattle.replication.specs.Replication.{beat, append_for, with_match, advanced, stepped_back, on_forward, forwarded, ask}
 use Rattle.raft_node.specs.Sound.{AreFrom}
 use Rattle.raft_node.proofs.ByMessage.{grants}
-use Rattle.raft_node.specs.Raft.{is_heard, on_message, handled}
+use Rattle.node_steps.specs.Messages.{is_heard, on_message, handled}
 use Rattle.election.specs.Elections as election
 
 module _ {B : Type 0} (i : ℕ) where

@@ -9,9 +9,11 @@ use Rattle.raft_log.specs.Lists.{item}
 use Rattle.raft_log.specs.Node.{Node, is_leader}
 use Rattle.election.specs.Elections.{timed_out}
 use Rattle.replication.specs.Replication.{beat, on_forward, ask}
-use Rattle.raft_node.specs.Raft.{on_message}
+use Rattle.node_steps.specs.Messages.{on_message}
 use Rattle.raft_node.specs.Machine.{Machine}
-use Rattle.raft_node.specs.Steps.{LogFull, TermsSpent, NoLeader, Behind, BadOrigin, Turn, Act, Expires, Beats, Hears, Asks, Opens, Closes, HearsLine, Claims, Applies, Looks, Idles, quiet, refused, is_full, applied_history, asks, may_ask, finds_leader, asked, adds, opened, closed, heard, claimed, if_leading, applied, turn}
+use Rattle.node_steps.specs.declared.refusal.Refusal.TheVariants.{LogFull, TermsSpent, NoLeader, Behind, BadOrigin}
+use Rattle.node_steps.specs.Asking.{is_full, may_ask, finds_leader}
+use Rattle.raft_node.specs.Steps.{Turn, Act, Expires, Beats, Hears, Asks, Opens, Closes, HearsLine, Claims, Applies, Looks, Idles, quiet, refused, applied_history, asks, asked, adds, opened, closed, heard, claimed, if_leading, applied, turn}
 
 module _ (M : Machine) (n i : ℕ) (s : Node M.Body) (P : Node M.Body → Type 0) where
   -- it holds of the node, and after each step

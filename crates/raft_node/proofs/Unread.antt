@@ -13,9 +13,11 @@ use Rattle.raft_log.specs.Votes.{majority}
 use Rattle.election.specs.Elections as election
 use Rattle.election.specs.Elections.{timed_out, grants, on_request_vote, leading}
 use Rattle.replication.specs.Replication.{beat, accepted, on_append, with_match, advanced, stepped_back, on_append_reply, on_forward, on_vote, forwarded, ask}
-use Rattle.raft_node.specs.Raft.{handled, is_heard, on_message}
+use Rattle.node_steps.specs.Messages.{handled, is_heard, on_message}
 use Rattle.raft_node.specs.Machine.{Machine}
-use Rattle.raft_node.specs.Steps.{LogFull, TermsSpent, NoLeader, Behind, BadOrigin, Turn, Act, Expires, Beats, Hears, Asks, Opens, Closes, HearsLine, Claims, Applies, Looks, Idles, Own, Acts, Restarts, Stops, stopped, quiet, refused, is_full, applied_history, asks, may_ask, finds_leader, asked, adds, opened, closed, heard, claimed, if_leading, applied, turn, own}
+use Rattle.node_steps.specs.declared.refusal.Refusal.TheVariants.{LogFull, TermsSpent, NoLeader, Behind, BadOrigin}
+use Rattle.node_steps.specs.Asking.{is_full, may_ask, finds_leader}
+use Rattle.raft_node.specs.Steps.{Turn, Act, Expires, Beats, Hears, Asks, Opens, Closes, HearsLine, Claims, Applies, Looks, Idles, Own, Acts, Restarts, Stops, stopped, quiet, refused, applied_history, asks, asked, adds, opened, closed, heard, claimed, if_leading, applied, turn, own}
 use Rattle.raft_node.specs.Sound.{sent_first, SentIsNotRead}
 
 -- what is done to a choice is done to what is chosen

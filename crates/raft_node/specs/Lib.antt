@@ -3,3 +3,10 @@ pub mod Machine
 pub mod Hosts
 pub mod Steps
 pub mod Sound
+pub mod Faults
+pub mod Inputs
+pub mod Parts
+pub mod Kept
+pub mod Stepping
+pub mod Stood
+pub mod Starting

@@ -1,30 +1,23 @@
 -- What an event does to one node with its machine, its session and its clients: what the node becomes, and what comes out.
-use Rattle.std.specs.Prelude.{ℕ, suc, ◌^◌, ◌==◌, Bool, true, false, ◌&&◌, not, if◌then◌else◌, List, [], length, take, filter, Option, Some, None, nat_lt, nat_le}
+use Rattle.std.specs.Prelude.{ℕ, suc, ◌^◌, ◌==◌, Bool, false, ◌&&◌, not, if◌then◌else◌, List, [], take, filter, Option, Some, None, nat_lt, nat_le}
 use Rattle.wire_bytes.specs.declared.session_id.SessionId.{SessionId}
 use Rattle.machine_laws.specs.declared.class.Class.{Class}
 use Rattle.machine_laws.specs.declared.class.Class.TheVariants.{To, Hand, Rejoin, Nowhere}
-use Rattle.machine_laws.specs.declared.class.Source.{Source}
-use Rattle.machine_laws.specs.declared.class.Source.TheVariants as source
 use Rattle.machine_laws.specs.Runs.{History}
 use Rattle.machine_laws.specs.Sessions.{same_session}
 use Rattle.raft_log.specs.declared.entry.Entry.{Entry}
 use Rattle.raft_log.specs.declared.message.Message.{Message}
 use Rattle.raft_log.specs.declared.node_state.Live.{Live}
 use Rattle.raft_log.specs.Lists.{item}
-use Rattle.raft_log.specs.Logs.{entry_limit}
 use Rattle.raft_log.specs.Node.{Node, is_leader}
 use Rattle.election.specs.Elections.{timed_out}
 use Rattle.replication.specs.Replication.{beat, on_forward, ask}
-use Rattle.raft_node.specs.Raft.{on_message, restarted}
+use Rattle.node_steps.specs.declared.refusal.Refusal.{Refusal}
+use Rattle.node_steps.specs.declared.refusal.Refusal.TheVariants.{LogFull, TermsSpent, NoLeader, Behind, BadOrigin}
+use Rattle.node_steps.specs.Asking.{may_ask, finds_leader, is_full, new_session}
+use Rattle.node_steps.specs.Messages.{on_message}
+use Rattle.raft_node.specs.Raft.{restarted}
 use Rattle.raft_node.specs.Machine.{Machine, history}
-
--- why a node does not do what it is asked, and stays as it was
-pub data Refusal : Type 0 where
-  LogFull : Refusal
-  TermsSpent : Refusal  -- attempts too
-  NoLeader : Refusal
-  Behind : (applied : ℕ) → Refusal
-  BadOrigin : Refusal
 
 -- what comes out of an event
 pub data Out (M : Machine) : Type 0 where
@@ -80,26 +73,6 @@ leaves i boot live (Rejoin id line) = is_session live id
 leaves i boot live Nowhere = false
 
 module _ {B : Type 0} where
-  -- what a client asks for is asked at its node, in its run, a mark in the run that it names; that a node is gone, anywhere
-  abbrev pub may_ask : ℕ → Node B → Source → Bool
-  may_ask i s (source.Client origin) = origin.0 == i && origin.1 == s.boot
-  may_ask i s (source.Run node boot) = node == i && boot == s.boot
-  may_ask i s source.Node = true
-  may_ask i s source.Leader = false
-
-  -- it leads, or knows who does
-  abbrev pub finds_leader : Node B → Option ℕ → Bool
-  finds_leader s None = is_leader s.role
-  finds_leader s (Some j) = true
-
-  -- its log takes no more entries
-  abbrev pub is_full : Node B → Bool
-  is_full s = nat_le entry_limit (length s.log)
-
-  -- the session that it would open next
-  abbrev pub new_session : Node B → Live
-  new_session s = record { id = (s.term, suc s.attempts); next = 1 }
-
   -- a stop before a step is saved leaves the node as it was saved before, a stop after it as it is saved now; nothing is sent
   abbrev pub stopped : ℕ → Bool → Node B → Node B → Node B
   stopped size after s stepped = if after then restarted size (record stepped { sent = s.sent }) else restarted size s

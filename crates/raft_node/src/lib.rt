@@ -1,10 +1,27 @@
 //! One node of a group that agrees on a log by Raft, with the machine that it hosts.
 #![tactic(auto)]
 
+mod begin;
 mod described;
+mod input;
+mod keep;
 mod laws;
+mod leaving;
+mod node;
+mod node_fault;
+mod prepare;
 
 pub use described::Described;
+pub use input::{Input, Looked, Output};
 pub use laws::{
     a_node_stays_sound, a_turn_keeps_what_was_applied, what_was_sent_stays_and_is_not_read,
 };
+pub use node::Node;
+pub use node_fault::{Cause, NodeFault};
+
+#[cfg(test)]
+mod failing;
+#[cfg(test)]
+mod tests;
+#[cfg(test)]
+mod toy;

@@ -12,7 +12,8 @@ use Rattle.world_run.proofs.Places.{came_of}
 use Rattle.machine_laws.specs.Runs.{all_effects}
 use Rattle.std.specs.Prelude.{filter}
 use Rattle.world_run.proofs.Tallies.{All}
-use Rattle.raft_node.specs.Steps.{Out, Left, Looked, Behind, Turn, quiet, refused, leaving, leaves, applied_history, applied, apply_next, looked, own, effects_of}
+use Rattle.node_steps.specs.declared.refusal.Refusal.TheVariants.{Behind}
+use Rattle.raft_node.specs.Steps.{Out, Left, Looked, Turn, quiet, refused, leaving, leaves, applied_history, applied, apply_next, looked, own, effects_of}
 use Rattle.world_run.specs.World.{Event, Does, Restart, StopIn, Look, Apply, act_of, begins_run, stepper, own_of, world_by, out_by, happens, out_of, outs, run, moment, agreed, left, left_of}
 use Rattle.agreement.proofs.Lists.{begins_length, length_take}
 use Rattle.world_run.specs.Laws.{LooksAreFaithful, ApplyIsFaithful, AppliedStays, NewIdIsNew, NewRunNewBoot}

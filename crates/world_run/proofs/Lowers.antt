@@ -10,7 +10,9 @@ use Rattle.raft_log.specs.Node.{Node, is_leader}
 use Rattle.election.specs.Elections.{timed_out}
 use Rattle.replication.specs.Replication.{on_forward, ask}
 use Rattle.agreement.specs.World.{sent_of, placed}
-use Rattle.raft_node.specs.Steps.{stopped, LogFull, TermsSpent, NoLeader, Behind, BadOrigin, Turn, Own, Acts, Restarts, Stops, quiet, refused, is_full, applied_history, expired, asks, may_ask, finds_leader, asked, adds, opened, closed, heard, claimed, if_leading, applied, apply_next, looked, turn, own}
+use Rattle.node_steps.specs.declared.refusal.Refusal.TheVariants.{LogFull, TermsSpent, NoLeader, Behind, BadOrigin}
+use Rattle.node_steps.specs.Asking.{is_full, may_ask, finds_leader}
+use Rattle.raft_node.specs.Steps.{stopped, Turn, Own, Acts, Restarts, Stops, quiet, refused, applied_history, expired, asks, asked, adds, opened, closed, heard, claimed, if_leading, applied, apply_next, looked, turn, own}
 use Rattle.raft_node.specs.Machine.{Machine}
 use Rattle.world_run.specs.World.{Input, Timeout, Beat, Deliver, Ask, Opened, Closed, Heard, Claim, Apply, Look, Event, Does, Restart, StopIn, actor, hears, act_of, BringsIn, Brings, Brought, world_by, happens, run, longest_over}
 use Rattle.agreement.specs.World as core

@@ -8,7 +8,8 @@ use Rattle.raft_log.specs.Lists.{item}
 use Rattle.raft_log.specs.Logs.{entry_limit, term_at}
 use Rattle.raft_log.specs.Node.{Node}
 use Rattle.raft_node.specs.Machine.{Machine, history}
-use Rattle.raft_node.specs.Steps.{Left, Looked, leaving, new_session, Act, Stops, turn, own}
+use Rattle.node_steps.specs.Asking.{new_session}
+use Rattle.raft_node.specs.Steps.{Left, Looked, leaving, Act, Stops, turn, own}
 use Rattle.raft_node.specs.Sound.{IsSound}
 use Rattle.agreement.specs.World.{Begins, committed}
 use Rattle.agreement.specs.Laws.{LeadsAnew, StopSaves}

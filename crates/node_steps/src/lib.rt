@@ -1,0 +1,22 @@
+//! What a node is about to do, before it is saved, whatever machine it hosts.
+#![tactic(auto)]
+
+mod asks;
+mod messages;
+mod own;
+mod refusal;
+mod sessions;
+mod timeout;
+mod unprepared;
+
+pub use asks::on_ask;
+pub use messages::on_message;
+pub use refusal::Refusal;
+pub use sessions::{on_claim, on_closed, on_heard, on_opened};
+pub use timeout::on_timeout;
+pub use unprepared::Unprepared;
+
+#[cfg(test)]
+mod tests;
+#[cfg(test)]
+mod toy;

@@ -1,0 +1,60 @@
+//! What happens to a node, and what comes of it.
+ghost use Rattle.std.specs.Prelude.{◌≡◌};
+ghost use Rattle.raft_node.specs.Inputs.{is_apply};
+
+use raft_log::Message;
+use wire_bytes::{Moment, Number, Wire};
+
+/// What happens to a node, over bodies and lines of the machine that it hosts.
+#[derive(Drop)]
+pub enum Input<B: Wire, L> {
+    /// It waited too long for a leader.
+    Timeout,
+    /// A leader sends to all others.
+    Beat,
+    /// A message comes.
+    Deliver(Message<B>),
+    /// A client asks, or word comes that a node is gone.
+    Ask(B),
+    /// The upstream session is registered.
+    Opened,
+    /// The upstream session ended.
+    Closed,
+    /// A line came from upstream.
+    Heard(Moment, L),
+    /// The next line for upstream is claimed.
+    Claim,
+    /// One entry is applied.
+    Apply,
+}
+
+impl<B: Wire, L> Input<B, L> {
+    /// Whether an entry is applied, which nothing is saved for.
+    pub fn is_apply(&self) -> bool
+        ensures { result ≡ is_apply self.now }
+    {
+        match self {
+            Input::Apply => true,
+            _ => false,
+        }
+    }
+}
+
+/// What comes of a step.
+#[derive(Drop)]
+pub struct Output<B: Wire, E> {
+    /// What was sent, in order.
+    pub messages: Vec<Message<B>>,
+    /// The place that was applied, 0 where none was.
+    pub place: Number,
+    /// The effects that leave, in order.
+    pub effects: Vec<E>,
+}
+
+/// A playback.
+#[derive(Drop)]
+pub struct Looked<P> {
+    /// The place up to which the node has applied.
+    pub place: Number,
+    pub lines: Vec<P>,
+}

@@ -1,0 +1,93 @@
+//! How a change is saved, and how a step stands once it is.
+ghost use Rattle.std.specs.Prelude.{◌≡◌, ◌≤◌, ◌↔◌, length, IfOk, IsTrue};
+ghost use Rattle.raft_log.specs.Lists.{IsNode};
+ghost use Rattle.raft_log.specs.Steps.{IsSavable, after};
+ghost use Rattle.stable_store.specs.Changes.{change};
+ghost use Rattle.stable_store.specs.Stores.{NamesNode};
+ghost use Rattle.raft_node.specs.Parts.{Holds, keeper};
+ghost use Rattle.raft_node.specs.Kept.{IsKept, IsStill, IsTaken, MayTake};
+
+use crate::node_fault::Cause;
+use raft_log::{Entry, Message, NodeId, NodeState, Standing, Step};
+use stable_store::{Change, Stable};
+use wire_bytes::{Number, Wire};
+
+/// Saves a step of a state, and then makes it stand. Gives what is sent.
+///
+/// Nothing is saved where neither term, vote nor log change.
+pub fn keep<B: Wire, S: Stable<B>>(
+    store: &mut S,
+    state: &mut NodeState<B>,
+    step: Step<B>,
+) -> Result<Vec<Message<B>>, Cause>
+    requires savable { IsSavable state.old.standing state.old.log step }
+    requires holds { Holds (keeper S.saved S.may_stand S.condition) store.old state.old }
+    ensures kept { IsKept (keeper S.saved S.may_stand S.condition) store.old state.old
+        (after state.old step) store.new state.new result }
+    ensures sent { IfOk result (λ messages. messages.items ≡ step.messages.items) }
+{
+    let Step {
+        standing,
+        keep,
+        entries,
+        messages,
+    } = step;
+    let still = is_still(state, &standing, keep, entries.len());
+    let entries = if still {
+        entries
+    } else {
+        save(store, &standing, keep, entries)?
+    };
+    // after a save that stands, want of room is mended by a start from the store
+    if state.log.put_behind(keep, entries).is_err() {
+        return Err(Cause::Memory);
+    }
+    state.standing = standing;
+    Ok(messages)
+}
+
+/// Whether neither term, vote nor log change.
+fn is_still<B: Wire>(state: &NodeState<B>, standing: &Standing, keep: Number, added: usize) -> bool
+    ensures { IsTrue result ↔ IsStill state.now standing.now keep added }
+{
+    standing.term == state.standing.term
+        && standing.vote == state.standing.vote
+        && keep == state.log.len()
+        && added == 0
+}
+
+/// Saves the boot, term and vote of a standing, with these entries behind so many, and gives the
+/// entries back.
+pub fn save<B: Wire, S: Stable<B>>(
+    store: &mut S,
+    standing: &Standing,
+    keep: Number,
+    entries: Vec<Entry<B>>,
+) -> Result<Vec<Entry<B>>, Cause>
+    requires few { length entries.items ≤ 256 }
+    requires may { NamesNode standing.now.vote
+        → MayTake (keeper S.saved S.may_stand S.condition) store.old
+        (change standing.now.boot standing.now.term standing.now.vote keep entries.items) }
+    ensures taken { IsTaken (keeper S.saved S.may_stand S.condition) store.old
+        (change standing.now.boot standing.now.term standing.now.vote keep entries.items)
+        store.new result }
+    ensures back { IfOk result (λ v. v.items ≡ entries.items) }
+{
+    let vote = value_of(standing.vote);
+    let change = Change::new(standing.boot, standing.term, vote, keep, entries);
+    match store.save(&change) {
+        Ok(()) => Ok(change.into_entries()),
+        Err(fault) => Err(Cause::of(fault)),
+    }
+}
+
+/// The number of a node that was voted for.
+fn value_of(vote: Option<NodeId>) -> Option<u8>
+    ensures value { result ≡ vote }
+    ensures node { NamesNode vote }
+{
+    match vote {
+        None => None,
+        Some(node) => Some(node.value()),
+    }
+}
