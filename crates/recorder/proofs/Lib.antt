@@ -4,4 +4,8 @@ pub mod Fronts
 pub mod Spelled
 pub mod ByKind
 pub mod Beginnings
-pub mod Events
+pub mod Stops
+pub mod Lines
+pub mod EventsSoFar
+pub mod Inputs
+pub mod Apart

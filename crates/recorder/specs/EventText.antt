@@ -1,5 +1,5 @@
 -- Events as lines of text.
-use Rattle.std.specs.Prelude.{◌≡◌, ℕ, suc, ◌<◌, ◌≤◌, ◌^◌, Bool, true, false, IsTrue, List, [], ◌∷◌, ◌++◌, flat_map, length, codes, decimal}
+use Rattle.std.specs.Prelude.{◌≡◌, ℕ, suc, ◌<◌, ◌≤◌, ◌^◌, Bool, true, false, IsTrue, List, [], ◌∷◌, ◌++◌, All, flat_map, length, codes, decimal}
 use Rattle.hex.specs.Hex.{encode_lower}
 use Rattle.irc_line.specs.Names.{is_name}
 use Rattle.raft_log.specs.Lists.{IsNode}
@@ -93,9 +93,14 @@ module _ {B L : Type 0} (body : B → List ℕ) (line : L → List ℕ) where
     IsEvent (Restart n) = IsNode n
     IsEvent (StopIn x after) = IsInput x
 
+    -- each is within the limits
+    abbrev pub AreEvents : List (Event B L (List ℕ)) → Type 0
+    AreEvents events = All IsEvent events
+
     -- a line is the first that is no event: so many events stand before it, and what is left begins with none
     pub record IsBadLine (text : List ℕ) (number : ℕ) : Type 0 where
       pub before : List (Event B L (List ℕ))
+      pub good : AreEvents before
       pub counted : number ≡ suc (length before)
       pub rest : List ℕ
       pub whole : events_text before ++ rest ≡ text

@@ -18,6 +18,13 @@ module _ {B : Type 0} (spelled : B → List ℕ) (fits : B → Type 0) where
   abbrev pub FitsEvent : Event B Parts (List ℕ) → Type 0
   FitsEvent e = IsEvent spelled spelling (FitsDigits fits spelled) FitsLine e
 
+  -- the same without that a body is spelled by bytes, which what is written shows
+  abbrev pub IsWritableInput : Input B Parts (List ℕ) → Type 0
+  IsWritableInput x = IsInput spelled spelling fits FitsLine x
+
+  abbrev pub IsWritable : Event B Parts (List ℕ) → Type 0
+  IsWritable e = IsEvent spelled spelling fits FitsLine e
+
   -- the text of an input, and of an event
   abbrev pub text_of_input : Input B Parts (List ℕ) → List ℕ
   text_of_input x = input_text spelled spelling x

@@ -3,3 +3,5 @@ pub mod Kinds
 pub mod Splits
 pub mod Readings
 pub mod InputReadings
+pub mod EventLists
+pub mod EventLaws

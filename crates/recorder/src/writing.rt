@@ -1,7 +1,9 @@
-//! What happens to one node, written.
-ghost use Rattle.std.specs.Prelude.{◌≡◌, ◌++◌, ◌∷◌, decimal, OnOk};
-ghost use Rattle.hex.specs.Hex.{encode_lower};
-ghost use Rattle.recorder.specs.InputReadings.{FitsInput, text_of_input};
+//! Events, written.
+ghost use Rattle.std.specs.Prelude.{◌≡◌, ◌++◌, ◌∷◌, decimal, IfOk, OnOk};
+ghost use Rattle.hex.specs.Hex.{IsBytes, encode_lower};
+ghost use Rattle.recorder.specs.EventLists.{AreOf, AreWritable};
+ghost use Rattle.recorder.specs.InputReadings.{FitsEvent, FitsInput, IsWritable, IsWritableInput};
+ghost use Rattle.recorder.specs.InputReadings.{text_of_event, text_of_input};
 ghost use Rattle.recorder.specs.Kinds.{word};
 
 use crate::kind::Kind;
@@ -11,7 +13,49 @@ use itoa::Buffer;
 use raft_log::NodeId;
 use std::alloc::{AllocError, Global};
 use wire_bytes::Wire;
-use world_events::Input;
+use world_events::{Event, Input};
+
+/// The text of events, one a line, each with its end.
+pub fn write_events<B: Wire>(
+    alloc: Global,
+    events: &[Event<B, WireLine, Name>],
+) -> Result<Vec<u8>, AllocError>
+    requires { AreWritable B.spelled B.fits events.now }
+    ensures { IfOk result (λ v. AreOf B.spelled B.fits v.items events.now) }
+{
+    let mut out = Vec::new(alloc);
+    for event in events {
+        push_event(alloc, &mut out, event)?;
+        out.push(b'\n')?;
+    }
+    Ok(out)
+}
+
+/// Appends an event, as its line without its end tells. After an error a part of it may have been
+/// appended.
+pub fn push_event<B: Wire>(
+    alloc: Global,
+    out: &mut Vec<u8>,
+    event: &Event<B, WireLine, Name>,
+) -> Result<(), AllocError>
+    requires { IsWritable B.spelled B.fits event.now }
+    ensures text { OnOk result
+        (out.new.items ≡ out.old.items ++ text_of_event B.spelled B.fits event.now) }
+    ensures fits { OnOk result (FitsEvent B.spelled B.fits event.now) }
+{
+    match event {
+        Event::Does(input) => push_input(alloc, out, input),
+        Event::Restart(node) => {
+            out.extend_from_slice(b"restart ")?;
+            push_number(out, node.value() as u64)
+        }
+        Event::StopIn(input, after) => {
+            let words: &[u8] = if *after { b"stop after " } else { b"stop before " };
+            out.extend_from_slice(words)?;
+            push_input(alloc, out, input)
+        }
+    }
+}
 
 /// Appends what happens, as its line without its end tells. After an error a part of it may have
 /// been appended.
@@ -20,9 +64,10 @@ pub fn push_input<B: Wire>(
     out: &mut Vec<u8>,
     input: &Input<B, WireLine, Name>,
 ) -> Result<(), AllocError>
-    requires { FitsInput B.spelled B.fits input.now }
-    ensures { OnOk result
+    requires { IsWritableInput B.spelled B.fits input.now }
+    ensures text { OnOk result
         (out.new.items ≡ out.old.items ++ text_of_input B.spelled B.fits input.now) }
+    ensures fits { OnOk result (FitsInput B.spelled B.fits input.now) }
 {
     match input {
         Input::Timeout(node) => push_front(out, Kind::Timeout, *node),
@@ -70,7 +115,9 @@ fn push_front(out: &mut Vec<u8>, kind: Kind, node: NodeId) -> Result<(), AllocEr
 /// Appends a body in lower-case hex digits.
 fn push_body<B: Wire>(alloc: Global, out: &mut Vec<u8>, body: &B) -> Result<(), AllocError>
     requires { B.fits body.now }
-    ensures { OnOk result (out.new.items ≡ out.old.items ++ encode_lower (B.spelled body.now)) }
+    ensures text { OnOk result
+        (out.new.items ≡ out.old.items ++ encode_lower (B.spelled body.now)) }
+    ensures bytes { OnOk result (IsBytes (B.spelled body.now)) }
 {
     let mut bytes = Vec::new(alloc);
     body.put(&mut bytes)?;

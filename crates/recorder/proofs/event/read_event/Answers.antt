@@ -5,7 +5,7 @@ use Rattle.irc_line.specs.Names.{same_bytes}
 use Rattle.recorder.specs.InputReadings.{FitsEvent, text_of_event}
 use Rattle.recorder.specs.Readings.{ReadsAs}
 use Rattle.recorder.specs.Splits.{split_at}
-use Rattle.recorder.proofs.Events.{behind_word}
+use Rattle.recorder.proofs.Stops.{behind_word}
 use Rattle.recorder.proofs.event.read_event.Goals as goal
 
 pub returns-then-is_same : goal.returns-then-is_same

@@ -6,7 +6,7 @@ use Rattle.recorder.specs.InputReadings.{FitsInput, text_of_input}
 use Rattle.recorder.specs.Kinds.{side_of_word}
 use Rattle.recorder.specs.Readings.{ReadsAs}
 use Rattle.recorder.specs.Splits.{split_at}
-use Rattle.recorder.proofs.Events.{stop_read}
+use Rattle.recorder.proofs.Stops.{stop_read}
 use Rattle.recorder.proofs.event.read_stop.Goals as goal
 
 pub returns-in-Some-2 : goal.returns-in-Some-2
