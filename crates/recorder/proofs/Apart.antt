@@ -1,6 +1,5 @@
 -- No two lists of events have one text.
-use Rattle.std.proofs.Common.{◌≡◌, ℕ, suc, ◌+◌, ◌<◌, List, [], ◌∷◌, ◌++◌, length, refl, sym, ap, ◌∙◌, append_assoc, arith, length-append}
-use Rattle.std.specs.Prelude.{Some}
+use Rattle.std.proofs.Common.{◌≡◌, ℕ, suc, List, [], ◌∷◌, ◌++◌, length, refl, sym, ap, ◌∙◌, append_assoc, arith, length-append}
 use Rattle.std.proofs.lemmas.List.{append-nil}
 use Rattle.irc_line.specs.Lines.{Parts, spelling}
 use Rattle.world_events.specs.declared.event.Event.{Event}
@@ -8,7 +7,6 @@ use Rattle.recorder.specs.EventLaws.{HasOneFirstBad, HaveNoBadLine, HaveTheirOwn
 use Rattle.recorder.specs.EventLists.{FitEvents, line_and, text_of_events}
 use Rattle.recorder.specs.EventText.{event_line}
 use Rattle.recorder.specs.InputReadings.{FitsEvent, text_of_event}
-use Rattle.recorder.specs.Splits.{split_at}
 use Rattle.recorder.proofs.Inputs.{one_event}
 use Rattle.recorder.proofs.Lines.{line_split}
 

@@ -1,5 +1,5 @@
 -- Inputs by their kind.
-use Rattle.std.proofs.Common.{◌≡◌, ℕ, ◌<◌, ◌≤◌, ◌^◌, List, ap}
+use Rattle.std.proofs.Common.{◌≡◌, ℕ, ◌≤◌, List, ap}
 use Rattle.std.specs.Prelude.{decimal, IsTrue}
 use Rattle.std.proofs.lemmas.Fmt.{decimal_injective}
 use Rattle.hex.specs.Hex.{encode_lower}

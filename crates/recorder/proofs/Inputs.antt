@@ -1,12 +1,11 @@
 -- No two events have one line.
-use Rattle.std.proofs.Common.{◌≡◌, ℕ, ◌≤◌, Bool, true, false, List, [], ◌∷◌, ◌++◌, refl, sym, ap, subst, ◌∙◌, arith}
+use Rattle.std.proofs.Common.{◌≡◌, ℕ, Bool, true, false, List, ◌∷◌, ◌++◌, refl, sym, ap, subst, arith}
 use Rattle.std.specs.Prelude.{codes, Some, None, decimal}
 use Rattle.std.proofs.lemmas.Fmt.{decimal_injective}
 use Rattle.hex.specs.Hex.{IsBytes, encode_lower}
 use Rattle.hex.proofs.HexLemmas.{decode_of-encode_lower}
 use Rattle.irc_line.specs.Lines.{Parts, spelling}
 use Rattle.irc_line.proofs.Canonical.{one_line}
-use Rattle.wire_bytes.specs.Contents.{FitsLine}
 use Rattle.raft_log.specs.Lists.{IsNode}
 use Rattle.world_events.specs.declared.event.Input.{Input}
 use Rattle.world_events.specs.declared.event.Input.TheVariants as input

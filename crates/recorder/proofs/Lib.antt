@@ -9,3 +9,4 @@ pub mod Lines
 pub mod EventsSoFar
 pub mod Inputs
 pub mod Apart
+pub mod Writable

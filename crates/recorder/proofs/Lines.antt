@@ -1,7 +1,7 @@
 -- Lines of events hold no LF before their end.
-use Rattle.std.proofs.Common.{◌≡◌, ℕ, ◌<◌, ◌^◌, Bool, true, false, not, List, [], ◌∷◌, ◌++◌, refl, sym, ap, subst, ◌∙◌, append_assoc, arith}
-use Rattle.std.specs.Prelude.{◌==◌, if◌then◌else◌, nat_lt, ◌&&◌, Option, Some, None, codes, decimal, IsTrue}
-use Rattle.std.specs.List.{AllPass, list_all}
+use Rattle.std.proofs.Common.{◌≡◌, ℕ, Bool, true, false, not, List, [], ◌∷◌, ◌++◌, refl, sym, ap, subst, ◌∙◌, append_assoc, arith}
+use Rattle.std.specs.Prelude.{◌==◌, if◌then◌else◌, Option, Some, None, codes, decimal, IsTrue}
+use Rattle.std.specs.List.{list_all}
 use Rattle.std.proofs.lemmas.Bool.Decides.{nat_tests}
 use Rattle.std.proofs.lemmas.List.Sums.{list_all-from_AllPass}
 use Rattle.hex.specs.Hex.{IsBytes, encode_lower, is_hex_digit}
@@ -17,11 +17,11 @@ use Rattle.world_events.specs.declared.event.Event.{Event}
 use Rattle.world_events.specs.declared.event.Event.TheVariants.{Does, Restart, StopIn}
 use Rattle.recorder.specs.declared.kind.Kind.{Kind}
 use Rattle.recorder.specs.declared.kind.Kind.TheVariants as kind
-use Rattle.recorder.specs.EventText.{fields, kind_of, node_and, number_and}
+use Rattle.recorder.specs.EventText.{fields, kind_of, number_and}
 use Rattle.recorder.specs.EventLists.{FitsFirst, line_and}
 use Rattle.recorder.specs.InputReadings.{FitsEvent, FitsInput, text_of_event, text_of_input}
-use Rattle.recorder.specs.Kinds.{side_word, word}
-use Rattle.recorder.specs.Readings.{FitsDigits, IsWord, ReadsAs}
+use Rattle.recorder.specs.Kinds.{word}
+use Rattle.recorder.specs.Readings.{IsWord, ReadsAs}
 use Rattle.recorder.specs.Splits.{put_first, split_at}
 use Rattle.recorder.proofs.Fronts.{node_small}
 use Rattle.recorder.proofs.Splits.{joined, number_lacks, parts}

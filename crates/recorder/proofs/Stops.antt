@@ -1,6 +1,6 @@
 -- Lines of restarts and stops, by their words.
 use Rattle.std.proofs.Common.{◌≡◌, ℕ, Bool, true, false, List, ◌∷◌, ◌++◌, refl, sym, ap, ◌∙◌}
-use Rattle.std.specs.Prelude.{codes, if◌then◌else◌, Option, Some, None}
+use Rattle.std.specs.Prelude.{codes, if◌then◌else◌, Option, Some}
 use Rattle.irc_line.specs.Lines.{Parts}
 use Rattle.irc_line.specs.Names.{same_bytes}
 use Rattle.irc_line.proofs.SameBytes.{same_bytes-eq}

@@ -1,7 +1,6 @@
 -- That events and their text are inverse.
 use Rattle.std.specs.Prelude.{◌≡◌, ℕ, List}
-use Rattle.irc_line.specs.Lines.{Parts, spelling}
-use Rattle.wire_bytes.specs.Contents.{FitsLine}
+use Rattle.irc_line.specs.Lines.{Parts}
 use Rattle.world_events.specs.declared.event.Event.{Event}
 use Rattle.recorder.specs.EventLists.{AreOf, IsFirstBad}
 

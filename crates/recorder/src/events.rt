@@ -1,6 +1,6 @@
 //! Lists of events as text, a line each.
 ghost use Rattle.std.specs.Prelude.{◌≡◌, ◌++◌, ◌∷◌, [], IfErr, IfOk, OnOk, option_map};
-ghost use Rattle.recorder.specs.EventLists.{AreOf, FitsFirst, IsFaultOf, line_and};
+ghost use Rattle.recorder.specs.EventLists.{AreOf, AreWritable, FitsFirst, IsFaultOf, line_and};
 ghost use Rattle.recorder.specs.Readings.{ReadsAs};
 
 use crate::event::read_event;
@@ -12,12 +12,13 @@ use std::alloc::{AllocError, Global};
 use wire_bytes::Wire;
 use world_events::Event;
 
-/// The events of a text, one a line, each with its end.
+/// The events of a text, one a line, each with its end. They may be written again.
 pub fn parse_events<B: Wire>(
     alloc: Global,
     text: &[u8],
 ) -> Result<Vec<Event<B, WireLine, Name>>, EventsFault>
     ensures events { IfOk result (λ v. AreOf B.spelled B.fits text.now v.items) }
+    ensures writable { IfOk result (λ v. AreWritable B.spelled B.fits v.items) }
     ensures bad { IfErr result (IsFaultOf B.spelled B.fits text.now) }
 {
     let mut events = Vec::new(alloc);

@@ -16,6 +16,8 @@ pub use event::read_event;
 pub use events::parse_events;
 pub use events_fault::EventsFault;
 pub use input::read_input;
-pub use kind::Kind;
 pub use laws::{no_two_lists_have_one_text, what_is_written_has_no_bad_line};
 pub use writing::{push_event, push_input, write_events};
+
+#[cfg(test)]
+mod tests;

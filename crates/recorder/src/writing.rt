@@ -50,7 +50,11 @@ pub fn push_event<B: Wire>(
             push_number(out, node.value() as u64)
         }
         Event::StopIn(input, after) => {
-            let words: &[u8] = if *after { b"stop after " } else { b"stop before " };
+            let words: &[u8] = if *after {
+                b"stop after "
+            } else {
+                b"stop before "
+            };
             out.extend_from_slice(words)?;
             push_input(alloc, out, input)
         }

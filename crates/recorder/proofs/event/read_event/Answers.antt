@@ -1,4 +1,4 @@
-use Rattle.std.proofs.Common.{rules, ◌≡◌, ℕ, true, false, List, IfOk, Some, subst}
+use Rattle.std.proofs.Common.{rules, ◌≡◌, ℕ, true, List, IfOk, Some, subst}
 use Rattle.std.proofs.lemmas.Grind.{common_steps}
 use Rattle.std.specs.Prelude.{codes}
 use Rattle.irc_line.specs.Names.{same_bytes}

@@ -1,10 +1,6 @@
-use Rattle.std.proofs.Common.{rules, ◌≡◌, Some, subst}
+use Rattle.std.proofs.Common.{rules, ◌≡◌, Some}
 use Rattle.std.proofs.lemmas.Grind.{common_steps}
-use Rattle.std.specs.Prelude.{Option}
-use Rattle.irc_line.specs.Lines.{Parts}
-use Rattle.recorder.specs.InputReadings.{FitsInput, text_of_input}
 use Rattle.recorder.specs.Kinds.{side_of_word}
-use Rattle.recorder.specs.Readings.{ReadsAs}
 use Rattle.recorder.specs.Splits.{split_at}
 use Rattle.recorder.proofs.Stops.{stop_read}
 use Rattle.recorder.proofs.event.read_stop.Goals as goal
