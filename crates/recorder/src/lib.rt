@@ -1,4 +1,4 @@
-//! Events and what they bring about, as lines of text.
+//! Events as lines of text.
 #![tactic(auto)]
 
 mod event;
