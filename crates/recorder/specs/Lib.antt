@@ -5,3 +5,4 @@ pub mod Readings
 pub mod InputReadings
 pub mod EventLists
 pub mod EventLaws
+pub mod NodeLines

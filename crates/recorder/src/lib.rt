@@ -1,4 +1,4 @@
-//! Events as lines of text.
+//! Events, and what nodes are after them, as lines of text.
 #![tactic(auto)]
 
 mod event;
@@ -8,6 +8,7 @@ mod fields;
 mod input;
 mod kind;
 mod laws;
+mod node_line;
 mod split;
 mod words;
 mod writing;
@@ -17,6 +18,7 @@ pub use events::parse_events;
 pub use events_fault::EventsFault;
 pub use input::read_input;
 pub use laws::{no_two_lists_have_one_text, what_is_written_has_no_bad_line};
+pub use node_line::push_node;
 pub use writing::{push_event, push_input, write_events};
 
 #[cfg(test)]

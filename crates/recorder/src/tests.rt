@@ -1,10 +1,11 @@
 //! Events as text, by examples.
 use super::*;
 use buffer_commands::Command;
-use raft_log::NodeId;
+use raft_log::{Entry, GroupSize, Log, LoggedBody, NodeId, NodeState, Peers, Position, Standing};
 use std::alloc::Global;
 use std::process::Abort;
 use std::test::Fail;
+use wire_bytes::Number;
 use world_events::{Event, Input};
 
 /// Every kind of event; the body is that node 2 is gone up to its run 5.
@@ -129,5 +130,38 @@ fn a_delivery_is_its_line(rt: HostRuntime) -> Result<(), Fail> {
     let mut out = Vec::new(rt.alloc());
     push_input::<Command>(rt.alloc(), &mut out, &Input::Deliver(NodeId::new(3), 12))?;
     assert_eq!(rt; out.as_slice(), b"deliver 3 12".as_slice());
+    Ok(())
+}
+
+/// A candidate that has an entry of term 2 and voted for itself in term 3.
+fn candidate(alloc: Global, size: GroupSize) -> Result<NodeState<u8>, Fail> {
+    let mut log = Log::new(alloc);
+    log.push(Entry {
+        term: Number::new(2),
+        body: LoggedBody::new(9),
+    })?;
+    let standing = Standing {
+        boot: Number::new(1),
+        term: Number::new(3),
+        vote: Some(NodeId::new(2)),
+        position: Position::Candidate,
+        commit: Number::new(1),
+        applied: Number::new(0),
+        peers: Peers::new(size),
+        attempts: Number::new(0),
+    };
+    Ok(NodeState { standing, log })
+}
+
+#[test]
+fn a_node_is_its_line(rt: HostRuntime) -> Result<(), Fail> {
+    let Some(size) = GroupSize::new(3) else {
+        return Err(Fail::from("no such size"));
+    };
+    let state = candidate(rt.alloc(), size)?;
+    let mut out = Vec::new(rt.alloc());
+    push_node(&mut out, NodeId::new(2), &state)?;
+    let line = b"node 2 candidate term 3 vote 2 log 1 last 2 commit 1 applied 0\n";
+    assert_eq!(rt; out.as_slice(), line.as_slice());
     Ok(())
 }

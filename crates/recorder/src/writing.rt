@@ -130,7 +130,7 @@ fn push_body<B: Wire>(alloc: Global, out: &mut Vec<u8>, body: &B) -> Result<(), 
 }
 
 /// Appends a number in decimal digits.
-fn push_number(out: &mut Vec<u8>, number: u64) -> Result<(), AllocError>
+pub fn push_number(out: &mut Vec<u8>, number: u64) -> Result<(), AllocError>
     ensures { OnOk result (out.new.items ≡ out.old.items ++ decimal number) }
 {
     let mut buffer = Buffer::new();
