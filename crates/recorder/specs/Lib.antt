@@ -6,3 +6,4 @@ pub mod InputReadings
 pub mod EventLists
 pub mod EventLaws
 pub mod NodeLines
+pub mod EffectWords

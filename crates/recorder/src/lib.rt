@@ -1,6 +1,7 @@
-//! Events, and what nodes are after them, as lines of text.
+//! Events, what leaves by them, and what nodes are after them, as lines of text.
 #![tactic(auto)]
 
+mod effects;
 mod event;
 mod events;
 mod events_fault;
@@ -13,6 +14,7 @@ mod split;
 mod words;
 mod writing;
 
+pub use effects::{Words, push_answers};
 pub use event::read_event;
 pub use events::parse_events;
 pub use events_fault::EventsFault;

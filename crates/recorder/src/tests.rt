@@ -1,11 +1,14 @@
 //! Events as text, by examples.
 use super::*;
-use buffer_commands::Command;
+use buffer_commands::{Command, Effect};
 use raft_log::{Entry, GroupSize, Log, LoggedBody, NodeId, NodeState, Peers, Position, Standing};
+use request_once::Answer;
+use session_fence::FenceEffect;
 use std::alloc::Global;
 use std::process::Abort;
 use std::test::Fail;
-use wire_bytes::Number;
+use upstream_claim::ClaimsEffect;
+use wire_bytes::{Number, Origin};
 use world_events::{Event, Input};
 
 /// Every kind of event; the body is that node 2 is gone up to its run 5.
@@ -24,6 +27,9 @@ restart 2
 stop before timeout 1
 stop after ask 1 03020000000000000005
 ";
+
+/// What the tower brings about.
+type TowerEffect = Answer<ClaimsEffect<FenceEffect<Effect>>>;
 
 /// The text of the events of a text.
 fn rewritten(alloc: Global, text: &[u8]) -> Result<Vec<u8>, Fail> {
@@ -163,5 +169,37 @@ fn a_node_is_its_line(rt: HostRuntime) -> Result<(), Fail> {
     push_node(&mut out, NodeId::new(2), &state)?;
     let line = b"node 2 candidate term 3 vote 2 log 1 last 2 commit 1 applied 0\n";
     assert_eq!(rt; out.as_slice(), line.as_slice());
+    Ok(())
+}
+
+/// The words of what leaves.
+fn words_of<E: Words>(alloc: Global, effect: &E) -> Result<Vec<u8>, Fail> {
+    let mut out = Vec::new(alloc);
+    effect.push_words(&mut out)?;
+    Ok(out)
+}
+
+#[test]
+fn what_leaves_the_tower_is_told_in_words(rt: HostRuntime) -> Result<(), Fail> {
+    let origin = Origin::new(2, 5, 7);
+    let busy: TowerEffect = Answer::Effect(ClaimsEffect::Busy(origin));
+    assert_eq!(rt;
+        words_of(rt.alloc(), &busy)?.as_slice(),
+        b"busy 2.5.7".as_slice()
+    );
+    let gap: TowerEffect = Answer::Gap(origin, 3);
+    assert_eq!(rt;
+        words_of(rt.alloc(), &gap)?.as_slice(),
+        b"gap 2.5.7 3".as_slice()
+    );
+    Ok(())
+}
+
+#[test]
+fn answers_stand_on_lines(rt: HostRuntime) -> Result<(), Fail> {
+    let mut out = Vec::new(rt.alloc());
+    let close = Answer::Effect(Effect::Close(Origin::new(1, 1, 1)));
+    push_answers(&mut out, 12, &[close])?;
+    assert_eq!(rt; out.as_slice(), b"12 close 1.1.1\n".as_slice());
     Ok(())
 }

@@ -1,7 +1,7 @@
 use Rattle.std.proofs.Common.{◌∙◌}
 use Rattle.std.proofs.Math.Seq.{take-append-add}
 use Rattle.irc_line.specs.Lines.{spelling}
-use Rattle.bouncer_app.proofs.words.push_sent.Goals as goal
+use Rattle.recorder.proofs.effects.push_sent.Goals as goal
 
 pub returns : goal.returns
 returns c =
