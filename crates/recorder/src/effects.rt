@@ -37,7 +37,8 @@ pub fn push_answers<E: Words>(
     place: u64,
     answers: &[Answer<E>],
 ) -> Result<(), AllocError>
-    ensures { OnOk result (out.new.items ≡ out.old.items ++ answer_lines E.words place answers.now) }
+    ensures { OnOk result
+        (out.new.items ≡ out.old.items ++ answer_lines E.words place answers.now) }
 {
     // One place for all answers: its digits are made once.
     let mut buffer = Buffer::new();

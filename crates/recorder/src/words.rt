@@ -13,7 +13,8 @@ use wire_bytes::{Wire, WireFault};
 
 /// The body of these lower-case hex digits, nothing before or behind it.
 pub fn read_body<B: Wire>(alloc: Global, digits: &[u8]) -> Result<Option<B>, AllocError>
-    ensures { IfOk result (ReadsAs (digits_of B.spelled) (FitsDigits B.fits B.spelled) digits.now) }
+    ensures { IfOk result
+        (ReadsAs (digits_of B.spelled) (FitsDigits B.fits B.spelled) digits.now) }
 {
     let bytes = match hex::decode(alloc, digits) {
         Ok(bytes) => bytes,
