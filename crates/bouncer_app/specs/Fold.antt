@@ -13,7 +13,7 @@ use Rattle.request_once.specs.Fresh.{answers}
 use Rattle.request_once.specs.Spelling.{body_taken}
 use Rattle.request_once.specs.declared.answer.Answer.{Answer}
 use Rattle.request_once.specs.declared.body.Body.{Body}
-use Rattle.bouncer_app.specs.Words.{answer_lines}
+use Rattle.recorder.specs.EffectWords.{answer_lines, effect_words}
 use Rattle.bouncer_app.specs.Lines.{lines_of, hex_bytes}
 use Rattle.bouncer_app.specs.declared.fault.FoldFault.{FoldFault}
 use Rattle.bouncer_app.specs.declared.fault.FoldFault.TheVariants.{BadHex, BadBody}
@@ -24,7 +24,7 @@ Request = Body Command Action
 -- the text of the answers to all bodies of a history, in order of place
 abbrev pub printed : (History Request → ℕ → Request → List (Answer Effect)) → History Request → List ℕ
 printed answers [] = []
-printed answers (x ∷ earlier) = printed answers earlier ++ answer_lines x.0 (answers earlier x.0 x.1)
+printed answers (x ∷ earlier) = printed answers earlier ++ answer_lines effect_words x.0 (answers earlier x.0 x.1)
 
 -- the value of a reading that took all of so many bytes
 abbrev pub if_whole : {V : Type 0} → ℕ → Result (V × ℕ) WireFault → Option V

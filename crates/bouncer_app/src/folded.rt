@@ -1,10 +1,10 @@
 //! Setups, bodies in words, and their answers as lines of text.
 use crate::said::said;
-use crate::words::{push_answer, push_answers};
 use buffer_commands::{Action, Command, Effect, Options, Setup};
 use buffer_machine::BufferMachine;
 use irc_line::Name;
 use machine_laws::{Machine, run_all};
+use recorder::{Words, push_answers};
 use request_once::{Answer, Body, Once};
 use std::alloc::Global;
 use std::process::Abort;
@@ -94,7 +94,7 @@ pub fn check_run(
 ) -> Result<(), Fail> {
     let mut out = Vec::new(alloc);
     for answer in &run(alloc, setup, bodies)? {
-        push_answer(&mut out, answer)?;
+        answer.push_words(&mut out)?;
         out.push(b'\n')?;
     }
     assert_eq!(rt; out.as_slice(), ended(alloc, want)?.as_slice());

@@ -17,7 +17,6 @@ mod said;
 mod setup_tests;
 #[cfg(test)]
 mod tests;
-mod words;
 
 use crate::fault::FoldFault;
 use crate::fold::fold;

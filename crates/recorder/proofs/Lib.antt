@@ -1,0 +1,12 @@
+pub mod Splits
+pub mod Numbers
+pub mod Fronts
+pub mod Spelled
+pub mod ByKind
+pub mod Beginnings
+pub mod Stops
+pub mod Lines
+pub mod EventsSoFar
+pub mod Inputs
+pub mod Apart
+pub mod Writable

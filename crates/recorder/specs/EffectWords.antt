@@ -1,0 +1,59 @@
+-- How what leaves is printed.
+use Rattle.std.specs.Prelude.{ℕ, List, [], ◌∷◌, ◌++◌, take, flat_map, codes, decimal}
+use Rattle.irc_line.specs.Lines.{Parts, spelling}
+use Rattle.wire_bytes.specs.declared.origin.Origin.{Origin}
+use Rattle.buffer_commands.specs.declared.effect.Effect.{Effect}
+use Rattle.buffer_commands.specs.declared.effect.Effect.TheVariants.{Close, Show, Send, Rejoin}
+use Rattle.session_fence.specs.declared.effect.FenceEffect.{FenceEffect}
+use Rattle.session_fence.specs.declared.effect.FenceEffect.TheVariants.{Inner as Fenced, Rejoin as RejoinOf}
+use Rattle.upstream_claim.specs.declared.effect.ClaimsEffect.{ClaimsEffect}
+use Rattle.upstream_claim.specs.declared.effect.ClaimsEffect.TheVariants.{Inner as Claimed, Busy, Hand}
+use Rattle.request_once.specs.declared.answer.Answer.{Answer}
+use Rattle.request_once.specs.declared.answer.Answer.TheVariants.{Effect as Passed, Done, Repeat, Gap, Marked}
+
+-- an origin as `node.boot.client`
+abbrev pub origin_words : Origin → List ℕ
+origin_words o = decimal o.0 ++ 46 ∷ decimal o.1 ++ 46 ∷ decimal o.2
+
+-- a word and an origin, a space between them
+abbrev pub to_origin : List ℕ → Origin → List ℕ
+to_origin word o = word ++ 32 ∷ origin_words o
+
+-- what a line is printed as: its spelling's first 510 bytes
+abbrev pub printed_line : List ℕ → List ℕ
+printed_line spelled = take 510 spelled
+
+-- a channel that is joined again
+abbrev pub rejoin_words : Parts → List ℕ
+rejoin_words line = codes "rejoin " ++ printed_line (spelling line)
+
+abbrev pub effect_words : Effect → List ℕ
+effect_words (Close o) = to_origin (codes "close") o
+effect_words (Show o shown) = to_origin (codes "show") o ++ 32 ∷ printed_line shown
+effect_words (Send o line) = to_origin (codes "send") o ++ 32 ∷ printed_line (spelling line)
+effect_words (Rejoin line) = rejoin_words line
+
+-- Over the words of the effects below
+module _ {E : Type 0} (inner : E → List ℕ) where
+  abbrev pub fence_words : FenceEffect E → List ℕ
+  fence_words (Fenced e) = inner e
+  fence_words (RejoinOf id line) = rejoin_words line
+
+  abbrev pub claims_words : ClaimsEffect E → List ℕ
+  claims_words (Claimed e) = inner e
+  claims_words (Busy o) = to_origin (codes "busy") o
+  claims_words (Hand id number line) = codes "hand " ++ decimal number ++ 32 ∷ printed_line (spelling line)
+
+  abbrev pub answer_words : Answer E → List ℕ
+  answer_words (Passed e) = inner e
+  answer_words (Done o number) = to_origin (codes "done") o ++ 32 ∷ decimal number
+  answer_words (Repeat o number) = to_origin (codes "repeat") o ++ 32 ∷ decimal number
+  answer_words (Gap o number) = to_origin (codes "gap") o ++ 32 ∷ decimal number
+  answer_words (Marked mark) = codes "marked " ++ decimal mark.number
+
+  -- a line of output: the place of the body, the words of one of its answers, LF
+  abbrev pub answer_line : ℕ → Answer E → List ℕ
+  answer_line place a = decimal place ++ 32 ∷ answer_words a ++ 10 ∷ []
+
+  abbrev pub answer_lines : ℕ → List (Answer E) → List ℕ
+  answer_lines place answers = flat_map (answer_line place) answers

@@ -1,0 +1,33 @@
+-- Nodes as lines of text.
+use Rattle.std.specs.Prelude.{ℕ, List, [], ◌∷◌, ◌++◌, length, codes, decimal, Option, Some, None}
+use Rattle.raft_log.specs.declared.entry.Entry.{Entry}
+use Rattle.raft_log.specs.declared.role.Role.{Role}
+use Rattle.raft_log.specs.declared.role.Role.TheVariants.{Follower, Candidate, Leader}
+use Rattle.raft_log.specs.Logs.{last_term}
+use Rattle.raft_log.specs.Node.{Node}
+
+abbrev pub role_word : Role → List ℕ
+role_word Follower = codes "follower"
+role_word Candidate = codes "candidate"
+role_word Leader = codes "leader"
+
+-- the node that was voted for, 0 where there is none
+abbrev pub vote_number : Option ℕ → ℕ
+vote_number None = 0
+vote_number (Some node) = node
+
+-- what it is in its term, the term, and for whom it voted
+abbrev pub term_words : Role → ℕ → Option ℕ → List ℕ
+term_words role term vote = 32 ∷ role_word role ++ codes " term " ++ decimal term ++ codes " vote " ++ decimal (vote_number vote)
+
+-- how many entries its log has, and the term of the last, 0 where there is none
+abbrev pub log_words : {B : Type 0} → List (Entry B) → List ℕ
+log_words log = codes " log " ++ decimal (length log) ++ codes " last " ++ decimal (last_term log)
+
+-- the places up to which it committed and applied, and the end of the line
+abbrev pub place_words : ℕ → ℕ → List ℕ
+place_words commit applied = codes " commit " ++ decimal commit ++ codes " applied " ++ decimal applied ++ 10 ∷ []
+
+-- the line of a node with its end
+abbrev pub node_line : {B : Type 0} → ℕ → Node B → List ℕ
+node_line node s = (codes "node " ++ decimal node) ++ term_words s.role s.term s.vote ++ log_words s.log ++ place_words s.commit s.applied

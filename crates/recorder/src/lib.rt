@@ -1,0 +1,27 @@
+//! Events, what leaves by them, and what nodes are after them, as lines of text.
+#![tactic(auto)]
+
+mod effects;
+mod event;
+mod events;
+mod events_fault;
+mod fields;
+mod input;
+mod kind;
+mod laws;
+mod node_line;
+mod split;
+mod words;
+mod writing;
+
+pub use effects::{Words, push_answers};
+pub use event::read_event;
+pub use events::parse_events;
+pub use events_fault::EventsFault;
+pub use input::read_input;
+pub use laws::{no_two_lists_have_one_text, what_is_written_has_no_bad_line};
+pub use node_line::push_node;
+pub use writing::{push_event, push_input, write_events};
+
+#[cfg(test)]
+mod tests;
