@@ -3,7 +3,6 @@
 
 mod agreeing;
 mod confirmed;
-mod event;
 mod faithful;
 mod running;
 
@@ -12,6 +11,5 @@ pub use agreeing::{
     later_leaders_hold_what_is_committed, logs_match, one_leader_a_term,
 };
 pub use confirmed::what_is_asked_later_stands_above;
-pub use event::{Event, Input};
 pub use faithful::{no_more_leaves_than_is_agreed, what_leaves_is_of_the_agreed_list};
 pub use running::{each_node_is_sound, runs_are_apart, sessions_are_apart};

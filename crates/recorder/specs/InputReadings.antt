@@ -1,0 +1,40 @@
+-- What is read behind the word of a kind, and of whole lines.
+use Rattle.std.specs.Prelude.{◌≡◌, ℕ, List, ◌++◌, Option, Some, None}
+use Rattle.irc_line.specs.Lines.{Parts, spelling}
+use Rattle.wire_bytes.specs.Contents.{FitsLine}
+use Rattle.world_events.specs.declared.event.Input.{Input}
+use Rattle.world_events.specs.declared.event.Event.{Event}
+use Rattle.world_events.specs.declared.event.Event.TheVariants.{Does}
+use Rattle.recorder.specs.declared.kind.Kind.{Kind}
+use Rattle.recorder.specs.EventText.{kind_of, fields, input_text, event_text, IsInput, IsEvent}
+use Rattle.recorder.specs.Readings.{FitsDigits, ReadsAs}
+
+-- Over bodies, their spelling and its limits
+module _ {B : Type 0} (spelled : B → List ℕ) (fits : B → Type 0) where
+  -- the limits of what is read
+  abbrev pub FitsInput : Input B Parts (List ℕ) → Type 0
+  FitsInput x = IsInput spelled spelling (FitsDigits fits spelled) FitsLine x
+
+  abbrev pub FitsEvent : Event B Parts (List ℕ) → Type 0
+  FitsEvent e = IsEvent spelled spelling (FitsDigits fits spelled) FitsLine e
+
+  -- the text of an input, and of an event
+  abbrev pub text_of_input : Input B Parts (List ℕ) → List ℕ
+  text_of_input x = input_text spelled spelling x
+
+  abbrev pub text_of_event : Event B Parts (List ℕ) → List ℕ
+  text_of_event e = event_text spelled spelling e
+
+  -- the input of a kind is within its limits and has these fields, or there is none such
+  abbrev pub ReadsFields : Kind → List ℕ → Option (Input B Parts (List ℕ)) → Type 0
+  ReadsFields kind bytes (Some x) = FitsInput x × (kind_of spelled spelling x ≡ kind) × (fields spelled spelling x ≡ bytes)
+  ReadsFields kind bytes None = (x : Input B Parts (List ℕ)) → FitsInput x → kind_of spelled spelling x ≡ kind → fields spelled spelling x ≡ bytes → ⊥
+
+  -- the event behind these words
+  abbrev pub ReadsBehind : List ℕ → List ℕ → Option (Event B Parts (List ℕ)) → Type 0
+  ReadsBehind words rest r = ReadsAs text_of_event FitsEvent (words ++ rest) r
+
+  -- what happens while nothing stops is within its limits and has this text, or there is none such
+  abbrev pub ReadsDoes : List ℕ → Option (Event B Parts (List ℕ)) → Type 0
+  ReadsDoes line (Some e) = FitsEvent e × (text_of_event e ≡ line)
+  ReadsDoes line None = (x : Input B Parts (List ℕ)) → FitsInput x → text_of_event (Does x) ≡ line → ⊥

@@ -1,0 +1,5 @@
+pub mod EventText
+pub mod Kinds
+pub mod Splits
+pub mod Readings
+pub mod InputReadings
