@@ -7,3 +7,8 @@ pub mod Answers
 pub mod Above
 pub mod Elects
 pub mod Soundness
+pub mod Owned
+pub mod Begun
+pub mod Cells
+pub mod Happens
+pub mod Onward

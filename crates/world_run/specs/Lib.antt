@@ -1,2 +1,4 @@
 pub mod World
 pub mod Laws
+pub mod Told
+pub mod Groups

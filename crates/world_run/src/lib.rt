@@ -2,9 +2,14 @@
 #![tactic(auto)]
 
 mod agreeing;
+mod cell;
 mod confirmed;
 mod faithful;
+mod group;
+mod outcome;
 mod running;
+mod told;
+mod world;
 
 pub use agreeing::{
     a_new_leader_appends_a_blank_entry, a_vote_is_never_changed, committed_lists_agree,
@@ -12,4 +17,6 @@ pub use agreeing::{
 };
 pub use confirmed::what_is_asked_later_stands_above;
 pub use faithful::{no_more_leaves_than_is_agreed, what_leaves_is_of_the_agreed_list};
+pub use outcome::{Outcome, WorldFault};
 pub use running::{each_node_is_sound, runs_are_apart, sessions_are_apart};
+pub use world::World;

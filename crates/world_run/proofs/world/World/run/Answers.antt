@@ -1,0 +1,29 @@
+use Rattle.std.proofs.Common.{◌≡◌, ℕ, Err, refl, sym, ap, subst, ◌∙◌}
+use Rattle.world_run.specs.declared.outcome.WorldFault.TheVariants.{Memory}
+use Rattle.std.proofs.lemmas.Bool.{cond-true}
+use Rattle.raft_log.specs.Peers.{IsGroupSize}
+use Rattle.world_run.specs.Groups.{HasHappened, IsGroup}
+use Rattle.world_run.proofs.Onward.{runs_on, brings_on, memory_is_no_refusal, world_is_no_refusal}
+use Rattle.world_run.proofs.world.World.run.Invariants.{machine}
+use Rattle.world_run.proofs.world.World.run.Goals as goal
+
+pub returns-then-is_err-clause-refused : goal.returns-then-is_err-clause-refused
+returns-then-is_err-clause-refused g c = memory_is_no_refusal (Err Memory) _ (c.in-Some.ensures.allowed.0 refl) refl
+
+pub loop-event-preserved : goal.loop-event-preserved
+loop-event-preserved g c =
+    let i = c.loop-event.invariant in
+    let h = subst (λ s. HasHappened (machine g s) c.event-item.result c.loop-event.group.cells.items c.happen.new.self.cells.items c.in-Ok.out) i.0 c.in-Ok.ensures.comes in
+    let all = subst (λ (n : ℕ). IsGroup c.args.setup.now n c.happen.new.self.cells.items) i.1 (subst (λ s. IsGroup s c.loop-event.group.size c.happen.new.self.cells.items) i.0 c.in-Ok.ensures.group) in
+    (c.happen.ensures.same.0 ∙ i.0, c.happen.ensures.same.1 ∙ i.1, all,
+    runs_on _ _ _ c.event-item.result _ _ _ _ c.loop-event-test.true c.event-item.is h i.3,
+    brings_on _ _ _ c.event-item.result _ _ _ _ _ _ c.loop-event-test.true c.event-item.is h (c.push.ensures.items ∙ cond-true _ _ _ c.if-is_err.ensures.negation) i.4)
+
+pub returns-clause-allowed : goal.returns-clause-allowed
+returns-clause-allowed g c = c.in-Some.ensures.allowed.0 refl
+
+pub returns-clause-refused : goal.returns-clause-refused
+returns-clause-refused g c = world_is_no_refusal _ _ (c.in-Some.ensures.allowed.0 refl)
+
+pub returns-in_default-happen-clause-refused : goal.returns-in_default-happen-clause-refused
+returns-in_default-happen-clause-refused g c = memory_is_no_refusal (Err Memory) _ (c.in-Some.ensures.allowed.0 refl) refl

@@ -1,0 +1,71 @@
+//! Worlds: groups of nodes over stores in memory, after a list of events.
+ghost use Rattle.std.specs.Prelude.{◌≡◌, ◌↔◌, Err, IfOk};
+ghost use Rattle.raft_log.specs.Peers.{IsGroupSize};
+ghost use Rattle.world_run.specs.Groups.{IsWorld};
+ghost use Rattle.world_run.specs.declared.outcome.WorldFault.TheVariants.{Refused};
+
+use crate::group::Group;
+use crate::outcome::{Outcome, WorldFault};
+use machine_laws::Hosted;
+use raft_log::GroupSize;
+use raft_node::Described;
+use std::alloc::Global;
+use std::marker::Model;
+use world_events::Event;
+
+/// A group of nodes that host a machine over stores in memory, and what came out of each event.
+#[derive(Drop)]
+pub struct World<M: Hosted> {
+    group: Group<M>,
+    outs: Vec<Outcome<M::Effect, M::Played>>,
+}
+
+impl<M: Hosted> Model for World<M> {
+    ghost use Rattle.world_run.specs.Groups.{WorldParts, nodes_in};
+
+    ghost Value = { WorldParts M.Setup M.Command M.Effect M.Played };
+
+    ghost view = { λ w. record {
+        setup = w.group.setup;
+        nodes = nodes_in w.group.cells.items;
+        outs = w.outs.items;
+    } };
+}
+
+impl<M: Hosted> World<M> {
+    /// What becomes of so many nodes over new stores by these events, in order. A node or a message that
+    /// is not there changes nothing. A size that no group has is `Refused`.
+    pub fn run(
+        alloc: Global,
+        size: u8,
+        setup: &M::Setup,
+        events: &[Event<M::Command, M::Line, M::Target>],
+    ) -> Result<Self, WorldFault>
+        ensures world { IfOk result (IsWorld (⟦<M as Described>⟧.machine setup.now) size events.now) }
+        ensures setup { IfOk result (λ w. w.setup ≡ setup.now) }
+        ensures allowed { IfOk result (λ _. IsGroupSize size) }
+        ensures refused { (result ≡ Err (Refused size)) ↔ (IsGroupSize size → ⊥) }
+    {
+        let Some(size) = GroupSize::new(size) else {
+            return Err(WorldFault::Refused(size));
+        };
+        let mut group = Group::start(alloc, size, setup)?;
+        let mut outs = Vec::new(alloc);
+        for event in events {
+            let Ok(out) = group.happen(event) else {
+                return Err(WorldFault::Memory);
+            };
+            if outs.push(out).is_err() {
+                return Err(WorldFault::Memory);
+            }
+        }
+        Ok(World { group, outs })
+    }
+
+    /// What came out of each event.
+    pub fn outputs(&self) -> &[Outcome<M::Effect, M::Played>]
+        ensures { result.now ≡ self.now.outs }
+    {
+        &self.outs
+    }
+}
