@@ -23,5 +23,3 @@ pub use node_fault::{Cause, NodeFault};
 mod failing;
 #[cfg(test)]
 mod tests;
-#[cfg(test)]
-mod toy;

@@ -222,11 +222,7 @@ impl<M: Hosted, S: Stable<M::Command>> Node<M, S> {
 
     /// The playback of a target by what was applied, where that reaches to a place; before it,
     /// `Behind`. Nothing changes. Of a target that is not known nothing is played.
-    pub fn look(
-        &self,
-        target: &M::Target,
-        from_place: Number,
-    ) -> Result<Looked<M::Played>, NodeFault>
+    pub fn look(&self, target: &M::Target, from_place: u64) -> Result<Looked<M::Played>, NodeFault>
         ensures { IsLooked (⟦<M as Described>⟧.machine self.now.setup) from_place target.now
             self.now result }
     {
@@ -234,7 +230,7 @@ impl<M: Hosted, S: Stable<M::Command>> Node<M, S> {
             return Err(NodeFault::Down(cause));
         }
         let place = self.state.standing.applied;
-        if place < from_place {
+        if place.value() < from_place {
             return Err(NodeFault::Refused(Refusal::Behind(place)));
         }
         match self.machine.playback(target) {

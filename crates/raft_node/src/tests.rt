@@ -3,12 +3,12 @@ ghost use Rattle.raft_log.specs.Lists.{IsNode};
 
 use super::*;
 use crate::failing::Failing;
-use crate::toy::Toy;
 use node_steps::Refusal;
 use raft_log::{GroupSize, Kind, Message, NodeId};
 use stable_store::MemoryStore;
 use std::alloc::Global;
 use std::test::Fail;
+use toy_machine::Toy;
 use wire_bytes::{Number, Wire};
 
 type ToyNode = Node<Toy, MemoryStore<u8>>;
@@ -140,11 +140,11 @@ fn a_look_plays_what_was_applied_or_is_behind(rt: HostRuntime) -> Result<(), Fai
     let mut node = committed(rt.alloc(), 7)?;
     node.step(Input::Apply)?;
     node.step(Input::Apply)?;
-    let looked = node.look(&0, Number::new(2))?;
+    let looked = node.look(&0, 2)?;
     assert_eq!(rt; looked.place.value(), 2);
     assert_eq!(rt; looked.lines.as_slice(), [7].as_slice());
     let behind = NodeFault::Refused(Refusal::Behind(Number::new(2)));
-    assert!(rt; node.look(&0, Number::new(3)).err() == Some(behind));
+    assert!(rt; node.look(&0, 3).err() == Some(behind));
     Ok(())
 }
 
@@ -180,7 +180,7 @@ fn a_node_whose_store_fails_is_down_and_shows_the_state_from_before(
     assert_eq!(rt; node.state().standing.term.value(), 0);
     assert!(rt; node.down() == Some(Cause::Store));
     assert!(rt; node.step(Input::Apply).err() == store_failed);
-    assert!(rt; node.look(&0, Number::new(0)).err() == store_failed);
+    assert!(rt; node.look(&0, 0).err() == store_failed);
     assert!(rt; node.restart().err() == store_failed);
     Ok(())
 }
@@ -193,7 +193,7 @@ fn a_restart_keeps_what_was_saved_alone(rt: HostRuntime) -> Result<(), Fail> {
     assert!(rt; saved(&node) == (2, 1, 1, 2));
     assert!(rt; places(&node) == (0, 0));
     let behind = NodeFault::Refused(Refusal::Behind(Number::new(0)));
-    assert!(rt; node.look(&0, Number::new(1)).err() == Some(behind));
+    assert!(rt; node.look(&0, 1).err() == Some(behind));
     // the client of the first run is gone with it
     let refused = NodeFault::Refused(Refusal::BadOrigin);
     assert!(rt; node.step(Input::Ask(7)).err() == Some(refused));

@@ -101,11 +101,11 @@ module _ (M : Machine) {Setup Hosted Store : Type 0} where
       let there : item w (suc k) ≡ Some (node_in c) = item_in cells k c (omega (arith, le)) ∙ ap (λ (x : CellParts Setup Hosted Store M.Body). let s : Option (Node M.Body) = Some (node_in x) in s) at in
       let long : length w ≡ size_of c.node.state = length-map cells node_in ∙ (g.1 ∙ sym is.size_is) in
       let turn : own M (length w) (suc k) o (node_in c) ≡ record { node = node_in new; out = out_of M out } =
-        ap (λ (n : ℕ). own M n (suc k) o (node_in c)) long ∙ (ap (λ (n : ℕ). own M (size_of c.node.state) n o (node_in c)) (sym is.id_is) ∙ h.comes) in
+      ap (λ (n : ℕ). own M n (suc k) o (node_in c)) long ∙ (ap (λ (n : ℕ). own M (size_of c.node.state) n o (node_in c)) (sym is.id_is) ∙ h.comes) in
       let done : HasOwnedAt M (suc k) o cells (set cells k new) out = record {
         nodes = map-set node_in cells k new
-          ∙ (ap (λ (t : Turn M). with_item w (suc k) t.node) (sym turn)
-          ∙ ap (λ (s : Option (Node M.Body)). world.world_by M w (suc k) o s) (sym there));
+            ∙ (ap (λ (t : Turn M). with_item w (suc k) t.node) (sym turn)
+            ∙ ap (λ (s : Option (Node M.Body)). world.world_by M w (suc k) o s) (sym there));
         comes = ap (λ (t : Turn M). t.out) (sym turn) ∙ ap (λ (s : Option (Node M.Body)). world.out_by M w (suc k) o s) (sym there);
       } in
       subst (λ (n : ℕ). HasOwnedAt M (suc k) o cells (set cells n new) out) (back k) done
@@ -130,7 +130,8 @@ module _ {Setup Hosted Store B : Type 0} where
   pub one_more : (setup : Setup) (size n k : ℕ) (cells new : List (CellParts Setup Hosted Store B)) (c : CellParts Setup Hosted Store B) (fresh : Node B) → new ≡ cells ++ c ∷ []
       → length cells ≡ n → AreCells setup size 1 cells → nodes_in cells ≡ replicate n fresh → k ≡ n + 1 → IsCell setup size k c → node_in c ≡ fresh
       → (length new ≡ n + 1) × AreCells setup size 1 new × (nodes_in new ≡ replicate (n + 1) fresh)
-  one_more setup size n k cells new c fresh e len all same ke is runs =
-      (ap length e ∙ (length-append cells (c ∷ []) ∙ ap (λ (m : ℕ). m + 1) len),
-      subst (λ (l : List (CellParts Setup Hosted Store B)). AreCells setup size 1 l) (sym e) (last_too setup size 1 k cells c all (omega (arith, ke, len)) is),
-      ap nodes_in e ∙ (map-append node_in cells (c ∷ []) ∙ (ap (λ (l : List (Node B)). l ++ node_in c ∷ []) same ∙ (ap (λ (x : Node B). replicate n fresh ++ x ∷ []) runs ∙ replicate-append-replicate n 1 fresh))))
+  one_more setup size n k cells new c fresh e len all same ke is runs = (
+    ap length e ∙ (length-append cells (c ∷ []) ∙ ap (λ (m : ℕ). m + 1) len),
+    subst (λ (l : List (CellParts Setup Hosted Store B)). AreCells setup size 1 l) (sym e) (last_too setup size 1 k cells c all (omega (arith, ke, len)) is),
+    ap nodes_in e ∙ (map-append node_in cells (c ∷ []) ∙ (ap (λ (l : List (Node B)). l ++ node_in c ∷ []) same ∙ (ap (λ (x : Node B). replicate n fresh ++ x ∷ []) runs ∙ replicate-append-replicate n 1 fresh))),
+  )

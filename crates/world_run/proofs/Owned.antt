@@ -44,8 +44,8 @@ module _ (M : Machine) {Setup Hosted Store : Type 0} where
       record {
         still_up = record { id = same.id; size = same.size; setup = same.setup; is_up = d.is_up };
         comes = d.turns sent
-          ∙ (ap (λ (l : List (Message M.Body)). let t : Turn M = record { node = seen new.state l; out = given {M = M} output.place output.effects.items } in t) (sym e)
-          ∙ ap (λ (x : Out M). let t : Turn M = record { node = seen new.state after; out = x } in t) (sym o));
+            ∙ (ap (λ (l : List (Message M.Body)). let t : Turn M = record { node = seen new.state l; out = given {M = M} output.place output.effects.items } in t) (sym e)
+            ∙ ap (λ (x : Out M). let t : Turn M = record { node = seen new.state after; out = x } in t) (sym o));
         more = output.messages.items;
         sent = e;
       }
@@ -104,7 +104,7 @@ module _ (M : Machine) {Setup Hosted Store : Type 0} where
       record {
         still_up = record { id = h.still_up.id; size = h.still_up.size; setup = h.still_up.setup; is_up = h.still_up.is_up };
         becomes = ap (λ (l : List (Message M.Body)). seen new.state l) (e ∙ ap (λ (l : List (Message M.Body)). take (length sent) l) h.sent ∙ take-append_seam sent h.more)
-          ∙ ap (λ (t : Turn M). let n : Node M.Body = record t.node { sent = sent } in n) (sym h.comes);
+            ∙ ap (λ (t : Turn M). let n : Node M.Body = record t.node { sent = sent } in n) (sym h.comes);
       }
 
   -- a stop is what was saved by then, and the next run

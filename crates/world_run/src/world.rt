@@ -26,9 +26,9 @@ impl<M: Hosted> Model for World<M> {
     ghost Value = { WorldParts M.Setup M.Command M.Effect M.Played };
 
     ghost view = { λ w. record {
-        setup = w.group.setup;
-        nodes = nodes_in w.group.cells.items;
-        outs = w.outs.items;
+      setup = w.group.setup;
+      nodes = nodes_in w.group.cells.items;
+      outs = w.outs.items;
     } };
 }
 

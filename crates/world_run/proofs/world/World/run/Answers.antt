@@ -14,10 +14,13 @@ pub loop-event-preserved : goal.loop-event-preserved
 loop-event-preserved g c =
     let i = c.loop-event.invariant in
     let h = subst (λ s. HasHappened (machine g s) c.event-item.result c.loop-event.group.cells.items c.happen.new.self.cells.items c.in-Ok.out) i.0 c.in-Ok.ensures.comes in
-    let all = subst (λ (n : ℕ). IsGroup c.args.setup.now n c.happen.new.self.cells.items) i.1 (subst (λ s. IsGroup s c.loop-event.group.size c.happen.new.self.cells.items) i.0 c.in-Ok.ensures.group) in
-    (c.happen.ensures.same.0 ∙ i.0, c.happen.ensures.same.1 ∙ i.1, all,
-    runs_on _ _ _ c.event-item.result _ _ _ _ c.loop-event-test.true c.event-item.is h i.3,
-    brings_on _ _ _ c.event-item.result _ _ _ _ _ _ c.loop-event-test.true c.event-item.is h (c.push.ensures.items ∙ cond-true _ _ _ c.if-is_err.ensures.negation) i.4)
+    let all = subst (λ (n : ℕ). IsGroup c.args.setup.now n c.happen.new.self.cells.items) i.1 (subst (λ s. IsGroup s c.loop-event.group.size c.happen.new.self.cells.items) i.0 c.in-Ok.ensures.group) in (
+      c.happen.ensures.same.0 ∙ i.0,
+      c.happen.ensures.same.1 ∙ i.1,
+      all,
+      runs_on _ _ _ c.event-item.result _ _ _ _ c.loop-event-test.true c.event-item.is h i.3,
+      brings_on _ _ _ c.event-item.result _ _ _ _ _ _ c.loop-event-test.true c.event-item.is h (c.push.ensures.items ∙ cond-true _ _ _ c.if-is_err.ensures.negation) i.4,
+    )
 
 pub returns-clause-allowed : goal.returns-clause-allowed
 returns-clause-allowed g c = c.in-Some.ensures.allowed.0 refl

@@ -1,9 +1,11 @@
-//! A machine for tests: each body brings its own number about, and the last one is played.
+//! A machine whose bodies bring their own numbers about.
 use irc_line::Line;
 use machine_laws::{ApplyFault, Class, Hosted, Machine, Source, single};
 use std::alloc::{AllocError, Global};
 use wire_bytes::{Mark, Moment, Number, Origin, SessionId};
 
+/// A body brings its own number about, and the last one is played.
+///
 /// Bodies 7 and 8 are of the client 1 of nodes 1 and 2, and what they bring about goes to it; all
 /// others are the leader's, and go nowhere.
 #[derive(Drop)]
