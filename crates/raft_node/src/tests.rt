@@ -90,6 +90,8 @@ fn a_first_run_follows_and_has_saved_its_number(rt: HostRuntime) -> Result<(), F
     assert!(rt; places(&node) == (0, 0));
     assert_eq!(rt; node.id().value(), 1);
     assert!(rt; node.down() == None);
+    assert_eq!(rt; node.next_claim(), None);
+    node.is_whole();
     Ok(())
 }
 

@@ -44,8 +44,11 @@ returns-clause-kept g c =
       | else-still+in_ok-entries w ↦ ap (λ v. v.items) w.entries-is ∙ w.in_ok-entries.ensures.back
     ]
     in
+    let put : c.put_behind.new.self ≡ take c.args.step.keep c.args.state.now.log ++ c.if-still.entries.items =
+    when_ok c.put_behind.result (sym c.is_err.ensures.value ∙ c.if-is_err.false) c.put_behind.ensures.ok
+    in
     let log : c.put_behind.new.self ≡ log_after c.args.state.now.log c.args.step =
-    when_ok c.put_behind.result (sym c.is_err.ensures.value ∙ c.if-is_err.false) c.put_behind.ensures.ok ∙ ap (λ (l : List (Entry g.row.B.Denot)). take c.args.step.keep c.args.state.now.log ++ l) items
+    put ∙ ap (λ (l : List (Entry g.row.B.Denot)). take c.args.step.keep c.args.state.now.log ++ l) items
     in
     kept k c.args.step.messages c.args.store.now c.if-still.store c.args.state.now _ c.args.step saved
     (ap (λ (l : List (Entry g.row.B.Denot)). let s : NodeState g.row.B.Denot = record { standing = c.args.step.standing; log = l } in s) log)
