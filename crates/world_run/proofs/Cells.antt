@@ -1,5 +1,5 @@
 -- Groups of nodes of which one changes.
-use Rattle.std.proofs.Common.{◌≡◌, ℕ, zero, suc, ◌+◌, ◌-◌, ◌<◌, ◌≤◌, List, [], ◌∷◌, ◌++◌, length, map, replicate, get_or, set, option_map, ◌⊎◌, inr, ⊎_elim, refl, sym, ap, ◌∙◌, subst, arith}
+use Rattle.std.proofs.Common.{◌≡◌, ℕ, zero, suc, ◌+◌, ◌-◌, ◌<◌, ◌≤◌, List, [], ◌∷◌, ◌++◌, length, map, take, replicate, get_or, set, option_map, ◌⊎◌, inr, ⊎_elim, refl, sym, ap, ◌∙◌, subst, arith}
 use Rattle.std.proofs.lemmas.List.{map-set, map-append, length-set, length-map, length-append, replicate-append-replicate}
 use Rattle.std.proofs.lemmas.Option.{slice_get-map, slice_get-get_or}
 use Rattle.std.specs.Prelude.{Option, Some, None, slice_get}
@@ -9,7 +9,7 @@ use Rattle.raft_log.specs.Node.{Node}
 use Rattle.raft_node.specs.Machine.{Machine}
 use Rattle.raft_node.specs.Parts.{size_of}
 use Rattle.raft_node.specs.Steps.{Own, Out, Turn, own}
-use Rattle.agreement.specs.World.{sent_of}
+use Rattle.agreement.specs.World.{committed, committed_of, sent_of}
 use Rattle.world_run.specs.declared.outcome.Outcome.{Outcome}
 use Rattle.world_run.specs.declared.outcome.Outcome.TheVariants.{Missing}
 use Rattle.world_run.specs.Groups.{AreCells, CellParts, HasOwned, HasOwnedAt, IsCell, IsGroup, IsStillUp, node_in, nodes_in}
@@ -88,6 +88,12 @@ module _ {Setup Hosted Store B : Type 0} where
       → (number ≡ 0) ⊎ ((number ≡ 0 → ⊥) × (length c.sent < number)) → None ≡ sent_of (item (nodes_in cells) i) number
   none_sent_at i number cells c pos le e h =
       no_message_at c.sent number h ∙ ap (λ (s : Option (Node B)). sent_of s number) (sym (node_at i cells c pos le e))
+
+  -- what the node of a number commits
+  pub committed_at : (i : ℕ) (cells : List (CellParts Setup Hosted Store B)) (c : CellParts Setup Hosted Store B) → (i ≡ 0 → ⊥) → i ≤ length cells → c ≡ get_or cells (i - 1) c
+      → take c.node.state.standing.commit c.node.state.log ≡ committed (nodes_in cells) i
+  committed_at zero cells c pos le e = absurd (pos refl)
+  committed_at (suc k) cells c pos le e = ap (λ (s : Option (Node B)). committed_of s) (sym (node_at (suc k) cells c (omega arith) le e))
 
 module _ (M : Machine) {Setup Hosted Store : Type 0} where
   -- what happened to the node of a number

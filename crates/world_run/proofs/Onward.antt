@@ -14,6 +14,8 @@ use Rattle.world_run.specs.Groups.{CellParts, HasHappened, nodes_in}
 use Rattle.world_run.specs.Told.{event_of, events_of, out_of, outs_of}
 use Rattle.world_run.specs.World.{run, outs}
 use Rattle.world_run.specs.World as world
+use Rattle.world_run.specs.Laws.{IsAgreed}
+use Rattle.world_run.proofs.Holds.{one_list, in_agreed, agreed_grows, each_brought}
 
 first : {A : Type 0} (xs : List A) (k : ℕ) (x : A) → k < length xs → x ≡ get_or xs k x → drop k xs ≡ x ∷ drop (suc k) xs
 first [] k x lt e = absurd (omega (arith, lt))
@@ -54,3 +56,13 @@ memory_is_no_refusal r n allowed e = ((λ f. absurd (no_refusal n (sym e ∙ f))
 
 pub world_is_no_refusal : {A : Type 0} (w : A) (n : ℕ) → IsGroupSize n → (Ok w ≡ Err (Refused n)) ↔ (IsGroupSize n → ⊥)
 world_is_no_refusal w n allowed = ((λ f. absurd cc), λ no. absurd (no allowed))
+
+-- the laws of all lists, of these events
+pub agreed_of : (M : Machine) (size : ℕ) (es : List (world.Event M)) → IsAgreed M size es
+agreed_of M size es =
+    record {
+      one_list = λ j k a b. one_list M size es j k a b;
+      in_agreed = λ k a. in_agreed M size es k a;
+      agreed_grows = λ late. agreed_grows M size es late;
+      each_brought = λ place e h. each_brought M size es place e h;
+    }

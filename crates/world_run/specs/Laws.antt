@@ -35,6 +35,13 @@ module _ (M : Machine) where
   abbrev pub EachBrought : Type 0
   EachBrought = (size : ℕ) (es : List (Event M)) (place : ℕ) (e : Entry M.Body) → item (agreed M size es) place ≡ Some e → (e.body ≡ M.blank) ⊎ Brought M es e.body
 
+  -- All of this, of these events.
+  pub record IsAgreed (size : ℕ) (es : List (Event M)) : Type 0 where
+    pub one_list : (j k a b : ℕ) → Begins (committed (moment M size es j) a) (committed (moment M size es k) b) ⊎ Begins (committed (moment M size es k) b) (committed (moment M size es j) a)
+    pub in_agreed : (k a : ℕ) → Begins (committed (moment M size es k) a) (agreed M size es)
+    pub agreed_grows : (late : List (Event M)) → Begins (agreed M size es) (agreed M size (es ++ late))
+    pub each_brought : (place : ℕ) (e : Entry M.Body) → item (agreed M size es) place ≡ Some e → (e.body ≡ M.blank) ⊎ Brought M es e.body
+
   -- a body, not blank, that no event brought so far: each place of it in what is agreed later
   -- is above all that any node has committed, now or at any earlier moment
   abbrev pub LaterIsAbove : Type 0

@@ -1,5 +1,5 @@
 //! A node of a world, with all that it sent.
-ghost use Rattle.std.specs.Prelude.{◌≡◌, ◌≤◌, [], None, IfOk};
+ghost use Rattle.std.specs.Prelude.{◌≡◌, ◌≤◌, [], None, IfOk, take};
 ghost use Rattle.raft_node.specs.Raft.{newborn};
 ghost use Rattle.raft_node.specs.Steps.{Acts, Looks, Stops};
 ghost use Rattle.raft_node.specs.Inputs.{act_of};
@@ -9,7 +9,7 @@ ghost use Rattle.world_run.specs.Told.{told_act, told_own};
 use crate::outcome::Outcome;
 use crate::told::{Act, Own};
 use machine_laws::Hosted;
-use raft_log::{GroupSize, Message, NodeId};
+use raft_log::{Entry, GroupSize, Message, NodeId};
 use raft_node::{Described, Input, Node, NodeFault, Output};
 use stable_store::MemoryStore;
 use std::alloc::{AllocError, Global};
@@ -58,6 +58,13 @@ impl<M: Hosted> Cell<M> {
         ensures { result.now ≡ self.now.sent }
     {
         &self.sent
+    }
+
+    /// The entries that are agreed, as far as it knows.
+    pub fn committed(&self) -> &[Entry<M::Command>]
+        ensures { result.now ≡ take self.now.node.state.standing.commit self.now.node.state.log }
+    {
+        self.node.committed()
     }
 
     /// It stops, and begins its next run.

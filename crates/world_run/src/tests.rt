@@ -45,6 +45,24 @@ fn left(alloc: Global, outs: &[Outcome<u8, u8>]) -> Result<Vec<(u64, usize)>, Al
     Ok(all)
 }
 
+/// How many entries the node of a number commits.
+fn committed(world: &World<Toy>, node: u8) -> Option<usize> {
+    match world.committed(node) {
+        Some(entries) => Some(entries.len()),
+        None => None,
+    }
+}
+
+#[test]
+fn the_leader_commits_first_and_no_other_node_is_there(rt: HostRuntime) -> Result<(), Fail> {
+    let events = agreement(rt.alloc())?;
+    let world = World::<Toy>::run(rt.alloc(), 3, &0, &events)?;
+    assert!(rt; committed(&world, 1) == Some(2));
+    assert!(rt; committed(&world, 2) == Some(0));
+    assert!(rt; committed(&world, 4) == None);
+    Ok(())
+}
+
 #[test]
 fn what_a_majority_has_is_applied_and_leaves_at_its_node(rt: HostRuntime) -> Result<(), Fail> {
     let events = agreement(rt.alloc())?;

@@ -1,13 +1,17 @@
 //! Worlds: groups of nodes over stores in memory, after a list of events.
-ghost use Rattle.std.specs.Prelude.{◌≡◌, ◌↔◌, Err, IfOk};
+ghost use Rattle.std.specs.Prelude.{◌≡◌, ◌↔◌, Err, None, IfOk, IfSome};
 ghost use Rattle.raft_log.specs.Peers.{IsGroupSize};
+ghost use Rattle.agreement.specs.World.{committed};
+ghost use Rattle.raft_log.specs.Lists.{item};
 ghost use Rattle.world_run.specs.Groups.{IsWorld};
+ghost use Rattle.world_run.specs.Laws.{IsAgreed};
+ghost use Rattle.world_run.specs.Told.{events_of};
 ghost use Rattle.world_run.specs.declared.outcome.WorldFault.TheVariants.{Refused};
 
 use crate::group::Group;
 use crate::outcome::{Outcome, WorldFault};
 use machine_laws::Hosted;
-use raft_log::GroupSize;
+use raft_log::{Entry, GroupSize};
 use raft_node::Described;
 use std::alloc::Global;
 use std::marker::Model;
@@ -35,6 +39,9 @@ impl<M: Hosted> Model for World<M> {
 impl<M: Hosted> World<M> {
     /// What becomes of so many nodes over new stores by these events, in order. A node or a message that
     /// is not there changes nothing. A size that no group has is `Refused`.
+    ///
+    /// Of what any two nodes commit at any two moments of the events, one list begins the other: State
+    /// Machine Safety of the Raft paper's Figure 3.
     pub fn run(
         alloc: Global,
         size: u8,
@@ -42,6 +49,8 @@ impl<M: Hosted> World<M> {
         events: &[Event<M::Command, M::Line, M::Target>],
     ) -> Result<Self, WorldFault>
         ensures world { IfOk result (IsWorld (⟦<M as Described>⟧.machine setup.now) size events.now) }
+        ensures agreed { IfOk result (λ _. IsAgreed (⟦<M as Described>⟧.machine setup.now) size
+            (events_of (⟦<M as Described>⟧.machine setup.now) events.now)) }
         ensures setup { IfOk result (λ w. w.setup ≡ setup.now) }
         ensures allowed { IfOk result (λ _. IsGroupSize size) }
         ensures refused { (result ≡ Err (Refused size)) ↔ (IsGroupSize size → ⊥) }
@@ -67,5 +76,17 @@ impl<M: Hosted> World<M> {
         ensures { result.now ≡ self.now.outs }
     {
         &self.outs
+    }
+
+    /// What the node of this number commits, where there is one.
+    pub fn committed(&self, node: u8) -> Option<&[Entry<M::Command>]>
+        ensures some { IfSome result (λ entries. entries.now ≡ committed self.now.nodes node) }
+        ensures none { result ≡ None → item self.now.nodes node ≡ None }
+    {
+        let place = node as usize;
+        if place == 0 || place > self.group.cells.len() {
+            return None;
+        }
+        Some(self.group.cells[place - 1].committed())
     }
 }

@@ -3,7 +3,7 @@ use Rattle.world_run.specs.declared.outcome.WorldFault.TheVariants.{Memory}
 use Rattle.std.proofs.lemmas.Bool.{cond-true}
 use Rattle.raft_log.specs.Peers.{IsGroupSize}
 use Rattle.world_run.specs.Groups.{HasHappened, IsGroup}
-use Rattle.world_run.proofs.Onward.{runs_on, brings_on, memory_is_no_refusal, world_is_no_refusal}
+use Rattle.world_run.proofs.Onward.{agreed_of, runs_on, brings_on, memory_is_no_refusal, world_is_no_refusal}
 use Rattle.world_run.proofs.world.World.run.Invariants.{machine}
 use Rattle.world_run.proofs.world.World.run.Goals as goal
 
@@ -30,3 +30,6 @@ returns-clause-refused g c = world_is_no_refusal _ _ (c.in-Some.ensures.allowed.
 
 pub returns-in_default-happen-clause-refused : goal.returns-in_default-happen-clause-refused
 returns-in_default-happen-clause-refused g c = memory_is_no_refusal (Err Memory) _ (c.in-Some.ensures.allowed.0 refl) refl
+
+pub returns-clause-agreed : goal.returns-clause-agreed
+returns-clause-agreed g c = agreed_of _ _ _
