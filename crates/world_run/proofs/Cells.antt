@@ -12,7 +12,7 @@ use Rattle.raft_node.specs.Steps.{Own, Out, Turn, own}
 use Rattle.agreement.specs.World.{committed, committed_of, sent_of}
 use Rattle.world_run.specs.declared.outcome.Outcome.{Outcome}
 use Rattle.world_run.specs.declared.outcome.Outcome.TheVariants.{Missing}
-use Rattle.world_run.specs.Groups.{AreCells, CellParts, HasOwned, HasOwnedAt, IsCell, IsGroup, IsStillUp, node_in, nodes_in}
+use Rattle.world_run.specs.Groups.{AreCells, CellParts, HasOwned, HasOwnedAt, IsCell, IsGroup, IsNodeOf, IsStillUp, node_in, nodes_in}
 use Rattle.world_run.specs.Told.{out_of}
 use Rattle.world_run.specs.World as world
 
@@ -94,6 +94,12 @@ module _ {Setup Hosted Store B : Type 0} where
       → take c.node.state.standing.commit c.node.state.log ≡ committed (nodes_in cells) i
   committed_at zero cells c pos le e = absurd (pos refl)
   committed_at (suc k) cells c pos le e = ap (λ (s : Option (Node B)). committed_of s) (sym (node_at (suc k) cells c (omega arith) le e))
+
+  -- what the node of a number is
+  pub state_at : (i : ℕ) (cells : List (CellParts Setup Hosted Store B)) (c : CellParts Setup Hosted Store B) → (i ≡ 0 → ⊥) → i ≤ length cells → c ≡ get_or cells (i - 1) c
+      → IsNodeOf (nodes_in cells) i c.node.state
+  state_at zero cells c pos le e = absurd (pos refl)
+  state_at (suc k) cells c pos le e = (c.sent, node_at (suc k) cells c (omega arith) le e)
 
 module _ (M : Machine) {Setup Hosted Store : Type 0} where
   -- what happened to the node of a number

@@ -1,6 +1,7 @@
 -- The nodes of a world as the code has them, and what comes of events.
-use Rattle.std.specs.Prelude.{◌≡◌, ℕ, suc, List, [], ◌∷◌, ◌++◌, length, map, None}
+use Rattle.std.specs.Prelude.{◌≡◌, ℕ, suc, List, [], ◌∷◌, ◌++◌, length, map, None, Some}
 use Rattle.raft_log.specs.declared.message.Message.{Message}
+use Rattle.raft_log.specs.declared.node_state.NodeState.{NodeState}
 use Rattle.raft_log.specs.Lists.{item}
 use Rattle.raft_log.specs.Node.{Node}
 use Rattle.raft_log.specs.Seen.{seen}
@@ -62,6 +63,10 @@ module _ {Setup Hosted Store B : Type 0} where
     pub still_up : IsStillUp old new
     pub runs : node_in new ≡ restarted (size_of old.node.state) (node_in old)
     pub sent : new.sent ≡ old.sent
+
+-- this is the state of the node of this number, whatever it sent
+abbrev pub IsNodeOf : {B : Type 0} → List (Node B) → ℕ → NodeState B → Type 0
+IsNodeOf {B = B} nodes i state = (sent : List (Message B)) × (item nodes i ≡ Some (seen state sent))
 
 module _ (M : Machine) where
   module _ {Setup Hosted Store : Type 0} where

@@ -9,7 +9,7 @@ ghost use Rattle.world_run.specs.Told.{told_act, told_own};
 use crate::outcome::Outcome;
 use crate::told::{Act, Own};
 use machine_laws::Hosted;
-use raft_log::{Entry, GroupSize, Message, NodeId};
+use raft_log::{Entry, GroupSize, Message, NodeId, NodeState};
 use raft_node::{Described, Input, Node, NodeFault, Output};
 use stable_store::MemoryStore;
 use std::alloc::{AllocError, Global};
@@ -58,6 +58,13 @@ impl<M: Hosted> Cell<M> {
         ensures { result.now ≡ self.now.sent }
     {
         &self.sent
+    }
+
+    /// What it is.
+    pub fn state(&self) -> &NodeState<M::Command>
+        ensures { result.now ≡ self.now.node.state }
+    {
+        self.node.state()
     }
 
     /// The entries that are agreed, as far as it knows.

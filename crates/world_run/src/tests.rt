@@ -1,5 +1,5 @@
 use super::*;
-use raft_log::NodeId;
+use raft_log::{NodeId, Role};
 use std::alloc::{AllocError, Global};
 use std::test::Fail;
 use toy_machine::Toy;
@@ -51,6 +51,25 @@ fn committed(world: &World<Toy>, node: u8) -> Option<usize> {
         Some(entries) => Some(entries.len()),
         None => None,
     }
+}
+
+/// The role of the node of a number.
+fn role(world: &World<Toy>, node: u8) -> Option<Role> {
+    match world.state(node) {
+        Some(state) => Some(state.standing.position.role()),
+        None => None,
+    }
+}
+
+#[test]
+fn each_node_is_as_the_events_left_it(rt: HostRuntime) -> Result<(), Fail> {
+    let events = agreement(rt.alloc())?;
+    let world = World::<Toy>::run(rt.alloc(), 3, &0, &events)?;
+    assert!(rt; world.size() == 3);
+    assert!(rt; role(&world, 1) == Some(Role::Leader));
+    assert!(rt; role(&world, 3) == Some(Role::Follower));
+    assert!(rt; role(&world, 4) == None);
+    Ok(())
 }
 
 #[test]

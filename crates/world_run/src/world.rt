@@ -1,9 +1,9 @@
 //! Worlds: groups of nodes over stores in memory, after a list of events.
-ghost use Rattle.std.specs.Prelude.{◌≡◌, ◌↔◌, Err, None, IfOk, IfSome};
+ghost use Rattle.std.specs.Prelude.{◌≡◌, ◌↔◌, Err, None, IfOk, IfSome, length};
 ghost use Rattle.raft_log.specs.Peers.{IsGroupSize};
 ghost use Rattle.agreement.specs.World.{committed};
 ghost use Rattle.raft_log.specs.Lists.{item};
-ghost use Rattle.world_run.specs.Groups.{IsWorld};
+ghost use Rattle.world_run.specs.Groups.{IsNodeOf, IsWorld};
 ghost use Rattle.world_run.specs.Laws.{IsAgreed};
 ghost use Rattle.world_run.specs.Told.{events_of};
 ghost use Rattle.world_run.specs.declared.outcome.WorldFault.TheVariants.{Refused};
@@ -11,7 +11,7 @@ ghost use Rattle.world_run.specs.declared.outcome.WorldFault.TheVariants.{Refuse
 use crate::group::Group;
 use crate::outcome::{Outcome, WorldFault};
 use machine_laws::Hosted;
-use raft_log::{Entry, GroupSize};
+use raft_log::{Entry, GroupSize, NodeState};
 use raft_node::Described;
 use std::alloc::Global;
 use std::marker::Model;
@@ -71,6 +71,13 @@ impl<M: Hosted> World<M> {
         Ok(World { group, outs })
     }
 
+    /// How many nodes there are.
+    pub fn size(&self) -> usize
+        ensures { result ≡ length self.now.nodes }
+    {
+        self.group.cells.len()
+    }
+
     /// What came out of each event.
     pub fn outputs(&self) -> &[Outcome<M::Effect, M::Played>]
         ensures { result.now ≡ self.now.outs }
@@ -88,5 +95,17 @@ impl<M: Hosted> World<M> {
             return None;
         }
         Some(self.group.cells[place - 1].committed())
+    }
+
+    /// What the node of this number is, where there is one.
+    pub fn state(&self, node: u8) -> Option<&NodeState<M::Command>>
+        ensures some { IfSome result (λ state. IsNodeOf self.now.nodes node state.now) }
+        ensures none { result ≡ None → item self.now.nodes node ≡ None }
+    {
+        let place = node as usize;
+        if place == 0 || place > self.group.cells.len() {
+            return None;
+        }
+        Some(self.group.cells[place - 1].state())
     }
 }
