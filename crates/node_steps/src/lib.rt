@@ -18,5 +18,3 @@ pub use unprepared::Unprepared;
 
 #[cfg(test)]
 mod tests;
-#[cfg(test)]
-mod toy;

@@ -1,7 +1,6 @@
 ghost use Rattle.std.specs.Prelude.{◌≡◌, IfOk};
 
 use super::*;
-use crate::toy::Toy;
 use machine_laws::Source;
 use raft_log::{
     Entry, GroupSize, Kind, Live, Log, LoggedBody, Message, NodeId, NodeState, Peers, Position,
@@ -9,6 +8,7 @@ use raft_log::{
 };
 use std::alloc::{AllocError, Global};
 use std::test::Fail;
+use toy_machine::Toy;
 use wire_bytes::{Moment, Number, Origin, SessionId};
 
 fn number(value: u8) -> Number
