@@ -1,0 +1,4 @@
+pub mod Fronts
+pub mod Rising
+pub mod Onward
+pub mod Told

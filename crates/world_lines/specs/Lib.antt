@@ -1,0 +1,2 @@
+pub mod OutputText
+pub mod OutcomeText

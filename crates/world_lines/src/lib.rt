@@ -1,0 +1,16 @@
+//! What comes out of a list of events, and what the nodes are then, as lines of text.
+#![tactic(auto)]
+
+mod named;
+mod nodes;
+mod outcomes;
+mod spelled;
+mod text;
+
+pub use nodes::push_nodes;
+pub use outcomes::{push_outcome, push_outcomes};
+pub use spelled::Spelled;
+pub use text::world_text;
+
+#[cfg(test)]
+mod tests;
