@@ -1,0 +1,15 @@
+pub mod Cuts
+pub mod Replies
+pub mod Words
+pub mod Turns
+pub mod Commands
+pub mod StatusWords
+pub mod Registering
+pub mod Serving
+pub mod Gates
+pub mod Calls
+pub mod Answers
+pub mod Outcomes
+pub mod Made
+pub mod Cutting
+pub mod Numbers

@@ -1,0 +1,79 @@
+-- What a client says to `*status`: words that ask for something, in letters of either case.
+use Rattle.std.specs.Prelude.{ℕ, ◌+◌, ◌*◌, ◌-◌, min, Bool, if◌then◌else◌, List, [], ◌∷◌, map, Option, Some, None, codes}
+use Rattle.std.specs.List.{list_all}
+use Rattle.irc_line.specs.Names.{is_channel, is_name, same_bytes}
+use Rattle.irc_line.specs.Lines.{is_digit}
+use Rattle.irc_line.specs.Grammar.{upper}
+use Rattle.buffer_commands.specs.declared.command.Action.{Action}
+use Rattle.buffer_commands.specs.declared.command.Action.TheVariants as action
+use Rattle.client_gate.specs.Turns.{Deed, Ask, Write}
+use Rattle.client_gate.specs.Replies.{status}
+use Rattle.client_gate.specs.Words.{words}
+
+-- a word in letters of either case; the second is in upper case
+abbrev pub is_spelled : List ℕ → List ℕ → Bool
+is_spelled word spelled = same_bytes (map upper word) spelled
+
+-- a number with this digit behind it, where one past 65,535 stays 65,535
+abbrev pub with_digit : ℕ → ℕ → ℕ
+with_digit n digit = min 65535 (10 * n + (digit - 48))
+
+-- the number that these digits are behind this one
+abbrev pub number_from : ℕ → List ℕ → ℕ
+number_from n [] = n
+number_from n (digit ∷ digits) = number_from (with_digit n digit) digits
+
+-- a number in decimal; one past 65,535 is 65,535
+abbrev pub number_of : List ℕ → Option ℕ
+number_of [] = None
+number_of (b ∷ s) = if list_all is_digit (b ∷ s) then Some (number_from 0 (b ∷ s)) else None
+
+-- what one word asks for
+abbrev pub asked_by_one : List ℕ → Option Action
+asked_by_one word =
+    if is_spelled word (codes "CLEARALLCHANNELBUFFERS") then Some action.ClearChannels
+    else if is_spelled word (codes "CLEARALLQUERYBUFFERS") then Some action.ClearQueries
+    else if is_spelled word (codes "CLEARALLBUFFERS") then Some action.ClearAll
+    else None
+
+-- what is asked about a channel
+abbrev pub about_channel : (List ℕ → Action) → List ℕ → Option Action
+about_channel a name = if is_channel name then Some (a name) else None
+
+-- what is asked about any target
+abbrev pub about_name : (List ℕ → Action) → List ℕ → Option Action
+about_name a name = if is_name name then Some (a name) else None
+
+-- what a word asks for with a target
+abbrev pub asked_by_two : List ℕ → List ℕ → Option Action
+asked_by_two word target =
+    if is_spelled word (codes "ATTACH") then about_channel action.Reattach target
+    else if is_spelled word (codes "DETACH") then about_channel action.Detach target
+    else if is_spelled word (codes "PLAYBUFFER") then about_name action.Play target
+    else if is_spelled word (codes "CLEARBUFFER") then about_name action.Clear target
+    else None
+
+-- a size for a target
+abbrev pub sized : List ℕ → Option ℕ → Option Action
+sized target None = None
+sized target (Some size) = about_name (λ name. action.SetBuffer name size) target
+
+-- what a word asks for with a target and a number
+abbrev pub asked_by_three : List ℕ → List ℕ → List ℕ → Option Action
+asked_by_three word target number = if is_spelled word (codes "SETBUFFER") then sized target (number_of number) else None
+
+-- what words ask for
+abbrev pub asked_by : List (List ℕ) → Option Action
+asked_by (word ∷ []) = asked_by_one word
+asked_by (word ∷ target ∷ []) = asked_by_two word target
+asked_by (word ∷ target ∷ number ∷ []) = asked_by_three word target number
+asked_by _ = None
+
+-- what is asked for, or that nothing is
+abbrev pub status_deed : List ℕ → Option Action → Deed
+status_deed nick (Some a) = Ask a
+status_deed nick None = Write (status nick (codes "Unknown command."))
+
+-- what is done for a text to `*status`
+abbrev pub status_deeds : List ℕ → List ℕ → List Deed
+status_deeds nick text = status_deed nick (asked_by (words text)) ∷ []

@@ -1,0 +1,41 @@
+ghost use Rattle.std.specs.Prelude.{◌≡◌};
+ghost use Rattle.client_gate.specs.Gates.{given_reply, nothing};
+ghost use Rattle.client_gate.specs.Answers.{given_in};
+
+use crate::request::Request;
+use std::alloc::Global;
+
+/// What a call answers.
+#[derive(Drop)]
+pub struct Fed {
+    /// The requests that it numbered, in order.
+    pub requests: Vec<Request>,
+    /// The bytes that go to the client: lines, each with its CR LF.
+    pub reply: Vec<u8>,
+    /// Whether the connection is to close, behind these bytes.
+    pub close: bool,
+}
+
+impl Fed {
+    /// The answer that asks for nothing and writes nothing; it takes no memory.
+    pub(crate) fn nothing(alloc: Global) -> Fed
+        ensures { given_in result ≡ nothing }
+    {
+        Fed {
+            requests: Vec::new(alloc),
+            reply: Vec::new(alloc),
+            close: false,
+        }
+    }
+
+    /// The answer that writes these bytes.
+    pub(crate) fn of_reply(alloc: Global, reply: Vec<u8>) -> Fed
+        ensures { given_in result ≡ given_reply reply.items }
+    {
+        Fed {
+            requests: Vec::new(alloc),
+            reply,
+            close: false,
+        }
+    }
+}

@@ -1,0 +1,27 @@
+//! What speaks IRC to one client of a bouncer: it reads the client's bytes, numbers its requests,
+//! and writes what comes of them.
+#![tactic(auto)]
+
+mod arriving;
+mod client_command;
+mod fed;
+mod gate;
+pub mod laws;
+mod messages;
+mod passing;
+mod password;
+mod phase;
+mod request;
+mod serve;
+mod settings;
+mod splitting;
+mod status;
+#[cfg(test)]
+mod tests;
+mod turn;
+mod waiting;
+mod writing;
+
+pub use fed::Fed;
+pub use gate::{ClientGate, GateEffect};
+pub use request::Request;
