@@ -1,0 +1,4 @@
+mod Nicks
+mod Lists
+mod Moments
+mod Orders

@@ -1,0 +1,4 @@
+pub mod Sending
+pub mod Sessions
+pub mod Calls
+pub mod Orders
