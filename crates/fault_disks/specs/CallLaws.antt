@@ -1,0 +1,51 @@
+-- What a disk in memory keeps of the laws of its trait. These lemmas need not be believed.
+use Rattle.std.proofs.Common.{◌≡◌, ℕ, ◌+◌, ◌≤◌, Bool, true, false, List, [], ◌∷◌, ◌++◌, length, take, drop, refl, sym, ◌∙◌, ap, subst, arith, length-append}
+use Rattle.std.proofs.lemmas.List.{length-take, length-drop}
+use Rattle.journal_store.specs.Disks.{DiskState, IsImage, now, settled_at}
+use Rattle.fault_disks.specs.declared.call.Call.{Call}
+use Rattle.fault_disks.specs.declared.call.Call.TheVariants.{Len, Read, Write, Sync}
+use Rattle.fault_disks.specs.declared.call.Called.{Called}
+use Rattle.fault_disks.specs.Calls.{moments_after, moments_from, replayed, state_after}
+
+-- what is read is no shorter and no longer than a crash may leave
+pub record IsWithin (s : DiskState) : Type 0 where
+  pub least : s.least ≤ length s.bytes
+  pub most : length s.bytes ≤ s.most
+
+after_within : (call : Call) (passed : Bool) (s : DiskState) → IsWithin s → IsWithin (state_after call passed s)
+after_within Len passed s h = h
+after_within (Read place len) passed s h = h
+after_within (Write place bytes) true s h =
+    let size = length-append (take place s.bytes) (bytes.items ++ drop (place + length bytes.items) s.bytes) in
+    let more = length-append bytes.items (drop (place + length bytes.items) s.bytes) in
+    record {
+      least = omega (arith, h.least, size, more, length-take place s.bytes, length-drop (place + length bytes.items) s.bytes);
+      most = omega (arith, h.most, size, more, length-take place s.bytes, length-drop (place + length bytes.items) s.bytes);
+    }
+after_within (Write place bytes) false s h = record { least = h.least; most = omega (arith, h.most) }
+after_within Sync true s h = record { least = omega arith; most = omega arith }
+after_within Sync false s h = h
+
+-- the newest moment is the state after the calls
+pub now_after : (call : Call) (passed : Bool) (states : List DiskState) → now (moments_after call passed states) ≡ state_after call passed (now states)
+now_after Len passed states = refl
+now_after (Read place len) passed states = refl
+now_after (Write place bytes) passed states = refl
+now_after Sync true states = refl
+now_after Sync false states = refl
+
+pub now_replayed : (states : List DiskState) (calls : List Called) → now (moments_from states calls) ≡ replayed (now states) calls
+now_replayed states [] = refl
+now_replayed states (c ∷ calls) =
+    now_replayed (moments_after c.call c.passed states) calls ∙ ap (λ (s : DiskState). replayed s calls) (now_after c.call c.passed states)
+
+replayed_within : (s : DiskState) (calls : List Called) → IsWithin s → IsWithin (replayed s calls)
+replayed_within s [] h = h
+replayed_within s (c ∷ calls) h = replayed_within (state_after c.call c.passed s) calls (after_within c.call c.passed s h)
+
+pub moments_within : (first : List ℕ) (calls : List Called) → IsWithin (now (moments_from (settled_at first ∷ []) calls))
+moments_within first calls =
+    subst IsWithin (sym (now_replayed (settled_at first ∷ []) calls)) (replayed_within (settled_at first) calls (record { least = omega arith; most = omega arith }))
+
+pub own_image : (first : List ℕ) (calls : List Called) → let s = now (moments_from (settled_at first ∷ []) calls) in IsImage s s.bytes
+own_image first calls = let h = moments_within first calls in record { no_shorter = h.least; no_longer = h.most; stays = λ i lt below out. refl }

@@ -1,0 +1,17 @@
+/// What a disk was asked.
+#[derive(Drop)]
+pub enum Call {
+    Len,
+    /// So many bytes from a place on.
+    Read(usize, usize),
+    /// These bytes from a place on.
+    Write(usize, Vec<u8>),
+    Sync,
+}
+
+/// A call of a disk, and whether it passed.
+#[derive(Drop)]
+pub struct Called {
+    pub call: Call,
+    pub passed: bool,
+}

@@ -1,0 +1,17 @@
+//! Disks for tests, of which some calls fail and whose files a crash may tear.
+#![tactic(auto)]
+
+mod call;
+mod crash;
+mod fails;
+mod fault_disk;
+mod span;
+mod state;
+
+pub use call::{Call, Called};
+pub use crash::Unsynced;
+pub use fails::Fails;
+pub use fault_disk::FaultDisk;
+
+#[cfg(test)]
+mod tests;

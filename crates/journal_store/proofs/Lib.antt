@@ -1,0 +1,12 @@
+pub mod Torn
+pub mod Scanning
+pub mod Saving
+pub mod Moments
+pub mod Sizes
+pub mod Changes
+pub mod Kept
+pub mod Reaching
+pub mod Weighing
+pub mod Standing
+pub mod Calls
+pub mod Overs

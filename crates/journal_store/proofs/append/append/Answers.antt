@@ -1,0 +1,24 @@
+use Rattle.std.proofs.Common.{rules, ◌≡◌, ◌+◌, length, subst, sym, ℕ}
+use Rattle.stable_store.specs.Changes.{spelled_change}
+use Rattle.stable_store.specs.Stores.{changed}
+use Rattle.journal_store.specs.Journals.{staged}
+use Rattle.journal_store.specs.Serving.{IsSettled}
+use Rattle.journal_store.proofs.Kept.{moments_of, settled_on}
+use Rattle.journal_store.proofs.append.append.Goals as goal
+
+pub returns-in_err-put_behind_gate-clause-any_moment : goal.returns-in_err-put_behind_gate-clause-any_moment
+returns-in_err-put_behind_gate-clause-any_moment g c = λ h s settled may.
+    let bytes_are : c.deref.result.now ≡ staged (spelled_change g.B.Wire.spelled c.args.change.now) = search rules in
+    moments_of g.B.Wire.spelled g.B.Wire.fits g.B.Wire.taken g.met.B.Wire.is_codec _ _ s c.args.place settled c.args.change.now c.record.ensures.fits may c.deref.result.now bytes_are (c.put_behind_gate.ensures.moments h)
+
+pub returns-clause-any_moment : goal.returns-clause-any_moment
+returns-clause-any_moment g c = λ h s settled may.
+    let bytes_are : c.deref.result.now ≡ staged (spelled_change g.B.Wire.spelled c.args.change.now) = search rules in
+    moments_of g.B.Wire.spelled g.B.Wire.fits g.B.Wire.taken g.met.B.Wire.is_codec _ _ s c.args.place settled c.args.change.now c.record.ensures.fits may c.deref.result.now bytes_are (c.put_behind_gate.ensures.moments h)
+
+pub returns-clause-settled : goal.returns-clause-settled
+returns-clause-settled g c = λ h s settled may.
+    let bytes_are : c.deref.result.now ≡ staged (spelled_change g.B.Wire.spelled c.args.change.now) = search rules in
+    let len_is : c.len.result ≡ length c.deref.result.now = search rules in
+    subst (λ (n : ℕ). IsSettled g.B.Wire.taken (g.D.Disk.states c.put_behind_gate.new.disk) (changed s c.args.change.now) (c.args.place + n)) (sym len_is)
+    (settled_on g.B.Wire.spelled g.B.Wire.fits g.B.Wire.taken g.met.B.Wire.is_codec _ _ s c.args.place settled c.args.change.now c.record.ensures.fits may c.deref.result.now bytes_are (c.in_ok-put_behind_gate.ensures.settled h))

@@ -1,0 +1,21 @@
+-- Why a disk's call fails.
+use Rattle.std.specs.Prelude.{◌≡◌, ℕ, ◌≤◌, ◌⊎◌, Result, IsErrOf}
+use Rattle.stable_store.specs.declared.store_fault.StoreFault.{StoreFault}
+use Rattle.stable_store.specs.declared.store_fault.StoreFault.TheVariants.{Device, Memory}
+use Rattle.stable_store.specs.Stores.{HasRisen}
+use Rattle.journal_store.specs.declared.disk_fault.DiskFault.{DiskFault}
+use Rattle.journal_store.specs.declared.disk_fault.DiskFault.TheVariants.{Device as DiskFailed, Memory as NoMemory}
+
+-- the count of failures does not sink, and `Device` is answered only where it has risen
+pub record HasCause {T : Type 0} (before after : ℕ) (result : Result T DiskFault) : Type 0 where
+  pub later : before ≤ after
+  pub failed : IsErrOf result DiskFailed → HasRisen before after
+
+-- what a disk's fault is to its store
+abbrev pub store_fault : DiskFault → StoreFault
+store_fault DiskFailed = Device
+store_fault NoMemory = Memory
+
+-- memory is wanting, or the count of failures has risen
+abbrev pub IsMet : ℕ → ℕ → StoreFault → Type 0
+IsMet before after fault = (fault ≡ Memory) ⊎ ((fault ≡ Device) × HasRisen before after)

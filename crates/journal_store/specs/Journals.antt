@@ -1,0 +1,110 @@
+-- A journal's format: what a file stands for. What is saved, and which changes there are, is left open.
+use Rattle.std.specs.Prelude.{◌≡◌, ℕ, zero, suc, ◌+◌, ◌<◌, ◌⊎◌, ◌==◌, Bool, true, false, ◌&&◌, if◌then◌else◌, nat_lt, List, [], ◌∷◌, ◌++◌, length, take, drop, Option, Some, None, Result, Ok, Err}
+use Rattle.std.specs.Int.{w32, to_be_bytes}
+use Rattle.wire_bytes.specs.Fields.{Reading, number_to}
+use Rattle.wire_bytes.specs.declared.wire_fault.WireFault.{WireFault}
+use Rattle.stable_store.specs.declared.store_fault.StoreFault.{StoreFault}
+use Rattle.stable_store.specs.declared.store_fault.StoreFault.TheVariants.{NotAStore, Version, Damaged}
+
+-- RBSTOR
+abbrev pub name : List ℕ
+name = 82 ∷ 66 ∷ 83 ∷ 84 ∷ 79 ∷ 82 ∷ []
+
+-- 01
+abbrev pub version : List ℕ
+version = 48 ∷ 49 ∷ []
+
+-- what a journal begins with
+abbrev pub header : List ℕ
+header = name ++ version
+
+-- the greatest length of a payload
+abbrev pub payload_limit : ℕ
+payload_limit = 33554432
+
+-- these bytes stand at the front of a file
+abbrev pub begins : List ℕ → List ℕ → Bool
+begins [] file = true
+begins (x ∷ xs) [] = false
+begins (x ∷ xs) (y ∷ file) = (x == y) && begins xs file
+
+-- how a change is read, which changes may follow what stands, and what stands after them
+pub record Payload (S C : Type 0) : Type 0 where
+  pub taken : Reading C
+  pub may : S → C → Bool
+  pub changed : S → C → S
+
+module _ {S C : Type 0} (p : Payload S C) where
+  -- the change that these bytes are, where they are one and no more
+  abbrev pub exact : ℕ → Result (C × ℕ) WireFault → Option C
+  exact n (Ok r) = if r.1 == n then Some r.0 else None
+  exact n (Err e) = None
+
+  -- what stands after a change that may follow, and how long its payload is
+  abbrev pub followed : S → ℕ → Option C → Option (S × ℕ)
+  followed s n None = None
+  followed s n (Some c) = if p.may s c then Some (p.changed s c, n) else None
+
+  -- the same of a payload of so many bytes, where it fits in the file with a gate behind it
+  abbrev pub payload_read : S → List ℕ → ℕ → Option (S × ℕ)
+  payload_read s body n = if nat_lt n (length body) then followed s n (exact n (p.taken (take n body))) else None
+
+  -- the same behind a length that was read
+  abbrev pub sized_read : S → List ℕ → Result (ℕ × ℕ) WireFault → Option (S × ℕ)
+  sized_read s rest (Ok r) = payload_read s (drop 4 rest) r.0
+  sized_read s rest (Err e) = None
+
+  -- the record behind an open gate: what stands after it and how long its payload is, or none where it is no record
+  unfoldable pub record_read : S → List ℕ → Option (S × ℕ)
+  record_read s rest = sized_read s rest (number_to w32 payload_limit rest)
+
+  -- what is found behind a record, or the damage at its gate
+  abbrev pub goes_to : ℕ → Option (S × ℕ) → (S → ℕ → Result S StoreFault) → Result S StoreFault
+  goes_to place None next = Err (Damaged place)
+  goes_to place (Some r) next = next r.0 r.1
+
+  -- What stands after the open records from here on, up to the first closed gate, which is a 0. The first byte stands at this place
+  -- of the file, and so many bytes belong to a record that was read.
+  abbrev pub scan : List ℕ → S → ℕ → ℕ → Result S StoreFault
+  scan [] s place skip = Err (Damaged place)
+  scan (b ∷ rest) s place (suc skip) = scan rest s (suc place) skip
+  scan (gate ∷ rest) s place zero = if gate == 0 then Ok s else goes_to place (record_read s rest) (λ t n. scan rest t (suc place) (4 + n))
+
+  -- what a file stands for, or why it is refused
+  abbrev pub found : S → List ℕ → Result S StoreFault
+  found start file =
+      if nat_lt (length file) 9 then Err NotAStore
+      else (if begins name file then (if begins version (drop 6 file) then scan (drop 8 file) start 8 0 else Err Version) else Err NotAStore)
+
+  -- a length, so many bytes that are one change, and more behind them
+  pub record IsPayload (rest : List ℕ) (c : C) (n : ℕ) : Type 0 where
+    pub sized : number_to w32 payload_limit rest ≡ Ok (n, 4)
+    pub room : n < length (drop 4 rest)
+    pub one : p.taken (take n (drop 4 rest)) ≡ Ok (c, n)
+
+  -- up to this place the file is a header and open records, after which this stands, and there the next gate is
+  pub record Reached (start : S) (file : List ℕ) (s : S) (place : ℕ) : Type 0 where
+    pub within : place < length file
+    pub leads : (gate : ℕ) (rest : List ℕ) → found start (take place file ++ gate ∷ rest) ≡ scan (gate ∷ rest) s place 0
+
+  -- a file that stands for this, with its closed gate at this place; what follows the gate counts for nothing
+  pub record AtRest (start : S) (file : List ℕ) (s : S) (place : ℕ) : Type 0 where
+    pub front : List ℕ
+    pub behind : List ℕ
+    pub file_is : file ≡ front ++ 0 ∷ behind
+    pub place_is : length front ≡ place
+    pub leads : (gate : ℕ) (rest : List ℕ) → found start (front ++ gate ∷ rest) ≡ scan (gate ∷ rest) s place 0
+
+  -- a file that stands for this or for that
+  abbrev pub StandsForOne : S → S → S → List ℕ → Type 0
+  StandsForOne start s t file = (found start file ≡ Ok s) ⊎ (found start file ≡ Ok t)
+
+  -- a file that opens as an empty store, or is refused
+  abbrev pub IsEmptyOrRefused : S → List ℕ → Type 0
+  IsEmptyOrRefused start file =
+      (found start file ≡ Ok start)
+      ⊎ ((found start file ≡ Err NotAStore) ⊎ ((found start file ≡ Err Version) ⊎ (found start file ≡ Err (Damaged 8))))
+
+-- the length, a payload and a closed gate
+abbrev pub staged : List ℕ → List ℕ
+staged payload = to_be_bytes w32 (length payload) ++ (payload ++ 0 ∷ [])

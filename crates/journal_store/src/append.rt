@@ -1,0 +1,74 @@
+//! A record behind the last one of a journal.
+ghost use Rattle.std.specs.Prelude.{◌≡◌, ◌≤◌, ◌<◌, ◌^◌, IsTrue, IfOk, IfErr, OnOk, length};
+ghost use Rattle.stable_store.specs.declared.saved.Saved.{Saved};
+ghost use Rattle.stable_store.specs.Changes.{spelled_change, FitsChange};
+ghost use Rattle.stable_store.specs.Stores.{changed, nothing_saved, MayFollow};
+ghost use Rattle.journal_store.specs.Disks.{now, LeavesOnly};
+ghost use Rattle.journal_store.specs.Journals.{staged};
+ghost use Rattle.journal_store.specs.Causes.{HasCause, IsMet};
+ghost use Rattle.journal_store.specs.Serving.{IsBeforeOrAfter, IsNew, IsSettled};
+
+use crate::disk::Disk;
+use crate::disk_fault::DiskFault;
+use crate::put::{put, put_behind_gate};
+use stable_store::{Change, StoreFault};
+use std::alloc::{AllocError, Global};
+use wire_bytes::Wire;
+
+/// The name, the version and a closed gate.
+const EMPTY: [u8; 9] = *b"RBSTOR01\0";
+
+/// Writes an empty journal on a disk whose file has at most 9 bytes, synced, and syncs. Whatever a crash
+/// leaves at any moment opens as an empty store or is refused, and then it may be begun again.
+pub fn begin<B: Wire, D: Disk>(disk: &mut D) -> Result<(), DiskFault>
+    requires { IsTrue (D.honest disk.old) → (now (D.states disk.old)).most ≤ 9 }
+    ensures any_moment { IsTrue (D.honest disk.old)
+        → LeavesOnly (IsNew B.taken) (D.states disk.old) (D.states disk.new) }
+    ensures settled { IsTrue (D.honest disk.old)
+        → OnOk result (IsSettled B.taken (D.states disk.new) nothing_saved 8) }
+    ensures cause { HasCause (D.failures disk.old) (D.failures disk.new) result }
+    ensures honest { D.honest disk.new ≡ D.honest disk.old }
+{
+    put(disk, 0, &EMPTY)
+}
+
+/// The length, the payload and a closed gate.
+fn record<B: Wire>(alloc: Global, change: &Change<B>) -> Result<Vec<u8>, AllocError>
+    ensures bytes { IfOk result (λ r. r.items ≡ staged (spelled_change B.spelled change.now)) }
+    ensures fits { FitsChange B.fits B.spelled change.now }
+{
+    change.fits();
+    let mut payload = Vec::new(alloc);
+    change.put(&mut payload)?;
+    let mut bytes = Vec::new(alloc);
+    bytes.extend_from_slice(&(payload.len() as u32).to_be_bytes())?;
+    bytes.extend_from_slice(&payload)?;
+    bytes.push(0)?;
+    Ok(bytes)
+}
+
+/// Puts the record of a change behind the closed gate at a place, and opens the gate. Answers the place of
+/// the next gate.
+pub fn append<B: Wire, D: Disk>(
+    alloc: Global,
+    disk: &mut D,
+    place: usize,
+    change: &Change<B>,
+) -> Result<usize, StoreFault>
+    requires within { IsTrue (D.honest disk.old) → place < length (now (D.states disk.old)).bytes }
+    requires small { place < 2 ^ 63 }
+    ensures any_moment { IsTrue (D.honest disk.old) → (s : Saved B)
+        → IsSettled B.taken (D.states disk.old) s place → MayFollow s change.now
+        → LeavesOnly (IsBeforeOrAfter B.taken s change.now)
+        (D.states disk.old) (D.states disk.new) }
+    ensures settled { IsTrue (D.honest disk.old) → (s : Saved B)
+        → IsSettled B.taken (D.states disk.old) s place → MayFollow s change.now
+        → IfOk result (IsSettled B.taken (D.states disk.new) (changed s change.now)) }
+    ensures fault { IfErr result (IsMet (D.failures disk.old) (D.failures disk.new)) }
+    ensures counts { D.failures disk.old ≤ D.failures disk.new }
+    ensures honest { D.honest disk.new ≡ D.honest disk.old }
+{
+    let bytes = record(alloc, change)?;
+    put_behind_gate(disk, place, &bytes)?;
+    Ok(place + bytes.len())
+}

@@ -1,0 +1,192 @@
+//! A store in a journal on a disk.
+ghost use Rattle.std.specs.Prelude.{◌≡◌, ◌≤◌, ◌⊎◌, false, IsTrue, IfOk, IfErr};
+ghost use Rattle.stable_store.specs.Stores.{nothing_saved};
+ghost use Rattle.journal_store.specs.Disks.{now, Leaves, LeavesOnly, Runs};
+ghost use Rattle.journal_store.specs.Serving.{IsFound, IsNew, IsRefused, StandsFor};
+
+use crate::adopt::read_anew;
+use crate::append::{append, begin};
+use crate::disk::Disk;
+use crate::find::{follow, may_follow, nothing};
+use stable_store::{Change, Saved, Stable, StoreFault};
+use std::alloc::Global;
+use std::marker::Model;
+use wire_bytes::{Copied, Wire};
+
+/// The closed gate of a journal lies below this, since an honest disk's file is shorter.
+const END_LIMIT: usize = 1 << 63;
+
+/// A store in a journal on a disk. It is honest where its disk is.
+#[derive(Drop)]
+pub struct JournalStore<B: Wire, D: Disk> {
+    alloc: Global,
+    disk: D,
+    /// What stands, as far as is known.
+    saved: Saved<B>,
+    /// The place of the closed gate.
+    end: usize,
+    /// Whether an error was met that nothing has mended.
+    broken: bool,
+}
+
+impl<B: Wire, D: Disk> Model for JournalStore<B, D> {
+    ghost use Rattle.std.specs.Prelude.{IsTrue};
+    ghost use Rattle.journal_store.specs.Serving.{IsSound, Journal};
+
+    ghost Value = { Journal B D };
+
+    ghost view = { λ j. record { disk = j.disk; saved = j.saved; broken = j.broken } };
+
+    ghost invariant = { λ j. IsTrue (D.honest j.disk)
+        → IsSound B.taken (D.states j.disk) j.saved j.end j.broken };
+}
+
+impl<B: Wire, D: Disk> JournalStore<B, D> {
+    /// A new store on a disk whose file has at most 9 bytes, synced. Where it fails, or stops, the file
+    /// opens as an empty store or is refused, and the disk is dropped.
+    pub fn make(alloc: Global, disk: D) -> Result<Self, StoreFault>
+        requires { IsTrue (D.honest disk) → (now (D.states disk)).most ≤ 9 }
+        ensures saved { IfOk result (λ j. (j.saved ≡ nothing_saved) × (j.broken ≡ false)) }
+        ensures any_moment { IsTrue (D.honest disk) → IfOk result
+            (λ j. LeavesOnly (IsNew B.taken) (D.states disk) (D.states j.disk)) }
+        ensures fault { IfErr result (λ e. (e ≡ StoreFault.Device) ⊎ (e ≡ StoreFault.Memory)) }
+        ensures honest { IfOk result (λ j. D.honest j.disk ≡ D.honest disk) }
+    {
+        let mut disk = disk;
+        begin::<B, D>(&mut disk)?;
+        Ok(JournalStore {
+            alloc,
+            disk,
+            saved: nothing(alloc),
+            end: 8,
+            broken: false,
+        })
+    }
+
+    /// A store of what the file of a disk stands for, once it is synced. `NotAStore`, `Version` and
+    /// `Damaged`, with the place of the gate, where that is found. Where it fails the disk is dropped.
+    pub fn adopt(alloc: Global, disk: D) -> Result<Self, StoreFault>
+        ensures found { IsTrue (D.honest disk)
+            → IfOk result (λ j. IsFound B.taken (now (D.states disk)) j.saved) }
+        ensures serves { IfOk result (λ j. j.broken ≡ false) }
+        ensures runs { IsTrue (D.honest disk) → IfOk result
+            (λ j. Runs (now (D.states disk)) (D.states disk) (D.states j.disk)) }
+        ensures fault { IsTrue (D.honest disk) → IfErr result
+            (λ e. (e ≡ StoreFault.Device) ⊎ ((e ≡ StoreFault.Memory)
+            ⊎ IsRefused B.taken (now (D.states disk)) e)) }
+        ensures honest { IfOk result (λ j. D.honest j.disk ≡ D.honest disk) }
+    {
+        let mut disk = disk;
+        let (saved, end) = read_anew(alloc, &mut disk)?;
+        Ok(JournalStore {
+            alloc,
+            disk,
+            saved,
+            end,
+            broken: false,
+        })
+    }
+
+    /// Its disk. Where nothing is to be mended, whatever a crash now leaves stands for what is saved.
+    pub fn disk(&self) -> &D
+        ensures value { result.now ≡ self.now.disk }
+        ensures sound { IsTrue (D.honest self.now.disk) → self.now.broken ≡ false
+            → Leaves (StandsFor B.taken self.now.saved) (now (D.states self.now.disk)) }
+    {
+        &self.disk
+    }
+
+    /// Gives the disk back, its file as it stands.
+    pub fn into_disk(self) -> D
+        ensures { result ≡ self.disk }
+    {
+        self.disk
+    }
+}
+
+/// Device comes with a failed call of the disk, and from any error on until `again` answers Ok.
+impl<B: Wire, D: Disk> Stable<B> for JournalStore<B, D> {
+    ghost use Rattle.std.specs.Prelude.{◌≡◌, false, true, IsTrue, IfErr, OnErr, OnOk};
+    ghost use Rattle.stable_store.specs.Stores.{IsAllowed, IsDone, MayBecome, MayFollow, Serves};
+    ghost use Rattle.stable_store.specs.Stores.{MayStandAfter, MayStandStill};
+    ghost use Rattle.journal_store.specs.Disks.{now, LeavesOnly, Runs};
+    ghost use Rattle.journal_store.specs.Serving.{condition, may_stand, IsBeforeOrAfter};
+    ghost use Rattle.journal_store.specs.DiskLaws.{sure_of};
+
+    ghost saved = { λ j. j.saved };
+
+    ghost may_stand = { may_stand B.taken D.states };
+
+    ghost condition = { condition D.honest D.failures };
+
+    fn read(&self) -> Result<Saved<B>, StoreFault> {
+        if self.broken {
+            return Err(StoreFault::Device);
+        }
+        Ok(self.saved.copy(self.alloc)?)
+    }
+
+    /// Two writes, each with the sync behind it. Whatever a crash leaves at any moment of the call stands
+    /// for what was saved before it or for what is saved after it. A store that is to be mended asks
+    /// nothing of its disk.
+    fn save(&mut self, change: &Change<B>) -> Result<(), StoreFault>
+        requires { Serves (condition D.honest D.failures self.old)
+            → MayFollow self.old.saved change.now }
+        ensures any_moment { IsTrue (D.honest self.old.disk) → self.old.broken ≡ false
+            → LeavesOnly (IsBeforeOrAfter B.taken self.old.saved change.now)
+            (D.states self.old.disk) (D.states self.new.disk) }
+        ensures idle { self.old.broken ≡ true → D.states self.new.disk ≡ D.states self.old.disk }
+        ensures ok { IsTrue (D.honest self.old.disk) → OnOk result
+            (IsDone (may_stand B.taken D.states self.old) change.now self.new.saved) }
+        ensures err { IsTrue (D.honest self.old.disk)
+            → OnErr result (self.new.saved ≡ self.old.saved) }
+        ensures stands { IsTrue (D.honest self.old.disk)
+            → MayStandAfter (may_stand B.taken D.states self.old) change.now
+            (may_stand B.taken D.states self.new) }
+        ensures fault { IfErr result (IsAllowed (condition D.honest D.failures self.old)
+            (condition D.honest D.failures self.new)) }
+        ensures condition { MayBecome result (condition D.honest D.failures self.old)
+            (condition D.honest D.failures self.new) }
+    {
+        // nothing is known of a disk that is not honest, so what an honest one implies is looked at
+        if self.broken || self.end >= END_LIMIT || !may_follow(&self.saved, change) {
+            return Err(StoreFault::Device);
+        }
+        self.broken = true;
+        self.end = append(self.alloc, &mut self.disk, self.end, change)?;
+        follow(&mut self.saved, change)?;
+        self.broken = false;
+        Ok(())
+    }
+
+    /// Adopts its disk anew. What a crash may leave at any moment of the call it could leave before.
+    fn again(&mut self) -> Result<(), StoreFault>
+        ensures runs { IsTrue (D.honest self.old.disk)
+            → Runs (now (D.states self.old.disk)) (D.states self.old.disk)
+            (D.states self.new.disk) }
+        ensures ok { IsTrue (D.honest self.old.disk)
+            → OnOk result (may_stand B.taken D.states self.old self.new.saved) }
+        ensures err { IsTrue (D.honest self.old.disk)
+            → OnErr result (self.new.saved ≡ self.old.saved) }
+        ensures stands { IsTrue (D.honest self.old.disk)
+            → MayStandStill (may_stand B.taken D.states self.old)
+            (may_stand B.taken D.states self.new) }
+        ensures fault { IfErr result (IsAllowed (condition D.honest D.failures self.old)
+            (condition D.honest D.failures self.new)) }
+        ensures condition { MayBecome result (condition D.honest D.failures self.old)
+            (condition D.honest D.failures self.new) }
+    {
+        self.broken = true;
+        let (saved, end) = read_anew(self.alloc, &mut self.disk)?;
+        self.saved = saved;
+        self.end = end;
+        self.broken = false;
+        Ok(())
+    }
+
+    fn failures(&self) -> u64 {
+        self.disk.failures()
+    }
+
+    ghost sure = { λ j v c. sure_of B.taken (D.states j.disk) j.saved j.broken v c.1 };
+}
