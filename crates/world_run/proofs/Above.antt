@@ -7,7 +7,7 @@ use Rattle.agreement.specs.World.{committed, Begins}
 use Rattle.raft_node.specs.Machine.{Machine}
 use Rattle.world_run.specs.World.{Event, Brought, moment, agreed}
 use Rattle.agreement.proofs.Lists.{begins_length, begins_trans, begins_shorter, begins_take, length_take}
-use Rattle.world_run.specs.Laws.{LaterIsAbove, ConfirmedHas, AppliedHas, LookHas}
+use Rattle.world_run.specs.Laws.{OverAll, LaterIsAbove, ConfirmedHas, AppliedHas, LookHas}
 use Rattle.world_run.proofs.Leaving.{Fine}
 use Rattle.world_run.proofs.Holds.{in_agreed, agreed_grows, each_brought, Whole, whole, fine_at}
 use Rattle.world_run.proofs.Answers.{looks_are_faithful}
@@ -36,7 +36,7 @@ module _ {B : Type 0} where
 
 module _ (M : Machine) where
   -- what is agreed so far begins what is agreed later, and was brought; what is committed begins it
-  pub later_is_above : LaterIsAbove M
+  pub later_is_above : OverAll M LaterIsAbove
   later_is_above size early late b p e full new at is k a =
       ⊎_elim (λ h. h)
       (λ h.
@@ -61,11 +61,11 @@ module _ (M : Machine) where
       (begins_trans (take (pred p) theirs) theirs l (begins_take (pred p) theirs) theirs_in)
       (omega (arith, lt, length_take (pred p) theirs (omega (arith, r.0))))
 
-  pub confirmed_has : ConfirmedHas M
+  pub confirmed_has : OverAll M ConfirmedHas
   confirmed_has size early late b m c p e full new at is k a =
       has_all size early late b (committed (moment M size (early ++ late) m) c) p e (in_agreed M size (early ++ late) m c) full new at is k a
 
-  pub applied_has : AppliedHas M
+  pub applied_has : OverAll M AppliedHas
   applied_has size early late b m c p s e full new there at is k a =
       let h : Whole M size (early ++ late) = whole M size (early ++ late) in
       let f : Fine M h.owner h.boots (agreed M size (early ++ late)) c s = fine_at M size (early ++ late) h m c s there in
@@ -74,7 +74,7 @@ module _ (M : Machine) where
       (omega (arith, f.applied_in, f.commit_in, length_take s.applied s.log (omega (arith, f.applied_in, f.commit_in)), length_take s.commit s.log f.commit_in)) in
       has_all size early late b (take s.applied s.log) p e (begins_trans (take s.applied s.log) (take s.commit s.log) (agreed M size (early ++ late)) shorter f.begins) full new at is k a
 
-  pub look_has : LookHas M
+  pub look_has : OverAll M LookHas
   look_has size early late b p e j i from place target lines full new at is le asked told k a =
       let l : List (Entry M.Body) = agreed M size (early ++ late) in
       let lt : length (committed (moment M size early k) a) < p = later_is_above size early late b p e full new at is k a in

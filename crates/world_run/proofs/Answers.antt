@@ -16,7 +16,7 @@ use Rattle.node_steps.specs.declared.refusal.Refusal.TheVariants.{Behind}
 use Rattle.raft_node.specs.Steps.{Out, Left, Looked, Turn, quiet, refused, leaving, leaves, applied_history, applied, apply_next, looked, own, effects_of}
 use Rattle.world_run.specs.World.{Event, Does, Restart, StopIn, Look, Apply, act_of, begins_run, stepper, own_of, world_by, out_by, happens, out_of, outs, run, moment, agreed, left, left_of}
 use Rattle.agreement.proofs.Lists.{begins_length, length_take}
-use Rattle.world_run.specs.Laws.{LooksAreFaithful, ApplyIsFaithful, AppliedStays, NewIdIsNew, NewRunNewBoot}
+use Rattle.world_run.specs.Laws.{OverAll, LooksAreFaithful, ApplyIsFaithful, AppliedStays, NewIdIsNew, NewRunNewBoot}
 use Rattle.world_run.proofs.Lowers.{Always}
 use Rattle.raft_node.proofs.Fares.{Lives, stop_boot, GoesOn, Applied, Step, InRun, NewRun, own_step}
 use Rattle.world_run.proofs.Tallies.{not_both}
@@ -83,14 +83,14 @@ module _ (M : Machine) where
         by_item None at e = absurd (cc e)
         by_item (Some s) at e = looked_plays i s (now.each i s at) from place target lines e
 
-  pub looks_are_faithful : LooksAreFaithful M
+  pub looks_are_faithful : OverAll M LooksAreFaithful
   looks_are_faithful size es zero i from place target lines at out = absurd (cc at)
   looks_are_faithful size es (suc m) i from place target lines at out =
       let h : Whole M size es = whole M size es in
       look_out size es h (moment M size es m) (record { each = λ a s here. fine_at M size es h m a s here }) i from place target lines
       (out_at es (start size) m (Does (Look i from target)) (Looked place lines) at out)
 
-  pub apply_is_faithful : ApplyIsFaithful M
+  pub apply_is_faithful : OverAll M ApplyIsFaithful
   apply_is_faithful size es zero i place effects s at here out = absurd (cc at)
   apply_is_faithful size es (suc m) i place effects s at here out =
       let h : Whole M size es = whole M size es in
@@ -219,7 +219,7 @@ module _ (M : Machine) where
     between [] w (suc j) (suc k) s t le fine x y = let same : s ≡ t = cc (x, y) in subst (Later s) same (later_self s)
     between (e ∷ es) w (suc j) (suc k) s t le fine x y = between es (happens M w e) j k s t (omega arith) fine.1 x y
 
-  pub applied_stays : AppliedStays M
+  pub applied_stays : OverAll M AppliedStays
   applied_stays size es j k a s t le x y =
       let h : Whole M size es = whole M size es in
       let later : Later s t = between h.owner h.boots (agreed M size es) a es (start size) j k s t le h.fine x y in
@@ -234,7 +234,7 @@ module _ (M : Machine) where
             ),
       )
 
-  pub new_id_is_new : NewIdIsNew M
+  pub new_id_is_new : OverAll M NewIdIsNew
   new_id_is_new size es j k a b s t live le x y e lead same =
       let h : Whole M size es = whole M size es in
       let f = fine_at M size es h j a s x in
@@ -262,7 +262,7 @@ module _ (M : Machine) where
   run_next (x ∷ es) w zero e at = let same : x ≡ e = cc at in ap (happens M w) same
   run_next (x ∷ es) w (suc m) e at = run_next es (happens M w x) m e at
 
-  pub new_run_new_boot : NewRunNewBoot M
+  pub new_run_new_boot : OverAll M NewRunNewBoot
   new_run_new_boot size es zero a e s t at x y step b = absurd (cc at)
   new_run_new_boot size es (suc m) a e s t at x y step b =
       let w : List (Node M.Body) = moment M size es m in

@@ -16,7 +16,7 @@ use Rattle.agreement.specs.Laws.{IsAmong, EachIn}
 use Rattle.agreement.proofs.Lists.{begins_either}
 use Rattle.raft_node.proofs.Items.{item_of_with, item_of_replicate}
 use Rattle.agreement.proofs.Ruled as ruled
-use Rattle.world_run.specs.Laws.{OneList, InAgreed, AgreedGrows, EachBrought, NoMoreLeaves, SessionsApart, OneLeader, OneVote, LogsMatch, LeadersHold}
+use Rattle.world_run.specs.Laws.{OverAll, OneList, InAgreed, AgreedGrows, EachBrought, NoMoreLeaves, SessionsApart, OneLeader, OneVote, LogsMatch, LeadersHold}
 use Rattle.world_run.proofs.Lowers.{lowered, run_lowered, longest_lowered, lowered_append, brought_lowered, Always, raise, always_at}
 use Rattle.raft_node.proofs.Fares.{own_step}
 use Rattle.raft_node.proofs.Keeps.{Upper, upper_step}
@@ -26,15 +26,15 @@ module _ (M : Machine) where
   agreed_same : (size : ℕ) (es : List (Event M)) → core_laws.agreed M.blank size (lowered M es (start size)) ≡ agreed M size es
   agreed_same size es = longest_lowered M es (start size)
 
-  pub in_agreed : InAgreed M
+  pub in_agreed : OverAll M InAgreed
   in_agreed size es k a =
       subst (λ w. Begins (committed w a) (agreed M size es)) (run_lowered M es (start size) k)
       (subst (λ l. Begins (committed (core_laws.moment M.blank size (lowered M es (start size)) k) a) l) (agreed_same size es) (core.in_agreed M.blank size (lowered M es (start size)) k a))
 
-  pub one_list : OneList M
+  pub one_list : OverAll M OneList
   one_list size es j k a b = begins_either (committed (moment M size es j) a) (committed (moment M size es k) b) (agreed M size es) (in_agreed size es j a) (in_agreed size es k b)
 
-  pub agreed_grows : AgreedGrows M
+  pub agreed_grows : OverAll M AgreedGrows
   agreed_grows size early late =
       subst (λ l. Begins l (agreed M size (early ++ late))) (agreed_same size early)
       (subst (λ l. Begins (core_laws.agreed M.blank size (lowered M early (start size))) l)
@@ -46,7 +46,7 @@ module _ (M : Machine) where
   each_at bs (x ∷ l) zero e h at = let same : x ≡ e = cc at in subst (λ (z : Entry M.Body). IsAmong z.body bs) same h.0
   each_at bs (x ∷ l) (suc k) e h at = each_at bs l k e h.1 at
 
-  pub each_brought : EachBrought M
+  pub each_brought : OverAll M EachBrought
   each_brought size es zero e at = absurd (cc at)
   each_brought size es (suc k) e at =
       ⊎_elim (λ h. inl h) (λ h. inr (brought_lowered M es (start size) e.body h))
@@ -131,10 +131,10 @@ module _ (M : Machine) where
   pub fine_at : (size : ℕ) (es : List (Event M)) (h : Whole size es) (k a : ℕ) (s : Node M.Body) → item (moment M size es k) a ≡ Some s → Fine M h.owner h.boots (agreed M size es) a s
   fine_at size es h k a s at = (always_at M (FineNow M h.owner h.boots (agreed M size es)) es (start size) k h.fine).each a s at
 
-  pub no_more : NoMoreLeaves M
+  pub no_more : OverAll M NoMoreLeaves
   no_more size es test = let h : Whole size es = whole size es in no_more_leaves M h.owner h.boots (agreed M size es) es (start size) h.fine test
 
-  pub sessions_apart : SessionsApart M
+  pub sessions_apart : OverAll M SessionsApart
   sessions_apart size es j k a b s t one other at_s at_t e f same =
       let h : Whole size es = whole size es in
       let x = fine_at size es h j a s at_s in
@@ -152,15 +152,15 @@ module _ (M : Machine) where
   core_at : (size : ℕ) (es : List (Event M)) (k a : ℕ) (s : Node M.Body) → item (moment M size es k) a ≡ Some s → item (core_laws.moment M.blank size (lowered M es (start size)) k) a ≡ Some s
   core_at size es k a s at = subst (λ w. item w a ≡ Some s) (sym (run_lowered M es (start size) k)) at
 
-  pub one_leader : OneLeader M
+  pub one_leader : OverAll M OneLeader
   one_leader size es j k a b s t x y l m same =
       (core.one_leader M.blank size (lowered M es (start size)) j k a b s t (core_at size es j a s x) (core_at size es k b t y) l m same, core.one_run M.blank size (lowered M es (start size)) j k a b s t (core_at size es j a s x) (core_at size es k b t y) l m same)
 
-  pub one_vote : OneVote M
+  pub one_vote : OverAll M OneVote
   one_vote size es j k a c s t le x y v same = core.one_vote M.blank size (lowered M es (start size)) j k a c s t le (core_at size es j a s x) (core_at size es k a t y) v same
 
-  pub logs_match : LogsMatch M
+  pub logs_match : OverAll M LogsMatch
   logs_match size es j k a b p s t x y ps pt same = core.logs_match M.blank size (lowered M es (start size)) j k a b p s t (core_at size es j a s x) (core_at size es k b t y) ps pt same
 
-  pub leaders_hold : LeadersHold M
+  pub leaders_hold : OverAll M LeadersHold
   leaders_hold size es j k a b s t x y lead lt = core.leaders_hold M.blank size (lowered M es (start size)) j k a b s t (core_at size es j a s x) (core_at size es k b t y) lead lt

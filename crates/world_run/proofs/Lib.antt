@@ -12,3 +12,4 @@ pub mod Begun
 pub mod Cells
 pub mod Happens
 pub mod Onward
+pub mod Handing

@@ -1,5 +1,5 @@
 -- A world, event by event.
-use Rattle.std.proofs.Common.{◌≡◌, ℕ, zero, suc, ◌+◌, ◌<◌, List, [], ◌∷◌, ◌++◌, append_assoc, append-nil, length, map, drop, get_or, refl, sym, ap, ◌∙◌, arith}
+use Rattle.std.proofs.Common.{◌≡◌, ℕ, zero, suc, ◌+◌, ◌<◌, ◌≤◌, ⊎_elim, List, [], ◌∷◌, ◌++◌, append_assoc, append-nil, length, map, drop, get_or, refl, sym, ap, ◌∙◌, arith}
 use Rattle.std.proofs.lemmas.List.{map-append}
 use Rattle.std.specs.Prelude.{◌↔◌, Result, Ok, Err}
 use Rattle.raft_log.specs.Node.{Node}
@@ -14,8 +14,9 @@ use Rattle.world_run.specs.Groups.{CellParts, HasHappened, nodes_in}
 use Rattle.world_run.specs.Told.{event_of, events_of, out_of, outs_of}
 use Rattle.world_run.specs.World.{run, outs}
 use Rattle.world_run.specs.World as world
-use Rattle.world_run.specs.Laws.{IsAgreed}
-use Rattle.world_run.proofs.Holds.{one_list, in_agreed, agreed_grows, each_brought}
+use Rattle.world_run.specs.Laws.{IsAgreed, IsFaithful, IsRaft, RunsAreApart}
+use Rattle.world_run.proofs.Holds.{one_list, in_agreed, agreed_grows, each_brought, no_more, one_leader, one_vote, logs_match, leaders_hold, sessions_apart}
+use Rattle.world_run.proofs.Answers.{looks_are_faithful, apply_is_faithful, new_run_new_boot, applied_stays, new_id_is_new}
 
 first : {A : Type 0} (xs : List A) (k : ℕ) (x : A) → k < length xs → x ≡ get_or xs k x → drop k xs ≡ x ∷ drop (suc k) xs
 first [] k x lt e = absurd (omega (arith, lt))
@@ -60,9 +61,20 @@ world_is_no_refusal w n allowed = ((λ f. absurd cc), λ no. absurd (no allowed)
 -- the laws of all lists, of these events
 pub agreed_of : (M : Machine) (size : ℕ) (es : List (world.Event M)) → IsAgreed M size es
 agreed_of M size es =
-    record {
-      one_list = λ j k a b. one_list M size es j k a b;
-      in_agreed = λ k a. in_agreed M size es k a;
-      agreed_grows = λ late. agreed_grows M size es late;
-      each_brought = λ place e h. each_brought M size es place e h;
-    }
+    record { one_list = one_list M size es; in_agreed = in_agreed M size es; agreed_grows = agreed_grows M size es; each_brought = each_brought M size es }
+
+pub faithful_of : (M : Machine) (size : ℕ) (es : List (world.Event M)) → IsFaithful M size es
+faithful_of M size es = record { looks = looks_are_faithful M size es; applies = apply_is_faithful M size es; no_more = no_more M size es }
+
+pub raft_of : (M : Machine) (size : ℕ) (es : List (world.Event M)) → IsRaft M size es
+raft_of M size es =
+    record { one_leader = one_leader M size es; one_vote = one_vote M size es; logs_match = logs_match M size es; leaders_hold = leaders_hold M size es }
+
+pub apart_of : (M : Machine) (size : ℕ) (es : List (world.Event M)) → RunsAreApart M size es
+apart_of M size es =
+    record { boots = new_run_new_boot M size es; applied = applied_stays M size es; sessions = sessions_apart M size es; new_ids = new_id_is_new M size es }
+
+-- a group has seven nodes at most
+pub at_most_seven : (cells size : ℕ) → cells ≡ size → IsGroupSize size → cells ≤ 7
+at_most_seven cells size same g =
+    ⊎_elim (λ e. omega (arith, same, e)) (λ h. ⊎_elim (λ e. omega (arith, same, e)) (λ e. omega (arith, same, e)) h) g

@@ -11,7 +11,7 @@ use Rattle.raft_node.proofs.Items.{length-with_item, item_of_with, item_of_repli
 use Rattle.raft_node.proofs.Keeps.{begins_sound, stays_sound}
 use Rattle.agreement.specs.World.{start}
 use Rattle.world_run.specs.World.{Event, stepper, own_of, world_by, happens}
-use Rattle.world_run.specs.Laws.{EachIsSound}
+use Rattle.world_run.specs.Laws.{OverAll, EachIsSound}
 use Rattle.world_run.proofs.Lowers.{Always, always_at}
 
 module _ (M : Machine) (n : ℕ) where
@@ -46,5 +46,5 @@ module _ (M : Machine) (n : ℕ) where
       }
 
 module _ (M : Machine) where
-  pub each_is_sound : EachIsSound M
+  pub each_is_sound : OverAll M EachIsSound
   each_is_sound size es k a s at = (always_at M (SoundNow M size) es (start size) k (sound_always M size es (start size) (sound_start M size))).each a s at

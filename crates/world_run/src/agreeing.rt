@@ -1,5 +1,5 @@
 //! That the nodes agree, over every list of events.
-ghost use Rattle.world_run.specs.Laws.{AgreedGrows, EachBrought, InAgreed, OneList};
+ghost use Rattle.world_run.specs.Laws.{AgreedGrows, EachBrought, InAgreed, OneList, OverAll};
 ghost use Rattle.world_run.specs.Laws.{LeadersHold, LogsMatch, OneLeader, OneVote};
 ghost use Rattle.world_run.specs.Laws.{FullLeads, LeadsWithBlank, StopKeepsBlank};
 
@@ -10,31 +10,31 @@ use raft_node::Described;
 /// of which nothing is ever taken back, and each body in it is blank or was brought by an event. State machine safety of
 /// Raft's paper, Figure 3.
 pub fn committed_lists_agree<M: Hosted>()
-    ensures one_list { (s : M.Setup) → OneList (⟦<M as Described>⟧.machine s) }
-    ensures in_agreed { (s : M.Setup) → InAgreed (⟦<M as Described>⟧.machine s) }
-    ensures agreed_grows { (s : M.Setup) → AgreedGrows (⟦<M as Described>⟧.machine s) }
-    ensures each_brought { (s : M.Setup) → EachBrought (⟦<M as Described>⟧.machine s) }
+    ensures one_list { (s : M.Setup) → OverAll (⟦<M as Described>⟧.machine s) OneList }
+    ensures in_agreed { (s : M.Setup) → OverAll (⟦<M as Described>⟧.machine s) InAgreed }
+    ensures agreed_grows { (s : M.Setup) → OverAll (⟦<M as Described>⟧.machine s) AgreedGrows }
+    ensures each_brought { (s : M.Setup) → OverAll (⟦<M as Described>⟧.machine s) EachBrought }
 {}
 
 /// A term has at most one leader, at all moments together, and it leads in one run. Election safety of Raft's paper,
 /// Figure 3.
 pub fn one_leader_a_term<M: Hosted>()
-    ensures { (s : M.Setup) → OneLeader (⟦<M as Described>⟧.machine s) }
+    ensures { (s : M.Setup) → OverAll (⟦<M as Described>⟧.machine s) OneLeader }
 {}
 
 /// A node's vote in a term stays, restarts included. Raft's paper, section 5.2.
 pub fn a_vote_is_never_changed<M: Hosted>()
-    ensures { (s : M.Setup) → OneVote (⟦<M as Described>⟧.machine s) }
+    ensures { (s : M.Setup) → OverAll (⟦<M as Described>⟧.machine s) OneVote }
 {}
 
 /// Two logs that have the same term at a place are the same up to it. Log matching of Raft's paper, Figure 3.
 pub fn logs_match<M: Hosted>()
-    ensures { (s : M.Setup) → LogsMatch (⟦<M as Described>⟧.machine s) }
+    ensures { (s : M.Setup) → OverAll (⟦<M as Described>⟧.machine s) LogsMatch }
 {}
 
 /// What a node commits stands in the log of each leader of a later term. Leader completeness of Raft's paper, Figure 3.
 pub fn later_leaders_hold_what_is_committed<M: Hosted>()
-    ensures { (s : M.Setup) → LeadersHold (⟦<M as Described>⟧.machine s) }
+    ensures { (s : M.Setup) → OverAll (⟦<M as Described>⟧.machine s) LeadersHold }
 {}
 
 /// Whatever makes a node a leader leaves a blank entry of its term behind its log, in the same step; a stop after that step

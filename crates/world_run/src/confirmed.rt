@@ -1,5 +1,5 @@
 //! What a body that is asked now tells of what was committed before.
-ghost use Rattle.world_run.specs.Laws.{AppliedHas, ConfirmedHas, LaterIsAbove, LookHas};
+ghost use Rattle.world_run.specs.Laws.{AppliedHas, ConfirmedHas, LaterIsAbove, LookHas, OverAll};
 
 use machine_laws::Hosted;
 use raft_node::Described;
@@ -8,8 +8,8 @@ use raft_node::Described;
 /// committed by now. So a node that has committed it, has applied it, or answers a look at its place or behind it, has all
 /// of that.
 pub fn what_is_asked_later_stands_above<M: Hosted>()
-    ensures above { (s : M.Setup) → LaterIsAbove (⟦<M as Described>⟧.machine s) }
-    ensures confirmed { (s : M.Setup) → ConfirmedHas (⟦<M as Described>⟧.machine s) }
-    ensures applied { (s : M.Setup) → AppliedHas (⟦<M as Described>⟧.machine s) }
-    ensures look { (s : M.Setup) → LookHas (⟦<M as Described>⟧.machine s) }
+    ensures above { (s : M.Setup) → OverAll (⟦<M as Described>⟧.machine s) LaterIsAbove }
+    ensures confirmed { (s : M.Setup) → OverAll (⟦<M as Described>⟧.machine s) ConfirmedHas }
+    ensures applied { (s : M.Setup) → OverAll (⟦<M as Described>⟧.machine s) AppliedHas }
+    ensures look { (s : M.Setup) → OverAll (⟦<M as Described>⟧.machine s) LookHas }
 {}

@@ -6,6 +6,7 @@ mod cell;
 mod confirmed;
 mod faithful;
 mod group;
+mod handed;
 mod outcome;
 mod running;
 mod told;

@@ -109,3 +109,11 @@ fn no_group_has_four_nodes(rt: HostRuntime) -> Result<(), Fail> {
     assert!(rt; world.err() == Some(WorldFault::Refused(4)));
     Ok(())
 }
+
+#[test]
+fn a_machine_without_lines_hands_none(rt: HostRuntime) -> Result<(), Fail> {
+    let events = agreement(rt.alloc())?;
+    let world = World::<Toy>::run(rt.alloc(), 3, &0, &events)?;
+    assert!(rt; world.handed(rt.alloc())?.is_empty());
+    Ok(())
+}

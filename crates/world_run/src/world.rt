@@ -1,10 +1,10 @@
 //! Worlds: groups of nodes over stores in memory, after a list of events.
-ghost use Rattle.std.specs.Prelude.{◌≡◌, ◌↔◌, Err, None, IfOk, IfSome, length};
+ghost use Rattle.std.specs.Prelude.{◌≡◌, ◌≤◌, ◌↔◌, Err, None, IfOk, IfSome, length};
 ghost use Rattle.raft_log.specs.Peers.{IsGroupSize};
 ghost use Rattle.agreement.specs.World.{committed};
 ghost use Rattle.raft_log.specs.Lists.{item};
 ghost use Rattle.world_run.specs.Groups.{IsNodeOf, IsWorld};
-ghost use Rattle.world_run.specs.Laws.{IsAgreed};
+ghost use Rattle.world_run.specs.Laws.{IsAgreed, IsFaithful, IsRaft, RunsAreApart};
 ghost use Rattle.world_run.specs.Told.{events_of};
 ghost use Rattle.world_run.specs.declared.outcome.WorldFault.TheVariants.{Refused};
 
@@ -25,6 +25,7 @@ pub struct World<M: Hosted> {
 }
 
 impl<M: Hosted> Model for World<M> {
+    ghost use Rattle.std.specs.Prelude.{◌≤◌, length};
     ghost use Rattle.world_run.specs.Groups.{WorldParts, nodes_in};
 
     ghost Value = { WorldParts M.Setup M.Command M.Effect M.Played };
@@ -34,6 +35,8 @@ impl<M: Hosted> Model for World<M> {
       nodes = nodes_in w.group.cells.items;
       outs = w.outs.items;
     } };
+
+    ghost invariant = { λ w. length w.group.cells.items ≤ 7 };
 }
 
 impl<M: Hosted> World<M> {
@@ -50,6 +53,12 @@ impl<M: Hosted> World<M> {
     ) -> Result<Self, WorldFault>
         ensures world { IfOk result (IsWorld (⟦<M as Described>⟧.machine setup.now) size events.now) }
         ensures agreed { IfOk result (λ _. IsAgreed (⟦<M as Described>⟧.machine setup.now) size
+            (events_of (⟦<M as Described>⟧.machine setup.now) events.now)) }
+        ensures faithful { IfOk result (λ _. IsFaithful (⟦<M as Described>⟧.machine setup.now) size
+            (events_of (⟦<M as Described>⟧.machine setup.now) events.now)) }
+        ensures raft { IfOk result (λ _. IsRaft (⟦<M as Described>⟧.machine setup.now) size
+            (events_of (⟦<M as Described>⟧.machine setup.now) events.now)) }
+        ensures apart { IfOk result (λ _. RunsAreApart (⟦<M as Described>⟧.machine setup.now) size
             (events_of (⟦<M as Described>⟧.machine setup.now) events.now)) }
         ensures setup { IfOk result (λ w. w.setup ≡ setup.now) }
         ensures allowed { IfOk result (λ _. IsGroupSize size) }
@@ -71,9 +80,10 @@ impl<M: Hosted> World<M> {
         Ok(World { group, outs })
     }
 
-    /// How many nodes there are.
+    /// How many nodes there are: 7 at most.
     pub fn size(&self) -> usize
-        ensures { result ≡ length self.now.nodes }
+        ensures size { result ≡ length self.now.nodes }
+        ensures limit { length self.now.nodes ≤ 7 }
     {
         self.group.cells.len()
     }

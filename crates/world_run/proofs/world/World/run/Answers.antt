@@ -3,7 +3,7 @@ use Rattle.world_run.specs.declared.outcome.WorldFault.TheVariants.{Memory}
 use Rattle.std.proofs.lemmas.Bool.{cond-true}
 use Rattle.raft_log.specs.Peers.{IsGroupSize}
 use Rattle.world_run.specs.Groups.{HasHappened, IsGroup}
-use Rattle.world_run.proofs.Onward.{agreed_of, runs_on, brings_on, memory_is_no_refusal, world_is_no_refusal}
+use Rattle.world_run.proofs.Onward.{at_most_seven, agreed_of, faithful_of, raft_of, apart_of, runs_on, brings_on, memory_is_no_refusal, world_is_no_refusal}
 use Rattle.world_run.proofs.world.World.run.Invariants.{machine}
 use Rattle.world_run.proofs.world.World.run.Goals as goal
 
@@ -33,3 +33,15 @@ returns-in_default-happen-clause-refused g c = memory_is_no_refusal (Err Memory)
 
 pub returns-clause-agreed : goal.returns-clause-agreed
 returns-clause-agreed g c = agreed_of _ _ _
+
+pub returns-clause-faithful : goal.returns-clause-faithful
+returns-clause-faithful g c = faithful_of _ _ _
+
+pub returns-clause-raft : goal.returns-clause-raft
+returns-clause-raft g c = raft_of _ _ _
+
+pub returns-clause-apart : goal.returns-clause-apart
+returns-clause-apart g c = apart_of _ _ _
+
+pub invariant_of-result : goal.invariant_of-result
+invariant_of-result g c = at_most_seven _ _ c.loop-event.invariant.2.1 (c.in-Some.ensures.allowed.0 refl)
