@@ -2,17 +2,16 @@
 use Rattle.std.proofs.Common.{◌≡◌, ℕ, suc, pred, ◌<◌, ◌≤◌, true, ltb, List, [], ◌∷◌, ◌++◌, length, take, drop, map, refl, sym, subst, ◌∙◌, arith, take-append-drop, inl}
 use Rattle.std.proofs.lemmas.Bool.{cond_both, ltb-true}
 use Rattle.raft_log.specs.Batches.{batch_limit}
-use Rattle.raft_log.specs.declared.message.Kind.TheVariants.{Append}
 use Rattle.raft_log.specs.declared.entry.Entry.{Entry}
 use Rattle.raft_log.specs.declared.message.Message.{Message}
 use Rattle.raft_log.specs.declared.role.Role.{Role}
 use Rattle.raft_log.specs.declared.role.Role.TheVariants.{Follower, Candidate, Leader}
-use Rattle.raft_log.specs.Node.{Node, is_leader, is_candidate, sending, message, raised}
+use Rattle.raft_log.specs.Node.{Node, is_leader, is_candidate, sending, raised}
 use Rattle.raft_log.specs.Lists.{others, item_or}
 use Rattle.raft_node.specs.Raft.{restarted}
 use Rattle.replication.specs.Replication.{append_for, beat}
 use Rattle.agreement.specs.World.{Begins}
-use Rattle.agreement.proofs.Lists.{begins_self, begins_none, begins_take, begins_glue, length_take}
+use Rattle.agreement.proofs.Lists.{begins_none, begins_take, begins_glue, length_take}
 use Rattle.agreement.proofs.Ghost.{Ghost, Carried, GhostOk, MsgOk, AllOk, CandidateOk, LeaderOk, RoleOk, NodeOk}
 use Rattle.agreement.proofs.Later.{Extends, Apart, extends_self, extends_on, apart_self, apart_on, sound_more, held_more}
 
@@ -155,26 +154,4 @@ module _ {B : Type 0} where
         node_ok = m.node_ok;
         extends = extends_on g h m.after e m.extends;
         apart = λ j ne. apart_on j g h m.after e (a j ne) (m.apart j ne);
-      }
-
-  -- the stage before: the whole log in each append
-
-  whole_for : ℕ → Node B → ℕ → (Message B)
-  whole_for i s j = message s.term i j (Append (record { prev_index = 0; prev_term = 0; entries = s.log; commit = s.commit }))
-
-  whole_for_ok : (n : ℕ) (g : Ghost B) (i : ℕ) (s : Node B) (ok : NodeOk n g i s) → is_leader s.role ≡ true → (j : ℕ) → MsgOk n g (whole_for i s j)
-  unfolding whole_for
-  whole_for_ok n g i s ok h j =
-      let lead : LeaderOk n g i s.boot s.term s.log s.next s.matched = leader_ok n g i s ok h in
-      record {
-        front = [];
-        front_length = refl;
-        front_term = refl;
-        of_ledger = subst (λ l. Begins s.log l) (sym lead.log_is) (begins_self s.log);
-        owner = lead.owner;
-        done = take s.commit s.log;
-        done_length = length_take s.commit s.log ok.commit_in;
-        done_ledger = subst (λ l. Begins (take s.commit s.log) l) (sym lead.log_is) (begins_take s.commit s.log);
-        done_agreed = ok.commit_ok;
-        done_held = ok.commit_held;
       }

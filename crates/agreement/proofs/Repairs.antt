@@ -1,8 +1,8 @@
 -- What an append leaves of a log.
-use Rattle.std.proofs.Common.{get_or, take-append-drop, ◌<◌, ◌+◌, ◌≡◌, ℕ, zero, suc, ◌-◌, ◌≤◌, true, false, eqb, List, [], ◌∷◌, ◌++◌, ◌⊎◌, inl, inr, ⊎_elim, length, take, drop, refl, sym, ap, subst, ◌∙◌, arith, append_assoc, length-append, eq-eqb, take-add}
+use Rattle.std.proofs.Common.{◌≡◌, ℕ, zero, suc, ◌-◌, ◌≤◌, true, false, eqb, List, [], ◌∷◌, ◌++◌, ◌⊎◌, inl, inr, ⊎_elim, length, take, drop, refl, sym, ap, subst, ◌∙◌, arith, append_assoc, length-append, eq-eqb, take-add}
 use Rattle.std.proofs.lemmas.Bool.{cond_both, cases_Bool, cond-true, cond-false, eqb-true, cases_lt, true≢false}
 use Rattle.raft_log.specs.declared.entry.Entry.{Entry}
-use Rattle.raft_log.specs.Logs.{last_after, last_term, merged, repair, conflicts_within, standing}
+use Rattle.raft_log.specs.Logs.{last_term, merged, repair, conflicts_within}
 use Rattle.agreement.specs.World.{Begins}
 use Rattle.agreement.proofs.Lists.{begins_none, begins_trans, begins_shorter, begins_same, begins_take, begins_glue, length_take, last_term_push}
 use Rattle.agreement.proofs.Ghost.{Sound}

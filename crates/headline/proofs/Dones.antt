@@ -11,7 +11,7 @@ use Rattle.bouncer_tower.specs.Bodies.{TowerEffect, answers, client, claimed_eff
 use Rattle.world_run.specs.World.{count}
 use Rattle.world_run.proofs.Holds as holds
 use Rattle.headline.specs.Tower.{tower}
-use Rattle.headline.specs.Promises.{bodies, DoneOnce, RequestsActOnce}
+use Rattle.headline.specs.Promises.{OverAll, bodies, DoneOnce, RequestsActOnce}
 
 one_more : (b : Bool) (k l : ℕ) → k ≡ l → (if b then suc k else k) ≡ (if b then l + 1 else l)
 one_more true k l e = omega (arith, e)
@@ -22,10 +22,10 @@ count_dones o n [] = refl
 count_dones o n (e ∷ es) = one_more (is_done o n e) (count (is_done o n) es) (dones o n es) (count_dones o n es)
 
 module _ (s : Settings) where
-  pub requests_act_once : RequestsActOnce s
+  pub requests_act_once : OverAll s RequestsActOnce
   requests_act_once size es o n = stays_once (bodies s size es) o n
 
-  pub done_once : DoneOnce s
+  pub done_once : OverAll s DoneOnce
   done_once size es o n =
       let few : dones o n (all_effects (answers s) (bodies s size es)) ≤ 1 = answered.done_once client (claimed_effects s) o n (bodies s size es) in
       omega (arith, holds.no_more (tower s) size es (is_done o n), count_dones o n (all_effects (answers s) (bodies s size es)), few)

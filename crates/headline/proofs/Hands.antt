@@ -18,7 +18,7 @@ use Rattle.world_run.proofs.Holds as holds
 use Rattle.world_run.proofs.Answers as given
 use Rattle.world_run.proofs.Tallies.{All, one, one_true, count_cons, bool_cases}
 use Rattle.headline.specs.Tower.{tower, hands_number, is_hand}
-use Rattle.headline.specs.Promises.{bodies, HandedOnce, HandedIsOutgoing}
+use Rattle.headline.specs.Promises.{OverAll, bodies, HandedOnce, HandedIsOutgoing}
 
 -- it has this number
 abbrev is_number : {A : Type 0} → ℕ → ℕ × A → Bool
@@ -116,7 +116,7 @@ module _ (s : Settings) where
       let r : (n < 1 → count (is_number {A = SessionId} n) (claimed s h) ≤ 0) × (count (is_number {A = SessionId} n) (claimed s h) ≤ 1) = numbers_rise n 1 (claimed s h) (λ i m id e. claims_in_order s h i m id e) in
       omega (arith, r.1, count_hands n (all_effects (answers s) h), ap (count (is_number {A = SessionId} n)) (all_hands_are_claims s h))
 
-  pub handed_once : HandedOnce s
+  pub handed_once : OverAll s HandedOnce
   handed_once size es i j n one' other a b =
       one_place (is_number {A = Parts} n) (world.hands (tower s) (left (tower s) size es)) i j (n, one') (n, other)
       (omega (arith, holds.no_more (tower s) size es (is_hand n), hand_once n (bodies s size es), count_handed s n (left (tower s) size es)))
@@ -177,7 +177,7 @@ module _ (s : Settings) where
   hand_at h [] i n line a at = absurd (cc at)
   hand_at h (e ∷ es) i n line a at = hand_at_class h (class_of e) (world.hands (tower s) es) i n line a.0 (λ j b. hand_at h es j n line a.1 b) at
 
-  pub handed_is_outgoing : HandedIsOutgoing s
+  pub handed_is_outgoing : OverAll s HandedIsOutgoing
   handed_is_outgoing size es i n line at =
       hand_at (bodies s size es) (left (tower s) size es) i n line
       (given.leaves_of_agreed (tower s) size es (HandOk (bodies s size es)) (all_known (bodies s size es) (all_effects (answers s) (bodies s size es)) (λ i n id line e. claimed_at (bodies s size es) i n id line e)))

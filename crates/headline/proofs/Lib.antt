@@ -2,3 +2,4 @@ pub mod Dones
 pub mod Hands
 pub mod Marks
 mod Cases
+pub mod Promised

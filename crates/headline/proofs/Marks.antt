@@ -7,7 +7,7 @@ use Rattle.bouncer_tower.specs.Bodies.{TowerBody}
 use Rattle.world_run.specs.World.{Input, Timeout, Beat, Deliver, Ask, Opened, Closed, Heard, Claim, Apply, Look, Event, Does, Restart, StopIn, BringsIn, Brings, Brought}
 use Rattle.world_run.proofs.Above as above
 use Rattle.headline.specs.Tower.{tower}
-use Rattle.headline.specs.Promises.{AsksIn, Asks, IsAsked, MarksAreAbove, AppliedMarks, ConfirmedLooks}
+use Rattle.headline.specs.Promises.{OverAll, AsksIn, Asks, IsAsked, MarksAreAbove, AppliedMarks, ConfirmedLooks}
 
 not_blank : (m : mark.Mark) → ◌≡◌ {A = TowerBody} (Mark m) Blank → ⊥
 not_blank m e = absurd (cc e)
@@ -36,14 +36,14 @@ module _ (s : Settings) (m : mark.Mark) where
   asked_of (e ∷ es) h = ⊎_elim (λ a. inl (asks e a)) (λ b. inr (asked_of es b)) h
 
 module _ (s : Settings) where
-  pub marks_are_above : MarksAreAbove s
+  pub marks_are_above : OverAll s MarksAreAbove
   marks_are_above size early late m p e new at is k a =
       above.later_is_above (tower s) size early late (Mark m) p e (not_blank m) (λ h. new (asked_of s m early h)) at is k a
 
-  pub applied_marks : AppliedMarks s
+  pub applied_marks : OverAll s AppliedMarks
   applied_marks size early late m j c p n e new there at is k a =
       above.applied_has (tower s) size early late (Mark m) j c p n e (not_blank m) (λ h. new (asked_of s m early h)) there at is k a
 
-  pub confirmed_looks : ConfirmedLooks s
+  pub confirmed_looks : OverAll s ConfirmedLooks
   confirmed_looks size early late m p e j i from place target lines new at is le asked told k a =
       above.look_has (tower s) size early late (Mark m) p e j i from place target lines (not_blank m) (λ h. new (asked_of s m early h)) at is le asked told k a

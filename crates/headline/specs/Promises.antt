@@ -17,7 +17,12 @@ use Rattle.raft_node.specs.Machine.{history}
 use Rattle.raft_node.specs.Steps.{Out, Looked}
 use Rattle.agreement.specs.World.{Begins, committed}
 use Rattle.world_run.specs.World.{Input, Timeout, Beat, Deliver, Ask, Opened, Closed, Heard, Claim, Event, Does, Restart, StopIn, Look, Apply, count, moment, outputs, agreed, left, handed}
+use Rattle.world_run.specs.Laws.{IsAgreed, IsFaithful, RunsAreApart}
 use Rattle.headline.specs.Tower.{tower}
+
+-- This holds of groups of every size, over every list of events.
+abbrev pub OverAll : (s : Settings) → ((s : Settings) → ℕ → List (Event (tower s)) → Type 0) → Type 0
+OverAll s P = (size : ℕ) (es : List (Event (tower s))) → P s size es
 
 module _ (s : Settings) where
   -- the bodies that are agreed, each at its place
@@ -25,31 +30,31 @@ module _ (s : Settings) where
   bodies size es = history (agreed (tower s) size es)
 
   -- this is what is agreed
-  abbrev pub IsAgreed : ℕ → List (Event (tower s)) → List (Entry TowerBody) → Type 0
-  IsAgreed size es entries = entries ≡ agreed (tower s) size es
+  abbrev pub AreAgreed : ℕ → List (Event (tower s)) → List (Entry TowerBody) → Type 0
+  AreAgreed size es entries = entries ≡ agreed (tower s) size es
 
   -- this is what comes out
   abbrev pub ComesOut : ℕ → List (Event (tower s)) → List (Out (tower s)) → Type 0
   ComesOut size es outs = outs ≡ outputs (tower s) size es
 
   -- of the requests that take effect no two have the same origin and number
-  abbrev pub RequestsActOnce : Type 0
-  RequestsActOnce = (size : ℕ) (es : List (Event (tower s))) (o : Origin) (n : ℕ) → times o n (fresh (bodies size es)) ≤ 1
+  abbrev pub RequestsActOnce : ℕ → List (Event (tower s)) → Type 0
+  RequestsActOnce size es = (o : Origin) (n : ℕ) → times o n (fresh (bodies size es)) ≤ 1
 
   -- and that one is done leaves at most once, of all nodes and all their runs
-  abbrev pub DoneOnce : Type 0
-  DoneOnce = (size : ℕ) (es : List (Event (tower s))) (o : Origin) (n : ℕ) → count (is_done o n) (left (tower s) size es) ≤ 1
+  abbrev pub DoneOnce : ℕ → List (Event (tower s)) → Type 0
+  DoneOnce size es = (o : Origin) (n : ℕ) → count (is_done o n) (left (tower s) size es) ≤ 1
 
   -- the numbers of the lines that are handed upstream are all different
-  abbrev pub HandedOnce : Type 0
-  HandedOnce =
-      (size : ℕ) (es : List (Event (tower s))) (i j n : ℕ) (one other : Parts) →
+  abbrev pub HandedOnce : ℕ → List (Event (tower s)) → Type 0
+  HandedOnce size es =
+      (i j n : ℕ) (one other : Parts) →
       slice_get (handed (tower s) size es) i ≡ Some (n, one) → slice_get (handed (tower s) size es) j ≡ Some (n, other) → i ≡ j
 
   -- and each is a place and line of the outgoing lines of the agreed list, with a claim that took effect
-  abbrev pub HandedIsOutgoing : Type 0
-  HandedIsOutgoing =
-      (size : ℕ) (es : List (Event (tower s))) (i n : ℕ) (line : Parts) →
+  abbrev pub HandedIsOutgoing : ℕ → List (Event (tower s)) → Type 0
+  HandedIsOutgoing size es =
+      (i n : ℕ) (line : Parts) →
       slice_get (handed (tower s) size es) i ≡ Some (n, line) →
       (slice_get (outgoing s (bodies size es)) (n - 1) ≡ Some line) × ((c : ℕ) × (id : SessionId) × (slice_get (claimed s (bodies size es)) c ≡ Some (n, id)))
 
@@ -79,25 +84,44 @@ module _ (s : Settings) where
   IsAsked m (e ∷ es) = Asks m e ⊎ IsAsked m es
 
   -- a mark that no event asked so far: each of its places in what is agreed later is above all that any node has committed
-  abbrev pub MarksAreAbove : Type 0
-  MarksAreAbove =
-      (size : ℕ) (early late : List (Event (tower s))) (m : mark.Mark) (p : ℕ) (e : Entry TowerBody) →
+  abbrev pub MarksAreAbove : ℕ → List (Event (tower s)) → Type 0
+  MarksAreAbove size early =
+      (late : List (Event (tower s))) (m : mark.Mark) (p : ℕ) (e : Entry TowerBody) →
       (IsAsked m early → ⊥) → item (agreed (tower s) size (early ++ late)) p ≡ Some e → e.body ≡ Mark m →
       (k a : ℕ) → length (committed (moment (tower s) size early k) a) < p
 
   -- a node that has applied such a mark has applied, below it, all that any node had committed by then
-  abbrev pub AppliedMarks : Type 0
-  AppliedMarks =
-      (size : ℕ) (early late : List (Event (tower s))) (m : mark.Mark) (j c p : ℕ) (n : Node TowerBody) (e : Entry TowerBody) →
+  abbrev pub AppliedMarks : ℕ → List (Event (tower s)) → Type 0
+  AppliedMarks size early =
+      (late : List (Event (tower s))) (m : mark.Mark) (j c p : ℕ) (n : Node TowerBody) (e : Entry TowerBody) →
       (IsAsked m early → ⊥) → item (moment (tower s) size (early ++ late) j) c ≡ Some n → item (take n.applied n.log) p ≡ Some e → e.body ≡ Mark m →
       (k a : ℕ) → Begins (committed (moment (tower s) size early k) a) (take (pred p) (take n.applied n.log))
 
   -- a look that is answered at or behind the place of such a mark is the playback of a list that begins with all that any node had committed by then
-  abbrev pub ConfirmedLooks : Type 0
-  ConfirmedLooks =
-      (size : ℕ) (early late : List (Event (tower s))) (m : mark.Mark) (p : ℕ) (e : Entry TowerBody) (j i from place : ℕ) (target : List ℕ) (lines : List (List ℕ)) →
+  abbrev pub ConfirmedLooks : ℕ → List (Event (tower s)) → Type 0
+  ConfirmedLooks size early =
+      (late : List (Event (tower s))) (m : mark.Mark) (p : ℕ) (e : Entry TowerBody) (j i from place : ℕ) (target : List ℕ) (lines : List (List ℕ)) →
       (IsAsked m early → ⊥) → item (agreed (tower s) size (early ++ late)) p ≡ Some e → e.body ≡ Mark m → p ≤ place →
       item (early ++ late) j ≡ Some (Does (Look i from target)) → item (outputs (tower s) size (early ++ late)) j ≡ Some (Looked place lines) →
       (k a : ℕ) →
       (lines ≡ playback s (history (take place (agreed (tower s) size (early ++ late)))) target)
       × Begins (committed (moment (tower s) size early k) a) (take place (agreed (tower s) size (early ++ late)))
+
+  -- What holds of the bouncer over these events.
+  pub record IsHeadline (size : ℕ) (es : List (Event (tower s))) : Type 0 where
+    -- the committed entries of any two nodes at any two moments: one list begins the other
+    pub agreed : IsAgreed (tower s) size es
+    -- every look and all that leaves is what the agreed list comes to at its place
+    pub faithful : IsFaithful (tower s) size es
+    -- runs of a node have boots of their own, no session id is of two runs
+    pub apart : RunsAreApart (tower s) size es
+    -- no numbered request takes effect twice, nor is one told twice to be done
+    pub acts_once : RequestsActOnce size es
+    pub done_once : DoneOnce size es
+    -- no line is handed upstream twice, and each is the outgoing line of its number
+    pub handed_once : HandedOnce size es
+    pub outgoing : HandedIsOutgoing size es
+    -- a mark that was not asked before a moment stands above all that was committed by then
+    pub marks : (k : ℕ) → MarksAreAbove size (take k es)
+    pub applied_marks : (k : ℕ) → AppliedMarks size (take k es)
+    pub confirmed : (k : ℕ) → ConfirmedLooks size (take k es)

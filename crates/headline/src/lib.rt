@@ -2,8 +2,10 @@
 //! reorderings, requests, upstream lines, restarts and stops.
 #![tactic(auto)]
 
+mod bouncers;
 mod laws;
 
+pub use bouncers::run_bouncers;
 pub use laws::{
     confirmed_looks_are_current, lines_are_handed_once, playback_is_faithful, requests_act_once,
     the_nodes_agree, the_tower_is_so_described,
