@@ -179,8 +179,8 @@ fn push_sent(out: &mut Vec<u8>, line: &Line) -> Result<(), AllocError>
     Ok(())
 }
 
-/// The bytes of a line's spelling that are printed.
-fn printed(spelling: &[u8]) -> &[u8]
+/// The bytes of a line's spelling that are printed: 510 at most.
+pub fn printed(spelling: &[u8]) -> &[u8]
     ensures { result.now ≡ printed_line spelling.now }
 {
     if spelling.len() < LINE_LEN {

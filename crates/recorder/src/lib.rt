@@ -14,14 +14,15 @@ mod split;
 mod words;
 mod writing;
 
-pub use effects::{Words, push_answers};
+pub use effects::{Words, printed, push_answers};
 pub use event::read_event;
 pub use events::parse_events;
 pub use events_fault::EventsFault;
+pub use fields::read_number;
 pub use input::read_input;
 pub use laws::{no_two_lists_have_one_text, what_is_written_has_no_bad_line};
 pub use node_line::push_node;
-pub use writing::{push_event, push_input, write_events};
+pub use writing::{push_event, push_input, push_number, write_events};
 
 #[cfg(test)]
 mod tests;

@@ -17,23 +17,6 @@ use Rattle.world_run.specs.World as world
 use Rattle.world_lines.specs.OutputText.{named_node, out_lines, outs_lines}
 use Rattle.world_lines.specs.OutcomeText.{IsTextOf, outcome_lines, outcomes_lines, parts_text}
 
-length_with : {A : Type 0} (xs : List A) (i : ℕ) (x : A) → length (with_item xs i x) ≡ length xs
-length_with xs zero x = refl
-length_with xs (suc k) x = length-set xs k x
-
-at_most_seven : (size : ℕ) → IsGroupSize size → size ≤ 7
-at_most_seven size g = ⊎_elim (λ e. omega (arith, e)) (λ h. ⊎_elim (λ e. omega (arith, e)) (λ e. omega (arith, e)) h) g
-
--- a group keeps its size
-module _ (M : Machine) where
-  length_by : (w : world.World M) (i : ℕ) (o : Own M) (s : Option (Node M.Body)) → length (world.world_by M w i o s) ≡ length w
-  length_by w i o None = refl
-  length_by w i o (Some s) = length_with w i _
-
-  length_run : (es : List (world.Event M)) (w : world.World M) → length (world.run M es w) ≡ length w
-  length_run [] w = refl
-  length_run (e ∷ es) w = length_run es (world.happens M w e) ∙ length_by w (world.stepper M w e) (world.own_of M w e) (item w (world.stepper M w e))
-
 -- Over a machine, the words of its effects and the spelling of what it plays
 module _ (M : Machine) (words : M.Effect → List ℕ) (spelled : M.Played → List ℕ) where
   same_out : (number node : ℕ) (out : Outcome M.Effect M.Played) → outcome_lines words spelled number node out ≡ out_lines M words spelled number node (out_of M out)
@@ -51,8 +34,5 @@ module _ (M : Machine) (words : M.Effect → List ℕ) (spelled : M.Played → L
 
   -- what is told of a world is the text of its events
   pub told : {Setup : Type 0} (es : List (Event M.Body M.Line M.Target)) (w : WorldParts Setup M.Body M.Effect M.Played) (text : List ℕ)
-      → (length w.nodes ≤ 7 → text ≡ parts_text words spelled es w) → IsTextOf M words spelled es w text
-  told es w text h = λ size g is.
-      let long : length w.nodes ≡ size = ap length is.nodes ∙ (length_run M (events_of M es) (start size) ∙ length-replicate size _) in
-      let short : length w.nodes ≤ 7 = omega (arith, long, at_most_seven size g) in
-      h short ∙ rw (same_outs 1 es w.outs, is.outs, is.nodes) refl
+      → text ≡ parts_text words spelled es w → IsTextOf M words spelled es w text
+  told es w text h = λ size is. h ∙ rw (same_outs 1 es w.outs, is.outs, is.nodes) refl

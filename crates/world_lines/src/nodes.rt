@@ -1,5 +1,5 @@
 //! What the nodes of a world are, as lines.
-ghost use Rattle.std.specs.Prelude.{◌≡◌, ◌≤◌, ◌++◌, length, OnOk};
+ghost use Rattle.std.specs.Prelude.{◌≡◌, ◌++◌, OnOk};
 ghost use Rattle.world_lines.specs.OutputText.{node_lines};
 
 use machine_laws::Hosted;
@@ -8,16 +8,11 @@ use recorder::push_node;
 use std::alloc::AllocError;
 use world_run::World;
 
-/// The number of no node, above all others.
-const PAST_NODES: u8 = 8;
-
-/// Appends a line for each node, by rising number. A world that was run has 7 nodes at most. After an
-/// error a part of it may have been appended.
+/// Appends a line for each node, by rising number. After an error a part of it may have been appended.
 pub fn push_nodes<M: Hosted>(out: &mut Vec<u8>, world: &World<M>) -> Result<(), AllocError>
-    ensures { OnOk result (length world.now.nodes ≤ 7 →
-        out.new.items ≡ out.old.items ++ node_lines 1 world.now.nodes) }
+    ensures { OnOk result (out.new.items ≡ out.old.items ++ node_lines 1 world.now.nodes) }
 {
-    for number in 1..PAST_NODES {
+    for number in 1..world.size() as u8 + 1 {
         if let Some(state) = world.state(number) {
             push_node(out, NodeId::new(number), state)?;
         }

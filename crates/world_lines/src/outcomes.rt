@@ -1,23 +1,18 @@
 //! What comes out of events, as lines.
 ghost use Rattle.std.specs.Prelude.{◌≡◌, ◌++◌, ◌∷◌, [], decimal, flat_map, length, OnOk};
-ghost use Rattle.recorder.specs.EffectWords.{printed_line};
 ghost use Rattle.world_lines.specs.OutcomeText.{outcome_lines, outcomes_lines};
 ghost use Rattle.world_lines.specs.OutputText.{front, left_lines, looked_line, looked_lines};
 ghost use Rattle.world_lines.specs.OutputText.{played_line, refusal_words, refused_line};
 
 use crate::named::named_by;
 use crate::spelled::Spelled;
-use itoa::Buffer;
 use node_steps::Refusal;
 use raft_log::NodeId;
-use recorder::Words;
+use recorder::{Words, printed, push_number};
 use std::alloc::AllocError;
 use wire_bytes::Number;
 use world_events::Event;
 use world_run::Outcome;
-
-/// How many bytes of a line's spelling are printed at most.
-const LINE_LEN: usize = 510;
 
 /// Appends what came out of each event, the events being numbered from 1. After an error a part of it
 /// may have been appended.
@@ -136,17 +131,6 @@ fn push_played(
     Ok(out.push(b'\n')?)
 }
 
-/// The bytes of a line's spelling that are printed.
-fn printed(spelling: &[u8]) -> &[u8]
-    ensures { result.now ≡ printed_line spelling.now }
-{
-    if spelling.len() < LINE_LEN {
-        spelling
-    } else {
-        &spelling[..LINE_LEN]
-    }
-}
-
 /// Appends that a node stayed as it was, and why.
 fn push_refused(
     out: &mut Vec<u8>,
@@ -186,12 +170,4 @@ fn push_front(out: &mut Vec<u8>, number: u64, node: NodeId) -> Result<(), AllocE
     out.push(b' ')?;
     push_number(out, node.value() as u64)?;
     Ok(out.push(b' ')?)
-}
-
-/// Appends a number in decimal digits.
-fn push_number(out: &mut Vec<u8>, number: u64) -> Result<(), AllocError>
-    ensures { OnOk result (out.new.items ≡ out.old.items ++ decimal number) }
-{
-    let mut buffer = Buffer::new();
-    out.extend_from_slice(buffer.format(number).as_bytes())
 }
