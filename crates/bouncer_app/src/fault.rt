@@ -1,6 +1,7 @@
 //! Why a fold gives no output.
 use std::alloc::AllocError;
 use thiserror::Error;
+use whole_input::ReadFault;
 
 /// Why a fold gives no output. Lines are counted from 1.
 #[derive(Clone, Copy, Debug, Drop, PartialEq, Eq, Error)]
@@ -23,6 +24,21 @@ pub enum FoldFault {
     /// There was no memory.
     #[error("Memory")]
     Memory,
+}
+
+impl From<ReadFault> for FoldFault {
+    ghost use Rattle.std.specs.Prelude.{◌≡◌};
+    ghost use Rattle.bouncer_app.specs.Faults.{fold_fault};
+
+    ghost from_gives = { λ fault e. e ≡ fold_fault fault };
+
+    fn from(fault: ReadFault) -> Self {
+        match fault {
+            ReadFault::InputTooLong => FoldFault::InputTooLong,
+            ReadFault::Read => FoldFault::Read,
+            ReadFault::Memory => FoldFault::Memory,
+        }
+    }
 }
 
 impl From<AllocError> for FoldFault {

@@ -3,11 +3,11 @@ ghost use Rattle.std.specs.Prelude.{◌≡◌, ◌≢◌, ℕ, ◌+◌, ◌^◌,
 ghost use Rattle.machine_laws.specs.Runs.{History};
 ghost use Rattle.bouncer_app.specs.Lines.{lines_of, hex_bytes};
 ghost use Rattle.bouncer_app.specs.Fold.{Request, body_of, fold_text, judged_line, plain_answers, printed};
-ghost use Rattle.bouncer_app.specs.Reads.{IsOfALine, IsTooLong, IsWithin};
+ghost use Rattle.bouncer_app.specs.Faults.{IsOfALine};
+ghost use Rattle.whole_input.specs.Reads.{IsTooLong, IsWithin};
 ghost use Rattle.std.specs.Io.KnownBytes.{Appends};
 
 use crate::fault::FoldFault;
-use crate::input::read_whole;
 use crate::lines::{decode_line, split_line};
 use buffer_commands::{Action, Command, Effect, Setup};
 use buffer_machine::BufferMachine;
@@ -16,6 +16,7 @@ use recorder::push_answers;
 use request_once::{Answer, Body, Once};
 use std::alloc::{AllocError, Global};
 use std::io::{Read, Write};
+use whole_input::read_whole;
 use wire_bytes::{Wire, WireFault};
 
 /// Reads an input whole, folds its bodies through buffers that are set up plainly, each request

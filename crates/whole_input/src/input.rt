@@ -1,8 +1,8 @@
 //! An input, read whole.
-ghost use Rattle.bouncer_app.specs.Reads.{IsOfReading, IsReadJudged, IsTooLong, ReadGives, most_bytes};
+ghost use Rattle.whole_input.specs.Reads.{IsReadJudged, IsTooLong, ReadGives, most_bytes};
 ghost use Rattle.std.specs.Prelude.{◌≡◌, ℕ, OnOk, ◌+◌, ◌<◌, ◌≤◌, List, [], ◌∷◌, ◌++◌, length, Some, IfOk, IfErr, IfSome};
 
-use crate::fault::FoldFault;
+use crate::read_fault::ReadFault;
 use std::alloc::Global;
 use std::io;
 use std::io::{ErrorKind, Read};
@@ -17,11 +17,10 @@ const MOST_READS: u64 = 100_000_000;
 const CHUNK: usize = 65_536;
 
 /// All bytes of a reader. An input that is too long is known by its first byte past the limit.
-pub fn read_whole<R: Read>(alloc: Global, reader: &mut R) -> Result<Vec<u8>, FoldFault>
+pub fn read_whole<R: Read>(alloc: Global, reader: &mut R) -> Result<Vec<u8>, ReadFault>
     ensures whole { IfOk result (λ v. IfSome (R.remaining reader.old) (λ bytes. v.items ≡ bytes)) }
     ensures bounded { IfOk result (λ v. length v.items ≤ most_bytes) }
-    ensures fault { IfErr result IsOfReading }
-    ensures too_long { IfErr result (λ e. e ≡ FoldFault.InputTooLong →
+    ensures too_long { IfErr result (λ e. e ≡ ReadFault.InputTooLong →
         IsTooLong (R.remaining reader.old)) }
 {
     let mut chunk = zeros(alloc, CHUNK)?;
@@ -33,28 +32,28 @@ pub fn read_whole<R: Read>(alloc: Global, reader: &mut R) -> Result<Vec<u8>, Fol
             Some(count) => push_within(&mut input, &chunk[..count])?,
         }
     }
-    Err(FoldFault::Read)
+    Err(ReadFault::Read)
 }
 
 /// So many bytes of zero.
-fn zeros(alloc: Global, count: usize) -> Result<Vec<u8>, FoldFault>
+fn zeros(alloc: Global, count: usize) -> Result<Vec<u8>, ReadFault>
     ensures zeros { IfOk result (λ v. length v.items ≡ count) }
-    ensures fault { IfErr result (λ e. e ≡ FoldFault.Memory) }
+    ensures fault { IfErr result (λ e. e ≡ ReadFault.Memory) }
 {
-    vec![in alloc; 0; count].map_err(|_| FoldFault::Memory)
+    vec![in alloc; 0; count].map_err(|_| ReadFault::Memory)
 }
 
 /// One read: how many bytes came, or none where it was interrupted.
-fn read_chunk<R: Read>(reader: &mut R, chunk: &mut [u8]) -> Result<Option<usize>, FoldFault>
+fn read_chunk<R: Read>(reader: &mut R, chunk: &mut [u8]) -> Result<Option<usize>, ReadFault>
     ensures gives { IfOk result (λ count.
         ReadGives (R.remaining reader.old) (R.remaining reader.new) count chunk.new) }
-    ensures fault { IfErr result (λ e. e ≡ FoldFault.Read) }
+    ensures fault { IfErr result (λ e. e ≡ ReadFault.Read) }
 {
     judged(reader.read(chunk))
 }
 
 /// What becomes of one read: of its errors only an interruption is none.
-fn judged(outcome: io::Result<usize>) -> Result<Option<usize>, FoldFault>
+fn judged(outcome: io::Result<usize>) -> Result<Option<usize>, ReadFault>
     ensures { IsReadJudged outcome result }
 {
     match outcome {
@@ -62,22 +61,21 @@ fn judged(outcome: io::Result<usize>) -> Result<Option<usize>, FoldFault>
         Err(error) => if error.kind() == ErrorKind::Interrupted {
             Ok(None)
         } else {
-            Err(FoldFault::Read)
+            Err(ReadFault::Read)
         },
     }
 }
 
 /// Appends what was read, where it fits.
-fn push_within(input: &mut Vec<u8>, read: &[u8]) -> Result<(), FoldFault>
+fn push_within(input: &mut Vec<u8>, read: &[u8]) -> Result<(), ReadFault>
     requires { length input.old.items ≤ most_bytes }
     ensures pushed { OnOk result (input.new.items ≡ input.old.items ++ read.now) }
     ensures bounded { OnOk result (length input.new.items ≤ most_bytes) }
-    ensures too_long { IfErr result (λ e. e ≡ FoldFault.InputTooLong →
+    ensures too_long { IfErr result (λ e. e ≡ ReadFault.InputTooLong →
         most_bytes < length input.old.items + length read.now) }
-    ensures fault { IfErr result IsOfReading }
 {
     if read.len() > MOST_BYTES - input.len() {
-        return Err(FoldFault::InputTooLong);
+        return Err(ReadFault::InputTooLong);
     }
-    input.extend_from_slice(read).map_err(|_| FoldFault::Memory)
+    input.extend_from_slice(read).map_err(|_| ReadFault::Memory)
 }

@@ -1,12 +1,12 @@
--- What reading and writing do to the bytes of a reader, and what a fault says of an input.
+-- What reading does to the bytes of a reader, and what a fault says of an input.
 use Rattle.std.specs.Prelude.{◌≡◌, ◌≢◌, ℕ, ◌<◌, ◌≤◌, List, length, take, Option, Some, None, IfSome, Result, Ok, Err, MatchResult}
 use Rattle.std.specs.IoError.{error_kind}
 use Rattle.std.specs.declared.io.Error.{Error}
 use Rattle.std.specs.declared.io.ErrorKind.{ErrorKind}
 use Rattle.std.specs.declared.io.ErrorKind.TheVariants.{Interrupted}
 use Rattle.std.specs.Io.KnownBytes.{Keeps, Consumes, IsAtEnd}
-use Rattle.bouncer_app.specs.declared.fault.FoldFault.{FoldFault}
-use Rattle.bouncer_app.specs.declared.fault.FoldFault.TheVariants.{InputTooLong, Read, BadHex, BadBody, Write, Memory}
+use Rattle.whole_input.specs.declared.read_fault.ReadFault.{ReadFault}
+use Rattle.whole_input.specs.declared.read_fault.ReadFault.TheVariants.{InputTooLong, Read, Memory}
 
 -- the most bytes that an input may have
 abbrev pub most_bytes : ℕ
@@ -21,32 +21,14 @@ abbrev pub IsWithin : Option (List ℕ) → Type 0
 IsWithin remaining = IfSome remaining (λ bytes. length bytes ≤ most_bytes)
 
 -- what becomes of an error: no bytes where it is an interruption and nothing else, a fault where it is another
-abbrev pub IsErrorJudged : ErrorKind → Result (Option ℕ) FoldFault → Type 0
+abbrev pub IsErrorJudged : ErrorKind → Result (Option ℕ) ReadFault → Type 0
 IsErrorJudged kind judged = (kind ≡ Interrupted → judged ≡ Ok None) × (kind ≢ Interrupted → judged ≡ Err Read)
 
 -- what becomes of one read: as many bytes as came, or what becomes of its error
-abbrev pub IsReadJudged : Result ℕ Error → Result (Option ℕ) FoldFault → Type 0
+abbrev pub IsReadJudged : Result ℕ Error → Result (Option ℕ) ReadFault → Type 0
 IsReadJudged outcome judged = MatchResult outcome (λ n. judged ≡ Ok (Some n)) (λ e. IsErrorJudged (error_kind e) judged)
 
 -- none came where the read was interrupted; no bytes came only at the end
 abbrev pub ReadGives : Option (List ℕ) → Option (List ℕ) → Option ℕ → List ℕ → Type 0
 ReadGives old new None chunk = Keeps old new
 ReadGives old new (Some n) chunk = (n ≤ length chunk) × Consumes old new (take n chunk) × (n ≡ 0 → 0 < length chunk → IsAtEnd new)
-
--- the faults of reading an input whole
-abbrev pub IsOfReading : FoldFault → Type 0
-IsOfReading InputTooLong = Unit {0}
-IsOfReading Read = Unit {0}
-IsOfReading Memory = Unit {0}
-IsOfReading (BadHex k) = ⊥
-IsOfReading (BadBody k) = ⊥
-IsOfReading Write = ⊥
-
--- the faults of what stands in an input
-abbrev pub IsOfALine : FoldFault → Type 0
-IsOfALine (BadHex k) = Unit {0}
-IsOfALine (BadBody k) = Unit {0}
-IsOfALine InputTooLong = ⊥
-IsOfALine Read = ⊥
-IsOfALine Memory = ⊥
-IsOfALine Write = ⊥

@@ -1,6 +1,6 @@
 use Rattle.std.proofs.Common.{◌≤◌, ◌<◌, length}
 use Rattle.std.specs.Io.KnownBytes.{Consumes}
-use Rattle.bouncer_app.proofs.input.read_whole.Given as goal
+use Rattle.whole_input.proofs.input.read_whole.Given as goal
 
 abbrev pub invariant-loop : goal.invariant-loop
 invariant-loop g l =

@@ -1,0 +1,94 @@
+//! Of what any two nodes commit after any two beginnings of a list of events, one list begins the other.
+use crate::listed_cases::CASES;
+use crate::listed_rows::WORKED;
+use bouncer_tower::{Tower, TowerBody};
+use buffer_commands::Setup;
+use headline::run_bouncers;
+use raft_log::Entry;
+use recorder::parse_events;
+use std::alloc::{AllocError, Global};
+use std::test::Fail;
+use wire_bytes::Wire;
+use world_run::World;
+
+/// Events, for a group of so many nodes: `;` stands between two of a line.
+pub struct Listed {
+    pub size: u8,
+    pub events: &'static [&'static str],
+}
+
+/// The text of a list of events.
+fn text(alloc: Global, listed: &Listed) -> Result<Vec<u8>, AllocError> {
+    let mut out = Vec::new(alloc);
+    for line in listed.events {
+        for byte in line.as_bytes() {
+            out.push(if *byte == b';' { b'\n' } else { *byte })?;
+        }
+        out.push(b'\n')?;
+    }
+    Ok(out)
+}
+
+/// The spelling of entries. That of no entry begins that of another, so a list of entries begins another
+/// exactly where its spelling does.
+fn spelled(alloc: Global, entries: &[Entry<TowerBody>]) -> Result<Vec<u8>, AllocError> {
+    let mut out = Vec::new(alloc);
+    for entry in entries {
+        entry.fits();
+        entry.put(&mut out)?;
+    }
+    Ok(out)
+}
+
+/// The longer of a list and what each node commits, unless one of them does not begin another.
+fn longer(
+    alloc: Global,
+    world: &World<Tower>,
+    longest: Vec<u8>,
+) -> Result<Option<Vec<u8>>, AllocError> {
+    let mut longest = longest;
+    for node in 1..world.size() as u8 + 1 {
+        let Some(entries) = world.committed(node) else {
+            return Ok(None);
+        };
+        let list = spelled(alloc, entries)?;
+        if list.starts_with(&longest) {
+            longest = list;
+        } else if !longest.starts_with(&list) {
+            return Ok(None);
+        }
+    }
+    Ok(Some(longest))
+}
+
+/// The longest list that any node commits after any beginning of these events, unless one that some node
+/// commits does not begin it. Of two lists that both begin it one begins the other.
+fn agreed(alloc: Global, listed: &Listed) -> Result<Option<Vec<u8>>, Fail> {
+    let events = parse_events::<TowerBody>(alloc, &text(alloc, listed)?)?;
+    let setup = Setup::plain(alloc)?;
+    let mut longest = Vec::new(alloc);
+    for count in 0..events.len() + 1 {
+        let world = run_bouncers(alloc, listed.size, &setup, &events[..count])?;
+        match longer(alloc, &world, longest)? {
+            Some(list) => longest = list,
+            None => return Ok(None),
+        }
+    }
+    Ok(Some(longest))
+}
+
+#[test]
+fn what_nodes_commit_in_worked_cases_begins_one_list(rt: HostRuntime) -> Result<(), Fail> {
+    for listed in WORKED {
+        assert!(rt; agreed(rt.alloc(), listed)?.is_some());
+    }
+    Ok(())
+}
+
+#[test]
+fn what_nodes_commit_in_other_cases_begins_one_list(rt: HostRuntime) -> Result<(), Fail> {
+    for listed in CASES {
+        assert!(rt; agreed(rt.alloc(), listed)?.is_some());
+    }
+    Ok(())
+}

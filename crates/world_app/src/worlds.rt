@@ -1,0 +1,88 @@
+//! Running a list of events over the nodes of a group.
+ghost use Rattle.std.specs.Prelude.{◌≡◌, ◌≢◌, ◌↔◌, ℕ, List, Err, IfErr, IfOk, IfSome, IsSome, OnOk};
+ghost use Rattle.std.specs.Io.KnownBytes.{Appends};
+ghost use Rattle.raft_log.specs.Peers.{IsGroupSize};
+ghost use Rattle.world_app.specs.declared.run_fault.RunFault.TheVariants.{Refused};
+ghost use Rattle.whole_input.specs.Reads.{IsTooLong, IsWithin};
+ghost use Rattle.world_app.specs.Worlds.{IsBadOf, IsOfRunning, IsRunOf, plain_text};
+
+use crate::run_fault::RunFault;
+use bouncer_tower::TowerBody;
+use buffer_commands::{Setup, WireLine};
+use headline::run_bouncers;
+use irc_line::Name;
+use raft_log::GroupSize;
+use recorder::parse_events;
+use std::alloc::{AllocError, Global};
+use std::io::{Read, Write};
+use whole_input::read_whole;
+use world_events::Event;
+use world_lines::world_text;
+
+/// Reads an input whole, runs its events over so many nodes of a bouncer that is set up plainly, and
+/// writes what came out of each event and then what the nodes are.
+///
+/// Nothing is read where no group has that size, and nothing is written before the last event has
+/// happened. When `Read`, `Write` and `Memory` come is no contract's matter.
+pub fn world<R: Read, W: Write>(
+    alloc: Global,
+    size: u32,
+    input: &mut R,
+    output: &mut W,
+) -> Result<(), RunFault>
+    ensures written { OnOk result (IfSome (R.remaining input.old) (λ bytes. (text : List ℕ)
+        × IsRunOf size bytes text × Appends (W.contents output.old) (W.contents output.new) text)) }
+    ensures refused { (result ≡ Err (Refused size)) ↔ (IsGroupSize size → ⊥) }
+    ensures bad { IfErr result (λ e. IfSome (R.remaining input.old) (λ bytes. IsBadOf bytes e)) }
+    ensures bounded { OnOk result (IsWithin (R.remaining input.old)) }
+    ensures too_long { IfErr result (λ e. e ≡ RunFault.InputTooLong →
+        IsTooLong (R.remaining input.old)) }
+    ensures unread { IfErr result (λ e. e ≡ RunFault.Refused size → input.new ≡ input.old) }
+    ensures unwritten { IfErr result (λ e. e ≢ RunFault.Write → output.new ≡ output.old) }
+{
+    let Some(group) = group_size(size) else {
+        return Err(RunFault::Refused(size));
+    };
+    let bytes = read_whole(alloc, input)?;
+    let text = run_text(alloc, group, &bytes)?;
+    output.write_all(&text).map_err(|_| RunFault::Write)?;
+    output.flush().map_err(|_| RunFault::Write)
+}
+
+/// The size of a group, where one has so many nodes.
+fn group_size(size: u32) -> Option<GroupSize>
+    ensures value { IfSome result (λ group. group ≡ size) }
+    ensures allowed { IsSome result ↔ IsGroupSize size }
+{
+    if size > 7 {
+        return None;
+    }
+    GroupSize::new(size as u8)
+}
+
+/// The text of what comes out of the events of an input, and of what the nodes are then.
+fn run_text(alloc: Global, size: GroupSize, input: &[u8]) -> Result<Vec<u8>, RunFault>
+    ensures ok { IfOk result (λ text. IsRunOf size input.now text.items) }
+    ensures bad { IfErr result (IsBadOf input.now) }
+    ensures fault { IfErr result IsOfRunning }
+{
+    let events = parse_events::<TowerBody>(alloc, input)?;
+    let text = events_text(alloc, size, &events)?;
+    Ok(text)
+}
+
+/// The text of what comes out of events, and of what the nodes are then.
+fn events_text(
+    alloc: Global,
+    size: GroupSize,
+    events: &[Event<TowerBody, WireLine, Name>],
+) -> Result<Vec<u8>, AllocError>
+    ensures { IfOk result (λ text. text.items ≡ plain_text size events.now) }
+{
+    let setup = Setup::plain(alloc)?;
+    match run_bouncers(alloc, size.value(), &setup, events) {
+        Ok(world) => world_text(alloc, events, &world),
+        // The size is one that groups have, so memory is what was wanting.
+        Err(_) => Err(AllocError),
+    }
+}
