@@ -5,11 +5,7 @@
 mod answers;
 mod fits;
 mod hosted;
-#[cfg(test)]
-mod hosted_tests;
 mod laws;
-#[cfg(test)]
-mod tests;
 mod tower;
 
 pub use answers::answer_all;

@@ -12,8 +12,6 @@ mod fields;
 mod options;
 mod setup;
 mod setup_fault;
-#[cfg(test)]
-mod tests;
 mod verb;
 mod wire_line;
 

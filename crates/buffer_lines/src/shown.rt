@@ -72,21 +72,3 @@ impl Copied for Shown {
         })
     }
 }
-
-#[cfg(test)]
-mod tests {
-    use super::*;
-    use std::test::Fail;
-
-    #[test]
-    fn shows_the_canonical_spelling(rt: HostRuntime) -> Result<(), Fail> {
-        let line = Line::parse(rt.alloc(), b"privmsg  #x  hi")?;
-        let shown = Shown::of_line(rt.alloc(), &line)?;
-        assert_eq!(rt; shown.spelling(), b"PRIVMSG #x :hi".as_slice());
-        assert_eq!(rt;
-            shown.copy(rt.alloc())?.spelling(),
-            b"PRIVMSG #x :hi".as_slice()
-        );
-        Ok(())
-    }
-}

@@ -18,8 +18,6 @@ mod showing;
 mod step;
 mod storing;
 mod target_actions;
-#[cfg(test)]
-mod tests;
 
 pub use laws::{
     a_detached_channel_is_not_shown, no_target_keeps_more_than_its_size, playing_leaves_nothing,

@@ -6,8 +6,6 @@ mod channels;
 mod index;
 mod queries;
 mod target;
-#[cfg(test)]
-mod tests;
 
 pub use channel::Channel;
 pub use channels::Channels;

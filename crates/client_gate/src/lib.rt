@@ -16,8 +16,6 @@ mod serve;
 mod settings;
 mod splitting;
 mod status;
-#[cfg(test)]
-mod tests;
 mod turn;
 mod waiting;
 mod writing;

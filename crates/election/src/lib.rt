@@ -6,6 +6,3 @@ mod vote;
 
 pub use timeout::begin;
 pub use vote::{on_request_vote, on_vote};
-
-#[cfg(test)]
-mod tests;

@@ -12,6 +12,3 @@ pub use call::{Call, Called};
 pub use crash::Unsynced;
 pub use fails::Fails;
 pub use fault_disk::FaultDisk;
-
-#[cfg(test)]
-mod tests;

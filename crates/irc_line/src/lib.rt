@@ -14,11 +14,7 @@ mod name;
 mod reading;
 mod spelling;
 mod splitter;
-#[cfg(test)]
-mod stream_tests;
 mod tail;
-#[cfg(test)]
-mod tests;
 mod text;
 mod word;
 

@@ -20,6 +20,3 @@ pub use disk_fault::DiskFault;
 pub use find::may_follow;
 pub use journal_store::JournalStore;
 pub use memory_disk::MemoryDisk;
-
-#[cfg(test)]
-mod tests;

@@ -15,6 +15,3 @@ pub use refusal::Refusal;
 pub use sessions::{on_claim, on_closed, on_heard, on_opened};
 pub use timeout::on_timeout;
 pub use unprepared::Unprepared;
-
-#[cfg(test)]
-mod tests;

@@ -30,6 +30,3 @@ pub use peers::Peers;
 pub use position::Position;
 pub use role::Role;
 pub use step::Step;
-
-#[cfg(test)]
-mod tests;

@@ -18,8 +18,3 @@ pub use laws::{
 };
 pub use node::Node;
 pub use node_fault::{Cause, NodeFault};
-
-#[cfg(test)]
-mod failing;
-#[cfg(test)]
-mod tests;

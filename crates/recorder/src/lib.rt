@@ -23,6 +23,3 @@ pub use input::read_input;
 pub use laws::{no_two_lists_have_one_text, what_is_written_has_no_bad_line};
 pub use node_line::push_node;
 pub use writing::{push_event, push_input, push_number, write_events};
-
-#[cfg(test)]
-mod tests;

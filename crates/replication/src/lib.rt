@@ -12,6 +12,3 @@ pub use bodies::{ask, on_forward};
 pub use replies::{commit_place, on_append_reply};
 pub use sends::beat;
 pub use vote::on_vote;
-
-#[cfg(test)]
-mod tests;

@@ -13,6 +13,3 @@ pub use memory_store::MemoryStore;
 pub use saved::Saved;
 pub use stable::Stable;
 pub use store_fault::StoreFault;
-
-#[cfg(test)]
-mod tests;

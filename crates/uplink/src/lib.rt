@@ -2,8 +2,6 @@
 //! tells when the session opens, what is heard and that it is closed.
 #![tactic(auto)]
 
-#[cfg(test)]
-mod call_tests;
 mod input;
 pub mod laws;
 mod meaning;
@@ -12,8 +10,6 @@ mod passing;
 mod sending;
 mod session;
 mod standing;
-#[cfg(test)]
-mod tests;
 mod uplink;
 
 pub use input::UplinkInput;

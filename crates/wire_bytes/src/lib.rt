@@ -34,5 +34,3 @@ pub use session_id::SessionId;
 pub use wire::Wire;
 pub use wire_fault::WireFault;
 
-#[cfg(test)]
-mod tests;

@@ -8,10 +8,3 @@ mod worlds;
 pub use run_fault::RunFault;
 pub use sizes::size_of;
 pub use worlds::world;
-
-#[cfg(test)]
-mod agreement_tests;
-#[cfg(test)]
-mod listed_cases;
-#[cfg(test)]
-mod listed_rows;

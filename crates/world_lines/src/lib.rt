@@ -11,6 +11,3 @@ pub use nodes::push_nodes;
 pub use outcomes::{push_outcome, push_outcomes};
 pub use spelled::Spelled;
 pub use text::world_text;
-
-#[cfg(test)]
-mod tests;

@@ -21,6 +21,3 @@ pub use faithful::{no_more_leaves_than_is_agreed, what_leaves_is_of_the_agreed_l
 pub use outcome::{Outcome, WorldFault};
 pub use running::{each_node_is_sound, runs_are_apart, sessions_are_apart};
 pub use world::World;
-
-#[cfg(test)]
-mod tests;

@@ -1,0 +1,392 @@
+//! Commands as bytes and the limits of a setup, by examples.
+use buffer_commands::{
+    Action, BufferSize, ChannelName, Command, Options, Setup, SetupFault, Verb, WireLine,
+};
+use buffer_lines::Offset;
+use irc_line::{Line, Name, Text};
+use std::alloc::Global;
+use std::process::Abort;
+use std::test::Fail;
+use wire_bytes::{Copied, Moment, Number, Origin, Wire, WireFault};
+
+fn name(alloc: Global, bytes: &[u8]) -> Result<Name, Fail> {
+    Ok(Name::from_bytes(Vec::from_slice(alloc, bytes)?).ok_or("no name")?)
+}
+
+fn channel(alloc: Global, bytes: &[u8]) -> Result<ChannelName, Fail> {
+    Ok(ChannelName::from_name(name(alloc, bytes)?).ok_or("no channel")?)
+}
+
+fn text(alloc: Global, bytes: &[u8]) -> Result<Text, Fail> {
+    Ok(Text::from_bytes(Vec::from_slice(alloc, bytes)?).ok_or("no text")?)
+}
+
+fn line(alloc: Global, bytes: &[u8]) -> Result<WireLine, Fail> {
+    Ok(WireLine::from_line(Line::parse(alloc, bytes)?).ok_or("too long")?)
+}
+
+/// The action is spelled so, and so are its copy and what is read of these bytes.
+fn check_action(rt: &impl Abort, alloc: Global, action: &Action, bytes: &[u8]) -> Result<(), Fail> {
+    let copy = action.copy(alloc)?;
+    let (again, len) = Action::take(alloc, bytes)?;
+    assert_eq!(rt; len, bytes.len());
+    check_put(rt, alloc, action, bytes)?;
+    check_put(rt, alloc, &copy, bytes)?;
+    check_put(rt, alloc, &again, bytes)
+}
+
+fn check_put(rt: &impl Abort, alloc: Global, action: &Action, bytes: &[u8]) -> Result<(), Fail> {
+    action.fits();
+    let mut out = Vec::new(alloc);
+    action.put(&mut out)?;
+    assert_eq!(rt; out.as_slice(), bytes);
+    Ok(())
+}
+
+/// The command is spelled so, and so are its copy and what is read of these bytes.
+fn check_command(
+    rt: &impl Abort,
+    alloc: Global,
+    command: &Command,
+    bytes: &[u8],
+) -> Result<(), Fail> {
+    let copy = command.copy(alloc)?;
+    let (again, len) = Command::take(alloc, bytes)?;
+    assert_eq!(rt; len, bytes.len());
+    check_command_put(rt, alloc, command, bytes)?;
+    check_command_put(rt, alloc, &copy, bytes)?;
+    check_command_put(rt, alloc, &again, bytes)
+}
+
+fn check_command_put(
+    rt: &impl Abort,
+    alloc: Global,
+    command: &Command,
+    bytes: &[u8],
+) -> Result<(), Fail> {
+    command.fits();
+    let mut out = Vec::new(alloc);
+    command.put(&mut out)?;
+    assert_eq!(rt; out.as_slice(), bytes);
+    Ok(())
+}
+
+fn kind(action: &Action) -> &'static str {
+    match action {
+        Action::Attach => "attach",
+        Action::Leave => "leave",
+        Action::Say(Verb::Privmsg, _, _) => "privmsg",
+        Action::Say(Verb::Notice, _, _) => "notice",
+        Action::Join(_) => "join",
+        Action::Part(_) => "part",
+        Action::Detach(_) => "detach",
+        Action::Reattach(_) => "reattach",
+        Action::Play(_) => "play",
+        Action::Clear(_) => "clear",
+        Action::ClearChannels => "clear channels",
+        Action::ClearQueries => "clear queries",
+        Action::ClearAll => "clear all",
+        Action::SetBuffer(_, _) => "set buffer",
+        Action::Pass(_) => "pass",
+    }
+}
+
+fn command_kind(command: &Command) -> &'static str {
+    match command {
+        Command::Client(_, _, _) => "client",
+        Command::Upstream(_, _) => "upstream",
+        Command::NodeGone(_, _) => "node gone",
+        Command::Up => "up",
+        Command::Down => "down",
+    }
+}
+
+#[test]
+fn actions_are_spelled(rt: HostRuntime) -> Result<(), Fail> {
+    let alloc = rt.alloc();
+    for (bytes, want) in [
+        (b"\x01".as_slice(), "attach"),
+        (b"\x02", "leave"),
+        (b"\x03\0\0\x02#x\0\x02hi", "privmsg"),
+        (b"\x03\x01\0\x03bob\0\0", "notice"),
+        (b"\x04\0\x02#x", "join"),
+        (b"\x05\0\x02&x", "part"),
+        (b"\x06\0\x02+x", "detach"),
+        (b"\x07\0\x02!x", "reattach"),
+        (b"\x08\0\x03bob", "play"),
+        (b"\x09\0\x02#x", "clear"),
+        (b"\x0a", "clear channels"),
+        (b"\x0b", "clear queries"),
+        (b"\x0c", "clear all"),
+        (b"\x0d\0\x02#x\x01\xf4", "set buffer"),
+        (b"\x0e\0\x06WHO #x", "pass"),
+    ] {
+        let (action, _) = Action::take(alloc, bytes)?;
+        assert_eq!(rt; kind(&action), want);
+        check_action(&rt, alloc, &action, bytes)?;
+    }
+    Ok(())
+}
+
+#[test]
+fn actions_without_a_target_are_one_byte(rt: HostRuntime) -> Result<(), Fail> {
+    let alloc = rt.alloc();
+    check_action(&rt, alloc, &Action::Attach, b"\x01")?;
+    check_action(&rt, alloc, &Action::Leave, b"\x02")?;
+    check_action(&rt, alloc, &Action::ClearChannels, b"\x0a")?;
+    check_action(&rt, alloc, &Action::ClearQueries, b"\x0b")?;
+    check_action(&rt, alloc, &Action::ClearAll, b"\x0c")
+}
+
+#[test]
+fn a_nick_is_no_channel(rt: HostRuntime) -> Result<(), Fail> {
+    let alloc = rt.alloc();
+    assert!(rt; ChannelName::from_name(name(alloc, b"bob")?).is_none());
+    let channel = channel(alloc, b"#x")?.copy(alloc)?;
+    assert_eq!(rt; channel.name().as_bytes(), b"#x".as_slice());
+    assert_eq!(rt; BufferSize::new(65535).lines(), 65535);
+    Ok(())
+}
+
+fn names(alloc: Global, all: &[&[u8]]) -> Result<Vec<Name>, Fail> {
+    let mut names = Vec::new(alloc);
+    for bytes in all {
+        names.push(name(alloc, bytes)?)?;
+    }
+    Ok(names)
+}
+
+#[test]
+fn an_action_is_refused_at_a_field(rt: HostRuntime) {
+    let alloc = rt.alloc();
+    for (bytes, place) in [
+        (b"\0".as_slice(), 0),
+        (b"\x0f", 0),
+        (b"\x04\0\x03bob", 1),
+        (b"\x05\0\x03bob", 1),
+        (b"\x06\0\x03bob", 1),
+        (b"\x07\0\x03bob", 1),
+        (b"\x08\0\0", 1),
+        (b"\x03\x02", 1),
+        (b"\x03\0\0\x02#x\0\x01\r", 6),
+        (b"\x0e\0\x06who #x", 1),
+    ] {
+        assert!(rt; Action::take(alloc, bytes).err() == Some(WireFault::Bad(place)));
+    }
+}
+
+#[test]
+fn an_action_that_is_not_whole_is_short(rt: HostRuntime) {
+    let alloc = rt.alloc();
+    for bytes in [
+        b"".as_slice(),
+        b"\x03",
+        b"\x03\0\0\x02#x",
+        b"\x04\0",
+        b"\x04\0\x03bo",
+        b"\x0d\0\x02#x\x01",
+        b"\x0e\0\x06WHO",
+    ] {
+        assert!(rt; Action::take(alloc, bytes).err() == Some(WireFault::Short));
+    }
+}
+
+#[test]
+fn commands_are_spelled(rt: HostRuntime) -> Result<(), Fail> {
+    let alloc = rt.alloc();
+    for (bytes, want) in [
+        (
+            b"\x01\x01\0\0\0\0\0\0\0\x02\0\0\0\0\0\0\0\x03\0\0\0\0\x65\x53\xf1\0\x02".as_slice(),
+            "client",
+        ),
+        (
+            b"\x02\0\0\0\0\x65\x53\xf1\0\0\x10:s 353 me = #x a",
+            "upstream",
+        ),
+        (b"\x03\x02\0\0\0\0\0\0\0\x05", "node gone"),
+        (b"\x04", "up"),
+        (b"\x05", "down"),
+    ] {
+        let (command, _) = Command::take(alloc, bytes)?;
+        assert_eq!(rt; command_kind(&command), want);
+        check_command(&rt, alloc, &command, bytes)?;
+    }
+    Ok(())
+}
+
+#[test]
+fn fields_of_a_command_are_refused_at_their_place(rt: HostRuntime) {
+    let alloc = rt.alloc();
+    for (bytes, want) in [
+        (b"".as_slice(), WireFault::Short),
+        (b"\0", WireFault::Bad(0)),
+        (b"\x06", WireFault::Bad(0)),
+        (b"\x01\x08", WireFault::Bad(1)),
+        (b"\x02\0\0\0\0\x65\x53\xf1\0\0\x04ping", WireFault::Bad(9)),
+        (b"\x02\0\0\0\0\x65\x53\xf1\0\0\x04PIN", WireFault::Short),
+        (b"\x03\x02\x10\0\0\0\0\0\0\x01", WireFault::Bad(2)),
+        (b"\x03\x02\0\0", WireFault::Short),
+    ] {
+        assert!(rt; Command::take(alloc, bytes).err() == Some(want));
+    }
+}
+
+#[test]
+fn channels_of_a_setup_are_channels_that_rise(rt: HostRuntime) -> Result<(), Fail> {
+    let alloc = rt.alloc();
+    for (all, want) in [
+        ([b"#a".as_slice(), b"#b"], None),
+        ([b"bob".as_slice(), b"#b"], Some(SetupFault::NotAChannel(0))),
+        ([b"#a".as_slice(), b"bob"], Some(SetupFault::NotAChannel(1))),
+        ([b"#b".as_slice(), b"#a"], Some(SetupFault::NotRising(1))),
+        ([b"#A".as_slice(), b"#a"], Some(SetupFault::NotRising(1))),
+    ] {
+        let channels = names(alloc, &all)?;
+        let setup = Setup::new(name(alloc, b"me")?, channels, Options::default());
+        assert!(rt; setup.err() == want);
+    }
+    Ok(())
+}
+
+#[test]
+fn sizes_of_a_setup_have_limits(rt: HostRuntime) -> Result<(), Fail> {
+    let alloc = rt.alloc();
+    for (channel_size, query_size, most_queries, want) in [
+        (500, 500, 50, None),
+        (501, 501, 0, Some(SetupFault::ChannelSize)),
+        (500, 501, 0, Some(SetupFault::QuerySize)),
+        (500, 500, 0, Some(SetupFault::MostQueries)),
+        (0, 0, 51, Some(SetupFault::MostQueries)),
+    ] {
+        let options = Options {
+            channel_size,
+            query_size,
+            most_queries,
+            ..Options::default()
+        };
+        let setup = Setup::new(name(alloc, b"me")?, Vec::new(alloc), options);
+        assert!(rt; setup.err() == want);
+    }
+    Ok(())
+}
+
+#[test]
+fn the_plain_setup_is_of_a_nick_and_a_channel(rt: HostRuntime) -> Result<(), Fail> {
+    let setup = Setup::plain(rt.alloc())?.copy(rt.alloc())?;
+    assert_eq!(rt; setup.nick().as_bytes(), b"me".as_slice());
+    assert_eq!(rt; setup.channels().len(), 1);
+    for channel in setup.channels() {
+        assert_eq!(rt; channel.as_bytes(), b"#x".as_slice());
+    }
+    assert_eq!(rt; setup.channel_size(), 50);
+    assert_eq!(rt; setup.query_size(), 50);
+    assert_eq!(rt; setup.most_queries(), 50);
+    assert!(rt; setup.clears_channels() && setup.clears_queries() && setup.many_clients());
+    assert_eq!(rt; setup.offset().above_least(), 1439);
+    Ok(())
+}
+
+#[test]
+fn a_setup_has_its_options(rt: HostRuntime) -> Result<(), Fail> {
+    let alloc = rt.alloc();
+    for (clears_channels, clears_queries, many_clients, above_least) in [
+        (true, false, false, 0),
+        (false, true, false, 1500),
+        (false, false, true, 2878),
+    ] {
+        let options = Options {
+            channel_size: 500,
+            query_size: 0,
+            most_queries: 1,
+            clears_channels,
+            clears_queries,
+            many_clients,
+            offset: Offset::new(above_least),
+        };
+        let setup = Setup::new(name(alloc, b"me")?, Vec::new(alloc), options)?;
+        assert_eq!(rt; setup.channel_size(), 500);
+        assert_eq!(rt; setup.query_size(), 0);
+        assert_eq!(rt; setup.most_queries(), 1);
+        assert!(rt; setup.clears_channels() == clears_channels);
+        assert!(rt; setup.clears_queries() == clears_queries);
+        assert!(rt; setup.many_clients() == many_clients);
+        assert_eq!(rt; setup.offset().above_least(), above_least);
+    }
+    Ok(())
+}
+
+#[test]
+fn a_setup_has_its_nick_and_channels(rt: HostRuntime) -> Result<(), Fail> {
+    let alloc = rt.alloc();
+    let channels = names(alloc, &[b"#A", b"#b", b"&A"])?;
+    let setup = Setup::new(name(alloc, b"Bob")?, channels, Options::default())?;
+    assert_eq!(rt; setup.nick().as_bytes(), b"Bob".as_slice());
+    assert_eq!(rt; setup.channels().len(), 3);
+    Ok(())
+}
+
+/// So many channels, in rising order.
+fn channels_of(alloc: Global, count: u8) -> Result<Vec<Name>, Fail> {
+    let mut channels = Vec::new(alloc);
+    for i in 0..count {
+        channels.push(name(alloc, &[b'#', b'0' + i / 10, b'0' + i % 10])?)?;
+    }
+    Ok(channels)
+}
+
+#[test]
+fn a_setup_has_at_most_100_channels(rt: HostRuntime) -> Result<(), Fail> {
+    let alloc = rt.alloc();
+    for (count, want) in [
+        (0, None),
+        (100, None),
+        (101, Some(SetupFault::TooManyChannels)),
+    ] {
+        let channels = channels_of(alloc, count)?;
+        let setup = Setup::new(name(alloc, b"me")?, channels, Options::default());
+        assert!(rt; setup.err() == want);
+    }
+    Ok(())
+}
+
+/// A line of so many bytes.
+fn line_of(alloc: Global, len: usize) -> Result<Line, Fail> {
+    let mut bytes = Vec::from_slice(alloc, b"PING ")?;
+    for _ in 5..len {
+        bytes.push(b'a')?;
+    }
+    Ok(Line::parse(alloc, bytes.as_slice())?)
+}
+
+#[test]
+fn a_line_past_511_bytes_is_no_wire_line(rt: HostRuntime) -> Result<(), Fail> {
+    let alloc = rt.alloc();
+    let letters = vec![in alloc; b'a'; 510]?;
+    let letters = text(alloc, letters.as_slice())?;
+    let long = Line::message(alloc, None, b"PRIVMSG", &name(alloc, b"#x")?, &letters)?;
+    assert!(rt; WireLine::from_line(long).is_none());
+    assert!(rt; WireLine::from_line(line_of(alloc, 511)?).is_some());
+    Ok(())
+}
+
+#[test]
+fn made_actions_are_spelled(rt: HostRuntime) -> Result<(), Fail> {
+    let alloc = rt.alloc();
+    let said = Action::Say(Verb::Notice, name(alloc, b"bob")?, text(alloc, b"hi")?);
+    check_action(&rt, alloc, &said, b"\x03\x01\0\x03bob\0\x02hi")?;
+    let set = Action::SetBuffer(name(alloc, b"#x")?, BufferSize::new(500));
+    check_action(&rt, alloc, &set, b"\x0d\0\x02#x\x01\xf4")?;
+    let join = Action::Join(channel(alloc, b"#x")?);
+    check_action(&rt, alloc, &join, b"\x04\0\x02#x")
+}
+
+#[test]
+fn made_commands_are_spelled(rt: HostRuntime) -> Result<(), Fail> {
+    let alloc = rt.alloc();
+    let at = Moment::new(1_700_000_000);
+    let asked = Command::Client(Origin::new(1, 2, 3), at, Action::Leave);
+    let asked_bytes = b"\x01\x01\0\0\0\0\0\0\0\x02\0\0\0\0\0\0\0\x03\0\0\0\0\x65\x53\xf1\0\x02";
+    check_command(&rt, alloc, &asked, asked_bytes)?;
+    let gone = Command::NodeGone(2, Number::new(5));
+    check_command(&rt, alloc, &gone, b"\x03\x02\0\0\0\0\0\0\0\x05")
+}

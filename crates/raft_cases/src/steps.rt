@@ -1,0 +1,238 @@
+//! What a node is about to do, by examples.
+ghost use Rattle.std.specs.Prelude.{◌≡◌, IfOk};
+
+use machine_laws::Source;
+use node_steps::{
+    Refusal, Unprepared, on_ask, on_claim, on_closed, on_heard, on_message, on_opened, on_timeout,
+};
+use raft_log::{
+    Entry, GroupSize, Kind, Live, Log, LoggedBody, Message, NodeId, NodeState, Peers, Position,
+    Standing, Step,
+};
+use std::alloc::{AllocError, Global};
+use std::test::Fail;
+use toy_machine::Toy;
+use wire_bytes::{Moment, Number, Origin, SessionId};
+
+fn number(value: u8) -> Number
+    ensures { result ≡ value }
+{
+    Number::new(value as u64)
+}
+
+fn body() -> LoggedBody<u8> {
+    LoggedBody::new(9)
+}
+
+/// A node of term 4 in a group of three, in its second run, which opened one session.
+fn standing(position: Position) -> Result<Standing, Fail>
+    ensures position { IfOk result (λ s. s.position ≡ position) }
+    ensures commit { IfOk result (λ s. s.commit ≡ 0) }
+{
+    let Some(size) = GroupSize::new(3) else {
+        return Err(Fail::from("no such size"));
+    };
+    Ok(Standing {
+        boot: number(2),
+        term: number(4),
+        vote: None,
+        position,
+        commit: number(0),
+        applied: number(0),
+        peers: Peers::new(size),
+        attempts: number(1),
+    })
+}
+
+/// The session of attempt 1, which has heard two lines.
+fn live() -> Live {
+    Live {
+        id: SessionId::new(4, 1),
+        next: number(3),
+    }
+}
+
+/// A leader that holds it.
+fn holder() -> Result<Standing, Fail> {
+    standing(Position::Leader(Some(live())))
+}
+
+/// A log of three entries.
+fn log(alloc: Global) -> Result<Log<u8>, AllocError> {
+    let mut log = Log::new(alloc);
+    for term in [1u8, 1, 2] {
+        if !log.is_full() {
+            let term = number(term);
+            log.push(Entry { term, body: body() })?;
+        }
+    }
+    Ok(log)
+}
+
+fn prepared(outcome: Result<Step<u8>, Unprepared>) -> Result<Step<u8>, Fail> {
+    match outcome {
+        Ok(step) => Ok(step),
+        Err(_) => Err(Fail::from("no step was prepared")),
+    }
+}
+
+fn refusal(outcome: &Result<Step<u8>, Unprepared>) -> Option<Refusal> {
+    match outcome {
+        Err(Unprepared::Refused(refusal)) => Some(*refusal),
+        _ => None,
+    }
+}
+
+/// The term and the body of each entry that a step adds.
+fn added(alloc: Global, step: &Step<u8>) -> Result<Vec<(u64, u8)>, AllocError> {
+    let mut all = Vec::new(alloc);
+    for entry in &step.entries {
+        all.push((entry.term.value(), *entry.body.get()))?;
+    }
+    Ok(all)
+}
+
+/// The session after a step: its attempt, and the number of its next line.
+fn session(step: &Step<u8>) -> Option<(u64, u64)> {
+    let live = step.standing.position.live();
+    match live {
+        Some(live) => Some((live.id.attempt(), live.next.value())),
+        None => None,
+    }
+}
+
+/// The term and the vote after a step.
+fn voted(step: &Step<u8>) -> (u64, Option<u8>) {
+    let vote = match step.standing.vote {
+        Some(node) => Some(node.value()),
+        None => None,
+    };
+    (step.standing.term.value(), vote)
+}
+
+/// The nodes to which a step sends requests for a vote in term 5.
+fn asked(alloc: Global, step: &Step<u8>) -> Result<Vec<u8>, AllocError> {
+    let mut nodes = Vec::new(alloc);
+    for message in &step.messages {
+        if let Kind::RequestVote { .. } = &message.kind {
+            if message.term.value() == 5 {
+                nodes.push(message.to)?;
+            }
+        }
+    }
+    Ok(nodes)
+}
+
+#[test]
+fn a_timeout_asks_the_others_for_their_votes(rt: HostRuntime) -> Result<(), Fail> {
+    let standing = standing(Position::Follower(None))?;
+    let log = log(rt.alloc())?;
+    let step = prepared(on_timeout(rt.alloc(), standing, &log, NodeId::new(1)))?;
+    assert!(rt; voted(&step) == (5, Some(1)));
+    assert_eq!(rt; asked(rt.alloc(), &step)?.as_slice(), [2, 3].as_slice());
+    Ok(())
+}
+
+/// What comes of an ask at node 1.
+fn ask(alloc: Global, position: Position, source: Source) -> Result<Option<Refusal>, Fail> {
+    let log = log(alloc)?;
+    let id = NodeId::new(1);
+    Ok(refusal(&on_ask(alloc, standing(position)?, &log, id, source, body())))
+}
+
+#[test]
+fn an_ask_is_refused_where_no_leader_is_known_or_its_origin_is_another(
+    rt: HostRuntime,
+) -> Result<(), Fail> {
+    let follower = Position::Follower(None);
+    let own = Source::Client(Origin::new(1, 2, 7));
+    let other_node = Source::Client(Origin::new(2, 2, 7));
+    let other_run = Source::Client(Origin::new(1, 1, 7));
+    assert!(rt; ask(rt.alloc(), follower, own)? == Some(Refusal::NoLeader));
+    assert!(rt; ask(rt.alloc(), follower, other_node)? == Some(Refusal::BadOrigin));
+    assert!(rt; ask(rt.alloc(), follower, other_run)? == Some(Refusal::BadOrigin));
+    assert!(rt;
+        ask(rt.alloc(), Position::Leader(None), Source::Run(1, 1))? == Some(Refusal::BadOrigin)
+    );
+    Ok(())
+}
+
+#[test]
+fn a_leader_appends_what_is_asked(rt: HostRuntime) -> Result<(), Fail> {
+    let leader = standing(Position::Leader(None))?;
+    let log = log(rt.alloc())?;
+    let source = Source::Run(1, 2);
+    let step = prepared(on_ask(rt.alloc(), leader, &log, NodeId::new(1), source, body()))?;
+    assert_eq!(rt; added(rt.alloc(), &step)?.as_slice(), [(4, 9)].as_slice());
+    Ok(())
+}
+
+#[test]
+fn a_leader_opens_the_session_of_its_next_attempt(rt: HostRuntime) -> Result<(), Fail> {
+    let leader = standing(Position::Leader(None))?;
+    let log = log(rt.alloc())?;
+    let step = prepared(on_opened::<Toy>(rt.alloc(), leader, &log))?;
+    assert!(rt; session(&step) == Some((2, 1)));
+    assert_eq!(rt; added(rt.alloc(), &step)?.as_slice(), [(4, 1)].as_slice());
+    Ok(())
+}
+
+#[test]
+fn a_session_that_ends_is_shut(rt: HostRuntime) -> Result<(), Fail> {
+    let log = log(rt.alloc())?;
+    let step = prepared(on_closed::<Toy>(rt.alloc(), holder()?, &log))?;
+    assert!(rt; session(&step) == None);
+    assert_eq!(rt; added(rt.alloc(), &step)?.as_slice(), [(4, 2)].as_slice());
+    Ok(())
+}
+
+/// What comes of a line of the session.
+fn heard(alloc: Global, log: &Log<u8>) -> Result<Step<u8>, Fail> {
+    let live = live();
+    if live.next > log.len() {
+        return Err(Fail::from("a line is no entry"));
+    }
+    let leader = standing(Position::Leader(Some(live)))?;
+    prepared(on_heard::<Toy>(alloc, leader, log, Moment::new(50), 0))
+}
+
+#[test]
+fn a_line_is_counted_and_a_claim_is_not(rt: HostRuntime) -> Result<(), Fail> {
+    let log = log(rt.alloc())?;
+    let step = heard(rt.alloc(), &log)?;
+    assert!(rt; session(&step) == Some((1, 4)));
+    assert_eq!(rt; added(rt.alloc(), &step)?.as_slice(), [(4, 3)].as_slice());
+    let step = prepared(on_claim::<Toy>(rt.alloc(), holder()?, &log, Some(number(1))))?;
+    assert!(rt; session(&step) == Some((1, 3)));
+    assert_eq!(rt; added(rt.alloc(), &step)?.as_slice(), [(4, 4)].as_slice());
+    Ok(())
+}
+
+/// What comes of a request for a vote of term 5, from node 2.
+fn requested(alloc: Global, to: u8) -> Result<(u64, Option<u8>), Fail> {
+    let state = NodeState {
+        standing: standing(Position::Follower(None))?,
+        log: log(alloc)?,
+    };
+    let kind = Kind::RequestVote {
+        last_index: number(3),
+        last_term: number(2),
+    };
+    let message = Message {
+        term: number(5),
+        from: 2,
+        to,
+        kind,
+    };
+    let step = on_message(alloc, &state, NodeId::new(1), message, body())?;
+    Ok(voted(&step))
+}
+
+#[test]
+fn a_request_of_a_larger_term_gets_the_vote_and_one_to_another_node_nothing(
+    rt: HostRuntime,
+) -> Result<(), Fail> {
+    assert!(rt; requested(rt.alloc(), 1)? == (5, Some(2)));
+    assert!(rt; requested(rt.alloc(), 3)? == (4, None));
+    Ok(())
+}

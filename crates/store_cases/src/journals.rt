@@ -1,0 +1,191 @@
+//! Journals, by examples.
+ghost use Rattle.std.specs.Prelude.{◌≡◌, ◌≢◌, ◌≤◌, length, IfOk, IsTrue, List, ℕ, []};
+ghost use Rattle.journal_store.specs.Disks.{now};
+
+use journal_store::{Disk, JournalStore, MemoryDisk, begin, may_follow};
+use raft_log::{Entry, LoggedBody};
+use stable_store::{Change, Stable, StoreFault};
+use std::alloc::{AllocError, Global};
+use std::test::Fail;
+use wire_bytes::Number;
+
+/// A journal of one change: boot 1, term 0, no vote, no entries.
+const BOOT: [u8; 41] = [
+    82, 66, 83, 84, 79, 82, 48, 49, 1, 0, 0, 0, 27, 0, 0, 0, 0, 0, 0, 0, 1, 0, 0, 0, 0, 0, 0, 0, 0,
+    0, 0, 0, 0, 0, 0, 0, 0, 0, 0, 0, 0,
+];
+
+/// The same, and behind it a change of boot 1, term 1 and a vote for node 2.
+const VOTE: [u8; 73] = [
+    82, 66, 83, 84, 79, 82, 48, 49, 1, 0, 0, 0, 27, 0, 0, 0, 0, 0, 0, 0, 1, 0, 0, 0, 0, 0, 0, 0, 0,
+    0, 0, 0, 0, 0, 0, 0, 0, 0, 0, 0, 1, 0, 0, 0, 27, 0, 0, 0, 0, 0, 0, 0, 1, 0, 0, 0, 0, 0, 0, 0,
+    1, 2, 0, 0, 0, 0, 0, 0, 0, 0, 0, 0, 0,
+];
+
+/// A disk whose file has these bytes.
+fn disk(alloc: Global, bytes: &[u8]) -> Result<MemoryDisk, AllocError>
+    ensures honest { IfOk result (λ d. IsTrue (⟦<MemoryDisk as Disk>⟧.honest d)) }
+    ensures size { IfOk result
+        (λ d. (now (⟦<MemoryDisk as Disk>⟧.states d)).most ≡ length bytes.now) }
+{
+    Ok(MemoryDisk::new(alloc, bytes.to_vec(alloc)?))
+}
+
+/// A change that keeps so many entries, and behind them one of this body where there is one.
+fn change(
+    alloc: Global,
+    numbers: (u64, u64),
+    vote: Option<u8>,
+    keep: u64,
+    body: Option<u8>,
+) -> Result<Change<u8>, AllocError>
+    requires small { (numbers.0 ≤ 9) × (numbers.1 ≤ 9) × (keep ≤ 9) }
+    requires vote { vote ≢ Some 0 }
+{
+    let (boot, term) = (Number::new(numbers.0), Number::new(numbers.1));
+    let mut entries = Vec::with_capacity(alloc, 1)?;
+    if let Some(body) = body {
+        entries.push(Entry {
+            term,
+            body: LoggedBody::new(body),
+        })?;
+    }
+    Ok(Change::new(boot, term, vote, Number::new(keep), entries))
+}
+
+/// Saves a change where it may follow.
+fn save<D: Disk>(store: &mut JournalStore<u8, D>, change: &Change<u8>) -> Result<(), StoreFault> {
+    let stands = store.read()?;
+    if may_follow(&stands, change) {
+        store.save(change)?;
+    }
+    Ok(())
+}
+
+/// A store in which boot 1 is saved, and then a vote for node 2 in term 1.
+fn voted(alloc: Global) -> Result<JournalStore<u8, MemoryDisk>, StoreFault> {
+    let mut store = JournalStore::make(alloc, disk(alloc, &[])?)?;
+    save(&mut store, &change(alloc, (1, 0), None, 0, None)?)?;
+    save(&mut store, &change(alloc, (1, 1), Some(2), 0, None)?)?;
+    Ok(store)
+}
+
+/// What a file stands for: boot, term, vote or 0, and how many entries; or why it is refused.
+fn found(alloc: Global, file: &[u8]) -> Result<(u64, u64, u8, u64), StoreFault> {
+    let store: JournalStore<u8, MemoryDisk> = JournalStore::adopt(alloc, disk(alloc, file)?)?;
+    let saved = store.read()?;
+    let vote = match saved.vote {
+        None => 0,
+        Some(node) => node.value(),
+    };
+    Ok((
+        saved.boot.value(),
+        saved.term.value(),
+        vote,
+        saved.log.len().value(),
+    ))
+}
+
+#[test]
+fn a_new_journal_is_a_header_and_a_closed_gate(rt: HostRuntime) -> Result<(), Fail> {
+    let alloc = rt.alloc();
+    let store: JournalStore<u8, MemoryDisk> = JournalStore::make(alloc, disk(alloc, &[])?)?;
+    assert_eq!(rt; store.disk().bytes(), b"RBSTOR01\0".as_slice());
+    assert_eq!(rt; store.failures(), 0);
+    let mut other = disk(alloc, b"RBSTOR")?;
+    begin::<u8, MemoryDisk>(&mut other)?;
+    assert_eq!(rt; other.bytes(), b"RBSTOR01\0".as_slice());
+    assert!(rt; found(alloc, other.bytes()) == Ok((0, 0, 0, 0)));
+    Ok(())
+}
+
+#[test]
+fn a_change_is_a_record_behind_an_open_gate(rt: HostRuntime) -> Result<(), Fail> {
+    let alloc = rt.alloc();
+    let mut store: JournalStore<u8, MemoryDisk> = JournalStore::make(alloc, disk(alloc, &[])?)?;
+    save(&mut store, &change(alloc, (1, 0), None, 0, None)?)?;
+    assert_eq!(rt; store.disk().bytes(), BOOT.as_slice());
+    let disk = voted(alloc)?.into_disk();
+    assert_eq!(rt; disk.bytes(), VOTE.as_slice());
+    Ok(())
+}
+
+#[test]
+fn a_file_stands_for_its_records_up_to_a_closed_gate(rt: HostRuntime) {
+    let alloc = rt.alloc();
+    assert!(rt; found(alloc, &BOOT) == Ok((1, 0, 0, 0)));
+    assert!(rt; found(alloc, &VOTE) == Ok((1, 1, 2, 0)));
+    let mut file = VOTE;
+    // any other byte than 0 opens a gate, and what follows a closed one counts for nothing
+    file[8] = 3;
+    assert!(rt; found(alloc, &file) == Ok((1, 1, 2, 0)));
+    file[40] = 0;
+    assert!(rt; found(alloc, &file) == Ok((1, 0, 0, 0)));
+    file[8] = 0;
+    assert!(rt; found(alloc, &file) == Ok((0, 0, 0, 0)));
+    assert!(rt; found(alloc, &file[..20]) == Ok((0, 0, 0, 0)));
+}
+
+#[test]
+fn a_record_that_does_not_fit_is_damage_at_its_gate(rt: HostRuntime) {
+    let alloc = rt.alloc();
+    assert!(rt; found(alloc, &BOOT[..20]) == Err(StoreFault::Damaged(8)));
+    assert!(rt; found(alloc, &BOOT[..40]) == Err(StoreFault::Damaged(8)));
+    assert!(rt; found(alloc, &VOTE[..60]) == Err(StoreFault::Damaged(40)));
+    let mut file = BOOT;
+    // one byte past the limit of a payload, and a payload that is longer than its change
+    file[9] = 2;
+    file[12] = 1;
+    assert!(rt; found(alloc, &file) == Err(StoreFault::Damaged(8)));
+    let mut file = VOTE;
+    file[12] = 28;
+    assert!(rt; found(alloc, &file) == Err(StoreFault::Damaged(8)));
+}
+
+#[test]
+fn a_change_that_may_not_follow_is_damage_at_its_gate(rt: HostRuntime) {
+    let alloc = rt.alloc();
+    let mut file = VOTE;
+    file[20] = 2;
+    assert!(rt; found(alloc, &file) == Err(StoreFault::Damaged(40)));
+    file[20] = 1;
+    file[28] = 2;
+    assert!(rt; found(alloc, &file) == Err(StoreFault::Damaged(40)));
+    file[28] = 0;
+    file[61] = 8;
+    assert!(rt; found(alloc, &file) == Err(StoreFault::Damaged(40)));
+    file[61] = 2;
+    file[69] = 1;
+    assert!(rt; found(alloc, &file) == Err(StoreFault::Damaged(40)));
+}
+
+#[test]
+fn another_file_is_no_store_or_of_another_version(rt: HostRuntime) {
+    let alloc = rt.alloc();
+    assert!(rt; found(alloc, b"") == Err(StoreFault::NotAStore));
+    assert!(rt; found(alloc, b"RBSTOR01") == Err(StoreFault::NotAStore));
+    assert!(rt; found(alloc, b"RBSTOS01\0") == Err(StoreFault::NotAStore));
+    assert!(rt; found(alloc, b"rbstor02\0") == Err(StoreFault::NotAStore));
+    assert!(rt; found(alloc, b"RBSTOR02\0") == Err(StoreFault::Version));
+    assert!(rt; found(alloc, b"RBSTOR01\x01") == Err(StoreFault::Damaged(8)));
+}
+
+#[test]
+fn entries_are_kept_and_replaced(rt: HostRuntime) -> Result<(), Fail> {
+    let alloc = rt.alloc();
+    let mut store = voted(alloc)?;
+    save(&mut store, &change(alloc, (1, 1), Some(2), 0, Some(5))?)?;
+    save(&mut store, &change(alloc, (1, 1), Some(2), 1, Some(6))?)?;
+    save(&mut store, &change(alloc, (1, 2), None, 1, Some(7))?)?;
+    store.again()?;
+    let mut store: JournalStore<u8, MemoryDisk> = JournalStore::adopt(alloc, store.into_disk())?;
+    save(&mut store, &change(alloc, (2, 2), None, 2, None)?)?;
+    let saved = store.read()?;
+    assert_eq!(rt; (saved.boot.value(), saved.term.value()), (2, 2));
+    let mut bodies = Vec::new(alloc);
+    for entry in saved.log.entries() {
+        bodies.push((entry.term.value(), *entry.body.get()))?;
+    }
+    assert_eq!(rt; bodies.as_slice(), [(1, 5), (2, 7)].as_slice());
+    Ok(())
+}

@@ -1,0 +1,7 @@
+//! Worked cases of the tower of machines that nodes host, whose expected values come from outside.
+#![tactic(auto)]
+
+#[cfg(test)]
+mod hosted;
+#[cfg(test)]
+mod towers;

@@ -1,0 +1,208 @@
+//! Events as text, by examples.
+use buffer_commands::{Command, Effect};
+use raft_log::{Entry, GroupSize, Log, LoggedBody, NodeId, NodeState, Peers, Position, Standing};
+use recorder::{
+    EventsFault, Words, parse_events, push_answers, push_event, push_input, push_node, read_event,
+    read_input, write_events,
+};
+use request_once::Answer;
+use session_fence::FenceEffect;
+use std::alloc::Global;
+use std::process::Abort;
+use std::test::Fail;
+use upstream_claim::ClaimsEffect;
+use wire_bytes::{Number, Origin};
+use world_events::{Event, Input};
+
+/// Every kind of event; the body is that node 2 is gone up to its run 5.
+const EVERY_KIND: &[u8] = b"timeout 1
+beat 2
+deliver 3 18446744073709551615
+deliver 7 0
+ask 1 03020000000000000005
+opened 1
+closed 2
+heard 3 1700000000 :a!b@c PRIVMSG #x :hi
+claim 1
+apply 6
+look 3 4 #x
+restart 2
+stop before timeout 1
+stop after ask 1 03020000000000000005
+";
+
+/// What the tower brings about.
+type TowerEffect = Answer<ClaimsEffect<FenceEffect<Effect>>>;
+
+/// The text of the events of a text.
+fn rewritten(alloc: Global, text: &[u8]) -> Result<Vec<u8>, Fail> {
+    let events = parse_events::<Command>(alloc, text).map_err(|_| "no events")?;
+    Ok(write_events(alloc, &events)?)
+}
+
+/// What is wrong with a text.
+fn fault(alloc: Global, text: &[u8]) -> Result<EventsFault, Fail> {
+    match parse_events::<Command>(alloc, text) {
+        Ok(_) => Err(Fail::from("events")),
+        Err(fault) => Ok(fault),
+    }
+}
+
+/// The line after a good one is bad.
+fn check_bad(rt: &impl Abort, alloc: Global, line: &[u8]) -> Result<(), Fail> {
+    let mut text = Vec::from_slice(alloc, b"beat 1\n")?;
+    text.extend_from_slice(line)?;
+    text.extend_from_slice(b"\nbeat 1\n")?;
+    assert_eq!(rt; fault(alloc, &text)?, EventsFault::BadLine(2));
+    Ok(())
+}
+
+#[test]
+fn what_is_read_is_written_as_it_was(rt: HostRuntime) -> Result<(), Fail> {
+    assert_eq!(rt; rewritten(rt.alloc(), EVERY_KIND)?.as_slice(), EVERY_KIND);
+    assert_eq!(rt; rewritten(rt.alloc(), b"")?.len(), 0);
+    Ok(())
+}
+
+#[test]
+fn a_line_is_one_event(rt: HostRuntime) -> Result<(), Fail> {
+    let events = parse_events::<Command>(rt.alloc(), EVERY_KIND).map_err(|_| "no events")?;
+    assert_eq!(rt; events.len(), 14);
+    Ok(())
+}
+
+#[test]
+fn the_first_bad_line_is_named(rt: HostRuntime) -> Result<(), Fail> {
+    let alloc = rt.alloc();
+    assert_eq!(rt; fault(alloc, b"timeout 8\n")?, EventsFault::BadLine(1));
+    assert_eq!(rt; fault(alloc, b"beat 1\nbeat 1")?, EventsFault::BadLine(2));
+    assert_eq!(rt;
+        fault(alloc, b"beat 1\n\nbeat 9\n")?,
+        EventsFault::BadLine(2)
+    );
+    Ok(())
+}
+
+#[test]
+fn what_is_no_event_is_bad(rt: HostRuntime) -> Result<(), Fail> {
+    let alloc = rt.alloc();
+    check_bad(&rt, alloc, b"timeout 0")?;
+    check_bad(&rt, alloc, b"timeout  1")?;
+    check_bad(&rt, alloc, b"timeout 1 ")?;
+    check_bad(&rt, alloc, b"Timeout 1")?;
+    check_bad(&rt, alloc, b"deliver 1 18446744073709551616")?;
+    check_bad(&rt, alloc, b"ask 1 0302000000000000000A")?;
+    check_bad(&rt, alloc, b"ask 1 030200000000000000")?;
+    check_bad(&rt, alloc, b"heard 1 250000000001 PING")?;
+    check_bad(&rt, alloc, b"heard 1 0 ping")?;
+    check_bad(&rt, alloc, b"look 3 01 #x")?;
+    check_bad(&rt, alloc, b"look 3 1 a b")?;
+    check_bad(&rt, alloc, b"stop before restart 1")?;
+    check_bad(&rt, alloc, b"stop timeout 1")
+}
+
+/// Whether a line tells an event.
+fn is_event(alloc: Global, line: &[u8]) -> Result<bool, Fail> {
+    match read_event::<Command>(alloc, line)? {
+        Some(_) => Ok(true),
+        None => Ok(false),
+    }
+}
+
+/// Whether a line tells what happens to one node.
+fn is_input(alloc: Global, line: &[u8]) -> Result<bool, Fail> {
+    match read_input::<Command>(alloc, line)? {
+        Some(_) => Ok(true),
+        None => Ok(false),
+    }
+}
+
+#[test]
+fn a_line_alone_is_read(rt: HostRuntime) -> Result<(), Fail> {
+    assert!(rt; is_event(rt.alloc(), b"stop before beat 1")?);
+    assert!(rt; !is_event(rt.alloc(), b"stop")?);
+    assert!(rt; is_input(rt.alloc(), b"look 2 9 #x")?);
+    assert!(rt; !is_input(rt.alloc(), b"restart 1")?);
+    Ok(())
+}
+
+#[test]
+fn a_restart_is_its_line(rt: HostRuntime) -> Result<(), Fail> {
+    let mut out = Vec::new(rt.alloc());
+    push_event::<Command>(rt.alloc(), &mut out, &Event::Restart(NodeId::new(3)))?;
+    assert_eq!(rt; out.as_slice(), b"restart 3".as_slice());
+    Ok(())
+}
+
+#[test]
+fn a_delivery_is_its_line(rt: HostRuntime) -> Result<(), Fail> {
+    let mut out = Vec::new(rt.alloc());
+    push_input::<Command>(rt.alloc(), &mut out, &Input::Deliver(NodeId::new(3), 12))?;
+    assert_eq!(rt; out.as_slice(), b"deliver 3 12".as_slice());
+    Ok(())
+}
+
+/// A candidate that has an entry of term 2 and voted for itself in term 3.
+fn candidate(alloc: Global, size: GroupSize) -> Result<NodeState<u8>, Fail> {
+    let mut log = Log::new(alloc);
+    log.push(Entry {
+        term: Number::new(2),
+        body: LoggedBody::new(9),
+    })?;
+    let standing = Standing {
+        boot: Number::new(1),
+        term: Number::new(3),
+        vote: Some(NodeId::new(2)),
+        position: Position::Candidate,
+        commit: Number::new(1),
+        applied: Number::new(0),
+        peers: Peers::new(size),
+        attempts: Number::new(0),
+    };
+    Ok(NodeState { standing, log })
+}
+
+#[test]
+fn a_node_is_its_line(rt: HostRuntime) -> Result<(), Fail> {
+    let Some(size) = GroupSize::new(3) else {
+        return Err(Fail::from("no such size"));
+    };
+    let state = candidate(rt.alloc(), size)?;
+    let mut out = Vec::new(rt.alloc());
+    push_node(&mut out, NodeId::new(2), &state)?;
+    let line = b"node 2 candidate term 3 vote 2 log 1 last 2 commit 1 applied 0\n";
+    assert_eq!(rt; out.as_slice(), line.as_slice());
+    Ok(())
+}
+
+/// The words of what leaves.
+fn words_of<E: Words>(alloc: Global, effect: &E) -> Result<Vec<u8>, Fail> {
+    let mut out = Vec::new(alloc);
+    effect.push_words(&mut out)?;
+    Ok(out)
+}
+
+#[test]
+fn what_leaves_the_tower_is_told_in_words(rt: HostRuntime) -> Result<(), Fail> {
+    let origin = Origin::new(2, 5, 7);
+    let busy: TowerEffect = Answer::Effect(ClaimsEffect::Busy(origin));
+    assert_eq!(rt;
+        words_of(rt.alloc(), &busy)?.as_slice(),
+        b"busy 2.5.7".as_slice()
+    );
+    let gap: TowerEffect = Answer::Gap(origin, 3);
+    assert_eq!(rt;
+        words_of(rt.alloc(), &gap)?.as_slice(),
+        b"gap 2.5.7 3".as_slice()
+    );
+    Ok(())
+}
+
+#[test]
+fn answers_stand_on_lines(rt: HostRuntime) -> Result<(), Fail> {
+    let mut out = Vec::new(rt.alloc());
+    let close = Answer::Effect(Effect::Close(Origin::new(1, 1, 1)));
+    push_answers(&mut out, 12, &[close])?;
+    assert_eq!(rt; out.as_slice(), b"12 close 1.1.1\n".as_slice());
+    Ok(())
+}
