@@ -1,0 +1,7 @@
+pub mod Places
+pub mod Tickets
+pub mod Sent
+pub mod Runs
+pub mod Merging
+pub mod Histories
+pub mod Along
