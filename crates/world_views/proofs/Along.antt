@@ -1,12 +1,12 @@
 -- In the merged list each event happens at the state that its node's own earlier turns lead to. So what comes out of it is what came out by the view.
-use Rattle.std.proofs.Common.{◌≡◌, ◌≢◌, ℕ, zero, suc, ◌⊎◌, inl, inr, ⊎_elim, Bool, true, false, cond, eqb, List, [], ◌∷◌, ◌++◌, length, map, set, refl, sym, ap, ◌∙◌, subst, arith, append-nil, eq-eqb, ne_eqb}
+use Rattle.std.proofs.Common.{◌≡◌, ◌≢◌, ℕ, zero, suc, ◌⊎◌, inl, inr, ⊎_elim, Bool, true, false, cond, eqb, List, [], ◌∷◌, ◌++◌, length, set, refl, sym, ap, ◌∙◌, subst, arith, append-nil, eq-eqb, ne_eqb}
 use Rattle.std.proofs.lemmas.Bool.{eqb-true}
 use mathlib.Core.Option.{some, some-injective, some-ne-none}
 use lib.ListN.{get_elem?, length-map}
 use Rattle.raft_log.specs.Node.{Node}
 use Rattle.raft_node.specs.Machine.{Machine}
 use Rattle.raft_node.specs.Steps.{Out}
-use Rattle.world_run.specs.World.{Event, run, outs, happens, out_of}
+use Rattle.world_run.specs.World.{Event, outs, happens, out_of}
 use Rattle.world_views.specs.Own.{TurnOf, own_state, own_out}
 use Rattle.world_views.specs.Own as own
 use Rattle.world_views.specs.Merged.{PlacedOf, Leads, still, on, turns_of}
@@ -14,7 +14,6 @@ use Rattle.world_views.specs.Openings.{event_in, events_in}
 use Rattle.world_views.specs.Outputs.{outs_along, outs_at}
 use Rattle.world_views.proofs.Tickets.{turns-append}
 use Rattle.world_views.proofs.Runs.{run-append}
-use Rattle.world_views.proofs.Histories as histories
 use Rattle.world_views.proofs.Histories.{onto, leads_length, leads_run, events-append, outs-append, comes_so}
 
 module _ {A : Type 0} where
@@ -60,7 +59,7 @@ module _ (M : Machine) where
       ap (λ (l : List (Out M)). cond (eqb f.0 i) (x ∷ l) l) (at-append i es e outs o (omega arith))
       ∙ outs_by (eqb f.0 i) x (outs_at M i es outs) (cond (eqb e.0 i) (o ∷ []) [])
 
-  outs_length : (es : List (Event M)) (w : List (Node M.Body)) → length (outs M es w) ≡ length es
+  pub outs_length : (es : List (Event M)) (w : List (Node M.Body)) → length (outs M es w) ≡ length es
   outs_length [] w = refl
   outs_length (e ∷ es) w = ap suc (outs_length es (happens M w e))
 
@@ -90,3 +89,31 @@ module _ (M : Machine) where
           let before : st.1.0 ≡ own.run M (length w) (suc i) s0 (turns_of i es) = own_run w es v l i s0 st.1.0 h (subst (λ (j : ℕ). get_elem? v j ≡ some st.1.0) same st.1.1) in
           (λ d. outs_along M (length w) (suc i) s0 (turns_of i es) ++ own_out M (leads_length M w es v l d) (suc (same d)) (before d) e.1.1 ∷ [])
       ends_so false q = refl
+
+  -- two ways to cut one list
+  cuts : {A : Type 0} (es : List A) (e : A) (xs ys : List A) → es ++ e ∷ [] ≡ xs ++ ys → ((ys ≡ []) × (xs ≡ es ++ e ∷ [])) ⊎ ((zs : List A) × (es ≡ xs ++ zs))
+  cuts es e [] ys h = inr (es, refl)
+  cuts [] e (x ∷ xs) ys h = inl (nothing xs ys (cc h), ap (λ l. x ∷ l) (nothing_before xs ys (cc h)) ∙ cc h)
+    where
+      nothing : {A : Type 0} (xs ys : List A) → [] ≡ xs ++ ys → ys ≡ []
+      nothing [] ys h = sym h
+      nothing (x ∷ xs) ys h = absurd (cc h)
+
+      nothing_before : {A : Type 0} (xs ys : List A) → [] ≡ xs ++ ys → xs ≡ []
+      nothing_before [] ys h = refl
+      nothing_before (x ∷ xs) ys h = absurd (cc h)
+  cuts (a ∷ es) e (x ∷ xs) ys h =
+      ⊎_elim
+      (λ one. inl (one.0, cc (h, one.1)))
+      (λ two. inr (two.0, cc (h, two.1)))
+      (cuts es e xs ys (cc h))
+
+  -- each front of the list leads somewhere
+  pub fronts : (w : List (Node M.Body)) (fs : List (PlacedOf M)) (u : List (Node M.Body)) → Leads M w fs u → (xs ys : List (PlacedOf M)) → fs ≡ xs ++ ys → (v : List (Node M.Body)) × Leads M w xs v
+  fronts w fs u still [] ys h = (w, still)
+  fronts w fs u still (x ∷ xs) ys h = absurd (cc h)
+  fronts w fs u (on {es = es} {v = v} e l st) xs ys h =
+      ⊎_elim
+      (λ (all : (ys ≡ []) × (xs ≡ es ++ e ∷ [])). (u, subst (λ (l : List (PlacedOf M)). Leads M w l u) (sym all.1) (on e l st)))
+      (λ (part : (zs : List (PlacedOf M)) × (es ≡ xs ++ zs)). fronts w es v l xs part.0 part.1)
+      (cuts es e xs ys h)

@@ -1,13 +1,12 @@
 -- What leads by the views' steps leads by the group's events, from a world in which the nodes had sent something before.
-use Rattle.std.proofs.Common.{◌≡◌, ℕ, zero, suc, ◌+◌, Bool, List, [], ◌∷◌, ◌++◌, length, map, set, Option, Some, refl, sym, ap, ◌∙◌, arith, length-set, append-nil}
+use Rattle.std.proofs.Common.{◌≡◌, ℕ, zero, suc, ◌+◌, List, [], ◌∷◌, ◌++◌, length, set, Option, Some, refl, sym, ap, ◌∙◌, arith, length-set}
 use Rattle.std.proofs.lemmas.List.{map-append}
 use mathlib.Core.Option.{some, some-injective, some-ne-none}
 use lib.ListN.{get_elem?}
-use Rattle.raft_log.specs.declared.message.Message.{Message}
 use Rattle.raft_log.specs.Lists.{item}
 use Rattle.raft_log.specs.Node.{Node}
 use Rattle.raft_node.specs.Machine.{Machine}
-use Rattle.raft_node.specs.Steps.{Out, Own, Acts, Stops, Act, Hears, Turn, own}
+use Rattle.raft_node.specs.Steps.{Out, Own, Acts, Stops, Act, own}
 use Rattle.raft_node.specs.Sound.{sent_first}
 use Rattle.agreement.specs.World.{sent_of, to_of}
 use Rattle.world_run.specs.World as world
@@ -51,9 +50,10 @@ module _ {B : Type 0} where
   length-onto (y ∷ ys) [] e = absurd (omega arith)
   length-onto (y ∷ ys) (t ∷ ts) e = ap suc (length-onto ys ts (omega arith))
 
-  item_past : (xs ys : List (Message B)) (k : ℕ) (m : Message B) → item ys k ≡ Some m → item (xs ++ ys) (length xs + k) ≡ Some m
-  item_past xs ys zero m h = absurd (cc h)
-  item_past xs ys (suc k) m h = let z : length xs + suc k ≡ suc (length xs + k) = omega arith in ap (λ (j : ℕ). item (xs ++ ys) j) z ∙ get_past xs ys k m h
+-- an item behind others
+pub item_past : {A : Type 0} (xs ys : List A) (k : ℕ) (x : A) → item ys k ≡ Some x → item (xs ++ ys) (length xs + k) ≡ Some x
+item_past xs ys zero x h = absurd (cc h)
+item_past xs ys (suc k) x h = let z : length xs + suc k ≡ suc (length xs + k) = omega arith in ap (λ (j : ℕ). item (xs ++ ys) j) z ∙ get_past xs ys k x h
 
 module _ (M : Machine) where
   -- an event of one node changes that node

@@ -5,3 +5,6 @@ pub mod Runs
 pub mod Merging
 pub mod Histories
 pub mod Along
+pub mod Openings
+pub mod Turns
+pub mod Handing

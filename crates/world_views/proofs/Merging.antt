@@ -1,5 +1,5 @@
 -- The merging law: from the three clauses, by induction on tickets, over the worlds.
-use Rattle.std.proofs.Common.{◌≡◌, ◌≢◌, ℕ, zero, suc, ◌+◌, ◌<◌, ◌≤◌, inr, ⊎_elim, Bool, cond, eqb, List, [], ◌∷◌, ◌++◌, map, length, set, Option, Some, None, refl, sym, ap, ◌∙◌, subst, arith, append-nil, eq-eqb, ne_eqb, le_refl}
+use Rattle.std.proofs.Common.{◌≡◌, ◌≢◌, ℕ, zero, suc, ◌+◌, ◌<◌, ◌≤◌, inr, ⊎_elim, Bool, cond, List, [], ◌∷◌, ◌++◌, map, length, set, Option, Some, None, refl, sym, ap, ◌∙◌, subst, arith, append-nil, eq-eqb, ne_eqb, le_refl}
 use Rattle.std.proofs.lemmas.List.{map-append}
 use mathlib.Core.Option.{some, some-injective, some-ne-none}
 use lib.ListN.{get_elem?, length-map}
@@ -10,7 +10,7 @@ use Rattle.raft_log.specs.Lists.{item}
 use Rattle.raft_log.specs.Node.{Node}
 use Rattle.raft_node.specs.Machine.{Machine}
 use Rattle.world_views.specs.declared.envelope.Envelope.{Envelope}
-use Rattle.world_views.specs.Views.{View, sender, brings, upto, RisesFrom, start_from, OpenedAt}
+use Rattle.world_views.specs.Views.{sender, brings, upto, RisesFrom, start_from, OpenedAt}
 use Rattle.world_views.specs.Own.{EventOf, TurnOf, ViewOf, own_state, run, runs, state_at}
 use Rattle.world_views.specs.Rule.{IsRule, AreHonest}
 use Rattle.world_views.specs.Merged.{PlacedOf, MayBring, Leads, still, on, turns_of, turn_of, AreInOrder, start_in, end_from, end_in, IsMerged}

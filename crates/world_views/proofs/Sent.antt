@@ -1,5 +1,5 @@
 -- Nothing reads what was sent before: each event only adds to it.
-use Rattle.std.proofs.Common.{◌≡◌, ℕ, List, ◌++◌, refl, sym, ap, ◌∙◌, append-nil}
+use Rattle.std.proofs.Common.{◌≡◌, ℕ, List, ◌++◌, sym, ap, ◌∙◌, append-nil}
 use Rattle.raft_log.specs.declared.message.Message.{Message}
 use Rattle.raft_log.specs.Node.{Node}
 use Rattle.raft_node.specs.Machine.{Machine}

@@ -1,11 +1,11 @@
 -- How far a record goes before a ticket, and records whose tickets rise.
-use Rattle.std.proofs.Common.{◌≡◌, ℕ, zero, suc, ◌+◌, ◌<◌, ◌≤◌, Bool, true, false, cond, ltb, eqb, List, [], ◌∷◌, ◌++◌, Option, Some, None, refl, sym, ap, ◌∙◌, subst, arith, lt-ltb, le-ltb, ltb-true, ltb-false}
+use Rattle.std.proofs.Common.{◌≡◌, ℕ, zero, suc, ◌+◌, ◌<◌, ◌≤◌, Bool, true, false, cond, ltb, eqb, List, [], ◌∷◌, ◌++◌, map, take, Option, Some, None, refl, sym, ap, ◌∙◌, subst, arith, lt-ltb, le-ltb, ltb-true, ltb-false}
 use mathlib.Core.Option.{some, some-injective, some-ne-none}
 use lib.ListN.{get_elem?}
 use Rattle.raft_log.specs.Node.{Node}
 use Rattle.world_views.specs.declared.node_event.NodeEvent.{NodeEvent}
 use Rattle.world_views.specs.Views.{Ticketed, upto, Rises, RisesFrom, OpenedAt}
-use Rattle.world_views.specs.Merged.{Placed, turns_of, AreInOrder}
+use Rattle.world_views.specs.Merged.{turns_of, turn_of, AreInOrder}
 
 module _ {B L T : Type 0} where
   more_by : (d d' : ℕ) (t : Ticketed B L T) (ts : List (Ticketed B L T)) → d ≤ d' → (more : List (Ticketed B L T)) × (upto d' ts ≡ upto d ts ++ more) → (b : Bool) → ltb t.0 d ≡ b → (more : List (Ticketed B L T)) × (upto d' (t ∷ ts) ≡ cond b (t ∷ upto d ts) [] ++ more)
@@ -82,3 +82,41 @@ module _ {B L T : Type 0} where
   pub turns-append : (i : ℕ) (xs ys : List (ℕ × Ticketed B L T)) → turns_of i (xs ++ ys) ≡ turns_of i xs ++ turns_of i ys
   turns-append i [] ys = refl
   turns-append i (x ∷ xs) ys = turns_by i x xs ys (eqb x.0 i) (turns-append i xs ys)
+
+  -- how many of these events come before a ticket, where they are in order
+  abbrev pub early : ℕ → List (ℕ × Ticketed B L T) → ℕ
+  early d [] = 0
+  early d (e ∷ es) = cond (ltb e.1.0 d) (suc (early d es)) 0
+
+  none_early : (t d i : ℕ) (es : List (ℕ × Ticketed B L T)) → Rises t (map turn_of es) → d ≤ t → upto d (turns_of i es) ≡ []
+  none_early t d i [] r le = refl
+  none_early t d i (e ∷ es) r le =
+      let lt : t < e.1.0 = r.0 in let ge : d ≤ e.1.0 = omega arith in
+      by_place (eqb e.0 i) (none_early e.1.0 d i es r.1 ge) (le-ltb e.1.0 d ge)
+    where
+      by_place : (b : Bool) → upto d (turns_of i es) ≡ [] → ltb e.1.0 d ≡ false → upto d (cond b (e.1 ∷ turns_of i es) (turns_of i es)) ≡ []
+      by_place true h k = ap (λ (c : Bool). cond c (e.1 ∷ upto d (turns_of i es)) []) k
+      by_place false h k = h
+
+  rises_order : (t : ℕ) (ts : List (Ticketed B L T)) → Rises t ts → AreInOrder ts
+  rises_order t [] r = tt
+  rises_order t (u ∷ us) r = r.1
+
+  -- a node's turns among them are those before the ticket
+  pub take_early : (d i : ℕ) (es : List (ℕ × Ticketed B L T)) → AreInOrder (map turn_of es) → turns_of i (take (early d es) es) ≡ upto d (turns_of i es)
+  take_early d i [] o = refl
+  take_early d i (e ∷ es) o = by_ticket (take_early d i es (rises_order e.1.0 (map turn_of es) o)) (ltb e.1.0 d) refl
+    where
+      seen : turns_of i (take (early d es) es) ≡ upto d (turns_of i es) → (b : Bool) → ltb e.1.0 d ≡ true
+          → cond b (e.1 ∷ turns_of i (take (early d es) es)) (turns_of i (take (early d es) es)) ≡ upto d (cond b (e.1 ∷ turns_of i es) (turns_of i es))
+      seen h true q = ap (λ l. e.1 ∷ l) h ∙ sym (ap (λ (c : Bool). cond c (e.1 ∷ upto d (turns_of i es)) []) q)
+      seen h false q = h
+
+      unseen : (b : Bool) → ltb e.1.0 d ≡ false → [] ≡ upto d (cond b (e.1 ∷ turns_of i es) (turns_of i es))
+      unseen true q = sym (ap (λ (c : Bool). cond c (e.1 ∷ upto d (turns_of i es)) []) q)
+      unseen false q = sym (none_early e.1.0 d i es o (ltb-false e.1.0 d q))
+
+      by_ticket : turns_of i (take (early d es) es) ≡ upto d (turns_of i es) → (b : Bool) → ltb e.1.0 d ≡ b
+          → turns_of i (take (cond b (suc (early d es)) 0) (e ∷ es)) ≡ upto d (cond (eqb e.0 i) (e.1 ∷ turns_of i es) (turns_of i es))
+      by_ticket h true q = seen h (eqb e.0 i) q
+      by_ticket h false q = unseen (eqb e.0 i) q

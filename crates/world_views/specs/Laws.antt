@@ -1,19 +1,24 @@
 -- What follows from the rule, over the views of groups of every size.
-use Rattle.std.specs.Prelude.{◌≡◌, ◌⊎◌, ◌+◌, ◌≤◌, ℕ, Bool, List, [], ◌++◌, length, take, Some, slice_get}
+use Rattle.std.specs.Prelude.{◌≡◌, ◌⊎◌, ◌+◌, ◌≤◌, ℕ, suc, pred, Bool, List, [], ◌++◌, length, take, Some, slice_get}
 use Rattle.irc_line.specs.Lines.{Parts}
 use Rattle.machine_laws.specs.Runs.{all_effects}
+use Rattle.raft_log.specs.declared.entry.Entry.{Entry}
 use Rattle.raft_log.specs.declared.message.Message.{Message}
+use Rattle.raft_log.specs.Lists.{item}
 use Rattle.raft_log.specs.Node.{Node}
 use Rattle.raft_node.specs.Machine.{Machine, history}
 use Rattle.raft_node.specs.Sound.{sent_first}
+use Rattle.raft_node.specs.Steps.{Left, Looked, Out, leaving}
 use Rattle.agreement.specs.World.{Begins}
 use Rattle.world_run.specs.World.{Event, agreed, count, handed, left_of}
-use Rattle.world_views.specs.Views.{IsAt, IsOpened}
-use Rattle.world_views.specs.Own.{EventOf, ViewOf, own_out, own_state}
+use Rattle.world_views.specs.declared.node_event.NodeEvent.TheVariants.{Does, Look}
+use Rattle.world_views.specs.declared.node_event.NodeInput.TheVariants.{Apply}
+use Rattle.world_views.specs.Views.{IsAt, IsOpened, start}
+use Rattle.world_views.specs.Own.{EventOf, TurnOf, ViewOf, own_out, own_state, runs, state_at}
 use Rattle.world_views.specs.Rule.{AreHonest, IsRule}
 use Rattle.world_views.specs.Merged.{IsMerged, PlacedOf}
 use Rattle.world_views.specs.Openings.{HeldAfter, OpenedAfter, WereNew, restarts, whole}
-use Rattle.world_views.specs.Outputs.{IsHistory, handed_by, outs_of}
+use Rattle.world_views.specs.Outputs.{IsEvent, IsHistory, handed_by, outs_of}
 
 -- no two of these numbers are the same
 abbrev pub AllDiffer : List (ℕ × Parts) → Type 0
@@ -53,6 +58,10 @@ module _ (M : Machine) where
   HeldStores =
       (before : List (Event M)) (views : List (ViewOf M)) → HeldAfter M before views → OpenedAfter M (before ++ restarts M (length views)) views
 
+  -- both, which are the cases in which a caller knows where the openings come from
+  abbrev pub OpeningsGoOn : Type 0
+  OpeningsGoOn = NewStores × HeldStores
+
 -- This holds of all views that keep the rule over honest stores, where the openings are as some list of events leaves the nodes.
 abbrev pub OverOpened : (M : Machine) → ((M : Machine) → List (Event M) → List (ViewOf M) → Type 0) → Type 0
 OverOpened M P =
@@ -69,13 +78,48 @@ module _ (M : Machine) where
   AllAgree before views =
       (i j : ℕ) (v w : ViewOf M) → IsAt views i v → IsAt views j w → IsOpened v → IsOpened w → AgreeTo v.state w.state
 
+  -- the same of what they had committed before any two tickets
+  abbrev pub AllAgreeBefore : List (Event M) → List (ViewOf M) → Type 0
+  AllAgreeBefore before views =
+      (i j c d : ℕ) (v w : ViewOf M) → IsAt views i v → IsAt views j w → IsOpened v → IsOpened w →
+      AgreeTo (state_at M c v) (state_at M d w)
+
+  -- each turn of a view, with what came out of it, is an event of the one history
+  abbrev pub TurnsAreEvents : List (Event M) → List (ViewOf M) → Type 0
+  TurnsAreEvents before views =
+      (es : List (PlacedOf M)) → IsHistory M before views es →
+      (i m : ℕ) (v : ViewOf M) (t : TurnOf M) (o : Out M) → IsAt views i v → IsAt v.turns m t → IsAt (outs_of M v) m o →
+      IsEvent M before views es i m v t o
+
+  -- the entries that are agreed over the one history
+  abbrev pub agreed_over : List (Event M) → List (ViewOf M) → List (PlacedOf M) → List (Entry M.Body)
+  agreed_over before views es = agreed M (length views) (whole M before views es)
+
+  -- a look that a view answered at a place played what the first bodies of the agreed list come to
+  abbrev pub LooksAreAgreed : List (Event M) → List (ViewOf M) → Type 0
+  LooksAreAgreed before views =
+      (es : List (PlacedOf M)) → IsHistory M before views es →
+      (i m d from place : ℕ) (target : M.Target) (lines : List M.Played) (v : ViewOf M) →
+      IsAt views i v → IsAt v.turns m (d, Look from target) → IsAt (outs_of M v) m (Looked place lines) →
+      (from ≤ place) × (place ≤ length (agreed_over before views es))
+      × (lines ≡ M.playback (history (take place (agreed_over before views es))) target)
+
+  -- what left a view's node where it applied a place is what the agreed list brings about there, as far as it leaves that node as it then was
+  abbrev pub AppliesAreAgreed : List (Event M) → List (ViewOf M) → Type 0
+  AppliesAreAgreed before views =
+      (es : List (PlacedOf M)) → IsHistory M before views es →
+      (i m d place : ℕ) (effects : List M.Effect) (v : ViewOf M) →
+      IsAt views i v → IsAt v.turns m (d, Does Apply) → IsAt (outs_of M v) m (Left place effects) →
+      (e : Entry M.Body) × (item (agreed_over before views es) place ≡ Some e)
+      × (effects ≡ leaving M (suc i) (runs M v (start v) (take m v.turns)) (M.effects (history (take (pred place) (agreed_over before views es))) place e.body))
+
   -- no more effects of a kind leave two nodes together than the agreed list brings about
   abbrev pub TwoLeaveNoMore : List (Event M) → List (ViewOf M) → Type 0
   TwoLeaveNoMore before views =
       (es : List (PlacedOf M)) → IsHistory M before views es →
       (i j : ℕ) (v w : ViewOf M) (test : M.Effect → Bool) → IsAt views i v → IsAt views j w → (i ≡ j → ⊥) →
       count test (left_of M (outs_of M v)) + count test (left_of M (outs_of M w))
-      ≤ count test (all_effects M.effects (history (agreed M (length views) (whole M before views es))))
+      ≤ count test (all_effects M.effects (history (agreed_over before views es)))
 
   -- over every list of events the numbers that are handed upstream are all different
   abbrev pub HandsOnce : Type 0

@@ -5,7 +5,7 @@ use Rattle.raft_log.specs.Node.{Node}
 use Rattle.raft_node.specs.Machine.{Machine}
 use Rattle.world_views.specs.declared.envelope.Envelope.{Envelope}
 use Rattle.world_views.specs.Views.{IsAt, Ticketed, View, sender, brings, Rises, start_from}
-use Rattle.world_views.specs.Own.{TurnOf, ViewOf, own_state}
+use Rattle.world_views.specs.Own.{ViewOf, own_state}
 
 -- a turn of the node at a place: that, its ticket and its event
 abbrev pub Placed : (B L T : Type 0) → Type 0

@@ -1,5 +1,5 @@
 -- Where the openings come from, and the one list of a group's events that then leads to the states of all views.
-use Rattle.std.specs.Prelude.{◌≡◌, ◌+◌, ℕ, suc, Bool, List, [], ◌∷◌, ◌++◌, length, map, Option, Some, None}
+use Rattle.std.specs.Prelude.{◌≡◌, ◌+◌, ℕ, suc, List, [], ◌++◌, length, map, Option, Some, None}
 use Rattle.raft_log.specs.declared.message.Message.{Message}
 use Rattle.raft_log.specs.Lists.{item, range_from}
 use Rattle.raft_log.specs.Node.{Node}
@@ -70,9 +70,13 @@ module _ (M : Machine) where
   abbrev pub world_after : ℕ → List (Event M) → List (Node M.Body)
   world_after size es = run M es (start size)
 
+  -- the world of the openings
+  abbrev pub first_world : List (Event M) → List (ViewOf M) → List (Node M.Body)
+  first_world before views = world_after (length views) before
+
   -- the events of these records, behind those that come before the openings
   abbrev pub whole : List (Event M) → List (ViewOf M) → List (PlacedOf M) → List (Event M)
-  whole before views es = before ++ events_in (world_after (length views) before) es
+  whole before views es = before ++ events_in (first_world before views) es
 
   -- a restart of every node
   abbrev pub restarts : ℕ → List (Event M)
@@ -86,7 +90,7 @@ module _ (M : Machine) where
   -- The premise on the openings: in the world to which the events `before` lead the group over new stores, each node that was opened
   -- is as it was opened, but for what it had sent. It has two special cases, in which a caller knows it.
   abbrev pub OpenedAfter : List (Event M) → List (ViewOf M) → Type 0
-  OpenedAfter before views = (i : ℕ) (v : ViewOf M) → IsAt views i v → IsOpenedIn (world_after (length views) before) (suc i) v.opened
+  OpenedAfter before views = (i : ℕ) (v : ViewOf M) → IsAt views i v → IsOpenedIn (first_world before views) (suc i) v.opened
 
   -- the node was opened over a new store
   abbrev pub IsNew : ℕ → Option (ℕ × Node M.Body) → Type 0
@@ -104,13 +108,14 @@ module _ (M : Machine) where
 
   -- The second: the stores held, at the openings, what some list of events leaves.
   abbrev pub HeldAfter : List (Event M) → List (ViewOf M) → Type 0
-  HeldAfter before views = (i : ℕ) (v : ViewOf M) → IsAt views i v → IsOpenedOver (world_after (length views) before) (suc i) v.opened
+  HeldAfter before views = (i : ℕ) (v : ViewOf M) → IsAt views i v → IsOpenedOver (first_world before views) (suc i) v.opened
 
-  -- the node of this number in v: the view's state, after what the node had sent in w; one that was not opened is as it was in w
-  abbrev pub IsNow : List (Node M.Body) → List (Node M.Body) → ℕ → ViewOf M → Option (ℕ × Node M.Body) → Type 0
-  IsNow w v i view None = item v i ≡ item w i
-  IsNow w v i view (Some b) = item v i ≡ Some (sent_first (sent_in w i) view.state)
+  -- The node of this number in the world u, after what it had sent in the world of its opening w, is this one. A node that was not opened is
+  -- as it was in w.
+  abbrev pub IsNow : List (Node M.Body) → List (Node M.Body) → ℕ → Node M.Body → Option (ℕ × Node M.Body) → Type 0
+  IsNow w u i s None = item u i ≡ item w i
+  IsNow w u i s (Some b) = item u i ≡ Some (sent_first (sent_in w i) s)
 
-  -- so are all nodes
+  -- so is each node's state in its view
   abbrev pub AreNow : List (Node M.Body) → List (Node M.Body) → List (ViewOf M) → Type 0
-  AreNow w v views = (i : ℕ) (view : ViewOf M) → IsAt views i view → IsNow w v (suc i) view view.opened
+  AreNow w u views = (i : ℕ) (v : ViewOf M) → IsAt views i v → IsNow w u (suc i) v.state v.opened

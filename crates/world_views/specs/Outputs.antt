@@ -1,14 +1,15 @@
 -- What comes out of the events of views: the same by each view alone and by the one list of all.
-use Rattle.std.specs.Prelude.{◌≡◌, ◌==◌, ℕ, suc, if◌then◌else◌, List, [], ◌∷◌, ◌++◌, length}
+use Rattle.std.specs.Prelude.{◌≡◌, ◌==◌, ◌+◌, ℕ, suc, pred, if◌then◌else◌, List, [], ◌∷◌, ◌++◌, length, take, Some}
 use Rattle.irc_line.specs.Lines.{Parts}
+use Rattle.raft_log.specs.Lists.{item}
 use Rattle.raft_log.specs.Node.{Node}
 use Rattle.raft_node.specs.Machine.{Machine}
 use Rattle.raft_node.specs.Steps.{Out}
-use Rattle.world_run.specs.World.{Event, outputs, left_of, hands, handed}
+use Rattle.world_run.specs.World.{Event, moment, outputs, left_of, hands}
 use Rattle.world_views.specs.Views.{IsAt, start}
-use Rattle.world_views.specs.Own.{TurnOf, ViewOf, own_state, own_out}
-use Rattle.world_views.specs.Merged.{PlacedOf, IsMerged}
-use Rattle.world_views.specs.Openings.{idle_in, world_after, whole, AreNow}
+use Rattle.world_views.specs.Own.{TurnOf, ViewOf, own_state, own_out, runs}
+use Rattle.world_views.specs.Merged.{PlacedOf, turns_of, IsMerged}
+use Rattle.world_views.specs.Openings.{idle_in, event_in, world_after, first_world, whole, IsNow, AreNow}
 
 module _ (M : Machine) where
   -- what comes out of these turns of the node of this number, from this state on
@@ -31,10 +32,23 @@ module _ (M : Machine) where
   outs_at i (e ∷ es) (o ∷ outs) = if e.0 == i then o ∷ outs_at i es outs else outs_at i es outs
 
   -- One list of the group's events leads from new stores to the states of all views: the events `before`, and then those of all records,
-  -- merged. What comes out of it behind `before` is what came out by each view alone.
+  -- merged. At each moment since the openings each node is what its turns so far lead to, and what comes out of the list behind `before`
+  -- is what came out by each view alone.
   pub record IsHistory (before : List (Event M)) (views : List (ViewOf M)) (es : List (PlacedOf M)) : Type 0 where
-    pub merged : IsMerged M (idle_in (world_after M (length views) before)) views es
-    pub states : AreNow M (world_after M (length views) before) (world_after M (length views) (whole M before views es)) views
+    pub merged : IsMerged M (idle_in (first_world M before views)) views es
+    pub states : AreNow M (first_world M before views) (world_after M (length views) (whole M before views es)) views
+    pub moments : (k i : ℕ) (v : ViewOf M) → IsAt views i v →
+        IsNow M (first_world M before views) (moment M (length views) (whole M before views es) (length before + k))
+        (suc i) (runs M v (start v) (turns_of i (take k es))) v.opened
     pub outs : List (Out M)
     pub comes_out : outputs M (length views) (whole M before views es) ≡ outputs M (length views) before ++ outs
     pub own_outs : (i : ℕ) (v : ViewOf M) → IsAt views i v → outs_at i es outs ≡ outs_of v
+
+  -- This turn of a view, with what came out of it, is an event of the history, at a moment at which the node is what the view's turns before
+  -- it lead to.
+  pub record IsEvent (before : List (Event M)) (views : List (ViewOf M)) (es : List (PlacedOf M)) (i m : ℕ) (v : ViewOf M) (t : TurnOf M) (o : Out M) : Type 0 where
+    pub place : ℕ
+    pub event : item (whole M before views es) place ≡ Some (event_in M (first_world M before views) (suc i) t.1)
+    pub out : item (outputs M (length views) (whole M before views es)) place ≡ Some o
+    pub state : IsNow M (first_world M before views) (moment M (length views) (whole M before views es) (pred place))
+        (suc i) (runs M v (start v) (take m v.turns)) v.opened

@@ -1,0 +1,16 @@
+use super::*;
+use std::test::Fail;
+use toy_machine::Toy;
+
+#[test]
+fn the_laws_hold_of_the_toy_machine(_rt: HostRuntime) -> Result<(), Fail> {
+    what_was_sent_is_not_read::<Toy>();
+    records_merge::<Toy>();
+    openings_go_on_from_events::<Toy>();
+    views_have_one_history::<Toy>();
+    committed_lists_agree::<Toy>();
+    turns_are_events_of_the_history::<Toy>();
+    two_nodes_leave_no_more_than_is_agreed::<Toy>();
+    no_number_is_handed_by_two_nodes::<Toy>();
+    Ok(())
+}
