@@ -2,6 +2,8 @@
 use Rattle.std.proofs.Common.{◌≡◌, ℕ, zero, suc, ◌+◌, ◌<◌, ◌≤◌, Bool, true, false, cond, eqb, List, [], ◌∷◌, ◌++◌, length, Some, refl, sym, ap, ◌∙◌, arith, append_assoc}
 use Rattle.std.specs.Prelude.{slice_get}
 use Rattle.std.proofs.lemmas.Bool.{eqb-true, eq-eqb}
+use mathlib.Core.Option.{some}
+use lib.ListN.{get_elem?}
 use Rattle.irc_line.specs.Lines.{Parts}
 use Rattle.raft_node.specs.Machine.{Machine}
 use Rattle.raft_node.specs.Steps.{Out, effects_of}
@@ -14,7 +16,7 @@ use Rattle.world_views.specs.Rule.{IsRule, AreHonest}
 use Rattle.world_views.specs.Merged.{PlacedOf}
 use Rattle.world_views.specs.Openings.{OpenedAfter, whole}
 use Rattle.world_views.specs.Outputs.{outs_of, outs_at, handed_by, IsHistory}
-use Rattle.world_views.specs.Laws.{AllDiffer, NoneInBoth, HandsOnce, TwoLeaveNoMore, HandedApart, HaveOneHistory, AreOfOneGroup}
+use Rattle.world_views.specs.Laws.{AllDiffer, NoneInBoth, HandsOnce, left_by_all, AllLeaveNoMore, HandedApart, HaveOneHistory, AreOfOneGroup}
 use Rattle.world_views.proofs.Openings as opened
 
 -- numbers that are all different
@@ -124,6 +126,75 @@ module _ (M : Machine) where
   sum-append f [] ys = omega arith
   sum-append f (x ∷ xs) ys = omega (arith, sum-append f xs ys)
 
+  -- what comes out at the nodes from a place on, so many
+  abbrev at_places : (Out M → ℕ) → List (PlacedOf M) → List (Out M) → ℕ → ℕ → ℕ
+  at_places f es outs k zero = 0
+  at_places f es outs k (suc n) = sum f (outs_at M k es outs) + at_places f es outs (suc k) n
+
+  -- one number, where its place is among these
+  abbrev if_among : ℕ → ℕ → ℕ → ℕ → ℕ
+  if_among x p k zero = 0
+  if_among x p k (suc n) = (cond (eqb p k) x 0) + if_among x p (suc k) n
+
+  not_among : (x p k n : ℕ) → p < k → if_among x p k n ≡ 0
+  not_among x p k zero lt = refl
+  not_among x p k (suc n) lt =
+      let rest : if_among x p (suc k) n ≡ 0 = not_among x p (suc k) n (omega (arith, lt)) in
+      bool_cases (eqb p k) (if_among x p k (suc n) ≡ 0)
+      (λ e. let same : p ≡ k = eqb-true p k e in absurd (omega (arith, lt, same)))
+      (λ e. omega (arith, rest, ap (λ (b : Bool). cond b x 0) e))
+
+  among_once : (x p k n : ℕ) → if_among x p k n ≤ x
+  among_once x p k zero = omega arith
+  among_once x p k (suc n) =
+      bool_cases (eqb p k) (if_among x p k (suc n) ≤ x)
+      (λ e.
+      let same : p ≡ k = eqb-true p k e in
+      let rest : if_among x p (suc k) n ≡ 0 = not_among x p (suc k) n (omega (arith, same)) in
+      omega (arith, rest, ap (λ (b : Bool). cond b x 0) e))
+      (λ e. omega (arith, among_once x p (suc k) n, ap (λ (b : Bool). cond b x 0) e))
+
+  none_at_places : (f : Out M → ℕ) (es : List (PlacedOf M)) (k n : ℕ) → at_places f es [] k n ≡ 0
+  none_at_places f es k zero = refl
+  none_at_places f [] k (suc n) = omega (arith, none_at_places f [] (suc k) n)
+  none_at_places f (e ∷ es) k (suc n) = omega (arith, none_at_places f (e ∷ es) (suc k) n)
+
+  no_places : (f : Out M → ℕ) (outs : List (Out M)) (k n : ℕ) → at_places f [] outs k n ≡ 0
+  no_places f outs k zero = refl
+  no_places f outs k (suc n) = omega (arith, no_places f outs (suc k) n)
+
+  one_more : (f : Out M → ℕ) (e : PlacedOf M) (es : List (PlacedOf M)) (o : Out M) (outs : List (Out M)) (k n : ℕ)
+      → at_places f (e ∷ es) (o ∷ outs) k n ≡ if_among (f o) e.0 k n + at_places f es outs k n
+  one_more f e es o outs k zero = refl
+  one_more f e es o outs k (suc n) = omega (arith, by_node f (eqb e.0 k) o (outs_at M k es outs), one_more f e es o outs (suc k) n)
+
+  -- what comes out at the nodes is no more than all
+  places_sum : (f : Out M → ℕ) (es : List (PlacedOf M)) (outs : List (Out M)) (k n : ℕ) → at_places f es outs k n ≤ sum f outs
+  places_sum f [] outs k n = omega (arith, no_places f outs k n)
+  places_sum f (e ∷ es) [] k n = omega (arith, none_at_places f (e ∷ es) k n)
+  places_sum f (e ∷ es) (o ∷ outs) k n = omega (arith, one_more f e es o outs k n, among_once (f o) e.0 k n, places_sum f es outs k n)
+
+  -- what comes out by views
+  abbrev by_views : (Out M → ℕ) → List (ViewOf M) → ℕ
+  by_views f [] = 0
+  by_views f (v ∷ views) = sum f (outs_of M v) + by_views f views
+
+  views_sum : (f : Out M → ℕ) (es : List (PlacedOf M)) (outs : List (Out M)) (k : ℕ) (views : List (ViewOf M)) → ((i : ℕ) (v : ViewOf M) → get_elem? views i ≡ some v → outs_at M (k + i) es outs ≡ outs_of M v)
+      → by_views f views ≡ at_places f es outs k (length views)
+  views_sum f es outs k [] all = refl
+  views_sum f es outs k (v ∷ views) all =
+      let here : k + 0 ≡ k = omega arith in
+      omega (
+        arith,
+        ap (sum f) (sym (all 0 v refl)),
+        ap (λ (j : ℕ). sum f (outs_at M j es outs)) here,
+        views_sum f es outs (suc k) views (λ i w at. let next : suc k + i ≡ k + suc i = omega arith in ap (λ (j : ℕ). outs_at M j es outs) next ∙ all (suc i) w at),
+      )
+
+  left_sum : (test : M.Effect → Bool) (views : List (ViewOf M)) → by_views (passing test) views ≡ count test (left_by_all M views)
+  left_sum test [] = refl
+  left_sum test (v ∷ views) = omega (arith, sum_passing test (outs_of M v), left_sum test views, count_append test (left_of M (outs_of M v)) (left_by_all M views))
+
   module _ (before : List (Event M)) (views : List (ViewOf M)) (es : List (PlacedOf M)) (h : IsHistory M before views es) where
     -- what two views brought out is no more than what comes out of the whole history
     of_two : (f : Out M → ℕ) (i j : ℕ) (v w : ViewOf M) → IsAt views i v → IsAt views j w → (i ≡ j → ⊥)
@@ -165,15 +236,17 @@ module _ (M : Machine) where
         none_in_both (handed_by M v) (handed_by M w)
         (λ n. omega (arith, sum_numbers n (outs_of M v), sum_numbers n (outs_of M w), of_two (of_number n) i j v w at_v at_w apart, few n once))
 
-  -- over two nodes together no more leaves than the agreed list brings about
-  pub two_leave_no_more : (before : List (Event M)) (views : List (ViewOf M)) → TwoLeaveNoMore M before views
-  two_leave_no_more before views es h i j v w test at_v at_w apart =
+  -- over all nodes together no more leaves than the agreed list brings about
+  pub all_leave_no_more : (before : List (Event M)) (views : List (ViewOf M)) → AllLeaveNoMore M before views
+  all_leave_no_more before views es h test =
       omega (
         arith,
-        sum_passing test (outs_of M v),
-        sum_passing test (outs_of M w),
+        left_sum test views,
+        views_sum (passing test) es h.outs 0 views (λ i v at. let z : 0 + i ≡ i = omega arith in ap (λ (j : ℕ). outs_at M j es h.outs) z ∙ h.own_outs i v at),
+        places_sum (passing test) es h.outs 0 (length views),
+        sum-append (passing test) (outputs M (length views) before) h.outs,
+        ap (sum (passing test)) h.comes_out,
         sum_passing test (outputs M (length views) (whole M before views es)),
-        of_two before views es h (passing test) i j v w at_v at_w apart,
         no_more M (length views) (whole M before views es) test,
       )
 

@@ -23,7 +23,7 @@ use Rattle.world_views.specs.Views.{upto, start, start_from, RisesFrom}
 use Rattle.world_views.specs.Own.{TurnOf, ViewOf, runs, state_at}
 use Rattle.world_views.specs.Own as own
 use Rattle.world_views.specs.Rule.{IsRule, AreHonest}
-use Rattle.world_views.specs.Merged.{PlacedOf, IsMerged, turns_of, start_in, end_from, end_in}
+use Rattle.world_views.specs.Merged.{PlacedOf, Leads, IsMerged, turns_of, start_in, end_from, end_in}
 use Rattle.world_views.specs.Openings.{sent_by, unsent, idle_as, idle_in, event_in, events_in, world_after, whole, restarts, IsOpenedIn, OpenedAfter, IsNew, IsOpenedOver, IsNow}
 use Rattle.world_views.specs.Outputs.{outs_along, outs_at}
 use Rattle.world_views.specs.Laws.{AgreeTo, NewStores, HeldStores, OpeningsGoOn, HasHistory, AllAgree, AllAgreeBefore}
@@ -117,39 +117,55 @@ module _ (M : Machine) where
     merged : (es : List (PlacedOf M)) × IsMerged M (idle_in w0) views es
     merged = merges M n next views a honest (idle_in w0)
 
+    ends : List (Node M.Body)
+    ends = map (end_in (idle_in w0)) views
+
+    leads_in : (es : List (PlacedOf M)) → IsMerged M (idle_in w0) views es → Leads M starts es ends
+    unfolding starts ends
+    leads_in es m = m.leads
+
+    sized : (i : ℕ) (v : ViewOf M) → get_elem? views i ≡ some v → length starts ≡ v.size
+    unfolding starts
+    sized i v at = length-map views (start_in (idle_in w0)) ∙ a.sized ∙ sym (a.placed i v at).1
+
+    front_world : (es : List (PlacedOf M)) (k : ℕ) (u : List (Node M.Body)) → Leads M starts (take k es) u → moment M (length views) (whole M before views es) (length before + k) ≡ onto w0 u
+    unfolding w0
+    front_world es k u l =
+        ap (λ (ys : List (Event M)). run M ys (core.start (length views))) (take-append-add before (events_in M w0 es) k ∙ ap (λ (ys : List (Event M)). before ++ ys) (take-map (λ e. event_in M w0 (suc e.0) e.1.1) k es))
+        ∙ run-append M before (events_in M w0 (take k es)) (core.start (length views))
+        ∙ ap (run M (events_in M w0 (take k es))) (sym goes_on)
+        ∙ leads_run M w0 starts (take k es) u long_starts l
+
+    front_node : (es : List (PlacedOf M)) → IsMerged M (idle_in w0) views es → (k : ℕ) (u : List (Node M.Body)) → Leads M starts (take k es) u
+        → (i : ℕ) (v : ViewOf M) (s : Node M.Body) → get_elem? views i ≡ some v → get_elem? u i ≡ some s → s ≡ end_from (idle_in w0 v.node) (runs M v (start v) (turns_of i (take k es))) v.opened
+    unfolding starts
+    front_node es m k u l i v s at_v at_s =
+        let ts : List (TurnOf M) = turns_of i (take k es) in
+        let parts : v.turns ≡ ts ++ turns_of i (drop k es) =
+        sym (m.records i v at_v) ∙ ap (turns_of i) (sym (take-append-drop k es)) ∙ turns-append i (take k es) (drop k es) in
+        own_run M starts (take k es) u l i (start_in (idle_in w0) v) s (at_map (start_in (idle_in w0)) views i v at_v) at_s
+        ∙ (λ d. own.run M (sized i v at_v d) (suc (sym (a.placed i v at_v).0 d)) (start_in (idle_in w0) v) ts)
+        ∙ front_so v.size (suc v.node) (idle_in w0 v.node) v.state v.opened ts (turns_of i (drop k es)) v.turns (a.tickets.rises i v at_v) parts
+
     -- so are the moments on the way
     moments : (es : List (PlacedOf M)) → IsMerged M (idle_in w0) views es → (k i : ℕ) (v : ViewOf M) → get_elem? views i ≡ some v
         → IsNow M w0 (moment M (length views) (whole M before views es) (length before + k)) (suc i) (runs M v (start v) (turns_of i (take k es))) v.opened
-    unfolding w0 starts
     moments es m k i v at =
-        let f = fronts M starts es (map (end_in (idle_in w0)) views) m.leads (take k es) (drop k es) (sym (take-append-drop k es)) in
-        let now : moment M (length views) (whole M before views es) (length before + k) ≡ onto w0 f.0 =
-        ap (λ (l : List (Event M)). run M l (core.start (length views))) (take-append-add before (events_in M w0 es) k ∙ ap (λ (l : List (Event M)). before ++ l) (take-map (λ e. event_in M w0 (suc e.0) e.1.1) k es))
-        ∙ run-append M before (events_in M w0 (take k es)) (core.start (length views))
-        ∙ ap (run M (events_in M w0 (take k es))) (sym goes_on)
-        ∙ leads_run M w0 starts (take k es) f.0 long_starts f.1 in
-        let lt : i < length views = below views i v at in
+        let f = fronts M starts es ends (leads_in es m) (take k es) (drop k es) (sym (take-append-drop k es)) in
         let long_f : length f.0 ≡ length starts = leads_length M starts (take k es) f.0 f.1 in
+        let lt : i < length views = below views i v at in
         let x = there w0 i (let l = long in omega arith) in
         let s = there f.0 i (let l = long in let l' = long_starts in omega arith) in
-        let is : s.0 ≡ own.run M (length starts) (suc i) (start_in (idle_in w0) v) (turns_of i (take k es)) =
-        own_run M starts (take k es) f.0 f.1 i (start_in (idle_in w0) v) s.0 (at_map (start_in (idle_in w0)) views i v at) s.1 in
-        let sized : own.run M (length starts) (suc i) (start_in (idle_in w0) v) (turns_of i (take k es)) ≡ runs M v (start_in (idle_in w0) v) (turns_of i (take k es)) =
-        (λ d. own.run M ((length-map views (start_in (idle_in w0)) ∙ a.sized ∙ sym (a.placed i v at).1) d) (suc (sym (a.placed i v at).0 d)) (start_in (idle_in w0) v) (turns_of i (take k es))) in
-        let parts : v.turns ≡ turns_of i (take k es) ++ turns_of i (drop k es) =
-        sym (m.records i v at) ∙ ap (turns_of i) (sym (take-append-drop k es)) ∙ turns-append i (take k es) (drop k es) in
+        let after : Node M.Body → Option (Node M.Body) = λ t. Some (sent_first x.0.sent t) in
+        let there_is : item (onto w0 f.0) (suc i) ≡ Some (sent_first x.0.sent s.0) = got (onto w0 f.0) i (sent_first x.0.sent s.0) (at_onto w0 f.0 i x.0 s.0 x.1 s.1) in
         ended_as w0 (moment M (length views) (whole M before views es) (length before + k)) i v.node x.0 (runs M v (start v) (turns_of i (take k es))) v.opened (a.placed i v at).0 (got w0 i x.0 x.1)
-        (ap (λ (w : List (Node M.Body)). item w (suc i)) now
-        ∙ got (onto w0 f.0) i (sent_first x.0.sent s.0) (at_onto w0 f.0 i x.0 s.0 x.1 s.1)
-        ∙ ap (λ (t : Node M.Body). let o : Option (Node M.Body) = Some (sent_first x.0.sent t) in o)
-        (is ∙ sized ∙ front_so v.size (suc v.node) (idle_in w0 v.node) v.state v.opened (turns_of i (take k es)) (turns_of i (drop k es)) v.turns (a.tickets.rises i v at) parts))
+        (ap (λ (w : List (Node M.Body)). item w (suc i)) (front_world es k f.0 f.1) ∙ there_is ∙ ap after (front_node es m k f.0 f.1 i v s.0 at s.1))
 
     -- one history of the group leads to the views' states, and what comes out of it came out by the views
     pub history : HasHistory M before views
-    unfolding w0 starts
+    unfolding w0 starts ends
     history =
         let es : List (PlacedOf M) = merged.0 in let m = merged.1 in
-        let ends : List (Node M.Body) = map (end_in (idle_in w0)) views in
         let leads : world_after M (length views) (whole M before views es) ≡ onto w0 ends =
         run-append M before (events_in M w0 es) (core.start (length views)) ∙ ap (run M (events_in M w0 es)) (sym goes_on) ∙ leads_run M w0 starts es ends long_starts m.leads in (
           es,
@@ -167,7 +183,7 @@ module _ (M : Machine) where
                 ap (λ (w : List (Node M.Body)). outs_at M i es (outs M (events_in M w0 es) w)) (sym goes_on)
                 ∙ outs_so M w0 starts es ends long_starts m.leads i (start_in (idle_in w0) p) (at_map (start_in (idle_in w0)) views i p at)
                 ∙ ap (outs_along M (length starts) (suc i) (start_in (idle_in w0) p)) (m.records i p at)
-                ∙ (λ d. outs_along M ((length-map views (start_in (idle_in w0)) ∙ a.sized ∙ sym (a.placed i p at).1) d) (suc (sym (a.placed i p at).0 d)) (start_in (idle_in w0) p) p.turns)
+                ∙ (λ d. outs_along M (sized i p at d) (suc (sym (a.placed i p at).0 d)) (start_in (idle_in w0) p) p.turns)
                 ∙ same_outs p.size (suc p.node) (idle_in w0 p.node) p.state p.opened p.turns (a.tickets.rises i p at);
           },
         )

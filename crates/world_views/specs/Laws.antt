@@ -1,5 +1,5 @@
 -- What follows from the rule, over the views of groups of every size.
-use Rattle.std.specs.Prelude.{◌≡◌, ◌⊎◌, ◌+◌, ◌≤◌, ℕ, suc, pred, Bool, List, [], ◌++◌, length, take, Some, slice_get}
+use Rattle.std.specs.Prelude.{◌≡◌, ◌⊎◌, ◌≤◌, ℕ, suc, pred, Bool, List, [], ◌∷◌, ◌++◌, length, take, Some, slice_get}
 use Rattle.irc_line.specs.Lines.{Parts}
 use Rattle.machine_laws.specs.Runs.{all_effects}
 use Rattle.raft_log.specs.declared.entry.Entry.{Entry}
@@ -113,13 +113,16 @@ module _ (M : Machine) where
       (e : Entry M.Body) × (item (agreed_over before views es) place ≡ Some e)
       × (effects ≡ leaving M (suc i) (runs M v (start v) (take m v.turns)) (M.effects (history (take (pred place) (agreed_over before views es))) place e.body))
 
-  -- no more effects of a kind leave two nodes together than the agreed list brings about
-  abbrev pub TwoLeaveNoMore : List (Event M) → List (ViewOf M) → Type 0
-  TwoLeaveNoMore before views =
+  -- the effects that left all nodes
+  abbrev pub left_by_all : List (ViewOf M) → List M.Effect
+  left_by_all [] = []
+  left_by_all (v ∷ views) = left_of M (outs_of M v) ++ left_by_all views
+
+  -- no more effects of a kind leave all nodes together than the agreed list brings about
+  abbrev pub AllLeaveNoMore : List (Event M) → List (ViewOf M) → Type 0
+  AllLeaveNoMore before views =
       (es : List (PlacedOf M)) → IsHistory M before views es →
-      (i j : ℕ) (v w : ViewOf M) (test : M.Effect → Bool) → IsAt views i v → IsAt views j w → (i ≡ j → ⊥) →
-      count test (left_of M (outs_of M v)) + count test (left_of M (outs_of M w))
-      ≤ count test (all_effects M.effects (history (agreed_over before views es)))
+      (test : M.Effect → Bool) → count test (left_by_all views) ≤ count test (all_effects M.effects (history (agreed_over before views es)))
 
   -- over every list of events the numbers that are handed upstream are all different
   abbrev pub HandsOnce : Type 0

@@ -8,7 +8,7 @@ mod node_event;
 mod one_history;
 
 pub use envelope::Envelope;
-pub use handed_apart::{no_number_is_handed_by_two_nodes, two_nodes_leave_no_more_than_is_agreed};
+pub use handed_apart::{no_more_leaves_than_is_agreed, no_number_is_handed_by_two_nodes};
 pub use merged_records::{records_merge, what_was_sent_is_not_read};
 pub use node_event::{NodeEvent, NodeInput};
 pub use one_history::{

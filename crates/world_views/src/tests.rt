@@ -10,7 +10,7 @@ fn the_laws_hold_of_the_toy_machine(_rt: HostRuntime) -> Result<(), Fail> {
     views_have_one_history::<Toy>();
     committed_lists_agree::<Toy>();
     turns_are_events_of_the_history::<Toy>();
-    two_nodes_leave_no_more_than_is_agreed::<Toy>();
+    no_more_leaves_than_is_agreed::<Toy>();
     no_number_is_handed_by_two_nodes::<Toy>();
     Ok(())
 }
