@@ -99,7 +99,8 @@ module _ (M : Machine) where
   pub looks_are_agreed : (before : List (Event M)) (views : List (ViewOf M)) → LooksAreAgreed M before views
   looks_are_agreed before views es h i m d from place target lines v at_v at_t at_o =
       let e = turns_are_events before views es h i m v (d, Look from target) (Looked place lines) at_v at_t at_o in
-      looks_are_faithful M (length views) (whole M before views es) e.place (suc i) from place target lines e.event e.out
+      let r = looks_are_faithful M (length views) (whole M before views es) e.place (suc i) from place target lines e.event e.out in
+      record { late = r.0; within = r.1; played = r.2 }
 
   -- the node at a moment is that of the view, but for what was sent
   now_is : (w u : List (Node M.Body)) (i : ℕ) (s : Node M.Body) (o : Option (ℕ × Node M.Body)) (ts : List (TurnOf M)) (m : ℕ) (t : TurnOf M) → RisesFrom o ts → get_elem? ts m ≡ some t
@@ -112,6 +113,8 @@ module _ (M : Machine) where
       let e = turns_are_events before views es h i m v (d, Does Apply) (Left place effects) at_v at_t at_o in
       let w : List (Node M.Body) = first_world M before views in
       let s : Node M.Body = runs M v (start v) (take m v.turns) in
+      let r =
       apply_is_faithful M (length views) (whole M before views es) e.place (suc i) place effects (sent_first (sent_in w (suc i)) s) e.event
       (now_is w (moment M (length views) (whole M before views es) (pred e.place)) (suc i) s v.opened v.turns m (d, Does Apply) (a.tickets.rises i v at_v) at_t e.state)
-      e.out
+      e.out in
+      record { entry = r.0; stands = r.1; left = r.2 }

@@ -1,16 +1,14 @@
 -- What follows from the rule, over the views of groups of every size.
-use Rattle.std.specs.Prelude.{◌≡◌, ◌⊎◌, ◌≤◌, ℕ, suc, pred, Bool, List, [], ◌∷◌, ◌++◌, length, take, Some, slice_get}
+use Rattle.std.specs.Prelude.{◌≡◌, ◌⊎◌, ◌≤◌, ℕ, suc, Bool, List, [], ◌∷◌, ◌++◌, length, take, Some, slice_get}
 use Rattle.irc_line.specs.Lines.{Parts}
 use Rattle.machine_laws.specs.Runs.{all_effects}
-use Rattle.raft_log.specs.declared.entry.Entry.{Entry}
 use Rattle.raft_log.specs.declared.message.Message.{Message}
-use Rattle.raft_log.specs.Lists.{item}
 use Rattle.raft_log.specs.Node.{Node}
 use Rattle.raft_node.specs.Machine.{Machine, history}
 use Rattle.raft_node.specs.Sound.{sent_first}
-use Rattle.raft_node.specs.Steps.{Left, Looked, Out, leaving}
+use Rattle.raft_node.specs.Steps.{Left, Looked, Out}
 use Rattle.agreement.specs.World.{Begins}
-use Rattle.world_run.specs.World.{Event, agreed, count, handed, left_of}
+use Rattle.world_run.specs.World.{Event, count, handed, left_of}
 use Rattle.world_views.specs.declared.node_event.NodeEvent.TheVariants.{Does, Look}
 use Rattle.world_views.specs.declared.node_event.NodeInput.TheVariants.{Apply}
 use Rattle.world_views.specs.Views.{IsAt, IsOpened, start}
@@ -18,7 +16,7 @@ use Rattle.world_views.specs.Own.{EventOf, TurnOf, ViewOf, own_out, own_state, r
 use Rattle.world_views.specs.Rule.{AreHonest, IsRule}
 use Rattle.world_views.specs.Merged.{IsMerged, PlacedOf}
 use Rattle.world_views.specs.Openings.{HeldAfter, OpenedAfter, WereNew, restarts, whole}
-use Rattle.world_views.specs.Outputs.{IsEvent, IsHistory, handed_by, outs_of}
+use Rattle.world_views.specs.Outputs.{HasLeft, IsEvent, IsHistory, IsPlayed, agreed_over, handed_by, outs_of}
 
 -- no two of these numbers are the same
 abbrev pub AllDiffer : List (ℕ × Parts) → Type 0
@@ -56,7 +54,8 @@ module _ (M : Machine) where
   -- stores that hold what a list of events leaves: that list comes before, and a restart of every node
   abbrev pub HeldStores : Type 0
   HeldStores =
-      (before : List (Event M)) (views : List (ViewOf M)) → HeldAfter M before views → OpenedAfter M (before ++ restarts M (length views)) views
+      (before : List (Event M)) (views : List (ViewOf M)) →
+      HeldAfter M before views → OpenedAfter M (before ++ restarts M (length views)) views
 
   -- both, which are the cases in which a caller knows where the openings come from
   abbrev pub OpeningsGoOn : Type 0
@@ -91,27 +90,21 @@ module _ (M : Machine) where
       (i m : ℕ) (v : ViewOf M) (t : TurnOf M) (o : Out M) → IsAt views i v → IsAt v.turns m t → IsAt (outs_of M v) m o →
       IsEvent M before views es i m v t o
 
-  -- the entries that are agreed over the one history
-  abbrev pub agreed_over : List (Event M) → List (ViewOf M) → List (PlacedOf M) → List (Entry M.Body)
-  agreed_over before views es = agreed M (length views) (whole M before views es)
-
-  -- a look that a view answered at a place played what the first bodies of the agreed list come to
+  -- a look that a view answered played what the first bodies of the agreed list come to
   abbrev pub LooksAreAgreed : List (Event M) → List (ViewOf M) → Type 0
   LooksAreAgreed before views =
       (es : List (PlacedOf M)) → IsHistory M before views es →
       (i m d from place : ℕ) (target : M.Target) (lines : List M.Played) (v : ViewOf M) →
       IsAt views i v → IsAt v.turns m (d, Look from target) → IsAt (outs_of M v) m (Looked place lines) →
-      (from ≤ place) × (place ≤ length (agreed_over before views es))
-      × (lines ≡ M.playback (history (take place (agreed_over before views es))) target)
+      IsPlayed M (agreed_over M before views es) from place target lines
 
-  -- what left a view's node where it applied a place is what the agreed list brings about there, as far as it leaves that node as it then was
+  -- what left a view's node where it applied a place is what the agreed list brings about there, as far as it leaves the node as it then was
   abbrev pub AppliesAreAgreed : List (Event M) → List (ViewOf M) → Type 0
   AppliesAreAgreed before views =
       (es : List (PlacedOf M)) → IsHistory M before views es →
       (i m d place : ℕ) (effects : List M.Effect) (v : ViewOf M) →
       IsAt views i v → IsAt v.turns m (d, Does Apply) → IsAt (outs_of M v) m (Left place effects) →
-      (e : Entry M.Body) × (item (agreed_over before views es) place ≡ Some e)
-      × (effects ≡ leaving M (suc i) (runs M v (start v) (take m v.turns)) (M.effects (history (take (pred place) (agreed_over before views es))) place e.body))
+      HasLeft M (agreed_over M before views es) (suc i) (runs M v (start v) (take m v.turns)) place effects
 
   -- the effects that left all nodes
   abbrev pub left_by_all : List (ViewOf M) → List M.Effect
@@ -122,7 +115,8 @@ module _ (M : Machine) where
   abbrev pub AllLeaveNoMore : List (Event M) → List (ViewOf M) → Type 0
   AllLeaveNoMore before views =
       (es : List (PlacedOf M)) → IsHistory M before views es →
-      (test : M.Effect → Bool) → count test (left_by_all views) ≤ count test (all_effects M.effects (history (agreed_over before views es)))
+      (test : M.Effect → Bool) →
+      count test (left_by_all views) ≤ count test (all_effects M.effects (history (agreed_over M before views es)))
 
   -- over every list of events the numbers that are handed upstream are all different
   abbrev pub HandsOnce : Type 0
@@ -133,7 +127,8 @@ module _ (M : Machine) where
   HandedApart before views =
       HandsOnce →
       ((i : ℕ) (v : ViewOf M) → IsAt views i v → AllDiffer (handed_by M v))
-      × ((i j : ℕ) (v w : ViewOf M) → IsAt views i v → IsAt views j w → (i ≡ j → ⊥) → NoneInBoth (handed_by M v) (handed_by M w))
+      × ((i j : ℕ) (v w : ViewOf M) → IsAt views i v → IsAt views j w → (i ≡ j → ⊥) →
+      NoneInBoth (handed_by M v) (handed_by M w))
 
   -- What two views of one group have together, where the openings are as the events `before` leave the nodes: one history of the
   -- group, committed lists of which one begins the other, and no number that both handed upstream.
