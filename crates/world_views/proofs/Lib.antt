@@ -8,3 +8,4 @@ pub mod Along
 pub mod Openings
 pub mod Turns
 pub mod Handing
+pub mod Cases

@@ -15,7 +15,7 @@ use Rattle.world_views.specs.Views.{IsAt, IsOpened, start}
 use Rattle.world_views.specs.Own.{EventOf, TurnOf, ViewOf, own_out, own_state, runs, state_at}
 use Rattle.world_views.specs.Rule.{AreHonest, IsRule}
 use Rattle.world_views.specs.Merged.{IsMerged, PlacedOf}
-use Rattle.world_views.specs.Openings.{HeldAfter, OpenedAfter, WereNew, restarts, whole}
+use Rattle.world_views.specs.Openings.{HeldAfter, OpenedAfter, WereNew, restarts}
 use Rattle.world_views.specs.Outputs.{HasLeft, IsEvent, IsHistory, IsPlayed, agreed_over, handed_by, outs_of}
 
 -- no two of these numbers are the same
