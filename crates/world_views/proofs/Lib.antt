@@ -1,5 +1,6 @@
 pub mod Places
 pub mod Tickets
+pub mod Unique
 pub mod Sent
 pub mod Runs
 pub mod Merging

@@ -1,5 +1,5 @@
 -- What follows from the rule, over the views of groups of every size.
-use Rattle.std.specs.Prelude.{◌≡◌, ◌⊎◌, ◌≤◌, ℕ, suc, Bool, List, [], ◌∷◌, ◌++◌, length, take, Some, slice_get}
+use Rattle.std.specs.Prelude.{◌≡◌, ◌⊎◌, ◌≤◌, ℕ, suc, Bool, List, [], ◌∷◌, ◌++◌, length, map, take, Some, slice_get}
 use Rattle.irc_line.specs.Lines.{Parts}
 use Rattle.machine_laws.specs.Runs.{all_effects}
 use Rattle.raft_log.specs.declared.message.Message.{Message}
@@ -14,7 +14,7 @@ use Rattle.world_views.specs.declared.node_event.NodeInput.TheVariants.{Apply}
 use Rattle.world_views.specs.Views.{IsAt, IsOpened, start}
 use Rattle.world_views.specs.Own.{EventOf, TurnOf, ViewOf, own_out, own_state, runs, state_at}
 use Rattle.world_views.specs.Rule.{AreHonest, IsRule}
-use Rattle.world_views.specs.Merged.{IsMerged, PlacedOf}
+use Rattle.world_views.specs.Merged.{AreInOrder, IsMerged, Placed, PlacedOf, turn_of, turns_of}
 use Rattle.world_views.specs.Openings.{HeldAfter, OpenedAfter, WereNew, restarts}
 use Rattle.world_views.specs.Outputs.{HasLeft, IsEvent, IsHistory, IsPlayed, agreed_over, handed_by, outs_of}
 
@@ -31,6 +31,12 @@ NoneInBoth lines more =
 -- of what two nodes commit one list begins the other
 abbrev pub AgreeTo : {B : Type 0} → Node B → Node B → Type 0
 AgreeTo s t = Begins (take s.commit s.log) (take t.commit t.log) ⊎ Begins (take t.commit t.log) (take s.commit s.log)
+
+-- lists in order of ticket that have the same turns of each node are one list, so records are merged in one way
+abbrev pub MergedIsOne : (B L T : Type 0) → Type 0
+MergedIsOne B L T =
+    (es fs : List (Placed B L T)) → AreInOrder (map turn_of es) → AreInOrder (map turn_of fs) →
+    ((i : ℕ) → turns_of i es ≡ turns_of i fs) → es ≡ fs
 
 module _ (M : Machine) where
   -- What happens to a node, and what comes out, is the same whatever it had sent before: each event only adds to that.

@@ -1,5 +1,5 @@
 //! That the records of all nodes are one list of events, which leads to the nodes' states.
-ghost use Rattle.world_views.specs.Laws.{RecordsMerge, SentIsNotRead};
+ghost use Rattle.world_views.specs.Laws.{MergedIsOne, RecordsMerge, SentIsNotRead};
 
 use machine_laws::Hosted;
 use raft_node::Described;
@@ -14,4 +14,9 @@ pub fn what_was_sent_is_not_read<M: Hosted>()
 /// that it brings was sent before. A node that was not opened stays, whatever it is.
 pub fn records_merge<M: Hosted>()
     ensures { (s : M.Setup) → RecordsMerge (⟦<M as Described>⟧.machine s) }
+{}
+
+/// There is one such list: two lists of events, each by rising ticket, that have the same turns of each node are the same.
+pub fn records_merge_in_one_way<M: Hosted>()
+    ensures { MergedIsOne M.Command M.Line M.Target }
 {}

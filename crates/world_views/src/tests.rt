@@ -6,6 +6,7 @@ use toy_machine::Toy;
 fn the_laws_hold_of_the_toy_machine(_rt: HostRuntime) -> Result<(), Fail> {
     what_was_sent_is_not_read::<Toy>();
     records_merge::<Toy>();
+    records_merge_in_one_way::<Toy>();
     openings_go_on_from_events::<Toy>();
     views_have_one_history::<Toy>();
     committed_lists_agree::<Toy>();
