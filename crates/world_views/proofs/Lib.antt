@@ -1,0 +1,12 @@
+pub mod Places
+pub mod Tickets
+pub mod Unique
+pub mod Sent
+pub mod Runs
+pub mod Merging
+pub mod Histories
+pub mod Along
+pub mod Openings
+pub mod Turns
+pub mod Handing
+pub mod Cases

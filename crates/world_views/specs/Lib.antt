@@ -1,0 +1,7 @@
+pub mod Views
+pub mod Own
+pub mod Rule
+pub mod Merged
+pub mod Openings
+pub mod Outputs
+pub mod Laws
