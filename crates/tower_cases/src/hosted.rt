@@ -1,5 +1,5 @@
 //! Worked cases of what a node has to know of bodies and effects.
-use crate::towers::{ATTACH, CLAIM, HEARD, OPENED, SAY, answered, bodies, body};
+use crate::towers::{ATTACH, CLAIM, HEARD, OPENED, SAY, SHUT, answered, bodies, body};
 use bouncer_tower::{Tower, TowerBody};
 use irc_line::Name;
 use machine_laws::{Hosted, Source};
@@ -10,54 +10,99 @@ use wire_bytes::{Mark, Number, Origin, SessionId, Wire};
 /// The bytes of the mark 7 of the run 1 of node 1.
 const MARK: &[u8] = b"\x03\x01\0\0\0\0\0\0\0\x01\0\0\0\0\0\0\0\x07";
 
+/// The bytes of a blank body.
+const BLANK: &[u8] = b"\x02";
+
+/// The bytes of the body that says that node 2 is gone, up to its run 5.
+const GONE: &[u8] = b"\0\0\0\x03\x02\0\0\0\0\0\0\0\x05";
+
+const PLAYED: &[u8] = b":***!bouncer@local PRIVMSG #x :Buffer Playback...\n\
+    :a!b@c PRIVMSG #x :[22:13:20] w\n\
+    :***!bouncer@local PRIVMSG #x :Playback Complete.\n";
+
 /// A tower to which these bodies came.
 fn tower_after(alloc: Global, spelled: &[&[u8]]) -> Result<Tower, Fail> {
     let (tower, _) = answered(alloc, &bodies(alloc, spelled)?)?;
     Ok(tower)
 }
 
+/// The number of the line that is to be claimed next after these bodies.
+fn claim_after(alloc: Global, spelled: &[&[u8]]) -> Result<Option<Number>, Fail> {
+    Ok(tower_after(alloc, spelled)?.next_claim())
+}
+
 #[test]
 fn the_next_claim_is_of_the_first_line_that_waits(rt: HostRuntime) -> Result<(), Fail> {
-    let waiting = tower_after(rt.alloc(), &[OPENED, ATTACH, SAY])?;
-    assert_eq!(rt; waiting.next_claim(), Some(Number::new(1)));
-    let claimed = tower_after(rt.alloc(), &[OPENED, ATTACH, SAY, CLAIM])?;
-    assert_eq!(rt; claimed.next_claim(), None);
+    let waiting = claim_after(rt.alloc(), &[OPENED, ATTACH, SAY])?;
+    assert_eq!(rt; waiting, Some(Number::new(1)));
+    let claimed = claim_after(rt.alloc(), &[OPENED, ATTACH, SAY, CLAIM])?;
+    assert_eq!(rt; claimed, None);
     Ok(())
+}
+
+/// What a tower plays of a target, a line each.
+fn played(alloc: Global, tower: &Tower, name: &Name) -> Result<Vec<u8>, Fail> {
+    let mut out = Vec::new(alloc);
+    for line in &tower.playback(name)? {
+        out.extend_from_slice(line.spelling())?;
+        out.push(b'\n')?;
+    }
+    Ok(out)
+}
+
+/// What is played of the channel `#x` after a line there, once or twice.
+fn played_after_a_line(alloc: Global, times: u8) -> Result<Vec<u8>, Fail> {
+    let tower = tower_after(alloc, &[OPENED, HEARD])?;
+    let name = Name::from_bytes(Vec::from_slice(alloc, b"#X")?).ok_or("name")?;
+    let mut last = Vec::new(alloc);
+    for _ in 0..times {
+        last = played(alloc, &tower, &name)?;
+    }
+    Ok(last)
 }
 
 #[test]
 fn what_is_kept_is_played_without_emptying_it(rt: HostRuntime) -> Result<(), Fail> {
-    let tower = tower_after(rt.alloc(), &[OPENED, HEARD])?;
-    let name = Name::from_bytes(Vec::from_slice(rt.alloc(), b"#X")?).ok_or("name")?;
-    assert_eq!(rt; tower.playback(&name)?.len(), 3);
-    let played = tower.playback(&name)?;
-    let line = played.get(1).ok_or("line")?;
-    assert_eq!(rt;
-        line.spelling(),
-        b":a!b@c PRIVMSG #x :[22:13:20] w".as_slice()
-    );
+    for times in [1, 2] {
+        let text = played_after_a_line(rt.alloc(), times)?;
+        assert_eq!(rt; text.as_slice(), PLAYED);
+    }
     Ok(())
+}
+
+/// The session 1.1 is opened, shut, and claims the first line.
+fn opened(alloc: Global) -> Result<Vec<u8>, AllocError> {
+    spelled(alloc, &Tower::opened(SessionId::new(1, 1)))
+}
+
+fn shut(alloc: Global) -> Result<Vec<u8>, AllocError> {
+    spelled(alloc, &Tower::shut(SessionId::new(1, 1)))
+}
+
+fn claim(alloc: Global) -> Result<Vec<u8>, AllocError> {
+    spelled(alloc, &Tower::claim(SessionId::new(1, 1), Number::new(1)))
 }
 
 #[test]
 fn the_bodies_of_a_session_are_made(rt: HostRuntime) -> Result<(), Fail> {
-    let id = SessionId::new(1, 1);
-    let mut out = Vec::new(rt.alloc());
-    Tower::opened(id).put(&mut out)?;
-    Tower::shut(id).put(&mut out)?;
-    Tower::claim(id, Number::new(1)).put(&mut out)?;
-    let want =
-        b"\0\0\x01\0\0\0\0\0\0\0\x01\0\0\0\0\0\0\0\x01\0\0\x02\0\0\0\0\0\0\0\x01\0\0\0\0\0\0\0\x01\0\x01\0\0\0\0\0\0\0\x01\0\0\0\0\0\0\0\x01\0\0\0\0\0\0\0\x01";
-    assert_eq!(rt; out.as_slice(), want.as_slice());
+    assert_eq!(rt; opened(rt.alloc())?.as_slice(), OPENED);
+    assert_eq!(rt; shut(rt.alloc())?.as_slice(), SHUT);
+    assert_eq!(rt; claim(rt.alloc())?.as_slice(), CLAIM);
     Ok(())
+}
+
+/// The source of the body that these bytes spell.
+fn source_of(alloc: Global, bytes: &[u8]) -> Result<Source, Fail> {
+    Ok(Tower::source(&body(alloc, bytes)?))
 }
 
 #[test]
 fn each_body_has_its_source(rt: HostRuntime) -> Result<(), Fail> {
-    let asked = Tower::source(&body(rt.alloc(), ATTACH)?);
-    assert!(rt; asked == Source::Client(Origin::new(1, 1, 1)));
-    assert!(rt; Tower::source(&Tower::node_gone(2, Number::new(5))) == Source::Node);
-    assert!(rt; Tower::source(&Tower::shut(SessionId::new(1, 1))) == Source::Leader);
+    assert!(rt; source_of(rt.alloc(), ATTACH)? == Source::Client(Origin::new(1, 1, 1)));
+    assert!(rt; source_of(rt.alloc(), GONE)? == Source::Node);
+    assert!(rt; source_of(rt.alloc(), SHUT)? == Source::Leader);
+    assert!(rt; source_of(rt.alloc(), BLANK)? == Source::Leader);
+    assert!(rt; source_of(rt.alloc(), MARK)? == Source::Run(1, 1));
     Ok(())
 }
 
@@ -81,7 +126,7 @@ fn spelled(alloc: Global, body: &TowerBody) -> Result<Vec<u8>, AllocError> {
 #[test]
 fn a_blank_has_one_spelling(rt: HostRuntime) -> Result<(), Fail> {
     let bytes = spelled(rt.alloc(), &Tower::blank())?;
-    assert_eq!(rt; bytes.as_slice(), b"\x02".as_slice());
+    assert_eq!(rt; bytes.as_slice(), BLANK);
     Ok(())
 }
 
@@ -89,14 +134,5 @@ fn a_blank_has_one_spelling(rt: HostRuntime) -> Result<(), Fail> {
 fn a_mark_has_one_spelling(rt: HostRuntime) -> Result<(), Fail> {
     let bytes = spelled(rt.alloc(), &Tower::mark(mark_of(1)))?;
     assert_eq!(rt; bytes.as_slice(), MARK);
-    Ok(())
-}
-
-#[test]
-fn a_run_brings_its_marks_and_the_leader_a_blank(rt: HostRuntime) -> Result<(), Fail> {
-    let mark = body(rt.alloc(), MARK)?;
-    assert!(rt; Tower::source(&mark) == Source::Run(1, 1));
-    assert!(rt; Tower::source(&Tower::mark(mark_of(9))) == Source::Run(9, 1));
-    assert!(rt; Tower::source(&Tower::blank()) == Source::Leader);
     Ok(())
 }
