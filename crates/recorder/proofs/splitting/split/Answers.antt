@@ -1,7 +1,7 @@
 use Rattle.std.proofs.Common.{◌+◌, ◌-◌, length, length-drop, take, drop, arith, sym, ◌∙◌, ◌≡◌}
 use Rattle.std.proofs.lemmas.List.{take_all}
 use Rattle.recorder.proofs.Splits.{found}
-use Rattle.recorder.proofs.split.split.Goals as goal
+use Rattle.recorder.proofs.splitting.split.Goals as goal
 
 pub returns-in-Some : goal.returns-in-Some
 returns-in-Some c =
