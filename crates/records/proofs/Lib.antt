@@ -1,0 +1,4 @@
+pub mod Comparing
+pub mod LineFronts
+pub mod ItemSteps
+pub mod TurnSteps

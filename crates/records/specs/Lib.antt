@@ -1,0 +1,4 @@
+pub mod Merging
+pub mod Verdicts
+pub mod RecordText
+pub mod RecordReading
