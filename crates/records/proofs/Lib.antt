@@ -2,3 +2,5 @@ pub mod Comparing
 pub mod LineFronts
 pub mod ItemSteps
 pub mod TurnSteps
+pub mod VerdictSteps
+pub mod OneReading

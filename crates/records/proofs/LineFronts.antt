@@ -10,7 +10,7 @@ use Rattle.recorder.proofs.Splits.{joined, number_lacks, parts}
 
 -- Over values with a text that holds no LF
 module _ {A : Type 0} (text : A → List ℕ) (fits : A → Type 0) (lacks : (a : A) → fits a → split_at 10 (text a) ≡ None) where
-  falls : (p : A × List ℕ) (rest : List ℕ) → fits p.0 → text p.0 ++ 10 ∷ p.1 ≡ rest → split_at 10 rest ≡ Some (text p.0, p.1)
+  pub falls : (p : A × List ℕ) (rest : List ℕ) → fits p.0 → text p.0 ++ 10 ∷ p.1 ≡ rest → split_at 10 rest ≡ Some (text p.0, p.1)
   falls p rest f t = subst (λ (r : List ℕ). split_at 10 r ≡ Some (text p.0, p.1)) t (joined 10 (text p.0) p.1 (lacks p.0 f))
 
   -- the value of the first line, and what follows the line

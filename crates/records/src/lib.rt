@@ -3,6 +3,7 @@
 #![tactic(auto)]
 
 mod items;
+mod laws;
 mod merging;
 mod output;
 mod reading;
@@ -11,6 +12,7 @@ mod replay_fault;
 mod verdict;
 mod writing;
 
+pub use laws::{a_file_is_of_one_record, a_verdict_is_of_the_lines};
 pub use merging::merge;
 pub use reading::{Recording, parse_record};
 pub use record::{Merged, Record, Turn};

@@ -13,7 +13,8 @@ use world_events::{Event, Input};
 use world_run::Outcome;
 
 /// A run of three nodes, of which one is recorded, over a setup that is spelled in one byte.
-const TEXT: &[u8] = b"RBREC01 3\n2a\ntimeout 1\nclaim 1\noutputs\n2 1 refused 5 NoLeader\nnode 1 candidate term 1 vote 1 log 2 last 0 commit 0 applied 0\n";
+const TEXT: &[u8] =
+    b"RBREC01 3\n2a\ntimeout 1\nclaim 1\noutputs\n2 1 refused 5 NoLeader\nnode 1 candidate term 1 vote 1 log 2 last 0 commit 0 applied 0\n";
 
 /// What node 1 is when it asked for votes once.
 fn candidate() -> NodeFields {
@@ -29,11 +30,7 @@ fn candidate() -> NodeFields {
 }
 
 /// A node's record, of turns that are letters with a ticket each.
-fn letters(
-    alloc: Global,
-    node: NodeId,
-    turns: &[(u64, u8)],
-) -> Result<Record<u8, u8>, AllocError> {
+fn letters(alloc: Global, node: NodeId, turns: &[(u64, u8)]) -> Result<Record<u8, u8>, AllocError> {
     let mut all = Vec::new(alloc);
     for (ticket, letter) in turns {
         all.push(Turn {
@@ -123,7 +120,10 @@ fn the_first_line_begins_with_the_version(rt: HostRuntime) -> Result<(), Fail> {
     let alloc = rt.alloc();
     assert_eq!(rt; fault(alloc, b""), Some(ReplayFault::Version));
     assert_eq!(rt; fault(alloc, b"RBREC01\n"), Some(ReplayFault::Version));
-    assert_eq!(rt; fault(alloc, b"RBREC02 3\n2a\noutputs\n"), Some(ReplayFault::Version));
+    assert_eq!(rt;
+        fault(alloc, b"RBREC02 3\n2a\noutputs\n"),
+        Some(ReplayFault::Version)
+    );
     Ok(())
 }
 
@@ -131,20 +131,38 @@ fn the_first_line_begins_with_the_version(rt: HostRuntime) -> Result<(), Fail> {
 fn the_first_bad_line_is_told(rt: HostRuntime) -> Result<(), Fail> {
     let alloc = rt.alloc();
     assert_eq!(rt; fault(alloc, b"RBREC01 3"), Some(ReplayFault::BadLine(1)));
-    assert_eq!(rt; fault(alloc, b"RBREC01 03\n2a\noutputs\n"), Some(ReplayFault::BadLine(1)));
+    assert_eq!(rt;
+        fault(alloc, b"RBREC01 03\n2a\noutputs\n"),
+        Some(ReplayFault::BadLine(1))
+    );
     assert_eq!(rt; fault(alloc, b"RBREC01 4\n"), Some(ReplayFault::BadLine(1)));
     assert_eq!(rt; fault(alloc, b"RBREC01 3\n"), Some(ReplayFault::BadLine(2)));
-    assert_eq!(rt; fault(alloc, b"RBREC01 3\n2A\n"), Some(ReplayFault::BadLine(2)));
+    assert_eq!(rt;
+        fault(alloc, b"RBREC01 3\n2A\n"),
+        Some(ReplayFault::BadLine(2))
+    );
     Ok(())
 }
 
 #[test]
 fn a_file_without_outputs_is_bad_behind_its_last_line(rt: HostRuntime) -> Result<(), Fail> {
     let alloc = rt.alloc();
-    assert_eq!(rt; fault(alloc, b"RBREC01 3\n2a\n"), Some(ReplayFault::BadLine(3)));
-    assert_eq!(rt; fault(alloc, b"RBREC01 3\n2a\nbeat 1\n"), Some(ReplayFault::BadLine(4)));
-    assert_eq!(rt; fault(alloc, b"RBREC01 3\n2a\noutputs"), Some(ReplayFault::BadLine(3)));
-    assert_eq!(rt; fault(alloc, b"RBREC01 3\n2a\nbeat 8\nno"), Some(ReplayFault::BadLine(3)));
+    assert_eq!(rt;
+        fault(alloc, b"RBREC01 3\n2a\n"),
+        Some(ReplayFault::BadLine(3))
+    );
+    assert_eq!(rt;
+        fault(alloc, b"RBREC01 3\n2a\nbeat 1\n"),
+        Some(ReplayFault::BadLine(4))
+    );
+    assert_eq!(rt;
+        fault(alloc, b"RBREC01 3\n2a\noutputs"),
+        Some(ReplayFault::BadLine(3))
+    );
+    assert_eq!(rt;
+        fault(alloc, b"RBREC01 3\n2a\nbeat 8\nno"),
+        Some(ReplayFault::BadLine(3))
+    );
     Ok(())
 }
 
