@@ -1,5 +1,5 @@
 //! `bouncer`: folds numbered commands into what the clients of a bouncer are shown, and runs events over
-//! the nodes of one.
+//! the nodes of one, again too where they were recorded.
 #![tactic(auto)]
 
 mod fault;
@@ -20,25 +20,32 @@ mod tests;
 
 use crate::fault::FoldFault;
 use crate::fold::fold;
+use records::Verdict;
 use std::env::{Args, args};
 use std::fmt::Display;
+use std::fs;
 use std::io;
 use std::io::ErrorKind;
 use std::process::ExitCode;
-use world_app::{size_of, world};
+use world_app::{RecordFault, replay_record, size_of, world};
 
 const USAGE: &str = "usage: bouncer [fold | world N | replay FILE | run CONFIG]";
 
+/// The exit code where a record differs from a run of its events.
+const DIFFERS: u8 = 3;
+
 /// What the program is asked to do.
-#[derive(Clone, Copy)]
+#[derive(Drop)]
 enum Task {
     Fold,
     /// To run events over so many nodes.
     World(u32),
+    /// To run what is recorded in the file of this path again.
+    Replay(String),
 }
 
 /// What the words, the program's name first, ask for: a fold where none follows, or `fold` alone; the
-/// events of a world where `world` and a number follow.
+/// events of a world where `world` and a number follow; a record's where `replay` and a path do.
 fn asked(words: Args) -> Option<Task> {
     let mut words = words.skip(1);
     let Some(word) = words.next() else {
@@ -47,6 +54,7 @@ fn asked(words: Args) -> Option<Task> {
     let task = match word.as_str() {
         "fold" => Task::Fold,
         "world" => Task::World(size_of(words.next()?.as_str())?),
+        "replay" => Task::Replay(words.next()?),
         _ => return None,
     };
     if words.next().is_some() {
@@ -72,6 +80,24 @@ fn run_world(rt: &HostRuntime, size: u32) -> ExitCode {
     }
 }
 
+/// Runs what is recorded in a file again. The exit code is 0 where the same comes out, 3 where it does not,
+/// or 1 with the fault on standard error.
+fn run_replay(rt: &HostRuntime, path: &str) -> ExitCode {
+    let mut file = match fs::open(rt, path) {
+        Ok(file) => file,
+        Err(error) => if error.kind() == ErrorKind::OutOfMemory {
+            return failed(rt, FoldFault::Memory);
+        } else {
+            return failed(rt, RecordFault::Read);
+        },
+    };
+    match replay_record(rt.alloc(), &mut file, &mut io::writer(rt)) {
+        Ok(Verdict::Same) => ExitCode::SUCCESS,
+        Ok(Verdict::Differs(_)) => ExitCode::from(DIFFERS),
+        Err(fault) => failed(rt, fault),
+    }
+}
+
 /// Tells a fault. Where standard error takes nothing, the exit code tells it alone.
 fn failed<F: Display + Drop>(rt: &HostRuntime, fault: F) -> ExitCode {
     let _ = eprintln!(rt; "bouncer: {fault}");
@@ -89,6 +115,7 @@ fn main(rt: HostRuntime) -> ExitCode {
         Ok(words) => match asked(words) {
             Some(Task::Fold) => run_fold(&rt),
             Some(Task::World(size)) => run_world(&rt, size),
+            Some(Task::Replay(path)) => run_replay(&rt, path.as_str()),
             None => usage(&rt),
         },
         Err(error) => if error.kind() == ErrorKind::OutOfMemory {

@@ -37,7 +37,7 @@ module _ {B : Type 0} (spelled : B → List ℕ) (fits : B → Type 0) where
       omega (arith, ap length t, length-append line more, length-append (text_of_event spelled fits e) (10 ∷ []))
 
   -- texts of events with more behind each that begins with no event's line: as many events, and the same behind them
-  same_ends : (a b : List (Event B Parts (List ℕ))) (r s : List ℕ) → FitEvents spelled fits a → FitEvents spelled fits b → text_of_events spelled fits a ++ r ≡ text_of_events spelled fits b ++ s
+  pub same_ends : (a b : List (Event B Parts (List ℕ))) (r s : List ℕ) → FitEvents spelled fits a → FitEvents spelled fits b → text_of_events spelled fits a ++ r ≡ text_of_events spelled fits b ++ s
       → Ends r → Ends s → (length a ≡ length b) × (r ≡ s)
   same_ends [] [] r s h k t p q = (refl, t)
   same_ends [] (f ∷ b) r s h k t p q = absurd (p f (text_of_events spelled fits b ++ s) (first_fits f b k) (sym (t ∙ append_assoc (event_line spelled spelling f) (text_of_events spelled fits b) s)))
@@ -63,7 +63,7 @@ module _ {B : Type 0} (spelled : B → List ℕ) (fits : B → Type 0) where
 
 -- Over bodies of which no two have one spelling
 module _ {B : Type 0} (spelled : B → List ℕ) (fits : B → Type 0) (own : (a b : B) → fits a → fits b → spelled a ≡ spelled b → a ≡ b) where
-  one_list : (a b : List (Event B Parts (List ℕ))) → FitEvents spelled fits a → FitEvents spelled fits b → text_of_events spelled fits a ≡ text_of_events spelled fits b → a ≡ b
+  pub one_list : (a b : List (Event B Parts (List ℕ))) → FitEvents spelled fits a → FitEvents spelled fits b → text_of_events spelled fits a ≡ text_of_events spelled fits b → a ≡ b
   one_list [] [] h k t = refl
   one_list [] (f ∷ b) h k t = absurd (nothing_ends spelled fits f (text_of_events spelled fits b) (first_fits spelled fits f b k) (sym t))
   one_list (e ∷ a) [] h k t = absurd (nothing_ends spelled fits e (text_of_events spelled fits a) (first_fits spelled fits e a h) t)

@@ -57,7 +57,7 @@ name_lacks name h = tested_lack 10 is_name_byte name refl (and_right _ (list_all
 line_lacks : (p : Parts) → FitsLine p → split_at 10 (spelling p) ≡ None
 line_lacks p h = tested_lack 10 is_content_byte (spelling p) refl (line_content p h.0)
 
-digits_lack : (bytes : List ℕ) → IsBytes bytes → split_at 10 (encode_lower bytes) ≡ None
+pub digits_lack : (bytes : List ℕ) → IsBytes bytes → split_at 10 (encode_lower bytes) ≡ None
 digits_lack bytes are = tested_lack 10 is_hex_digit (encode_lower bytes) refl (list_all-from_AllPass is_hex_digit (encode_lower bytes) (decode_of-ok (encode_lower bytes) bytes (decode_of-encode_lower bytes are)).1)
 
 number_lack : (n : ℕ) → IsWord n → split_at 10 (decimal n) ≡ None
@@ -98,7 +98,7 @@ module _ {B : Type 0} (spelled : B → List ℕ) (fits : B → Type 0) where
   input_lacks : (x : Input B Parts (List ℕ)) → FitsInput spelled fits x → split_at 10 (text_of_input spelled fits x) ≡ None
   input_lacks x f = both_lack 10 (word (kind_of spelled spelling x)) (32 ∷ fields spelled spelling x) (word_lack (kind_of spelled spelling x)) (space_lacks (fields spelled spelling x) (fields_lack x f))
 
-  event_lacks : (e : Event B Parts (List ℕ)) → FitsEvent spelled fits e → split_at 10 (text_of_event spelled fits e) ≡ None
+  pub event_lacks : (e : Event B Parts (List ℕ)) → FitsEvent spelled fits e → split_at 10 (text_of_event spelled fits e) ≡ None
   event_lacks (Does x) f = input_lacks x f
   event_lacks (Restart n) f = both_lack 10 (codes "restart ") (decimal n) refl (number_lack n (node_small n f))
   event_lacks (StopIn x false) f = both_lack 10 (codes "stop before ") (text_of_input spelled fits x) refl (input_lacks x f)

@@ -6,7 +6,7 @@ ghost use Rattle.recorder.specs.Readings.{ReadsAs};
 
 use crate::fields::read_node;
 use crate::input::read_input;
-use crate::split::split;
+use crate::splitting::split;
 use buffer_commands::WireLine;
 use irc_line::{Name, is_same};
 use std::alloc::{AllocError, Global};

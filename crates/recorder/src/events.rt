@@ -5,7 +5,7 @@ ghost use Rattle.recorder.specs.Readings.{ReadsAs};
 
 use crate::event::read_event;
 use crate::events_fault::EventsFault;
-use crate::split::split;
+use crate::splitting::split;
 use buffer_commands::WireLine;
 use irc_line::Name;
 use std::alloc::{AllocError, Global};

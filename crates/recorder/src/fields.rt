@@ -3,7 +3,7 @@ ghost use Rattle.std.specs.Prelude.{◌≡◌, ◌≢◌, decimal, false, option
 ghost use Rattle.raft_log.specs.Lists.{IsNode};
 ghost use Rattle.recorder.specs.Readings.{IsWord, NodeFits, NumberFits, ReadsAs, node_text, number_text};
 
-use crate::split::split;
+use crate::splitting::split;
 use itoa::Buffer;
 use raft_log::NodeId;
 use std::str::from_utf8;

@@ -6,7 +6,7 @@ ghost use Rattle.recorder.specs.Readings.{ReadsAs};
 
 use crate::fields::{node_first, number_first, read_node, read_number};
 use crate::kind::Kind;
-use crate::split::split;
+use crate::splitting::split;
 use crate::words::{read_body, read_line, read_name};
 use buffer_commands::WireLine;
 use irc_line::Name;

@@ -10,7 +10,7 @@ mod input;
 mod kind;
 mod laws;
 mod node_line;
-mod split;
+mod splitting;
 mod words;
 mod writing;
 
@@ -21,5 +21,7 @@ pub use events_fault::EventsFault;
 pub use fields::read_number;
 pub use input::read_input;
 pub use laws::{no_two_lists_have_one_text, what_is_written_has_no_bad_line};
-pub use node_line::push_node;
-pub use writing::{push_event, push_input, push_number, write_events};
+pub use node_line::{NodeFields, push_fields, push_node};
+pub use splitting::split;
+pub use words::read_body;
+pub use writing::{push_body, push_event, push_input, push_number, write_events};

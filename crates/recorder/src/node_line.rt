@@ -1,14 +1,50 @@
 //! What a node is, as a line of text.
 ghost use Rattle.std.specs.Prelude.{◌≡◌, ◌++◌, [], decimal, OnOk};
-ghost use Rattle.raft_log.specs.Positions.{role_of};
 ghost use Rattle.raft_log.specs.Seen.{seen};
-ghost use Rattle.recorder.specs.NodeLines.{log_words, node_line, place_words, role_word};
+ghost use Rattle.recorder.specs.NodeLines.{fields_line, node_line, place_words, role_word};
 ghost use Rattle.recorder.specs.NodeLines.{term_words, vote_number};
 
 use crate::writing::push_number;
-use raft_log::{Log, NodeId, NodeState, Role, Standing};
+use raft_log::{NodeId, NodeState, Role};
 use std::alloc::AllocError;
 use wire_bytes::{Number, Wire};
+
+/// What the line of a node tells of it.
+#[derive(Clone, Copy, Debug, PartialEq, Eq)]
+pub struct NodeFields {
+    pub role: Role,
+    pub term: Number,
+    pub vote: Option<NodeId>,
+    /// How many entries its log has.
+    pub log: Number,
+    /// The term of the last entry, 0 where there is none.
+    pub last: Number,
+    /// The place up to which it committed.
+    pub commit: Number,
+    /// The place up to which it applied.
+    pub applied: Number,
+}
+
+impl NodeFields {
+    ghost use Rattle.recorder.specs.NodeLines.{fields_of};
+
+    /// What the line of a node in this state tells.
+    pub fn of<B: Wire>(state: &NodeState<B>) -> NodeFields
+        ensures { result ≡ fields_of (seen state.now []) }
+    {
+        let standing = &state.standing;
+        let (log, last) = state.log.last();
+        NodeFields {
+            role: standing.position.role(),
+            term: standing.term,
+            vote: standing.vote,
+            log,
+            last,
+            commit: standing.commit,
+            applied: standing.applied,
+        }
+    }
+}
 
 /// Appends the line of a node with its end. After an error a part of it may have been appended.
 pub fn push_node<B: Wire>(
@@ -18,10 +54,19 @@ pub fn push_node<B: Wire>(
 ) -> Result<(), AllocError>
     ensures { OnOk result (out.new.items ≡ out.old.items ++ node_line node (seen state.now [])) }
 {
+    push_fields(out, node, &NodeFields::of(state))
+}
+
+/// Appends the line that tells this of a node, with its end. After an error a part of it may have
+/// been appended.
+pub fn push_fields(out: &mut Vec<u8>, node: NodeId, fields: &NodeFields) -> Result<(), AllocError>
+    ensures { OnOk result (out.new.items ≡ out.old.items ++ fields_line node fields.now) }
+{
     push_named(out, b"node ", node.value() as u64)?;
-    push_term(out, &state.standing)?;
-    push_log(out, &state.log)?;
-    push_places(out, state.standing.commit, state.standing.applied)
+    push_term(out, fields)?;
+    push_named(out, b" log ", fields.log.value())?;
+    push_named(out, b" last ", fields.last.value())?;
+    push_places(out, fields.commit, fields.applied)
 }
 
 /// Appends up to which places a node committed and applied, and the end of its line.
@@ -34,23 +79,14 @@ fn push_places(out: &mut Vec<u8>, commit: Number, applied: Number) -> Result<(),
 }
 
 /// Appends a node's role, its term, and for whom it voted.
-fn push_term(out: &mut Vec<u8>, standing: &Standing) -> Result<(), AllocError>
+fn push_term(out: &mut Vec<u8>, fields: &NodeFields) -> Result<(), AllocError>
     ensures { OnOk result (out.new.items ≡ out.old.items ++
-        term_words (role_of standing.now.position) standing.now.term standing.now.vote) }
+        term_words fields.now.role fields.now.term fields.now.vote) }
 {
     out.push(b' ')?;
-    out.extend_from_slice(role_text(standing.position.role()))?;
-    push_named(out, b" term ", standing.term.value())?;
-    push_named(out, b" vote ", vote_value(standing.vote))
-}
-
-/// Appends how many entries a log has, and the term of the last.
-fn push_log<B: Wire>(out: &mut Vec<u8>, log: &Log<B>) -> Result<(), AllocError>
-    ensures { OnOk result (out.new.items ≡ out.old.items ++ log_words log.now) }
-{
-    let (len, last) = log.last();
-    push_named(out, b" log ", len.value())?;
-    push_named(out, b" last ", last.value())
+    out.extend_from_slice(role_text(fields.role))?;
+    push_named(out, b" term ", fields.term.value())?;
+    push_named(out, b" vote ", vote_value(fields.vote))
 }
 
 /// Appends words and a number.

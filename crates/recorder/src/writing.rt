@@ -116,8 +116,8 @@ fn push_front(out: &mut Vec<u8>, kind: Kind, node: NodeId) -> Result<(), AllocEr
     push_number(out, node.value() as u64)
 }
 
-/// Appends a body in lower-case hex digits.
-fn push_body<B: Wire>(alloc: Global, out: &mut Vec<u8>, body: &B) -> Result<(), AllocError>
+/// Appends a body in lower-case hex digits. After an error a part of them may have been appended.
+pub fn push_body<B: Wire>(alloc: Global, out: &mut Vec<u8>, body: &B) -> Result<(), AllocError>
     requires { B.fits body.now }
     ensures text { OnOk result
         (out.new.items ≡ out.old.items ++ encode_lower (B.spelled body.now)) }

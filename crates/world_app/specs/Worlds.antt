@@ -1,7 +1,7 @@
 -- What an input of events comes to, in a group of nodes of the bouncer that is set up plainly.
 use Rattle.std.specs.Prelude.{◌≡◌, ℕ, ◌<◌, List}
 use Rattle.irc_line.specs.Lines.{Parts}
-use Rattle.buffer_commands.specs.Settings.{plain}
+use Rattle.buffer_commands.specs.Settings.{Settings, plain}
 use Rattle.bouncer_tower.specs.Bodies.{TowerBody, TowerEffect}
 use Rattle.bouncer_tower.specs.Spellings.{FitsBody, spelled_body}
 use Rattle.recorder.specs.declared.events_fault.EventsFault.{EventsFault}
@@ -30,9 +30,13 @@ run_fault reading.Memory = Memory
 abbrev pub tower_words : TowerEffect → List ℕ
 tower_words = answer_words (claims_words (fence_words effect_words))
 
--- the text of what comes out of these events, and of what so many nodes are then
+-- the text of what comes out of these events, and of what so many nodes of a bouncer that is set up so are then
+abbrev pub bouncer_text : Settings → ℕ → List (Event TowerBody Parts (List ℕ)) → List ℕ
+bouncer_text setup size events = world_text (tower setup) tower_words (λ line. line) size events
+
+-- the same of the bouncer that is set up plainly
 abbrev pub plain_text : ℕ → List (Event TowerBody Parts (List ℕ)) → List ℕ
-plain_text size events = world_text (tower plain) tower_words (λ line. line) size events
+plain_text size events = bouncer_text plain size events
 
 -- The text is that of the events of an input.
 pub record IsRunOf (size : ℕ) (input text : List ℕ) : Type 0 where

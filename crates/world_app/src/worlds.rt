@@ -4,20 +4,17 @@ ghost use Rattle.std.specs.Io.KnownBytes.{Appends};
 ghost use Rattle.raft_log.specs.Peers.{IsGroupSize};
 ghost use Rattle.world_app.specs.declared.run_fault.RunFault.TheVariants.{Refused};
 ghost use Rattle.whole_input.specs.Reads.{IsTooLong, IsWithin};
-ghost use Rattle.world_app.specs.Worlds.{IsBadOf, IsOfRunning, IsRunOf, plain_text};
+ghost use Rattle.world_app.specs.Worlds.{IsBadOf, IsOfRunning, IsRunOf};
 
 use crate::run_fault::RunFault;
+use crate::running::events_text;
 use bouncer_tower::TowerBody;
-use buffer_commands::{Setup, WireLine};
-use headline::run_bouncers;
-use irc_line::Name;
+use buffer_commands::Setup;
 use raft_log::GroupSize;
 use recorder::parse_events;
-use std::alloc::{AllocError, Global};
+use std::alloc::Global;
 use std::io::{Read, Write};
 use whole_input::read_whole;
-use world_events::Event;
-use world_lines::world_text;
 
 /// Reads an input whole, runs its events over so many nodes of a bouncer that is set up plainly, and
 /// writes what came out of each event and then what the nodes are.
@@ -67,22 +64,7 @@ fn run_text(alloc: Global, size: GroupSize, input: &[u8]) -> Result<Vec<u8>, Run
     ensures fault { IfErr result IsOfRunning }
 {
     let events = parse_events::<TowerBody>(alloc, input)?;
-    let text = events_text(alloc, size, &events)?;
-    Ok(text)
-}
-
-/// The text of what comes out of events, and of what the nodes are then.
-fn events_text(
-    alloc: Global,
-    size: GroupSize,
-    events: &[Event<TowerBody, WireLine, Name>],
-) -> Result<Vec<u8>, AllocError>
-    ensures { IfOk result (λ text. text.items ≡ plain_text size events.now) }
-{
     let setup = Setup::plain(alloc)?;
-    match run_bouncers(alloc, size.value(), &setup, events) {
-        Ok(world) => world_text(alloc, events, &world),
-        // The size is one that groups have, so memory is what was wanting.
-        Err(_) => Err(AllocError),
-    }
+    let text = events_text(alloc, size, &setup, &events)?;
+    Ok(text)
 }

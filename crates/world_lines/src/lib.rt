@@ -7,6 +7,7 @@ mod outcomes;
 mod spelled;
 mod text;
 
+pub use named::named_by;
 pub use nodes::push_nodes;
 pub use outcomes::{push_outcome, push_outcomes};
 pub use spelled::Spelled;

@@ -1,5 +1,5 @@
 use Rattle.std.proofs.Common.{◌∙◌}
-use Rattle.world_app.proofs.Running.{too_long}
+use Rattle.world_app.proofs.Told.{too_long}
 use Rattle.world_app.proofs.sizes.size_of.Goals as goal
 
 pub returns-else-number-lt-PAST_DIGITS : goal.returns-else-number-lt-PAST_DIGITS

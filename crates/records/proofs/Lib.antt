@@ -1,0 +1,6 @@
+pub mod Comparing
+pub mod LineFronts
+pub mod ItemSteps
+pub mod TurnSteps
+pub mod VerdictSteps
+pub mod OneReading

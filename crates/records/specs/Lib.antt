@@ -1,0 +1,6 @@
+pub mod Merging
+pub mod Verdicts
+pub mod RecordText
+pub mod RecordReading
+pub mod VerdictLaws
+pub mod ReadingLaws

@@ -1,0 +1,121 @@
+//! The lines of a record file.
+ghost use Rattle.std.specs.Prelude.{◌≡◌, ◌++◌, ◌∷◌, [], decimal, IfErr, IfOk, MatchOption, OnOk, option_map};
+ghost use Rattle.raft_log.specs.Peers.{IsGroupSize};
+ghost use Rattle.recorder.specs.Readings.{ReadsAs};
+ghost use Rattle.records.specs.RecordReading.{AreItems, FitsFirst, IsItemFault, IsVersioned, item_text};
+ghost use Rattle.records.specs.RecordText.{SetupFits, SizeFits, setup_text, size_text, version_mark};
+
+use crate::replay_fault::ReplayFault;
+use buffer_commands::WireLine;
+use irc_line::{Name, is_same};
+use raft_log::GroupSize;
+use recorder::{read_body, read_event, read_number, split};
+use std::alloc::{AllocError, Global};
+use wire_bytes::Wire;
+use world_events::Event;
+
+/// How many lines stand before the first event, and one more.
+const FIRST_EVENT: u64 = 3;
+
+/// What follows the front of the first line.
+pub fn versioned(input: &[u8]) -> Option<&[u8]>
+    ensures { MatchOption result (IsVersioned input.now → ⊥)
+        (λ rest. version_mark ++ rest.now ≡ input.now) }
+{
+    input.strip_prefix(b"RBREC01 ")
+}
+
+/// The size of the first line, and what follows the line.
+pub fn first_size(text: &[u8]) -> Option<(GroupSize, &[u8])>
+    ensures { ReadsAs size_text SizeFits text.now (option_map (λ p. (p.0, p.1.now)) result) }
+{
+    match split(text, b'\n') {
+        Some((word, behind)) => match group_size(word) {
+            Some(size) => Some((size, behind)),
+            None => None,
+        },
+        None => None,
+    }
+}
+
+/// The size of a group that a word tells.
+fn group_size(word: &[u8]) -> Option<GroupSize>
+    ensures { ReadsAs decimal IsGroupSize word.now result }
+{
+    match read_number(word) {
+        Some(number) => if number <= 7 {
+            GroupSize::new(number as u8)
+        } else {
+            None
+        },
+        None => None,
+    }
+}
+
+/// The setup of the next line, and what follows the line.
+pub fn first_setup<S: Wire>(alloc: Global, text: &[u8]) -> Result<Option<(S, &[u8])>, AllocError>
+    ensures { IfOk result (λ r. ReadsAs (setup_text S.spelled S.fits) (SetupFits S.spelled S.fits)
+        text.now (option_map (λ p. (p.0, p.1.now)) r)) }
+{
+    match split(text, b'\n') {
+        Some((digits, behind)) => match read_body(alloc, digits)? {
+            Some(setup) => Ok(Some((setup, behind))),
+            None => Ok(None),
+        },
+        None => Ok(None),
+    }
+}
+
+/// The events of a text up to its line `outputs`, and what follows this.
+pub fn read_items<B: Wire>(
+    alloc: Global,
+    text: &[u8],
+) -> Result<(Vec<Event<B, WireLine, Name>>, &[u8]), ReplayFault>
+    ensures items { IfOk result (λ r. AreItems B.spelled B.fits text.now r.0.items r.1.now) }
+    ensures bad { IfErr result (IsItemFault B.spelled B.fits text.now) }
+{
+    let mut events = Vec::new(alloc);
+    let mut rest = text;
+    while !rest.is_empty() {
+        match first_item(alloc, rest)? {
+            Some((item, behind)) => match item {
+                Some(event) => {
+                    keep(&mut events, event)?;
+                    rest = behind;
+                }
+                None => return Ok((events, behind)),
+            },
+            None => return Err(ReplayFault::BadLine(events.len() as u64 + FIRST_EVENT)),
+        }
+    }
+    Err(ReplayFault::BadLine(events.len() as u64 + FIRST_EVENT))
+}
+
+/// Appends an event.
+fn keep<E: Drop>(events: &mut Vec<E>, event: E) -> Result<(), AllocError>
+    ensures { OnOk result (events.new.items ≡ events.old.items ++ event ∷ []) }
+{
+    Ok(events.push(event)?)
+}
+
+/// The event of the next line, or none where the line is `outputs`, and what follows the line.
+fn first_item<B: Wire>(
+    alloc: Global,
+    text: &[u8],
+) -> Result<Option<(Option<Event<B, WireLine, Name>>, &[u8])>, AllocError>
+    ensures { IfOk result (λ r. ReadsAs (item_text B.spelled B.fits) (FitsFirst B.spelled B.fits)
+        text.now (option_map (λ p. (p.0, p.1.now)) r)) }
+{
+    match split(text, b'\n') {
+        Some((line, behind)) => {
+            if is_same(line, b"outputs") {
+                return Ok(Some((None, behind)));
+            }
+            match read_event(alloc, line)? {
+                Some(event) => Ok(Some((Some(event), behind))),
+                None => Ok(None),
+            }
+        }
+        None => Ok(None),
+    }
+}

@@ -1,0 +1,42 @@
+//! Records of nodes as one list.
+ghost use Rattle.std.specs.Prelude.{IfOk};
+ghost use Rattle.records.specs.Merging.{IsGathered, IsMergeOf};
+
+use crate::record::{Merged, Record};
+use std::alloc::{AllocError, Global};
+
+/// The turns of all records by rising ticket, each with what it gave itself. Turns of one ticket, which no
+/// run has, stand by their node, and those of one node as in its record. In the time of two sorts.
+pub fn merge<E: Drop, O: Drop>(
+    alloc: Global,
+    records: Vec<Record<E, O>>,
+) -> Result<Merged<E, O>, AllocError>
+    ensures { IfOk result (IsMergeOf records.items) }
+{
+    let mut ranked = records;
+    ranked.sort_by_key(|record| record.node.value())?;
+    let mut merged = gather(alloc, ranked)?;
+    merged.turns.sort_by_key(|turn| turn.ticket)?;
+    Ok(merged)
+}
+
+/// The turns of all records, one record's behind the other's, and what each node was.
+fn gather<E: Drop, O: Drop>(
+    alloc: Global,
+    records: Vec<Record<E, O>>,
+) -> Result<Merged<E, O>, AllocError>
+    ensures { IfOk result (IsGathered records.items) }
+{
+    let mut turns = Vec::new(alloc);
+    let mut nodes = Vec::new(alloc);
+    for record in records {
+        let Record {
+            node,
+            turns: mut own,
+            state,
+        } = record;
+        nodes.push((node, state))?;
+        turns.append(&mut own)?;
+    }
+    Ok(Merged { turns, nodes })
+}

@@ -1,0 +1,57 @@
+//! Record files, read.
+ghost use Rattle.std.specs.Prelude.{IfErr, IfOk};
+ghost use Rattle.records.specs.RecordReading.{IsFaultOf, IsRecordOf};
+
+use crate::items::{first_setup, first_size, read_items, versioned};
+use crate::replay_fault::ReplayFault;
+use buffer_commands::WireLine;
+use irc_line::Name;
+use raft_log::GroupSize;
+use std::alloc::Global;
+use wire_bytes::Wire;
+use world_events::Event;
+
+/// The most bytes that a record file may have.
+const MOST_BYTES: usize = 67_108_864;
+
+/// What is needed to run again what was recorded.
+#[derive(Drop)]
+pub struct Recording<S, B: Wire> {
+    /// How many nodes there were.
+    pub size: GroupSize,
+    pub setup: S,
+    pub events: Vec<Event<B, WireLine, Name>>,
+}
+
+/// The parts of a record file, and the lines behind its line `outputs`, whatever they are.
+///
+/// Of several faults the first is told: of the length, of the first line's front, and then of the lines in
+/// their order.
+pub fn parse_record<S: Wire, B: Wire>(
+    alloc: Global,
+    input: &[u8],
+) -> Result<(Recording<S, B>, &[u8]), ReplayFault>
+    ensures parts { IfOk result (λ r. IsRecordOf S.spelled S.fits B.spelled B.fits
+        input.now r.0.size r.0.setup r.0.events.items r.1.now) }
+    ensures bad { IfErr result (IsFaultOf S.spelled S.fits B.spelled B.fits input.now) }
+{
+    if input.len() > MOST_BYTES {
+        return Err(ReplayFault::TooLong);
+    }
+    let Some(rest) = versioned(input) else {
+        return Err(ReplayFault::Version);
+    };
+    let Some((size, rest)) = first_size(rest) else {
+        return Err(ReplayFault::BadLine(1));
+    };
+    let Some((setup, rest)) = first_setup(alloc, rest)? else {
+        return Err(ReplayFault::BadLine(2));
+    };
+    let (events, outputs) = read_items(alloc, rest)?;
+    let recording = Recording {
+        size,
+        setup,
+        events,
+    };
+    Ok((recording, outputs))
+}

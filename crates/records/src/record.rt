@@ -1,0 +1,32 @@
+//! What a node did, turn by turn.
+use raft_log::NodeId;
+use recorder::NodeFields;
+
+/// What happened to a node, and what came out of it.
+#[derive(Drop)]
+pub struct Turn<E, O> {
+    /// Its place among all turns of a run's nodes: of a later turn it is larger.
+    pub ticket: u64,
+    pub event: E,
+    /// What the turn itself gave, whatever the same event would give in another world.
+    pub outcome: O,
+}
+
+/// What one node of a run did.
+#[derive(Drop)]
+pub struct Record<E, O> {
+    pub node: NodeId,
+    /// Its turns, the first first.
+    pub turns: Vec<Turn<E, O>>,
+    /// What it was at the end.
+    pub state: NodeFields,
+}
+
+/// What all nodes of a run did.
+#[derive(Drop)]
+pub struct Merged<E, O> {
+    /// All turns, by rising ticket.
+    pub turns: Vec<Turn<E, O>>,
+    /// What each node was at the end, by rising number.
+    pub nodes: Vec<(NodeId, NodeFields)>,
+}

@@ -1,0 +1,31 @@
+use std::alloc::AllocError;
+use thiserror::Error;
+
+/// Why a record file is not replayed. Lines are counted from 1, over the whole file.
+#[derive(Clone, Copy, Debug, Drop, PartialEq, Eq, Error)]
+pub enum ReplayFault {
+    /// The first line does not begin with `RBREC01 `.
+    #[error("Version")]
+    Version,
+    /// The first line that is not what has to stand there; where the file ends before the line `outputs`,
+    /// the number after the last line.
+    #[error("line {0}: BadEvent")]
+    BadLine(u64),
+    /// The file has more than 67,108,864 bytes.
+    #[error("InputTooLong")]
+    TooLong,
+    /// There was no memory.
+    #[error("Memory")]
+    Memory,
+}
+
+impl From<AllocError> for ReplayFault {
+    ghost use Rattle.std.specs.Prelude.{◌≡◌};
+    ghost use Rattle.records.specs.declared.replay_fault.ReplayFault.TheVariants.{Memory};
+
+    ghost from_gives = { λ _ e. e ≡ Memory };
+
+    fn from(_error: AllocError) -> Self {
+        ReplayFault::Memory
+    }
+}
