@@ -54,7 +54,7 @@ module _ (M : Machine) where
   blank_is_run : (n i : ℕ) → IsRun M (blank n i)
   blank_is_run n i = record { state = refl; fresh = refl; unopened = λ _. refl }
 
-  rule_at_first : (n : ℕ) → IsRule M n 0 (blanks n 0 n)
+  pub rule_at_first : (n : ℕ) → IsRule M n 0 (blanks n 0 n)
   rule_at_first n =
       record {
         sized = (blanks_many n 0 n (blanks n 0 n) refl).0;

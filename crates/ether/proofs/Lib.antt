@@ -7,3 +7,4 @@ mod Cutting
 mod Passes
 mod Keys
 mod Moments
+pub mod Gathering

@@ -1,6 +1,6 @@
 //! Passes in one hand: what their nodes did is of one moment.
 ghost use Rattle.std.specs.Prelude.{◌≡◌};
-ghost use Rattle.ether.specs.Passes.{IsPass, IsSamePass, view_of};
+ghost use Rattle.ether.specs.Passes.{AllMeet, ArePassesOfAll, IsPass, IsSamePass, view_of};
 ghost use Rattle.ether.specs.Plays.{of_one_moment};
 ghost use Rattle.ether.specs.Rule.{Known};
 ghost use Rattle.world_views.specs.Laws.{AreOfOneGroup};
@@ -37,6 +37,25 @@ impl<M: Hosted> Ether<M> {
         self.learn::<Brand>(&mut one.seat);
         let back = shared.split_seat::<Returns>(&mut one.seat);
         shared.join_seat::<Joins>(&mut other.seat, back);
+    }
+
+    /// The passes of all nodes, whose use ends with this. What all nodes did is of one moment, so that
+    /// a caller who knows how each was opened knows all that the laws of views say of them.
+    pub fn meet_all(&self, passes: Vec<Pass<M::Command, M::Line, M::Target>>)
+        requires { ArePassesOfAll self.now passes.items }
+        ensures { AllMeet (⟦<M as Described>⟧.machine self.now.setup) self.now.size passes.items }
+    {
+        let mut rest = passes;
+        let Some(last) = rest.pop() else {
+            return;
+        };
+        let mut seat = last.seat;
+        while let Some(pass) = rest.pop() {
+            let mut other = pass.seat;
+            let lent = self.table.shared.split_seat::<Lends>(&mut other);
+            self.table.shared.join_seat::<Joins>(&mut seat, lent);
+        }
+        self.learn::<Brand>(&mut seat);
     }
 
     /// The views that a seat knows are of one moment.
