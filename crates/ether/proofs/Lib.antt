@@ -1,0 +1,10 @@
+mod Changing
+mod Changes
+mod Stowing
+mod Knowing
+mod Steps
+mod Cutting
+mod Passes
+mod Keys
+mod Moments
+pub mod Gathering

@@ -1,0 +1,13 @@
+use Rattle.raft_node.specs.Hosts.{hosted}
+use Rattle.raft_node.specs.Machine.{Machine}
+use Rattle.ether.specs.Plays.{of_one_moment}
+use Rattle.ether.proofs.ether.Ether.meet.Given as goal
+
+-- the machine that the nodes host
+abbrev pub machine : (g : goal.Types) → g.row.M-Setup.Denot → Machine
+machine g s =
+    hosted g.M.Hosted.blank g.M.Hosted.opened g.M.Hosted.shut g.M.Hosted.heard g.M.Hosted.claim g.M.Hosted.source (g.M.Machine.effects s)
+    (g.M.Hosted.next_claim s) (g.M.Hosted.playback s) g.M.Hosted.class
+
+abbrev pub ghosts-learn : goal.ghosts-learn
+ghosts-learn g a = record { becomes = λ _ k. k; from = 0; fact = of_one_moment (machine g a.self.now.setup) a.self.now.size }

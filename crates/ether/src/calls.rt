@@ -1,0 +1,163 @@
+//! The calls of nodes: opening, tick, post, take. None waits, and none takes memory.
+ghost use Rattle.std.specs.Prelude.{◌≡◌, ◌<◌, ◌≤◌, ◌^◌, ◌++◌, ◌∷◌, [], suc, length, IfOk, IfErr, MatchResult};
+ghost use Rattle.ether.specs.declared.fault.EtherFault.TheVariants.{Spent};
+ghost use Rattle.ether.specs.Passes.{IsHeard, IsOpenPass, IsPass, IsSent, IsUnopened, StaysOpen};
+ghost use Rattle.ether.specs.Passes.{WasStarted, IsOpen, looks_of, view_of};
+ghost use Rattle.ether.specs.Plays.{IsFrom, IsOlder, after_event, after_opening, after_post, after_take};
+ghost use Rattle.ether.specs.Rule.{mailbox_of};
+ghost use Rattle.ether.specs.Plays.{opened, ticked};
+ghost use Rattle.raft_log.specs.Seen.{seen};
+ghost use Rattle.raft_node.specs.Parts.{keeper};
+
+use crate::ether::Ether;
+use crate::fault::EtherFault;
+use crate::known::Known;
+use crate::pass::{MOST_TICKS, Pass};
+use crate::plays::{Opens, Posts, Step, Takes, Ticks};
+use machine_laws::Hosted;
+use raft_node::{Described, Node};
+use stable_store::Stable;
+use std::marker::Brand;
+use world_views::{Envelope, NodeEvent};
+
+impl<M: Hosted> Ether<M> {
+    /// The pass's first tick: its node is as a start gave it. Answers its ticket.
+    pub fn opening<S: Stable<M::Command>>(
+        &self,
+        pass: &mut Pass<M::Command, M::Line, M::Target>,
+        node: &Node<M, S>,
+    ) -> u64
+        requires pass { IsPass self.now pass.old × IsUnopened pass.old }
+        requires node { WasStarted (keeper S.saved S.may_stand S.condition) (suc pass.old.node)
+            self.now.size self.now.setup node.now }
+        ensures open { StaysOpen self.now pass.old pass.new }
+        ensures view { view_of pass.new ≡ after_opening (view_of pass.old) result
+            (S.condition node.now.store).honest (seen node.now.state []) }
+        ensures looks { looks_of pass.new ≡ looks_of pass.old }
+    {
+        self.open::<S, Brand>(pass, node)
+    }
+
+    fn open<S: Stable<M::Command>, W: Step<Known<M::Command, M::Line, M::Target>>>(
+        &self,
+        pass: &mut Pass<M::Command, M::Line, M::Target>,
+        node: &Node<M, S>,
+    ) -> u64
+        requires pass { IsPass self.now pass.old × IsUnopened pass.old }
+        requires step { W.becomes ≡ opened (S.condition node.now.store).honest
+            (seen node.now.state []) }
+        ensures open { StaysOpen self.now pass.old pass.new }
+        ensures view { view_of pass.new ≡ after_opening (view_of pass.old) result
+            (S.condition node.now.store).honest (seen node.now.state []) }
+        ensures looks { looks_of pass.new ≡ looks_of pass.old }
+    {
+        let _ = node;
+        self.table
+            .shared
+            .fetch_add::<Opens<W>>(&mut pass.seat, 0, 1)
+    }
+
+    /// An event of the pass's node. Answers its ticket; `Spent` where the pass has made 2^60 ticks.
+    pub fn tick(
+        &self,
+        pass: &mut Pass<M::Command, M::Line, M::Target>,
+        event: &NodeEvent<M::Command, M::Line, M::Target>,
+    ) -> Result<u64, EtherFault>
+        requires pass { IsOpenPass self.now pass.old }
+        requires heard { IsHeard (view_of pass.old) event.now }
+        ensures open { StaysOpen self.now pass.old pass.new }
+        ensures ticket { IfOk result (λ t. view_of pass.new
+            ≡ after_event (⟦<M as Described>⟧.machine self.now.setup) (view_of pass.old) t event.now) }
+        ensures spent { IfErr result (λ e. (e ≡ Spent) × (pass.new ≡ pass.old)
+            × (length (view_of pass.old).turns ≡ 2 ^ 60)) }
+        ensures looks { looks_of pass.new ≡ looks_of pass.old }
+    {
+        if pass.ticks >= MOST_TICKS {
+            return Err(EtherFault::Spent);
+        }
+        Ok(self.count::<Brand>(pass, event))
+    }
+
+    fn count<W: Step<Known<M::Command, M::Line, M::Target>>>(
+        &self,
+        pass: &mut Pass<M::Command, M::Line, M::Target>,
+        event: &NodeEvent<M::Command, M::Line, M::Target>,
+    ) -> u64
+        requires pass { IsOpenPass self.now pass.old × (pass.old.ticks < 2 ^ 60) }
+        requires heard { IsHeard (view_of pass.old) event.now }
+        requires step { W.becomes ≡ ticked (⟦<M as Described>⟧.machine self.now.setup) event.now }
+        ensures open { StaysOpen self.now pass.old pass.new }
+        ensures view { view_of pass.new
+            ≡ after_event (⟦<M as Described>⟧.machine self.now.setup) (view_of pass.old) result event.now }
+        ensures looks { looks_of pass.new ≡ looks_of pass.old }
+    {
+        let _ = event;
+        pass.ticks += 1;
+        self.table
+            .shared
+            .fetch_add::<Ticks<W>>(&mut pass.seat, 0, 1)
+    }
+
+    /// Puts a message that the pass's node sent into the mailbox to its addressee. The older message
+    /// that lay there comes back: the node had sent it to the same addressee, who did not take it.
+    pub fn post(
+        &self,
+        pass: &mut Pass<M::Command, M::Line, M::Target>,
+        envelope: Envelope<M::Command>,
+    ) -> Option<Envelope<M::Command>>
+        requires pass { IsOpenPass self.now pass.old }
+        requires sent { IsSent (view_of pass.old) envelope }
+        requires addressee { (1 ≤ envelope.message.to) × (envelope.message.to ≤ self.now.size) }
+        ensures open { StaysOpen self.now pass.old pass.new }
+        ensures view { view_of pass.new ≡ after_post (view_of pass.old) envelope.number }
+        ensures older { IsOlder (view_of pass.old) envelope result }
+        ensures looks { looks_of pass.new ≡ looks_of pass.old }
+    {
+        let shared = &self.table.shared;
+        let to = envelope.message.to as u64 - 1;
+        let word = (pass.node * self.group.size.value() as u64 + to + 1) as usize;
+        let _none = shared.exchange(&mut pass.seat, pass.spare as usize, Some(envelope));
+        pass.spare = shared.swap::<Posts>(&mut pass.seat, word, pass.spare);
+        shared.exchange(&mut pass.seat, pass.spare as usize, None)
+    }
+
+    /// Takes what lies in the mailbox from the node at this place, from 0 on; nothing where nothing
+    /// lies there. It looks once.
+    pub fn take(
+        &self,
+        pass: &mut Pass<M::Command, M::Line, M::Target>,
+        from: u64,
+    ) -> Option<Envelope<M::Command>>
+        requires pass { IsPass self.now pass.old }
+        requires from { from < self.now.size }
+        ensures pass { IsPass self.now pass.new × (pass.new.node ≡ pass.old.node) }
+        ensures open { IsOpen pass.old → IsOpen pass.new }
+        ensures view { view_of pass.new ≡ after_take (view_of pass.old) result }
+        ensures from { IsFrom from result }
+        ensures looks { looks_of pass.new
+            ≡ looks_of pass.old ++ mailbox_of self.now.size from pass.old.node ∷ [] }
+    {
+        self.look::<Brand>(pass, from)
+    }
+
+    fn look<W: Step<Known<M::Command, M::Line, M::Target>>>(
+        &self,
+        pass: &mut Pass<M::Command, M::Line, M::Target>,
+        from: u64,
+    ) -> Option<Envelope<M::Command>>
+        requires pass { IsPass self.now pass.old }
+        requires from { from < self.now.size }
+        requires step { W.from ≡ from }
+        ensures pass { IsPass self.now pass.new × (pass.new.node ≡ pass.old.node) }
+        ensures open { IsOpen pass.old → IsOpen pass.new }
+        ensures view { view_of pass.new ≡ after_take (view_of pass.old) result }
+        ensures from { IsFrom from result }
+        ensures looks { looks_of pass.new
+            ≡ looks_of pass.old ++ mailbox_of self.now.size from pass.old.node ∷ [] }
+    {
+        let shared = &self.table.shared;
+        let word = (from * self.group.size.value() as u64 + pass.node + 1) as usize;
+        pass.spare = shared.swap::<Takes<W>>(&mut pass.seat, word, pass.spare);
+        shared.exchange(&mut pass.seat, pass.spare as usize, None)
+    }
+}
