@@ -9,6 +9,7 @@ fn the_laws_hold_of_the_toy_machine(_rt: HostRuntime) -> Result<(), Fail> {
     records_merge_in_one_way::<Toy>();
     openings_go_on_from_events::<Toy>();
     views_have_one_history::<Toy>();
+    merged_records_replay::<Toy>();
     committed_lists_agree::<Toy>();
     turns_are_events_of_the_history::<Toy>();
     no_more_leaves_than_is_agreed::<Toy>();
