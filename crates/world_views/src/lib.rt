@@ -15,6 +15,3 @@ pub use one_history::{
     committed_lists_agree, merged_records_replay, openings_go_on_from_events,
     turns_are_events_of_the_history, views_have_one_history,
 };
-
-#[cfg(test)]
-mod tests;
