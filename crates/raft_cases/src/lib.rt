@@ -1,4 +1,4 @@
-//! Worked cases of logs, elections, appends, nodes and worlds, over the least machine, whose expected values come from outside.
+//! Worked cases of logs, elections, appends, nodes, views and worlds, over the least machine, whose expected values come from outside.
 #![tactic(auto)]
 
 #[cfg(test)]
@@ -13,5 +13,7 @@ mod logs;
 mod nodes;
 #[cfg(test)]
 mod steps;
+#[cfg(test)]
+mod views;
 #[cfg(test)]
 mod worlds;

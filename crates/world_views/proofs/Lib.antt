@@ -7,6 +7,7 @@ pub mod Merging
 pub mod Histories
 pub mod Along
 pub mod Openings
+pub mod Replays
 pub mod Turns
 pub mod Handing
 pub mod Cases

@@ -61,7 +61,7 @@ module _ {B L T : Type 0} where
           let other : e.1.0 < f.1.0 = above_first e.1.0 f.0 es f.1 (turns_of f.0 fs) o (sym (other_first f.0 e es apart) ∙ same f.0 ∙ own_first f fs) in
           absurd (omega arith)
 
-  only_one : (es fs : List (Placed B L T)) → AreInOrder (map turn_of es) → AreInOrder (map turn_of fs) → ((i : ℕ) → turns_of i es ≡ turns_of i fs) → es ≡ fs
+  pub only_one : (es fs : List (Placed B L T)) → AreInOrder (map turn_of es) → AreInOrder (map turn_of fs) → ((i : ℕ) → turns_of i es ≡ turns_of i fs) → es ≡ fs
   only_one [] [] o p same = refl
   only_one [] (f ∷ fs) o p same = absurd (none_is_some f.1 (turns_of f.0 fs) (same f.0 ∙ own_first f fs))
   only_one (e ∷ es) [] o p same = absurd (none_is_some e.1 (turns_of e.0 es) (sym (same e.0) ∙ own_first e es))

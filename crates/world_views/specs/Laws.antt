@@ -8,7 +8,7 @@ use Rattle.raft_node.specs.Machine.{Machine, history}
 use Rattle.raft_node.specs.Sound.{sent_first}
 use Rattle.raft_node.specs.Steps.{Left, Looked, Out}
 use Rattle.agreement.specs.World.{Begins}
-use Rattle.world_run.specs.World.{Event, count, handed, left_of}
+use Rattle.world_run.specs.World.{Event, count, handed, left_of, outputs}
 use Rattle.world_views.specs.declared.node_event.NodeEvent.TheVariants.{Does, Look}
 use Rattle.world_views.specs.declared.node_event.NodeInput.TheVariants.{Apply}
 use Rattle.world_views.specs.Views.{IsAt, IsOpened, start}
@@ -16,7 +16,7 @@ use Rattle.world_views.specs.Own.{EventOf, TurnOf, ViewOf, own_out, own_state, r
 use Rattle.world_views.specs.Rule.{AreHonest, IsRule}
 use Rattle.world_views.specs.Merged.{AreInOrder, IsMerged, Placed, PlacedOf, turn_of, turns_of}
 use Rattle.world_views.specs.Openings.{HeldAfter, OpenedAfter, WereNew, restarts}
-use Rattle.world_views.specs.Outputs.{HasLeft, IsEvent, IsHistory, IsPlayed, agreed_over, handed_by, outs_of}
+use Rattle.world_views.specs.Outputs.{HasLeft, IsEvent, IsHistory, IsPlayed, IsRecord, agreed_over, handed_by, outputs_of, outs_of}
 
 -- no two of these numbers are the same
 abbrev pub AllDiffer : List (ℕ × Parts) → Type 0
@@ -77,6 +77,12 @@ module _ (M : Machine) where
   -- one list of events leads from new stores to the states of all views
   abbrev pub HasHistory : List (Event M) → List (ViewOf M) → Type 0
   HasHistory before views = (es : List (PlacedOf M)) × IsHistory M before views es
+
+  -- the record of all views is that of a run of the group: its events are the history, and what comes out of this is what the record has
+  abbrev pub RecordsReplay : List (Event M) → List (ViewOf M) → Type 0
+  RecordsReplay before views =
+      (es : List (PlacedOf M)) (outs : List (Out M)) → IsRecord M views es outs →
+      IsHistory M before views es × (outputs_of M before views es ≡ outputs M (length views) before ++ outs)
 
   -- of what any two opened nodes have committed one list begins the other
   abbrev pub AllAgree : List (Event M) → List (ViewOf M) → Type 0

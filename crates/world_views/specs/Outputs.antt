@@ -1,5 +1,5 @@
 -- What comes out of the events of views: the same by each view alone and by the one list of all.
-use Rattle.std.specs.Prelude.{◌≡◌, ◌==◌, ◌+◌, ◌≤◌, ℕ, suc, pred, if◌then◌else◌, List, [], ◌∷◌, ◌++◌, length, take, Some}
+use Rattle.std.specs.Prelude.{◌≡◌, ◌==◌, ◌+◌, ◌≤◌, ℕ, suc, pred, if◌then◌else◌, List, [], ◌∷◌, ◌++◌, length, map, take, Some}
 use Rattle.irc_line.specs.Lines.{Parts}
 use Rattle.raft_log.specs.declared.entry.Entry.{Entry}
 use Rattle.raft_log.specs.Lists.{item}
@@ -9,7 +9,7 @@ use Rattle.raft_node.specs.Steps.{Out, leaving}
 use Rattle.world_run.specs.World.{Event, agreed, moment, outputs, left_of, hands}
 use Rattle.world_views.specs.Views.{IsAt, start}
 use Rattle.world_views.specs.Own.{TurnOf, ViewOf, own_state, own_out, runs}
-use Rattle.world_views.specs.Merged.{PlacedOf, turns_of, IsMerged}
+use Rattle.world_views.specs.Merged.{PlacedOf, turn_of, turns_of, AreInOrder, IsMerged}
 use Rattle.world_views.specs.Openings.{idle_in, event_in, world_after, first_world, whole, IsNow, AreNow}
 
 module _ (M : Machine) where
@@ -53,6 +53,14 @@ module _ (M : Machine) where
         (runs M v (start v) (turns_of i (take k es))) v.opened
     pub outs : List (Out M)
     pub comes_out : outputs_of before views es ≡ outputs M (length views) before ++ outs
+    pub own_outs : (i : ℕ) (v : ViewOf M) → IsAt views i v → outs_at i es outs ≡ outs_of v
+
+  -- The record of all views: their turns by rising ticket, each with what came out of it by its own view.
+  pub record IsRecord (views : List (ViewOf M)) (es : List (PlacedOf M)) (outs : List (Out M)) : Type 0 where
+    pub in_order : AreInOrder (map turn_of es)
+    pub within : (i : ℕ) → length views ≤ i → turns_of i es ≡ []
+    pub turns : (i : ℕ) (v : ViewOf M) → IsAt views i v → turns_of i es ≡ v.turns
+    pub long : length outs ≡ length es
     pub own_outs : (i : ℕ) (v : ViewOf M) → IsAt views i v → outs_at i es outs ≡ outs_of v
 
   -- The turn at place m of the view at place i, with what came out of it, is an event of the history, at a moment at which the node is

@@ -12,9 +12,6 @@ pub use handed_apart::{no_more_leaves_than_is_agreed, no_number_is_handed_by_two
 pub use merged_records::{records_merge, records_merge_in_one_way, what_was_sent_is_not_read};
 pub use node_event::{NodeEvent, NodeInput};
 pub use one_history::{
-    committed_lists_agree, openings_go_on_from_events, turns_are_events_of_the_history,
-    views_have_one_history,
+    committed_lists_agree, merged_records_replay, openings_go_on_from_events,
+    turns_are_events_of_the_history, views_have_one_history,
 };
-
-#[cfg(test)]
-mod tests;

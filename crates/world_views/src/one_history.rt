@@ -1,6 +1,7 @@
 //! That views are of one history of their group, from new stores on.
 ghost use Rattle.world_views.specs.Laws.{AllAgree, AllAgreeBefore, HasHistory, OpeningsGoOn};
-ghost use Rattle.world_views.specs.Laws.{AppliesAreAgreed, LooksAreAgreed, OverOpened, TurnsAreEvents};
+ghost use Rattle.world_views.specs.Laws.{AppliesAreAgreed, LooksAreAgreed, OverOpened, RecordsReplay};
+ghost use Rattle.world_views.specs.Laws.{TurnsAreEvents};
 
 use machine_laws::Hosted;
 use raft_node::Described;
@@ -16,6 +17,12 @@ pub fn openings_go_on_from_events<M: Hosted>()
 /// each event is what came out by its own view.
 pub fn views_have_one_history<M: Hosted>()
     ensures { (s : M.Setup) → OverOpened (⟦<M as Described>⟧.machine s) HasHistory }
+{}
+
+/// The record of all views, each turn by rising ticket and with what came out of it by its own view, is the record of a run
+/// of the group: its events are the one history, and a run of these brings out what the record has.
+pub fn merged_records_replay<M: Hosted>()
+    ensures { (s : M.Setup) → OverOpened (⟦<M as Described>⟧.machine s) RecordsReplay }
 {}
 
 /// Of what any two opened nodes have committed one list begins the other; and so of what they had committed before any
