@@ -1,3 +1,4 @@
 pub mod Rule
 pub mod Plays
 pub mod Passes
+pub mod Seats
