@@ -2,7 +2,7 @@
 #![tactic(auto)]
 
 #[cfg(test)]
-mod agreement;
+mod agreeing;
 #[cfg(test)]
 mod events;
 #[cfg(test)]

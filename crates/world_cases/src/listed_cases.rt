@@ -1,5 +1,5 @@
 //! Lists of events with answers of their own in tests/worlds/cases.
-use crate::agreement::Listed;
+use crate::agreeing::Listed;
 
 pub const CASES: &[Listed] = &[
     // case 008

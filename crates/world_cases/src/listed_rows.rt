@@ -1,5 +1,5 @@
 //! Lists of events of the worked cases.
-use crate::agreement::Listed;
+use crate::agreeing::Listed;
 
 pub const WORKED: &[Listed] = &[
     // two requests
