@@ -23,10 +23,9 @@ use crate::fold::fold;
 use records::Verdict;
 use std::env::{Args, args};
 use std::fmt::Display;
-use std::fs;
-use std::io;
 use std::io::ErrorKind;
 use std::process::ExitCode;
+use std::{fs, io};
 use world_app::{RecordFault, replay_record, size_of, world};
 
 const USAGE: &str = "usage: bouncer [fold | world N | replay FILE | run CONFIG]";

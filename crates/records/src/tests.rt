@@ -3,13 +3,12 @@ use super::*;
 use buffer_commands::{Effect, WireLine};
 use buffer_lines::Shown;
 use irc_line::Name;
-use node_steps::Refusal;
 use raft_log::{GroupSize, NodeId, Role};
 use recorder::NodeFields;
 use std::alloc::{AllocError, Global};
 use std::test::Fail;
 use wire_bytes::Number;
-use world_events::{Event, Input};
+use world_events::Event;
 use world_run::Outcome;
 
 /// A run of three nodes, of which one is recorded, over a setup that is spelled in one byte.
@@ -68,32 +67,24 @@ fn turns_stand_by_ticket_then_node_then_place(rt: HostRuntime) -> Result<(), Fai
     Ok(())
 }
 
-/// What is recorded of node 1.
-fn recorded(
-    alloc: Global,
-) -> Result<Merged<Event<u8, WireLine, Name>, Outcome<Effect, Shown>>, AllocError> {
-    let first = Turn {
-        ticket: 0,
-        event: Event::Does(Input::Timeout(NodeId::new(1))),
-        outcome: Outcome::Quiet,
-    };
-    let second = Turn {
-        ticket: 1,
-        event: Event::Does(Input::Claim(NodeId::new(1))),
-        outcome: Outcome::Refused(Refusal::NoLeader),
-    };
-    Ok(Merged {
-        turns: vec![in alloc; first, second]?,
+/// A run of which no turn was recorded, over a setup that is spelled in one byte.
+const NO_TURNS: &[u8] =
+    b"RBREC01 3\n2a\noutputs\nnode 1 candidate term 1 vote 1 log 2 last 0 commit 0 applied 0\n";
+
+/// What a run comes to of which no turn was recorded.
+fn written(alloc: Global, size: GroupSize) -> Result<Vec<u8>, AllocError> {
+    let run: Merged<Event<u8, WireLine, Name>, Outcome<Effect, Shown>> = Merged {
+        turns: Vec::new(alloc),
         nodes: vec![in alloc; (NodeId::new(1), candidate())]?,
-    })
+    };
+    write_record(alloc, size, &42u8, &run)
 }
 
 #[test]
 fn a_run_is_written_as_its_file(rt: HostRuntime) -> Result<(), Fail> {
     let alloc = rt.alloc();
     let size = GroupSize::new(3).ok_or("no size")?;
-    let text = write_record(alloc, size, &42u8, &recorded(alloc)?)?;
-    assert!(rt; text.as_slice() == TEXT);
+    assert!(rt; written(alloc, size)?.as_slice() == NO_TURNS);
     Ok(())
 }
 
