@@ -1,0 +1,42 @@
+-- A name put at its place stands where it belongs; lists that are no setup's.
+use Rattle.std.proofs.Common.{◌≡◌, ◌<◌, ℕ, ◌+◌, suc, Bool, true, false, if◌then◌else◌, List, [], ◌∷◌, length, Option, Some, None, MatchOption, refl, ap, sym, ◌∙◌, add-one}
+use Rattle.std.proofs.lemmas.Bool.{and_parts, false≢true}
+use Rattle.std.specs.List.{insert}
+use Rattle.irc_line.specs.Names.{IsPassed, fold_name, has_channel_mark, is_channel, is_name}
+use Rattle.irc_line.specs.Keys.{is_below, put_in}
+use Rattle.toml.specs.Data.{Members}
+use Rattle.toml.specs.View.{items_view}
+use Rattle.toml.specs.declared.value.Value.{Value}
+use Rattle.raft_log.specs.Peers.{IsGroupSize}
+use Rattle.bouncer_config.specs.Found.{channel_of, place_in, item_count}
+use Rattle.bouncer_config.specs.Wrong.{IsProblem, list_at}
+use Rattle.bouncer_config.specs.declared.key.Key.TheVariants.{Listen, Channels}
+use Rattle.bouncer_config.specs.declared.problem.Problem.TheVariants.{ListenCount, ChannelCount}
+
+insert_by : (b : Bool) (c d : List ℕ) (ds : List (List ℕ)) → insert ds (place_in c ds) c ≡ put_in c ds
+    → insert (d ∷ ds) (if b then place_in c ds + 1 else 0) c ≡ (if b then d ∷ put_in c ds else c ∷ d ∷ ds)
+insert_by true c d ds e = rw (add-one (place_in c ds)) (ap (λ (t : List (List ℕ)). d ∷ t) e)
+insert_by false c d ds e = refl
+
+pub insert_place : (c : List ℕ) (ds : List (List ℕ)) → insert ds (place_in c ds) c ≡ put_in c ds
+insert_place c [] = refl
+insert_place c (d ∷ ds) = insert_by (is_below (fold_name d) (fold_name c)) c d ds (insert_place c ds)
+
+-- there are as many items as values
+pub item_count-view : (vs : List Value) → item_count (items_view vs) ≡ length vs
+item_count-view [] = refl
+item_count-view (v ∷ vs) = ap suc (item_count-view vs)
+
+-- the name of a channel is a name
+pub named_channel : (bytes : List ℕ) (n : Option (List ℕ)) → is_channel bytes ≡ true → MatchOption n (is_name bytes ≡ false) (IsPassed is_name bytes) → n ≡ channel_of bytes
+unfolding is_channel
+named_channel bytes None e h = absurd (false≢true (sym h ∙ (and_parts (is_name bytes) (has_channel_mark bytes) e).0))
+named_channel bytes (Some n) e h = rw e (ap Some h.0)
+
+-- as many addresses as no group has nodes
+pub no_group : (table : Members) (vs : List Value) → list_at Listen table ≡ Some (items_view vs) → ¬ IsGroupSize (length vs) → IsProblem table ListenCount
+no_group table vs e h = (items_view vs, e, rw (item_count-view vs) h)
+
+-- more channels than there may be
+pub too_many : (table : Members) (vs : List Value) → list_at Channels table ≡ Some (items_view vs) → 100 < length vs → IsProblem table ChannelCount
+too_many table vs e h = (items_view vs, e, rw (item_count-view vs) h)

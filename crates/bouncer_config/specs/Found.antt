@@ -1,0 +1,101 @@
+-- What a table says of each key, and what is wrong with one.
+use Rattle.std.specs.Prelude.{◌≡◌, ℕ, ◌+◌, ◌-◌, ◌==◌, suc, ℤ, pos, negsuc, Bool, true, not, ◌&&◌, nat_le, nat_lt, if◌then◌else◌, List, [], ◌∷◌, ◌++◌, Option, Some, None, option_map, option_and_then}
+use Rattle.std.specs.List.{list_any}
+use Rattle.irc_line.specs.Names.{is_channel, fold_name}
+use Rattle.irc_line.specs.Keys.{is_below, put_in}
+use Rattle.toml.specs.Data.{Data, Items, no_items, item, Members, get_member, as_str, as_integer, as_bool, as_array}
+use Rattle.buffer_commands.specs.declared.options.Options.{Options}
+use Rattle.bouncer_config.specs.KeyTexts.{key_text, limits_of}
+use Rattle.bouncer_config.specs.Texts.{address_of, level_of}
+use Rattle.bouncer_config.specs.declared.key.Key.{Key}
+use Rattle.bouncer_config.specs.declared.key.Key.TheVariants.{ChanBufferSize, QueryBufferSize, MaxQueryBuffers, OffsetMinutes, AutoClearChanBuffer, AutoClearQueryBuffer, MultiClients}
+use Rattle.bouncer_config.specs.declared.key.Limits.{Limits}
+use Rattle.bouncer_config.specs.declared.log_level.LogLevel.{LogLevel}
+use Rattle.bouncer_config.specs.declared.log_level.LogLevel.TheVariants.{Info}
+
+-- the value of a key, where it stands in the table
+abbrev pub value_at : Key → Members → Option Data
+value_at key table = get_member (key_text key) table
+
+-- the text of a key, where its value is one
+abbrev pub text_at : Key → Members → Option (List ℕ)
+text_at key table = option_and_then as_str (value_at key table)
+
+-- a text that may be left out: one that is not given is none, and another value is refused
+abbrev pub text_in : Option Data → Option (Option (List ℕ))
+text_in None = Some None
+text_in (Some d) = option_map Some (as_str d)
+
+-- a natural number within limits
+abbrev pub within : Limits → ℤ → Option ℕ
+within limits (pos n) = if nat_le limits.least n && nat_le n limits.most then Some n else None
+within limits (negsuc n) = None
+
+-- a natural number, or what it is by default
+abbrev pub number_in : Limits → Option Data → Option ℕ
+number_in limits None = Some limits.usual
+number_in limits (Some d) = option_and_then (within limits) (as_integer d)
+
+-- a truth value, on by default
+abbrev pub truth_in : Option Data → Option Bool
+truth_in None = Some true
+truth_in (Some d) = as_bool d
+
+-- minutes from -1,439 to 1,439, and 1,439 more
+abbrev pub above_least : ℤ → Option ℕ
+above_least (pos n) = if nat_le n 1439 then Some (n + 1439) else None
+above_least (negsuc n) = if nat_lt n 1439 then Some (1438 - n) else None
+
+-- an offset, none by default
+abbrev pub offset_in : Option Data → Option ℕ
+offset_in None = Some 1439
+offset_in (Some d) = option_and_then above_least (as_integer d)
+
+-- a level of the log, `info` by default
+abbrev pub level_in : Option Data → Option LogLevel
+level_in None = Some Info
+level_in (Some d) = option_and_then level_of (as_str d)
+
+-- how many items there are
+abbrev pub item_count : Items → ℕ
+item_count no_items = 0
+item_count (item d ds) = suc (item_count ds)
+
+-- the ports of addresses behind those that were read
+abbrev pub ports_after : List ℕ → Items → Option (List ℕ)
+ports_after done no_items = Some done
+ports_after done (item d ds) = option_and_then (λ p. ports_after (done ++ p ∷ []) ds) (option_and_then address_of (as_str d))
+
+-- no port stands twice
+abbrev pub are_different : List ℕ → Bool
+are_different [] = true
+are_different (p ∷ ps) = not (list_any (λ q. q == p) ps) && are_different ps
+
+-- a channel's name
+abbrev pub channel_of : List ℕ → Option (List ℕ)
+channel_of text = if is_channel text then Some text else None
+
+-- the names of channels, each put where it belongs among those that were read, which rise
+abbrev pub names_after : List (List ℕ) → Items → Option (List (List ℕ))
+names_after done no_items = Some done
+names_after done (item d ds) = option_and_then (λ c. names_after (put_in c done) ds) (option_and_then channel_of (as_str d))
+
+-- the channels by rising folded names, none by default
+abbrev pub channels_in : Option Data → Option (List (List ℕ))
+channels_in None = Some []
+channels_in (Some d) = option_and_then (names_after []) (as_array d)
+
+-- the options of a setup are those that a table says
+pub record AreOptions (table : Members) (o : Options) : Type 0 where
+  pub channel_size : number_in (limits_of ChanBufferSize) (value_at ChanBufferSize table) ≡ Some o.channel_size
+  pub query_size : number_in (limits_of QueryBufferSize) (value_at QueryBufferSize table) ≡ Some o.query_size
+  pub most_queries : number_in (limits_of MaxQueryBuffers) (value_at MaxQueryBuffers table) ≡ Some o.most_queries
+  pub clears_channels : truth_in (value_at AutoClearChanBuffer table) ≡ Some o.clears_channels
+  pub clears_queries : truth_in (value_at AutoClearQueryBuffer table) ≡ Some o.clears_queries
+  pub many_clients : truth_in (value_at MultiClients table) ≡ Some o.many_clients
+  pub offset : offset_in (value_at OffsetMinutes table) ≡ Some o.offset
+
+-- where a name belongs among names that rise
+abbrev pub place_in : List ℕ → List (List ℕ) → ℕ
+place_in c [] = 0
+place_in c (d ∷ ds) = if is_below (fold_name d) (fold_name c) then place_in c ds + 1 else 0

@@ -1,0 +1,208 @@
+ghost use Rattle.std.specs.Prelude.{◌≡◌, ◌==◌, not, Some, IfOk, IfErr, IfSome, IsTrue, option_map, option_and_then, string_bytes};
+ghost use Rattle.std.specs.List.{list_all};
+ghost use Rattle.toml.specs.View.{table_view};
+ghost use Rattle.bouncer_config.specs.KeyTexts.{kind_of};
+ghost use Rattle.bouncer_config.specs.Texts.{address_of, is_path};
+ghost use Rattle.bouncer_config.specs.Found.{AreOptions, text_at, text_in, value_at};
+ghost use Rattle.bouncer_config.specs.Judged.{IsConfig, IsSetup};
+ghost use Rattle.bouncer_config.specs.Wrong.{IsProblem};
+
+use crate::address::Address;
+use crate::key::Key;
+use crate::lists::{channels, listen};
+use crate::log_level::LogLevel;
+use crate::password::Password;
+use crate::problem::Problem;
+use crate::reading::{log, needed_text, number, offset, text, truth};
+use crate::unknown::check_names;
+use buffer_commands::{Options, Setup};
+use irc_line::Name;
+use std::alloc::Global;
+use toml::Table;
+
+/// What a bouncer runs with.
+#[derive(Drop)]
+pub struct Config {
+    /// The nick, the channels at the start, the sizes of buffers and their options.
+    pub setup: Setup,
+    /// What clients send in PASS.
+    pub password: Password,
+    /// Where the server is.
+    pub upstream: Address,
+    /// What the server is sent in PASS, if anything.
+    pub upstream_password: Option<Password>,
+    /// Where each node listens for clients: three, five or seven addresses, all different, none of
+    /// them the server's.
+    pub listen: Vec<Address>,
+    /// The path of the folder of the nodes' journals.
+    pub store: String,
+    /// The path of the file that the record of a run is written to, if one is.
+    pub record: Option<String>,
+    /// How often a leader is heard, in milliseconds, 10 to 10,000.
+    pub beat_ms: u16,
+    /// After how long without a leader an election begins, in milliseconds, 50 to 60,000.
+    pub timeout_ms: u16,
+    /// How many lines may go to the server at once, 1 to 100.
+    pub flood_burst: u16,
+    /// How long each further line waits, in milliseconds, 0 to 60,000, 0 being not at all.
+    pub flood_ms: u16,
+    /// How much is told on standard error.
+    pub log: LogLevel,
+}
+
+impl Config {
+    /// The configuration that a table says. The first problem is told: a name that no key has, by
+    /// their order, and else what is wrong with the keys, in the order of the fields here, a
+    /// setup's nick, options and channels in turn.
+    pub fn from_table(alloc: Global, table: &Table) -> Result<Config, Problem>
+        ensures ok { IfOk result (IsConfig (table_view table.now)) }
+        ensures err { IfErr result (IsProblem (table_view table.now)) }
+    {
+        check_names(alloc, table)?;
+        let setup = setup(alloc, table)?;
+        let password = password(alloc, table)?;
+        let upstream = upstream(table)?;
+        let upstream_password = upstream_password(alloc, table)?;
+        let listen = listen(alloc, table, upstream)?;
+        let store = store(alloc, table)?;
+        let record = record(alloc, table)?;
+        Ok(Config {
+            setup,
+            password,
+            upstream,
+            upstream_password,
+            listen,
+            store,
+            record,
+            beat_ms: number(table, Key::BeatMs)?,
+            timeout_ms: number(table, Key::TimeoutMs)?,
+            flood_burst: number(table, Key::FloodBurst)?,
+            flood_ms: number(table, Key::FloodMs)?,
+            log: log(table)?,
+        })
+    }
+}
+
+/// The own nick.
+fn nick(alloc: Global, table: &Table) -> Result<Name, Problem>
+    ensures ok { IfOk result (λ n. text_at Key.Nick (table_view table.now) ≡ Some n) }
+    ensures err { IfErr result (IsProblem (table_view table.now)) }
+{
+    let bytes = Vec::from_slice(alloc, needed_text(table, Key::Nick)?.as_bytes())?;
+    match Name::from_bytes(bytes) {
+        Some(nick) => Ok(nick),
+        None => Err(Problem::Refused(Key::Nick)),
+    }
+}
+
+/// The options of the setup.
+fn options(table: &Table) -> Result<Options, Problem>
+    ensures ok { IfOk result (AreOptions (table_view table.now)) }
+    ensures err { IfErr result (IsProblem (table_view table.now)) }
+{
+    Ok(Options {
+        channel_size: number(table, Key::ChanBufferSize)?,
+        query_size: number(table, Key::QueryBufferSize)?,
+        most_queries: number(table, Key::MaxQueryBuffers)? as u8,
+        clears_channels: truth(table, Key::AutoClearChanBuffer)?,
+        clears_queries: truth(table, Key::AutoClearQueryBuffer)?,
+        many_clients: truth(table, Key::MultiClients)?,
+        offset: offset(table)?,
+    })
+}
+
+/// What the buffers are set up with.
+fn setup(alloc: Global, table: &Table) -> Result<Setup, Problem>
+    ensures ok { IfOk result (IsSetup (table_view table.now)) }
+    ensures err { IfErr result (IsProblem (table_view table.now)) }
+{
+    let nick = nick(alloc, table)?;
+    let options = options(table)?;
+    let channels = channels(alloc, table)?;
+    match Setup::new(nick, channels, options) {
+        Ok(setup) => Ok(setup),
+        Err(fault) => Err(Problem::Setup(fault)),
+    }
+}
+
+/// What clients send in PASS.
+fn password(alloc: Global, table: &Table) -> Result<Password, Problem>
+    ensures ok { IfOk result (λ p. text_at Key.Password (table_view table.now) ≡ Some p) }
+    ensures err { IfErr result (IsProblem (table_view table.now)) }
+{
+    let bytes = Vec::from_slice(alloc, needed_text(table, Key::Password)?.as_bytes())?;
+    match Password::from_bytes(bytes) {
+        Some(password) => Ok(password),
+        None => Err(Problem::Refused(Key::Password)),
+    }
+}
+
+/// Where the server is.
+fn upstream(table: &Table) -> Result<Address, Problem>
+    ensures ok { IfOk result (λ a. option_and_then address_of (text_at Key.Upstream (table_view table.now)) ≡ Some a) }
+    ensures err { IfErr result (IsProblem (table_view table.now)) }
+{
+    match Address::from_text(needed_text(table, Key::Upstream)?.as_bytes()) {
+        Some(address) => Ok(address),
+        None => Err(Problem::Refused(Key::Upstream)),
+    }
+}
+
+/// What the server is sent in PASS, if anything.
+fn upstream_password(alloc: Global, table: &Table) -> Result<Option<Password>, Problem>
+    ensures ok { IfOk result (λ p. text_in (value_at Key.UpstreamPassword (table_view table.now)) ≡ Some p) }
+    ensures err { IfErr result (IsProblem (table_view table.now)) }
+{
+    let text = match text(table, Key::UpstreamPassword)? {
+        Some(text) => text,
+        None => return Ok(None),
+    };
+    match Password::from_bytes(Vec::from_slice(alloc, text.as_bytes())?) {
+        Some(password) => Ok(Some(password)),
+        None => Err(Problem::Refused(Key::UpstreamPassword)),
+    }
+}
+
+/// Whether none of these bytes is NUL.
+fn is_without_nul(bytes: &[u8]) -> bool
+    ensures { result ≡ list_all (λ b. not (b == 0)) bytes.now }
+{
+    bytes.iter().all(|byte| *byte != 0)
+}
+
+/// Whether a text is a path: at least one byte, and none of them NUL.
+fn is_a_path(text: &[u8]) -> bool
+    ensures { result ≡ is_path text.now }
+{
+    1 <= text.len() && is_without_nul(text)
+}
+
+/// The path of the folder of the journals.
+fn store(alloc: Global, table: &Table) -> Result<String, Problem>
+    ensures ok { IfOk result (λ s. text_at Key.Store (table_view table.now) ≡ Some (string_bytes s)) }
+    ensures path { IfOk result (λ s. IsTrue (is_path (string_bytes s))) }
+    ensures err { IfErr result (IsProblem (table_view table.now)) }
+{
+    let path = needed_text(table, Key::Store)?;
+    if !is_a_path(path.as_bytes()) {
+        return Err(Problem::Refused(Key::Store));
+    }
+    Ok(String::from_str(alloc, path)?)
+}
+
+/// The path of the record, if one is written.
+fn record(alloc: Global, table: &Table) -> Result<Option<String>, Problem>
+    ensures ok { IfOk result (λ s. text_in (value_at Key.Record (table_view table.now))
+        ≡ Some (option_map string_bytes s)) }
+    ensures path { IfOk result (λ s. IfSome s (λ path. IsTrue (is_path (string_bytes path)))) }
+    ensures err { IfErr result (IsProblem (table_view table.now)) }
+{
+    let path = match text(table, Key::Record)? {
+        Some(path) => path,
+        None => return Ok(None),
+    };
+    if !is_a_path(path.as_bytes()) {
+        return Err(Problem::Refused(Key::Record));
+    }
+    Ok(Some(String::from_str(alloc, path)?))
+}

@@ -1,0 +1,84 @@
+use crate::key::{Key, Kind};
+use crate::problem::Problem;
+use buffer_commands::SetupFault;
+use std::fmt;
+
+/// What is wrong with the text of a configuration, and in which line where that is known.
+#[derive(Debug, Drop)]
+pub struct ConfigFault {
+    /// From 1.
+    pub line: Option<usize>,
+    pub problem: Problem,
+}
+
+/// As `7: listen: needs three, five or seven addresses`, to which the caller puts the file's name
+/// and a colon before. Where no line is known it begins with a space in place of one.
+impl fmt::Display for ConfigFault {
+    fn fmt<W: fmt::Write>(&self, f: &mut fmt::Formatter<W>) -> fmt::Result {
+        if let Some(line) = self.line {
+            write!(f, "{line}:")?;
+        }
+        f.write_str(" ")?;
+        match &self.problem {
+            Problem::Memory => f.write_str("out of memory"),
+            Problem::NotToml => f.write_str("is no TOML"),
+            Problem::Unknown(name) => write_problem(
+                f,
+                name.as_str(),
+                "is no key of a configuration",
+            ),
+            Problem::Missing(key) => write_problem(f, key.text(), "is missing"),
+            Problem::Kind(key) => write_problem(f, key.text(), kind_text(key.kind())),
+            Problem::Refused(key) => write_problem(f, key.text(), rule_text(*key)),
+            Problem::ListenCount => {
+                write_problem(f, "listen", "needs three, five or seven addresses")
+            }
+            Problem::ListenTwice => {
+                write_problem(
+                    f,
+                    "listen",
+                    "needs addresses that differ, and none of upstream's",
+                )
+            }
+            Problem::ChannelCount => write_problem(f, "channels", "takes at most 100 names"),
+            Problem::Setup(_) => write_problem(f, "channels", "names a channel twice"),
+        }
+    }
+}
+
+fn write_problem<W: fmt::Write>(f: &mut fmt::Formatter<W>, key: &str, why: &str) -> fmt::Result {
+    f.write_str(key)?;
+    f.write_str(": ")?;
+    f.write_str(why)
+}
+
+/// What a key of this kind needs.
+fn kind_text(kind: Kind) -> &'static str {
+    match kind {
+        Kind::Text => "needs a text",
+        Kind::Texts => "needs a list of texts",
+        Kind::Number => "needs a whole number",
+        Kind::Truth => "needs true or false",
+    }
+}
+
+/// What a key needs beyond its kind.
+fn rule_text(key: Key) -> &'static str {
+    match key {
+        Key::Nick => "needs a name: 1 to 64 bytes without space or comma, the first no colon",
+        Key::Password | Key::UpstreamPassword => "needs 1 to 64 bytes without space",
+        Key::Upstream => "needs an address 127.0.0.1:PORT",
+        Key::Listen => "needs addresses 127.0.0.1:PORT",
+        Key::Store | Key::Record => "needs a path",
+        Key::Channels => "needs names of channels",
+        Key::ChanBufferSize | Key::QueryBufferSize => "needs 0 to 500",
+        Key::MaxQueryBuffers => "needs 1 to 50",
+        Key::OffsetMinutes => "needs -1439 to 1439",
+        Key::BeatMs => "needs 10 to 10000",
+        Key::TimeoutMs => "needs 50 to 60000",
+        Key::FloodBurst => "needs 1 to 100",
+        Key::FloodMs => "needs 0 to 60000",
+        Key::Log => "needs quiet, info or debug",
+        _ => "needs true or false",
+    }
+}

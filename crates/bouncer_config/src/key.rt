@@ -1,0 +1,111 @@
+ghost use Rattle.std.specs.Prelude.{◌≡◌};
+ghost use Rattle.bouncer_config.specs.KeyTexts.{key_text, kind_of, limits_of};
+
+/// A key of the configuration.
+#[derive(Clone, Copy, Debug, PartialEq, Eq)]
+pub enum Key {
+    Nick,
+    Password,
+    Upstream,
+    UpstreamPassword,
+    Listen,
+    Store,
+    Record,
+    Channels,
+    ChanBufferSize,
+    QueryBufferSize,
+    MaxQueryBuffers,
+    OffsetMinutes,
+    AutoClearChanBuffer,
+    AutoClearQueryBuffer,
+    MultiClients,
+    BeatMs,
+    TimeoutMs,
+    FloodBurst,
+    FloodMs,
+    Log,
+}
+
+/// What the value of a key is.
+#[derive(Clone, Copy, Debug, PartialEq, Eq)]
+pub enum Kind {
+    Text,
+    Texts,
+    Number,
+    Truth,
+}
+
+/// The least and the most that a number may be, and what it is where it is not given.
+#[derive(Clone, Copy, Debug, PartialEq, Eq)]
+pub struct Limits {
+    pub least: u16,
+    pub most: u16,
+    pub usual: u16,
+}
+
+impl Limits {
+    fn new(least: u16, most: u16, usual: u16) -> Limits
+        ensures { result ≡ record { least = least; most = most; usual = usual } }
+    {
+        Limits { least, most, usual }
+    }
+}
+
+impl Key {
+    /// The word under which the key stands in the text.
+    pub fn text(self) -> &'static str
+        ensures { result.now ≡ key_text self }
+    {
+        match self {
+            Key::Nick => "nick",
+            Key::Password => "password",
+            Key::Upstream => "upstream",
+            Key::UpstreamPassword => "upstream_password",
+            Key::Listen => "listen",
+            Key::Store => "store",
+            Key::Record => "record",
+            Key::Channels => "channels",
+            Key::ChanBufferSize => "chan_buffer_size",
+            Key::QueryBufferSize => "query_buffer_size",
+            Key::MaxQueryBuffers => "max_query_buffers",
+            Key::OffsetMinutes => "offset_minutes",
+            Key::AutoClearChanBuffer => "auto_clear_chan_buffer",
+            Key::AutoClearQueryBuffer => "auto_clear_query_buffer",
+            Key::MultiClients => "multi_clients",
+            Key::BeatMs => "beat_ms",
+            Key::TimeoutMs => "timeout_ms",
+            Key::FloodBurst => "flood_burst",
+            Key::FloodMs => "flood_ms",
+            Key::Log => "log",
+        }
+    }
+
+    /// What the key's value is to be.
+    pub fn kind(self) -> Kind
+        ensures { result ≡ kind_of self }
+    {
+        match self {
+            Key::Nick | Key::Password | Key::Upstream | Key::UpstreamPassword => Kind::Text,
+            Key::Store | Key::Record | Key::Log => Kind::Text,
+            Key::Listen | Key::Channels => Kind::Texts,
+            Key::AutoClearChanBuffer | Key::AutoClearQueryBuffer => Kind::Truth,
+            Key::MultiClients => Kind::Truth,
+            _ => Kind::Number,
+        }
+    }
+
+    /// The limits of a key whose value is a natural number; of any other key 0 throughout.
+    pub fn limits(self) -> Limits
+        ensures { result ≡ limits_of self }
+    {
+        match self {
+            Key::ChanBufferSize | Key::QueryBufferSize => Limits::new(0, 500, 50),
+            Key::MaxQueryBuffers => Limits::new(1, 50, 50),
+            Key::BeatMs => Limits::new(10, 10_000, 100),
+            Key::TimeoutMs => Limits::new(50, 60_000, 1_000),
+            Key::FloodBurst => Limits::new(1, 100, 5),
+            Key::FloodMs => Limits::new(0, 60_000, 2_000),
+            _ => Limits::new(0, 0, 0),
+        }
+    }
+}

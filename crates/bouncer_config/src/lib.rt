@@ -1,0 +1,23 @@
+//! The configuration of a running bouncer: what a TOML text says of it, and why one is refused.
+#![tactic(auto)]
+
+mod address;
+mod config;
+mod config_fault;
+mod key;
+mod lists;
+mod log_level;
+mod parse;
+mod password;
+mod problem;
+mod reading;
+mod unknown;
+
+pub use address::Address;
+pub use config::Config;
+pub use config_fault::ConfigFault;
+pub use key::{Key, Kind, Limits};
+pub use log_level::LogLevel;
+pub use parse::parse_config;
+pub use password::Password;
+pub use problem::Problem;

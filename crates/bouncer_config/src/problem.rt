@@ -1,0 +1,40 @@
+use crate::key::{Key, Kind};
+use buffer_commands::SetupFault;
+use std::alloc::AllocError;
+use std::fmt;
+
+/// What is wrong with a configuration, or that memory ran out as it was read.
+#[derive(Debug, Drop)]
+pub enum Problem {
+    /// Memory ran out, which says nothing of the text.
+    Memory,
+    /// The text is no TOML, or no UTF-8.
+    NotToml,
+    /// No key has this name.
+    Unknown(String),
+    /// This key is needed, and it is not there.
+    Missing(Key),
+    /// The value of this key is no text, number, truth value or list, as it is to be.
+    Kind(Key),
+    /// The value of this key is not one that the key may have.
+    Refused(Key),
+    /// There are not three, five or seven addresses to listen at.
+    ListenCount,
+    /// Two addresses to listen at are the same, or one of them is the upstream server's.
+    ListenTwice,
+    /// There are more than 100 channels.
+    ChannelCount,
+    /// No setup has these channels: one stands twice among them.
+    Setup(SetupFault),
+}
+
+impl From<AllocError> for Problem {
+    ghost use Rattle.std.specs.Prelude.{◌≡◌};
+    ghost use Rattle.bouncer_config.specs.declared.problem.Problem.TheVariants.{Memory};
+
+    ghost from_gives = { λ _ p. p ≡ Memory };
+
+    fn from(_: AllocError) -> Problem {
+        Problem::Memory
+    }
+}

@@ -1,0 +1,108 @@
+//! Configurations that are taken.
+use bouncer_config::{Config, LogLevel, parse_config};
+use std::alloc::Global;
+use std::test::Fail;
+
+const EVERY: &[u8] = b"
+nick = \"me\"
+password = \"pass\"
+upstream = \"127.0.0.1:6667\"
+upstream_password = \"secret\"
+listen = [\"127.0.0.1:6701\", \"127.0.0.1:65535\", \"127.0.0.1:1\"]
+store = \"/tmp/store\"
+record = \"run.record\"
+channels = [\"#y\", \"&A\", \"#X\"]
+chan_buffer_size = 500
+query_buffer_size = 0
+max_query_buffers = 1
+auto_clear_chan_buffer = false
+auto_clear_query_buffer = false
+multi_clients = false
+offset_minutes = -60
+beat_ms = 10
+timeout_ms = 60000
+flood_burst = 100
+flood_ms = 0
+log = \"debug\"
+";
+
+const LEAST: &[u8] = b"
+nick = \"me\"
+password = \"pass\"
+upstream = \"127.0.0.1:6667\"
+listen = [\"127.0.0.1:1\", \"127.0.0.1:2\", \"127.0.0.1:3\"]
+store = \"store\"
+";
+
+fn read(alloc: Global, text: &[u8]) -> Result<Config, Fail> {
+    match parse_config(alloc, text) {
+        Ok(config) => Ok(config),
+        Err(fault) => Err(Fail::new(&format!(in alloc; "{fault}")?)),
+    }
+}
+
+#[test]
+fn every_key_is_read(rt: HostRuntime) -> Result<(), Fail> {
+    let config = read(rt.alloc(), EVERY)?;
+    assert_eq!(rt; config.password.as_bytes(), &b"pass"[..]);
+    assert_eq!(rt; config.upstream.port(), 6667);
+    assert_eq!(rt; config.store.as_str(), "/tmp/store");
+    assert_eq!(rt; config.beat_ms, 10);
+    assert_eq!(rt; config.timeout_ms, 60_000);
+    assert_eq!(rt; config.flood_burst, 100);
+    assert_eq!(rt; config.flood_ms, 0);
+    assert!(rt; config.log == LogLevel::Debug);
+    Ok(())
+}
+
+#[test]
+fn optional_texts_are_read(rt: HostRuntime) -> Result<(), Fail> {
+    let config = read(rt.alloc(), EVERY)?;
+    match &config.upstream_password {
+        Some(password) => assert_eq!(rt; password.as_bytes(), &b"secret"[..]),
+        None => assert!(rt; false),
+    }
+    match &config.record {
+        Some(path) => assert_eq!(rt; path.as_str(), "run.record"),
+        None => assert!(rt; false),
+    }
+    assert_eq!(rt; config.listen.len(), 3);
+    Ok(())
+}
+
+#[test]
+fn the_setup_is_read(rt: HostRuntime) -> Result<(), Fail> {
+    let setup = read(rt.alloc(), EVERY)?.setup;
+    assert_eq!(rt; setup.nick().as_bytes(), &b"me"[..]);
+    assert_eq!(rt; setup.channel_size(), 500);
+    assert_eq!(rt; setup.query_size(), 0);
+    assert_eq!(rt; setup.most_queries(), 1);
+    assert!(rt; !setup.clears_channels() && !setup.clears_queries() && !setup.many_clients());
+    assert_eq!(rt; setup.offset().above_least(), 1379);
+    Ok(())
+}
+
+#[test]
+fn channels_stand_by_their_folded_names(rt: HostRuntime) -> Result<(), Fail> {
+    let setup = read(rt.alloc(), EVERY)?.setup;
+    let wanted = [&b"#X"[..], &b"#y"[..], &b"&A"[..]];
+    assert_eq!(rt; setup.channels().len(), wanted.len());
+    for (channel, wanted) in setup.channels().iter().zip(wanted.iter()) {
+        assert_eq!(rt; channel.as_bytes(), *wanted);
+    }
+    Ok(())
+}
+
+#[test]
+fn what_is_left_out_is_as_usual(rt: HostRuntime) -> Result<(), Fail> {
+    let config = read(rt.alloc(), LEAST)?;
+    assert!(rt; config.upstream_password.is_none() && config.record.is_none());
+    assert_eq!(rt; config.beat_ms, 100);
+    assert_eq!(rt; config.timeout_ms, 1_000);
+    assert_eq!(rt; config.flood_burst, 5);
+    assert_eq!(rt; config.flood_ms, 2_000);
+    assert!(rt; config.log == LogLevel::Info);
+    assert!(rt; config.setup.channels().is_empty());
+    assert_eq!(rt; config.setup.offset().above_least(), 1439);
+    Ok(())
+}
