@@ -1,20 +1,21 @@
 -- Nodes in their seats.
-use Rattle.std.proofs.Common.{◌≡◌, ℕ, zero, suc, pred, ◌+◌, ◌-◌, ◌<◌, List, [], ◌∷◌, ◌++◌, length, Some, slice_get, true, refl, sym, ap, ◌∙◌, subst, arith}
+use Rattle.std.proofs.Common.{◌≡◌, ℕ, suc, List, Option, None, [], ◌∷◌, ◌++◌, length, Some, refl, sym, ap, ◌∙◌, subst}
 use Rattle.raft_log.specs.declared.message.Message.{Message}
-use Rattle.raft_log.specs.Lists.{item}
 use Rattle.raft_log.specs.Node.{Node}
 use Rattle.raft_log.specs.Seen.{seen}
 use Rattle.raft_node.specs.Machine.{Machine}
 use Rattle.raft_node.specs.Parts.{Parts}
 use Rattle.world_views.specs.declared.node_event.NodeEvent.TheVariants.{Does}
+use Rattle.world_views.specs.declared.envelope.Envelope.{Envelope}
 use Rattle.world_views.specs.declared.node_event.NodeInput.{NodeInput}
-use Rattle.world_views.specs.Own.{EventOf, ViewOf, act_of, own_state}
-use Rattle.ether.specs.Passes.{AreNewAt, EtherParts, IsPassAt, IsUnopened, view_of}
-use Rattle.ether.specs.Plays.{after_event}
+use Rattle.world_views.specs.declared.node_event.NodeInput.TheVariants.{Deliver}
+use Rattle.world_views.specs.Own.{EventOf, act_of, own_state}
+use Rattle.ether.specs.Passes.{AreNewAt, EtherParts, IsHeard, IsOpen, IsPassAt, IsUnopened, view_of}
+use Rattle.ether.specs.Plays.{after_take}
 use Rattle.ether.specs.Seats.{HasActed, HasDone, IsSeated}
 use Rattle.ether.specs.declared.pass.Pass.{Pass}
 use Rattle.atomic_table.specs.Seated.{TableId}
-use Rattle.atomic_table.proofs.Lists.{at_longer}
+use Rattle.atomic_table.proofs.Lists.{at_last, at_longer}
 use Rattle.world_views.specs.Views.{IsAt, View}
 use Rattle.ether.proofs.Gathering.{last_at}
 
@@ -31,3 +32,27 @@ module _ {B L T : Type 0} where
   popped t n all rest p are is =
       let last = are (length rest) p (last_at all rest p is) in
       (λ i q at. are i q (subst (λ (l : List (Pass B L T)). IsAt l i q) (sym is) (at_longer rest (p ∷ []) i q at)), last.0, ap (λ (v : View B L T). v.opened) last.2)
+
+  take_keeps_state : (v : View B L T) (y : Option (Envelope B)) → (after_take v y).state ≡ v.state
+  take_keeps_state v None = refl
+  take_keeps_state v (Some e) = refl
+
+  -- a take changes nothing of the node
+  pub seated_take : {Setup Hosted Store : Type 0} (e : EtherParts Setup) (p q : Pass B L T) (n : Parts Setup Hosted Store B) (sent : ℕ) (y : Option (Envelope B)) → IsSeated e p n sent → IsPassAt e.table e.size q
+      → (IsOpen p → IsOpen q) → q.node ≡ p.node → view_of q ≡ after_take (view_of p) y → IsSeated e q n sent
+  seated_take e p q n sent y s is opens node view =
+      let same : (view_of q).state ≡ (view_of p).state = ap (λ (v : View B L T). v.state) view ∙ take_keeps_state (view_of p) y in
+      record {
+        opened = (is, opens s.opened.1);
+        state = same ∙ s.state ∙ ap (λ (x : Node B). seen n.state x.sent) (sym same);
+        size = s.size;
+        id = s.id ∙ ap suc (sym node);
+        setup = s.setup;
+        count = s.count ∙ ap (λ (x : Node B). length x.sent) (sym same);
+      }
+
+  -- what was taken was heard
+  pub heard_last : (v w : View B L T) (x : Envelope B) → w ≡ after_take v (Some x) → IsHeard w (Does (Deliver x))
+  heard_last v w x is m h =
+      let same : x ≡ m = cc h in
+      (length v.heard, subst (λ (z : View B L T). IsAt z.heard (length v.heard) m) (sym is) (subst (λ (z : Envelope B). IsAt (v.heard ++ x ∷ []) (length v.heard) z) same (at_last v.heard x (length v.heard) refl)))

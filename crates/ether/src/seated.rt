@@ -153,3 +153,83 @@ fn last_pass(ether: &ToyEther, passes: &mut Vec<ToyPass>) -> Result<ToyPass, Fai
         None => Err(Fail::from("no pass is left")),
     }
 }
+
+/// A seated node takes the message that lies in the mailbox from the node at this place, and hears it.
+/// Gives the first message that it sends by it, if any.
+pub fn receive(
+    ether: &ToyEther,
+    pass: &mut ToyPass,
+    node: &mut ToyNode,
+    sent: &mut u64,
+    from: u64,
+) -> Result<Option<Envelope<u8>>, Fail>
+    requires { IsSeated ether.now pass.old node.old sent.old }
+    ensures seated { IfOk result (λ _. IsSeated ether.now pass.new node.new sent.new) }
+    ensures message { IfOk result (λ r. IfSome r (λ e. IsSent (view_of pass.new) e)) }
+{
+    if from >= ether.size().value() as u64 {
+        return Err(Fail::from("no such node"));
+    }
+    let Some(envelope) = ether.take(pass, from) else {
+        return Err(Fail::from("nothing came"));
+    };
+    let event = NodeEvent::Does(NodeInput::Deliver(envelope));
+    let (_ticket, message) = act(ether, pass, node, sent, event)?;
+    Ok(message)
+}
+
+/// A seated leader beats so many times, and posts what it sends to node 2. Gives how many older messages
+/// came back.
+pub fn beat(
+    ether: &ToyEther,
+    pass: &mut ToyPass,
+    node: &mut ToyNode,
+    sent: &mut u64,
+    count: u64,
+) -> Result<u64, Fail>
+    requires { IsSeated ether.now pass.old node.old sent.old }
+    ensures { IfOk result (λ _. IsSeated ether.now pass.new node.new sent.new) }
+{
+    let mut older = 0;
+    for round in 0..count {
+        let _ = round;
+        let event = NodeEvent::Does(NodeInput::Beat);
+        let (_ticket, message) = act(ether, pass, node, sent, event)?;
+        if post(ether, pass, node, *sent, message)?.is_some() && older < count {
+            older += 1;
+        }
+    }
+    Ok(older)
+}
+
+/// A seated node waited too long for a leader, and posts the first message by which it asks for votes.
+pub fn ask_vote(
+    ether: &ToyEther,
+    pass: &mut ToyPass,
+    node: &mut ToyNode,
+    sent: &mut u64,
+) -> Result<(), Fail>
+    requires { IsSeated ether.now pass.old node.old sent.old }
+    ensures { IfOk result (λ _. IsSeated ether.now pass.new node.new sent.new) }
+{
+    let timeout = NodeEvent::Does(NodeInput::Timeout);
+    let (_ticket, message) = act(ether, pass, node, sent, timeout)?;
+    post(ether, pass, node, *sent, message)?;
+    Ok(())
+}
+
+/// A seated node hears what the node at this place asked, and posts its answer.
+pub fn answer(
+    ether: &ToyEther,
+    pass: &mut ToyPass,
+    node: &mut ToyNode,
+    sent: &mut u64,
+    from: u64,
+) -> Result<(), Fail>
+    requires { IsSeated ether.now pass.old node.old sent.old }
+    ensures { IfOk result (λ _. IsSeated ether.now pass.new node.new sent.new) }
+{
+    let message = receive(ether, pass, node, sent, from)?;
+    post(ether, pass, node, *sent, message)?;
+    Ok(())
+}
