@@ -33,4 +33,3 @@ pub use origin::Origin;
 pub use session_id::SessionId;
 pub use wire::Wire;
 pub use wire_fault::WireFault;
-
