@@ -139,7 +139,8 @@ fn password(alloc: Global, table: &Table) -> Result<Password, Problem>
 
 /// Where the server is.
 fn upstream(table: &Table) -> Result<Address, Problem>
-    ensures ok { IfOk result (λ a. option_and_then address_of (text_at Key.Upstream (table_view table.now)) ≡ Some a) }
+    ensures ok { IfOk result (λ a.
+        option_and_then address_of (text_at Key.Upstream (table_view table.now)) ≡ Some a) }
     ensures err { IfErr result (IsProblem (table_view table.now)) }
 {
     match Address::from_text(needed_text(table, Key::Upstream)?.as_bytes()) {
@@ -150,7 +151,8 @@ fn upstream(table: &Table) -> Result<Address, Problem>
 
 /// What the server is sent in PASS, if anything.
 fn upstream_password(alloc: Global, table: &Table) -> Result<Option<Password>, Problem>
-    ensures ok { IfOk result (λ p. text_in (value_at Key.UpstreamPassword (table_view table.now)) ≡ Some p) }
+    ensures ok { IfOk result (λ p.
+        text_in (value_at Key.UpstreamPassword (table_view table.now)) ≡ Some p) }
     ensures err { IfErr result (IsProblem (table_view table.now)) }
 {
     let text = match text(table, Key::UpstreamPassword)? {
@@ -179,7 +181,8 @@ fn is_a_path(text: &[u8]) -> bool
 
 /// The path of the folder of the journals.
 fn store(alloc: Global, table: &Table) -> Result<String, Problem>
-    ensures ok { IfOk result (λ s. text_at Key.Store (table_view table.now) ≡ Some (string_bytes s)) }
+    ensures ok { IfOk result (λ s.
+        text_at Key.Store (table_view table.now) ≡ Some (string_bytes s)) }
     ensures path { IfOk result (λ s. IsTrue (is_path (string_bytes s))) }
     ensures err { IfErr result (IsProblem (table_view table.now)) }
 {

@@ -131,7 +131,8 @@ fn are_different(addresses: &[Address]) -> bool
 
 /// The values to listen at.
 fn listed(table: &Table) -> Result<&[Value], Problem>
-    ensures ok { IfOk result (λ v. list_at Key.Listen (table_view table.now) ≡ Some (items_view v.now)) }
+    ensures ok { IfOk result (λ v.
+        list_at Key.Listen (table_view table.now) ≡ Some (items_view v.now)) }
     ensures err { IfErr result (IsProblem (table_view table.now)) }
 {
     match needed(table, Key::Listen)?.as_array() {
@@ -142,7 +143,8 @@ fn listed(table: &Table) -> Result<&[Value], Problem>
 
 /// The values to listen at, as many as a group has nodes.
 fn listed_for_a_group(table: &Table) -> Result<&[Value], Problem>
-    ensures ok { IfOk result (λ v. list_at Key.Listen (table_view table.now) ≡ Some (items_view v.now)) }
+    ensures ok { IfOk result (λ v.
+        list_at Key.Listen (table_view table.now) ≡ Some (items_view v.now)) }
     ensures group { IfOk result (λ v. IsGroupSize (length v.now)) }
     ensures err { IfErr result (IsProblem (table_view table.now)) }
 {
@@ -159,7 +161,8 @@ pub(crate) fn listen(
     table: &Table,
     upstream: Address,
 ) -> Result<Vec<Address>, Problem>
-    requires { option_and_then address_of (text_at Key.Upstream (table_view table.now)) ≡ Some upstream }
+    requires { option_and_then address_of (text_at Key.Upstream (table_view table.now))
+        ≡ Some upstream }
     ensures ok { IfOk result (λ v. Listens (table_view table.now) upstream v.items) }
     ensures err { IfErr result (IsProblem (table_view table.now)) }
 {
@@ -176,7 +179,8 @@ pub(crate) fn listen(
 
 /// The channels that values name, by rising folded names.
 fn named_channels(alloc: Global, values: &[Value]) -> Result<Option<Vec<Name>>, AllocError>
-    ensures { IfOk result (λ v. option_map (λ names. names.items) v ≡ names_after [] (items_view values.now)) }
+    ensures { IfOk result (λ v.
+        option_map (λ names. names.items) v ≡ names_after [] (items_view values.now)) }
 {
     let mut names = Vec::new(alloc);
     if read_channels(alloc, values, &mut names)? {
@@ -188,8 +192,10 @@ fn named_channels(alloc: Global, values: &[Value]) -> Result<Option<Vec<Name>>, 
 
 /// The values that name the channels, none by default.
 fn channel_values(table: &Table) -> Result<Option<&[Value]>, Problem>
-    ensures none { IfOk result (λ v. IsNone v → value_at Key.Channels (table_view table.now) ≡ None) }
-    ensures some { IfOk result (λ v. IfSome v (λ vs. list_at Key.Channels (table_view table.now) ≡ Some (items_view vs.now))) }
+    ensures none { IfOk result (λ v.
+        IsNone v → value_at Key.Channels (table_view table.now) ≡ None) }
+    ensures some { IfOk result (λ v. IfSome v (λ vs.
+        list_at Key.Channels (table_view table.now) ≡ Some (items_view vs.now))) }
     ensures err { IfErr result (IsProblem (table_view table.now)) }
 {
     match find(table, Key::Channels) {
@@ -203,7 +209,8 @@ fn channel_values(table: &Table) -> Result<Option<&[Value]>, Problem>
 
 /// The channels by rising folded names, none by default.
 pub(crate) fn channels(alloc: Global, table: &Table) -> Result<Vec<Name>, Problem>
-    ensures ok { IfOk result (λ v. channels_in (value_at Key.Channels (table_view table.now)) ≡ Some v.items) }
+    ensures ok { IfOk result (λ v.
+        channels_in (value_at Key.Channels (table_view table.now)) ≡ Some v.items) }
     ensures err { IfErr result (IsProblem (table_view table.now)) }
 {
     let values = match channel_values(table)? {

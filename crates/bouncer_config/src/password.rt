@@ -25,7 +25,8 @@ impl Model for Password {
 impl Password {
     /// The password of these bytes, where they are one.
     pub fn from_bytes(bytes: Vec<u8>) -> Option<Password>
-        ensures { MatchOption result (is_password bytes.items ≡ false) (IsPassed is_password bytes.items) }
+        ensures { MatchOption result (is_password bytes.items ≡ false)
+            (IsPassed is_password bytes.items) }
     {
         if is_a_password(bytes.as_slice()) {
             Some(Password { bytes })

@@ -76,7 +76,8 @@ pub(crate) fn number(table: &Table, key: Key) -> Result<u16, Problem>
     requires natural { key ≢ Key.OffsetMinutes }
     requires usual { (limits_of key).usual ≤ (limits_of key).most }
     ensures most { IfOk result (λ n. n ≤ (limits_of key).most) }
-    ensures ok { IfOk result (λ n. number_in (limits_of key) (value_at key (table_view table.now)) ≡ Some n) }
+    ensures ok { IfOk result (λ n.
+        number_in (limits_of key) (value_at key (table_view table.now)) ≡ Some n) }
     ensures err { IfErr result (IsProblem (table_view table.now)) }
 {
     match find(table, key) {
@@ -118,7 +119,8 @@ fn offset_of(minutes: i64) -> Option<Offset>
 
 /// The offset of the clock, none by default.
 pub(crate) fn offset(table: &Table) -> Result<Offset, Problem>
-    ensures ok { IfOk result (λ n. offset_in (value_at Key.OffsetMinutes (table_view table.now)) ≡ Some n) }
+    ensures ok { IfOk result (λ n.
+        offset_in (value_at Key.OffsetMinutes (table_view table.now)) ≡ Some n) }
     ensures err { IfErr result (IsProblem (table_view table.now)) }
 {
     match find(table, Key::OffsetMinutes) {
