@@ -1,0 +1,27 @@
+-- How often lines may go, and how long is waited after what failed.
+use Rattle.std.specs.Prelude.{◌≡◌, ◌≤◌, ◌+◌, ◌*◌, ◌-◌, ◌^◌, ◌&&◌, ℕ, pred, Bool, nat_le, nat_lt, max, min, if◌then◌else◌, List, [], ◌∷◌, IsTrue}
+
+-- a line may go at this moment, where so many may go at once, a line takes so long, and all is free again at a moment
+abbrev pub may_go : ℕ → ℕ → ℕ → ℕ → Bool
+may_go burst line free now = nat_lt now (2 ^ 63) && nat_le free (now + pred burst * line)
+
+-- when all is free again, behind a line that goes at this moment, if it may
+abbrev pub free_after : ℕ → ℕ → ℕ → ℕ → ℕ
+free_after burst line free now = if may_go burst line free now then max free now + line else free
+
+-- when all is free again, behind lines that were to go at these moments
+abbrev pub free_behind : ℕ → ℕ → ℕ → List ℕ → ℕ
+free_behind burst line free [] = free
+free_behind burst line free (now ∷ later) = free_behind burst line (free_after burst line free now) later
+
+-- which of these moments a line went at
+abbrev pub gone : ℕ → ℕ → ℕ → List ℕ → List ℕ
+gone burst line free [] = []
+gone burst line free (now ∷ later) =
+    if may_go burst line free now
+    then now ∷ gone burst line (free_after burst line free now) later
+    else gone burst line (free_after burst line free now) later
+
+-- twice as long, up to a limit
+abbrev pub doubled : ℕ → ℕ → ℕ
+doubled most wait = min (wait * 2) most

@@ -1,0 +1,56 @@
+//! How often lines may be claimed.
+ghost use Rattle.std.specs.Prelude.{◌≡◌};
+ghost use Rattle.pacing.specs.Pacing.{free_after, may_go};
+
+/// No moment is later: some 292 million years.
+const LAST: u64 = 1 << 63;
+
+/// So many lines may go at once, and then one each so many milliseconds; in any stretch of time no
+/// more go than these and one for each such time in it.
+#[derive(Clone, Copy, Debug, Drop, PartialEq, Eq)]
+pub struct Pace {
+    /// How many lines may go at once; as many as 1 where it is 0.
+    pub burst: u16,
+    /// How many milliseconds a line takes; where it is 0 there is no limit.
+    pub line_ms: u16,
+    /// When all is again as if none had gone.
+    pub free_at: u64,
+}
+
+impl Pace {
+    /// No line has gone.
+    pub fn new(burst: u16, line_ms: u16) -> Pace
+        ensures burst { result.burst ≡ burst }
+        ensures line_ms { result.line_ms ≡ line_ms }
+        ensures free_at { result.free_at ≡ 0 }
+    {
+        Pace {
+            burst,
+            line_ms,
+            free_at: 0,
+        }
+    }
+
+    /// Whether a line may go at this moment, in milliseconds.
+    pub fn may_go(&self, now: u64) -> bool
+        ensures { result ≡ may_go self.now.burst self.now.line_ms self.now.free_at now }
+    {
+        let waits = self.burst.saturating_sub(1) as u64 * self.line_ms as u64;
+        now < LAST && self.free_at <= now + waits
+    }
+
+    /// A line goes at this moment, where it may. Whether it does.
+    pub fn go(&mut self, now: u64) -> bool
+        ensures gone { result ≡ may_go self.old.burst self.old.line_ms self.old.free_at now }
+        ensures burst { self.new.burst ≡ self.old.burst }
+        ensures line_ms { self.new.line_ms ≡ self.old.line_ms }
+        ensures free_at { self.new.free_at
+            ≡ free_after self.old.burst self.old.line_ms self.old.free_at now }
+    {
+        if !self.may_go(now) {
+            return false;
+        }
+        self.free_at = self.free_at.max(now) + self.line_ms as u64;
+        true
+    }
+}
