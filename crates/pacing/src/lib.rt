@@ -5,9 +5,11 @@
 mod backoff;
 pub mod laws;
 mod pace;
+mod timer;
 
 pub use backoff::Backoff;
 pub use pace::Pace;
+pub use timer::Timer;
 
 #[cfg(test)]
 mod tests;

@@ -1,4 +1,4 @@
-use crate::{Backoff, Pace};
+use crate::{Backoff, Pace, Timer};
 use std::test::Fail;
 
 #[test]
@@ -33,5 +33,14 @@ fn waits_are_doubled_up_to_a_minute(rt: HostRuntime) -> Result<(), Fail> {
     }
     backoff.reset();
     assert_eq!(rt; backoff.fail(), 1000);
+    Ok(())
+}
+
+#[test]
+fn a_timer_tells_how_long_ago(rt: HostRuntime) -> Result<(), Fail> {
+    let timer = Timer::from(500);
+    assert!(rt; !timer.has_passed(1000, 1499));
+    assert!(rt; timer.has_passed(1000, 1500));
+    assert!(rt; !timer.has_passed(1, 400));
     Ok(())
 }

@@ -1,0 +1,208 @@
+//! One client's connection.
+use crate::news::News;
+use crate::order::{Now, Order};
+use bouncer_tower::{Tower, TowerEffect};
+use client_gate::{ClientGate, Fed, Request};
+use machine_laws::Hosted;
+use node_notes::Note;
+use pacing::Timer;
+use raft_log::NodeId;
+use request_once::Answer;
+use std::alloc::{AllocError, Global};
+use wire_bytes::Origin;
+
+/// How long a client may take to register, in milliseconds.
+const REGISTERS_WITHIN: u64 = 30_000;
+
+/// After how long without a word a client is asked for one, and after how long more its connection is
+/// closed, in milliseconds.
+const SILENCE: u64 = 120_000;
+
+/// What a client is asked that was silent for long.
+const PING: &[u8] = b"PING bouncer.local\r\n";
+
+/// A client's connection to its node.
+#[derive(Drop)]
+pub struct Client {
+    alloc: Global,
+    origin: Origin,
+    gate: ClientGate,
+    /// When it connected.
+    since: Timer,
+    /// When it was last heard of.
+    heard: Timer,
+    /// When its requests were last asked for.
+    asked: Timer,
+    is_attached: bool,
+    /// It was asked for a word since it was last heard of.
+    is_asked: bool,
+    /// Its connection is gone, or is to be closed.
+    is_gone: bool,
+}
+
+impl Client {
+    /// A client that has just connected.
+    pub fn new(alloc: Global, origin: Origin, gate: ClientGate, now: &Now) -> Client {
+        Client {
+            alloc,
+            origin,
+            gate,
+            since: Timer::from(now.ms),
+            heard: Timer::from(now.ms),
+            asked: Timer::from(now.ms),
+            is_attached: false,
+            is_asked: false,
+            is_gone: false,
+        }
+    }
+
+    /// Which client it is, of which run of which node.
+    pub fn origin(&self) -> Origin {
+        self.origin
+    }
+
+    /// Its bytes came, however they are cut.
+    pub fn receive(
+        &mut self,
+        now: &Now,
+        bytes: &[u8],
+        orders: &mut Vec<Order>,
+    ) -> Result<(), AllocError> {
+        if self.is_gone {
+            return Ok(());
+        }
+        self.heard = Timer::from(now.ms);
+        self.is_asked = false;
+        match self.gate.feed(bytes) {
+            Ok(fed) => self.pass(now, fed, orders),
+            Err(_) => self.hang_up(now, orders),
+        }
+    }
+
+    /// Something came of a request.
+    pub fn hear(
+        &mut self,
+        now: &Now,
+        effect: &TowerEffect,
+        orders: &mut Vec<Order>,
+    ) -> Result<(), AllocError> {
+        match self.gate.on_effect(effect) {
+            Ok(fed) => self.pass(now, fed, orders)?,
+            Err(_) => self.hang_up(now, orders)?,
+        }
+        match effect {
+            Answer::Gap(_, _) => self.ask_again(now, orders),
+            _ => Ok(()),
+        }
+    }
+
+    /// What its gate answered goes on: the bytes to the client, the requests to its node.
+    fn pass(&mut self, now: &Now, fed: Fed, orders: &mut Vec<Order>) -> Result<(), AllocError> {
+        let Fed {
+            requests,
+            reply,
+            close,
+        } = fed;
+        if !reply.is_empty() && !self.is_gone {
+            orders.push(Order::Write(self.origin.client(), reply))?;
+        }
+        self.ask_all(now, requests, orders)?;
+        if close {
+            self.hang_up(now, orders)?;
+        }
+        Ok(())
+    }
+
+    /// Its requests are asked for. The first one is that it is attached.
+    fn ask_all(
+        &mut self,
+        now: &Now,
+        requests: Vec<Request>,
+        orders: &mut Vec<Order>,
+    ) -> Result<(), AllocError> {
+        if requests.is_empty() {
+            return Ok(());
+        }
+        if !self.is_attached {
+            self.is_attached = true;
+            orders.push(Order::Tells(News::Attached(self.origin)))?;
+        }
+        self.asked = Timer::from(now.ms);
+        for request in requests {
+            orders.push(asks(self.origin, now, request))?;
+        }
+        Ok(())
+    }
+
+    /// The requests that are not known to be done are asked for again.
+    fn ask_again(&mut self, now: &Now, orders: &mut Vec<Order>) -> Result<(), AllocError> {
+        let waiting = self.gate.again()?;
+        self.asked = Timer::from(now.ms);
+        for request in waiting {
+            orders.push(asks(self.origin, now, request))?;
+        }
+        Ok(())
+    }
+
+    /// Its connection is closed.
+    pub fn hang_up(&mut self, now: &Now, orders: &mut Vec<Order>) -> Result<(), AllocError> {
+        if self.is_gone {
+            return Ok(());
+        }
+        self.is_gone = true;
+        orders.push(Order::Close(self.origin.client()))?;
+        orders.push(Order::Tells(News::Left(self.origin)))?;
+        if let Some(request) = self.gate.end() {
+            orders.push(asks(self.origin, now, request))?;
+        }
+        Ok(())
+    }
+
+    /// Time passed: it may be too slow to register, or too silent, and requests that wait are asked for
+    /// again.
+    pub fn tick(
+        &mut self,
+        now: &Now,
+        timeout_ms: u16,
+        orders: &mut Vec<Order>,
+    ) -> Result<(), AllocError> {
+        if self.is_too_slow(now) {
+            return self.hang_up(now, orders);
+        }
+        if self.heard.has_passed(SILENCE, now.ms) && !self.is_asked && !self.is_gone {
+            self.is_asked = true;
+            let ping = Vec::from_slice(self.alloc, PING)?;
+            orders.push(Order::Write(self.origin.client(), ping))?;
+        }
+        if self.asked.has_passed(timeout_ms as u64, now.ms) {
+            self.ask_again(now, orders)?;
+        }
+        Ok(())
+    }
+
+    /// Whether it did not register in time, or did not answer.
+    fn is_too_slow(&self, now: &Now) -> bool {
+        if self.is_attached {
+            self.is_asked && self.heard.has_passed(2 * SILENCE, now.ms)
+        } else {
+            self.since.has_passed(REGISTERS_WITHIN, now.ms)
+        }
+    }
+
+    /// Whether nothing is left to do for it: its connection is gone, and all that it asked for is done.
+    pub fn is_over(&self) -> Result<bool, AllocError> {
+        if !self.is_gone {
+            return Ok(false);
+        }
+        let waiting = self.gate.again()?;
+        Ok(waiting.is_empty())
+    }
+}
+
+/// A request goes to its client's node.
+fn asks(origin: Origin, now: &Now, request: Request) -> Order {
+    let node = NodeId::new(origin.node());
+    let Request { number, action } = request;
+    let body = <Tower as Hosted>::asked(origin, number, now.at, action);
+    Order::Tell(node, Note::Ask(body))
+}

@@ -1,0 +1,119 @@
+//! All clients.
+use crate::client::Client;
+use crate::order::{Now, Order};
+use bouncer_tower::TowerEffect;
+use std::alloc::{AllocError, Global};
+use std::collections::BTreeMap;
+use wire_bytes::Origin;
+
+/// The clients, by their numbers, which rise in the order in which they connected.
+#[derive(Drop)]
+pub struct Clients {
+    alloc: Global,
+    all: BTreeMap<u64, Client>,
+}
+
+impl Clients {
+    pub fn new(alloc: Global) -> Clients {
+        Clients {
+            alloc,
+            all: BTreeMap::new(alloc),
+        }
+    }
+
+    /// A client has connected.
+    pub fn insert(&mut self, client: Client) -> Result<(), AllocError> {
+        match self.all.insert(client.origin().client(), client) {
+            Ok(_) => Ok(()),
+            Err(_) => Err(AllocError),
+        }
+    }
+
+    /// A client's bytes came.
+    pub fn receive(
+        &mut self,
+        now: &Now,
+        number: u64,
+        bytes: &[u8],
+        orders: &mut Vec<Order>,
+    ) -> Result<(), AllocError> {
+        match self.all.get_mut(&number) {
+            Some(client) => client.receive(now, bytes, orders),
+            None => Ok(()),
+        }
+    }
+
+    /// Something came of a request of the client of this origin.
+    pub fn hear(
+        &mut self,
+        now: &Now,
+        origin: Origin,
+        effect: &TowerEffect,
+        orders: &mut Vec<Order>,
+    ) -> Result<(), AllocError> {
+        let Some(client) = self.all.get_mut(&origin.client()) else {
+            return Ok(());
+        };
+        if client.origin() != origin {
+            return Ok(());
+        }
+        client.hear(now, effect, orders)?;
+        if client.is_over()? {
+            self.all.remove(&origin.client());
+        }
+        Ok(())
+    }
+
+    /// A client's connection is gone.
+    pub fn lose(
+        &mut self,
+        now: &Now,
+        number: u64,
+        orders: &mut Vec<Order>,
+    ) -> Result<(), AllocError> {
+        let Some(client) = self.all.get_mut(&number) else {
+            return Ok(());
+        };
+        client.hang_up(now, orders)?;
+        if client.is_over()? {
+            self.all.remove(&number);
+        }
+        Ok(())
+    }
+
+    /// Time passed.
+    pub fn tick(
+        &mut self,
+        now: &Now,
+        timeout_ms: u16,
+        orders: &mut Vec<Order>,
+    ) -> Result<(), AllocError> {
+        for client in self.all.values_mut() {
+            client.tick(now, timeout_ms, orders)?;
+        }
+        Ok(())
+    }
+
+    /// A run of a node began, with this boot: the connections of earlier runs' clients are closed, and
+    /// nothing more is done for these.
+    pub fn leave_runs_below(
+        &mut self,
+        now: &Now,
+        node: u8,
+        boot: u64,
+        orders: &mut Vec<Order>,
+    ) -> Result<(), AllocError> {
+        let mut gone = Vec::new(self.alloc);
+        for client in self.all.values_mut() {
+            let origin = client.origin();
+            if origin.node() == node && origin.boot() < boot {
+                client.hang_up(now, orders)?;
+                gone.push(origin.client())?;
+            }
+        }
+        for number in &gone {
+            self.all.remove(number);
+        }
+        Ok(())
+    }
+}

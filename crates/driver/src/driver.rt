@@ -1,0 +1,244 @@
+//! The driver: what happened is told to it, and it gives orders.
+use crate::client::Client;
+use crate::clients::Clients;
+use crate::desk::Desk;
+use crate::link::Link;
+use crate::news::News;
+use crate::order::{Now, Order, TowerNote, TowerReport};
+use crate::settings::Settings;
+use bouncer_tower::{Tower, TowerEffect};
+use client_gate::ClientGate;
+use irc_line::Line;
+use machine_laws::{Class, Hosted};
+use node_notes::{Note, Report, Status};
+use pacing::Pace;
+use raft_log::NodeId;
+use std::alloc::{AllocError, Global};
+use wire_bytes::{Number, Origin};
+
+/// The most nodes that there may be.
+const MOST_NODES: usize = 7;
+
+/// The largest number that a client may have.
+const MOST_NUMBER: u64 = 1 << 60;
+
+/// What drives the nodes of a bouncer, their clients and the server.
+#[derive(Drop)]
+pub struct Driver {
+    alloc: Global,
+    settings: Settings,
+    /// Node 1's first, also of nodes that there are not: of these nothing is heard.
+    desks: [Desk; MOST_NODES],
+    clients: Clients,
+    /// The number of the last client.
+    numbered: u64,
+    link: Link,
+    pace: Pace,
+    orders: Vec<Order>,
+}
+
+impl Driver {
+    /// A driver of nodes that were just started; it knows each by what its worker tells.
+    pub fn new(alloc: Global, settings: Settings, now: &Now) -> Driver {
+        let pace = Pace::new(settings.flood_burst, settings.flood_ms);
+        let desks = desks_of(&settings, now);
+        Driver {
+            alloc,
+            settings,
+            desks,
+            clients: Clients::new(alloc),
+            numbered: 0,
+            link: Link::new(alloc, now),
+            pace,
+            orders: Vec::new(alloc),
+        }
+    }
+
+    /// What is to be done, in this order. None of it is given again.
+    pub fn orders(&mut self) -> Vec<Order> {
+        std::mem::replace(&mut self.orders, Vec::new(self.alloc))
+    }
+
+    /// A client has connected to this node. Its number; none where the node is not up, or the numbers
+    /// are spent: its connection is then to be closed.
+    pub fn connect(&mut self, now: &Now, node: NodeId) -> Result<Option<u64>, AllocError> {
+        let Some(status) = self.status(node) else {
+            return Ok(None);
+        };
+        if status.down.is_some() || self.numbered >= MOST_NUMBER {
+            return Ok(None);
+        }
+        let number = self.numbered + 1;
+        let origin = Origin::new(node.value(), status.boot.value(), number);
+        let password = Vec::from_slice(self.alloc, self.settings.password.as_slice())?;
+        let nick = self.settings.nick.copy(self.alloc)?;
+        let gate = ClientGate::new(self.alloc, origin, password, nick)?;
+        self.clients
+            .insert(Client::new(self.alloc, origin, gate, now))?;
+        self.numbered = number;
+        Ok(Some(number))
+    }
+
+    /// Bytes came from a client, however they are cut.
+    pub fn receive(&mut self, now: &Now, number: u64, bytes: &[u8]) -> Result<(), AllocError> {
+        self.clients.receive(now, number, bytes, &mut self.orders)
+    }
+
+    /// A client's connection is gone.
+    pub fn lose(&mut self, now: &Now, number: u64) -> Result<(), AllocError> {
+        self.clients.lose(now, number, &mut self.orders)
+    }
+
+    /// How a node stood when it was last heard of.
+    fn status(&self, node: NodeId) -> Option<Status> {
+        let desk = self.desks.get(node.value() as usize - 1)?;
+        desk.status()
+    }
+
+    /// A node's worker told something.
+    pub fn hear(&mut self, now: &Now, report: TowerReport) -> Result<(), AllocError> {
+        let Report {
+            node,
+            status,
+            effects,
+            led,
+            fault: _,
+            is_last,
+        } = report;
+        let is_new = self.hear_status(now, node, &status, led, is_last)?;
+        self.pass_all(now, node, effects.as_slice())?;
+        if is_new {
+            self.begin_run(now, node, status.boot)?;
+        }
+        self.tick_node(now, node)
+    }
+
+    /// How a node stands was told. Whether a run of it began.
+    fn hear_status(
+        &mut self,
+        now: &Now,
+        node: NodeId,
+        status: &Status,
+        led: bool,
+        is_last: bool,
+    ) -> Result<bool, AllocError> {
+        let orders = &mut self.orders;
+        match self.desks.get_mut(node.value() as usize - 1) {
+            Some(desk) => desk.hear(now, status, led, is_last, orders),
+            None => Ok(false),
+        }
+    }
+
+    /// Effects that left a node go to its clients, or to the server.
+    fn pass_all(
+        &mut self,
+        now: &Now,
+        node: NodeId,
+        effects: &[TowerEffect],
+    ) -> Result<(), AllocError> {
+        for effect in effects {
+            match <Tower as Hosted>::class(effect) {
+                Class::To(origin) => self.clients.hear(now, origin, effect, &mut self.orders)?,
+                Class::Rejoin(_, line) => self.link.send(node, line, &mut self.orders)?,
+                Class::Hand(_, _, _) | Class::Nowhere => {}
+            }
+        }
+        Ok(())
+    }
+
+    /// A line was handed out by a node, for its session.
+    pub fn hand(&mut self, node: NodeId, line: &Line) -> Result<(), AllocError> {
+        self.link.send(node, line, &mut self.orders)
+    }
+
+    /// A run of a node began: word goes round that its earlier runs are gone.
+    fn begin_run(&mut self, now: &Now, node: NodeId, boot: Number) -> Result<(), AllocError> {
+        let orders = &mut self.orders;
+        self.clients
+            .leave_runs_below(now, node.value(), boot.value(), orders)?;
+        let gone = <Tower as Hosted>::node_gone(node.value(), boot);
+        self.tell(node, Note::Ask(gone))
+    }
+
+    fn tell(&mut self, node: NodeId, note: TowerNote) -> Result<(), AllocError> {
+        match self.desks.get_mut(node.value() as usize - 1) {
+            Some(desk) => desk.tell(note, &mut self.orders),
+            None => Ok(()),
+        }
+    }
+
+    /// What a node is told by the clock, and by how it stands.
+    fn tick_node(&mut self, now: &Now, node: NodeId) -> Result<(), AllocError> {
+        let Some(desk) = self.desks.get_mut(node.value() as usize - 1) else {
+            return Ok(());
+        };
+        desk.tick(now, &self.settings, &mut self.orders)?;
+        if desk.leads() {
+            desk.claim(now, &self.settings, &mut self.pace, &mut self.orders)?;
+            return self.link.connect(now, node, &mut self.orders);
+        }
+        if self.link.node() == Some(node) {
+            self.orders.push(Order::Disconnect)?;
+            self.close(now)?;
+        }
+        Ok(())
+    }
+
+    /// The server is connected to.
+    pub fn connected(&mut self, now: &Now) -> Result<(), AllocError> {
+        self.link.connected(now, &self.settings, &mut self.orders)
+    }
+
+    /// Bytes came from the server, however they are cut.
+    pub fn receive_line(&mut self, now: &Now, bytes: &[u8]) -> Result<(), AllocError> {
+        let Some(node) = self.link.node() else {
+            return Ok(());
+        };
+        let notes = self.link.receive(now, bytes, &mut self.orders)?;
+        for note in notes {
+            if let Note::Opened = &note {
+                self.orders.push(Order::Tells(News::Opened(node)))?;
+            }
+            self.tell(node, note)?;
+        }
+        Ok(())
+    }
+
+    /// The connection to the server is gone, or could not be made.
+    pub fn close(&mut self, now: &Now) -> Result<(), AllocError> {
+        let Some(node) = self.link.node() else {
+            return Ok(());
+        };
+        if self.link.lose(now, &mut self.orders)? {
+            self.tell(node, Note::Closed)?;
+        }
+        Ok(())
+    }
+
+    /// Time passed.
+    pub fn tick(&mut self, now: &Now) -> Result<(), AllocError> {
+        if self.link.is_silent(now) {
+            self.orders.push(Order::Disconnect)?;
+            self.close(now)?;
+        }
+        let timeout = self.settings.timeout_ms;
+        self.clients.tick(now, timeout, &mut self.orders)?;
+        for id in 1..MOST_NODES as u8 + 1 {
+            self.tick_node(now, NodeId::new(id))?;
+        }
+        Ok(())
+    }
+}
+
+/// A desk for each node that there may be.
+fn desks_of(settings: &Settings, now: &Now) -> [Desk; MOST_NODES] {
+    [
+        Desk::new(NodeId::new(1), settings, now),
+        Desk::new(NodeId::new(2), settings, now),
+        Desk::new(NodeId::new(3), settings, now),
+        Desk::new(NodeId::new(4), settings, now),
+        Desk::new(NodeId::new(5), settings, now),
+        Desk::new(NodeId::new(6), settings, now),
+        Desk::new(NodeId::new(7), settings, now),
+    ]
+}

@@ -1,0 +1,17 @@
+//! What drives the nodes of a bouncer, their clients and the server, apart from sockets and clocks:
+//! it is told what happened, and gives orders.
+#![tactic(auto)]
+
+mod client;
+mod clients;
+mod desk;
+mod driver;
+mod link;
+mod news;
+mod order;
+mod settings;
+
+pub use driver::Driver;
+pub use news::News;
+pub use order::{Now, Order, TowerNote, TowerReport};
+pub use settings::Settings;

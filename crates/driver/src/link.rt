@@ -1,0 +1,204 @@
+//! The connection to the server.
+use crate::news::News;
+use crate::order::{Now, Order, TowerNote};
+use crate::settings::Settings;
+use buffer_commands::WireLine;
+use irc_line::Line;
+use node_notes::Note;
+use pacing::{Backoff, Timer};
+use raft_log::NodeId;
+use std::alloc::{AllocError, Global};
+use uplink::{Passed, Uplink, UplinkInput};
+
+/// The first and the longest wait before the server is tried again, in milliseconds.
+const FIRST_WAIT: u32 = 1000;
+
+const LONGEST_WAIT: u32 = 60_000;
+
+/// After how long a session the first wait is the shortest again, in milliseconds.
+const GOOD_SESSION: u64 = 60_000;
+
+/// After how long without a word from the server the connection is closed, in milliseconds.
+const SILENCE: u64 = 300_000;
+
+/// Where the connection stands.
+#[derive(Drop)]
+enum Stage {
+    /// There is none; a next one may be tried after so many milliseconds from then.
+    Idle(Timer, u32),
+    /// One was asked for, for this node.
+    Connecting(NodeId),
+    /// It stands, for this node.
+    Open(Session),
+}
+
+/// A connection that stands.
+#[derive(Drop)]
+struct Session {
+    node: NodeId,
+    uplink: Uplink,
+    since: Timer,
+    heard: Timer,
+}
+
+/// The connection to the server, which is of the node that leads.
+#[derive(Drop)]
+pub struct Link {
+    alloc: Global,
+    stage: Stage,
+    backoff: Backoff,
+}
+
+impl Link {
+    pub fn new(alloc: Global, now: &Now) -> Link {
+        Link {
+            alloc,
+            stage: Stage::Idle(Timer::from(now.ms), 0),
+            backoff: Backoff::new(FIRST_WAIT, LONGEST_WAIT),
+        }
+    }
+
+    /// The node that it is of, if there is one.
+    pub fn node(&self) -> Option<NodeId> {
+        match &self.stage {
+            Stage::Idle(_, _) => None,
+            Stage::Connecting(node) => Some(*node),
+            Stage::Open(session) => Some(session.node),
+        }
+    }
+
+    /// This node leads: the server is connected to for it, where that may be tried.
+    pub fn connect(
+        &mut self,
+        now: &Now,
+        node: NodeId,
+        orders: &mut Vec<Order>,
+    ) -> Result<(), AllocError> {
+        match &self.stage {
+            Stage::Idle(since, wait) => {
+                if !since.has_passed(*wait as u64, now.ms) {
+                    return Ok(());
+                }
+            }
+            Stage::Connecting(_) | Stage::Open(_) => return Ok(()),
+        }
+        orders.push(Order::Connect)?;
+        self.stage = Stage::Connecting(node);
+        Ok(())
+    }
+
+    /// The connection stands: the session is asked for.
+    pub fn connected(
+        &mut self,
+        now: &Now,
+        settings: &Settings,
+        orders: &mut Vec<Order>,
+    ) -> Result<(), AllocError> {
+        let node = match &self.stage {
+            Stage::Connecting(node) => *node,
+            Stage::Idle(_, _) | Stage::Open(_) => return Ok(()),
+        };
+        let nick = settings.nick.copy(self.alloc)?;
+        let (uplink, first) = Uplink::new(self.alloc, nick, settings.upstream_password.as_ref())?;
+        orders.push(Order::Send(first))?;
+        self.stage = Stage::Open(Session {
+            node,
+            uplink,
+            since: Timer::from(now.ms),
+            heard: Timer::from(now.ms),
+        });
+        Ok(())
+    }
+
+    /// Bytes came from the server, however they are cut. What they bring to the node, if anything.
+    pub fn receive(
+        &mut self,
+        now: &Now,
+        bytes: &[u8],
+        orders: &mut Vec<Order>,
+    ) -> Result<Vec<TowerNote>, AllocError> {
+        let session = match &mut self.stage {
+            Stage::Open(session) => session,
+            Stage::Idle(_, _) | Stage::Connecting(_) => return Ok(Vec::new(self.alloc)),
+        };
+        session.heard = Timer::from(now.ms);
+        let Passed { inputs, reply } = session.uplink.feed(bytes)?;
+        if !reply.is_empty() {
+            orders.push(Order::Send(reply))?;
+        }
+        notes_of(self.alloc, now, inputs)
+    }
+
+    /// The connection is gone, or could not be made. Whether its node has to be told.
+    pub fn lose(&mut self, now: &Now, orders: &mut Vec<Order>) -> Result<bool, AllocError> {
+        let lost = match &mut self.stage {
+            Stage::Idle(_, _) => return Ok(false),
+            Stage::Connecting(_) => false,
+            Stage::Open(session) => {
+                if session.since.has_passed(GOOD_SESSION, now.ms) {
+                    self.backoff.reset();
+                }
+                orders.push(Order::Tells(News::Closed(session.node)))?;
+                session.uplink.end().is_some()
+            }
+        };
+        self.stage = Stage::Idle(Timer::from(now.ms), self.backoff.fail());
+        Ok(lost)
+    }
+
+    /// Whether the server was silent for too long.
+    pub fn is_silent(&self, now: &Now) -> bool {
+        match &self.stage {
+            Stage::Open(session) => session.heard.has_passed(SILENCE, now.ms),
+            Stage::Idle(_, _) | Stage::Connecting(_) => false,
+        }
+    }
+
+    /// A line of this node's session goes to the server.
+    pub fn send(
+        &self,
+        node: NodeId,
+        line: &Line,
+        orders: &mut Vec<Order>,
+    ) -> Result<(), AllocError> {
+        match &self.stage {
+            Stage::Open(session) => {
+                if session.node != node {
+                    return Ok(());
+                }
+            }
+            Stage::Idle(_, _) | Stage::Connecting(_) => return Ok(()),
+        }
+        let mut bytes = Vec::new(self.alloc);
+        line.write_cut(&mut bytes)?;
+        orders.push(Order::Send(bytes))?;
+        Ok(())
+    }
+}
+
+/// What an uplink gave, as notes to its node.
+fn notes_of(
+    alloc: Global,
+    now: &Now,
+    inputs: Vec<UplinkInput>,
+) -> Result<Vec<TowerNote>, AllocError> {
+    let mut notes = Vec::new(alloc);
+    for input in inputs {
+        if let Some(note) = note_of(now, input) {
+            notes.push(note)?;
+        }
+    }
+    Ok(notes)
+}
+
+/// What an uplink gave, as a note to its node; a line that has no spelling is none.
+fn note_of(now: &Now, input: UplinkInput) -> Option<TowerNote> {
+    match input {
+        UplinkInput::Opened => Some(Note::Opened),
+        UplinkInput::Heard(line) => {
+            let line = WireLine::from_line(line)?;
+            Some(Note::Heard(now.at, line))
+        }
+        UplinkInput::Closed => Some(Note::Closed),
+    }
+}

@@ -1,0 +1,49 @@
+//! What an operator is told.
+use raft_log::NodeId;
+use raft_node::Cause;
+use std::fmt;
+use wire_bytes::{Number, Origin};
+
+/// What an operator is told, a line each: never a password, nor the text of a message.
+#[derive(Clone, Copy)]
+pub enum News {
+    /// A client registered at its node.
+    Attached(Origin),
+    /// A client's connection is gone.
+    Left(Origin),
+    /// A node leads, in this term.
+    Elected(NodeId, Number),
+    /// The server took the session of the node that leads.
+    Opened(NodeId),
+    /// The session is over.
+    Closed(NodeId),
+    /// A node is down.
+    Down(NodeId, Cause),
+    /// A node is up, in its run of this number.
+    Up(NodeId, Number),
+}
+
+impl News {
+    /// The node that it is of.
+    pub fn node(&self) -> u8 {
+        match self {
+            News::Attached(origin) | News::Left(origin) => origin.node(),
+            News::Elected(node, _) | News::Opened(node) | News::Closed(node) => node.value(),
+            News::Down(node, _) | News::Up(node, _) => node.value(),
+        }
+    }
+}
+
+impl fmt::Display for News {
+    fn fmt<W: fmt::Write>(&self, f: &mut fmt::Formatter<W>) -> fmt::Result {
+        match self {
+            News::Attached(origin) => write!(f, "client {} attached", origin.client()),
+            News::Left(origin) => write!(f, "client {} left", origin.client()),
+            News::Elected(_, term) => write!(f, "leads in term {}", term.value()),
+            News::Opened(_) => write!(f, "upstream opened"),
+            News::Closed(_) => write!(f, "upstream closed"),
+            News::Down(_, cause) => write!(f, "down: {cause}"),
+            News::Up(_, boot) => write!(f, "up, run {}", boot.value()),
+        }
+    }
+}

@@ -1,0 +1,25 @@
+//! How long ago something was.
+ghost use Rattle.std.specs.Prelude.{◌≡◌, ◌-◌, nat_le};
+
+/// Tells how long ago something was, by a clock of milliseconds.
+#[derive(Clone, Copy, Debug, Drop, PartialEq, Eq)]
+pub struct Timer {
+    /// When it was.
+    pub since: u64,
+}
+
+impl Timer {
+    /// It was at this moment.
+    pub fn from(now: u64) -> Timer
+        ensures { result.since ≡ now }
+    {
+        Timer { since: now }
+    }
+
+    /// Whether it was so many milliseconds ago. At a moment before it nothing has passed.
+    pub fn has_passed(&self, wait: u64, now: u64) -> bool
+        ensures { result ≡ nat_le wait (now - self.now.since) }
+    {
+        now.saturating_sub(self.since) >= wait
+    }
+}

@@ -1,0 +1,90 @@
+//! What the driver orders at the sockets.
+use crate::event_loop::LoopFault;
+use crate::sockets::Sockets;
+use driver::{Driver, Now, Order};
+use std::net::Net;
+
+/// What the server is told at the end.
+const QUIT: &[u8] = b"QUIT\r\n";
+
+impl Sockets {
+    /// Does what the driver orders at a socket.
+    pub fn carry_out(
+        &mut self,
+        net: &impl Net,
+        now: &Now,
+        driver: &mut Driver,
+        order: Order,
+    ) -> Result<(), LoopFault> {
+        match order {
+            Order::Write(number, bytes) => self.write(now, driver, number, bytes.as_slice()),
+            Order::Close(number) => {
+                self.close(number);
+                Ok(())
+            }
+            Order::Connect => {
+                if self.connect(net).is_err() {
+                    self.drop_server(now, driver)?;
+                }
+                Ok(())
+            }
+            Order::Send(bytes) => self.send(now, driver, bytes.as_slice()),
+            Order::Disconnect => {
+                self.server = None;
+                Ok(())
+            }
+            Order::Tell(_, _) | Order::Tells(_) => Ok(()),
+        }
+    }
+
+    /// Bytes go to a client.
+    fn write(
+        &mut self,
+        now: &Now,
+        driver: &mut Driver,
+        number: u64,
+        bytes: &[u8],
+    ) -> Result<(), LoopFault> {
+        let Some(connection) = self.clients.get_mut(&number) else {
+            return Ok(());
+        };
+        if connection.write(bytes)? {
+            return Ok(());
+        }
+        self.drop_client(now, driver, number)
+    }
+
+    /// A client's connection is to be closed, behind what is still to be written.
+    fn close(&mut self, number: u64) {
+        let is_over = match self.clients.get_mut(&number) {
+            Some(connection) => connection.end(),
+            None => false,
+        };
+        if is_over {
+            self.clients.remove(&number);
+        }
+    }
+
+    /// Bytes go to the server.
+    fn send(&mut self, now: &Now, driver: &mut Driver, bytes: &[u8]) -> Result<(), LoopFault> {
+        let Some(connection) = &mut self.server else {
+            return Ok(());
+        };
+        if connection.write(bytes)? {
+            return Ok(());
+        }
+        self.drop_server(now, driver)
+    }
+
+    /// The bouncer ends: the server is told, as far as it takes that at once.
+    pub fn finish(&mut self) {
+        if let Some(connection) = &mut self.server {
+            let _ = connection.write(QUIT);
+        }
+        self.server = None;
+        for connection in self.clients.values_mut() {
+            connection.flush();
+        }
+        self.clients.clear();
+    }
+}
