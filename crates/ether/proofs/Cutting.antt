@@ -12,7 +12,7 @@ use Rattle.raft_node.specs.Machine.{Machine}
 use Rattle.world_views.specs.Own.{ViewOf}
 use Rattle.world_views.specs.Rule.{IsRule, IsRun}
 use Rattle.world_views.specs.Views.{Drew, RisesFrom, View, total}
-use Rattle.ether.specs.Rule.{Spare, Known, Owner, Holds, IsKept, IsStowed, blank, blanks, dealer, known, spent}
+use Rattle.ether.specs.Rule.{Spare, Known, Look, Owner, Holds, IsKept, IsStowed, blank, blanks, dealer, known, spent}
 use Rattle.ether.specs.Rule.Spare.{Bank, Home, Gone}
 use Rattle.ether.specs.Rule.Owner.{mailbox, seat}
 use Rattle.ether.specs.Plays.{both, bank_after, dealt, first_part, rest_part}
@@ -138,7 +138,7 @@ module _ (M : Machine) where
       }
 
   -- the dealer's seat becomes a node's, with the slot b as its spare, and the new seat has the slots past it
-  pub deals : (n id b : ℕ) (ls : List ℕ) (vs : List (ViewOf M)) → b < n * n + n
+  pub deals : (n id b : ℕ) (ls : List (Look M.Body)) (vs : List (ViewOf M)) → b < n * n + n
       → Splits (IsKept M n) id (known (Bank b) ls vs) (first_part 1 (Home b) (known (Bank b) ls vs)) (rest_part 1 (Bank (b + 1)) (known (Bank b) ls vs))
   deals n id b ls vs room s r at =
       let v : SeatOf M = known (Bank b) ls vs in

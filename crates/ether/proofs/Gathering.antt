@@ -13,7 +13,7 @@ use Rattle.world_views.specs.Views.{IsAt, View}
 use Rattle.ether.specs.declared.pass.Pass.{Pass}
 use Rattle.ether.specs.Passes.{AllMeet, IsPassAt, looks_of, view_of}
 use Rattle.ether.specs.Plays.{AreOfOneMoment, both, holding, rest_part}
-use Rattle.ether.specs.Rule.{Known}
+use Rattle.ether.specs.Rule.{Known, Look}
 use Rattle.ether.specs.Rule.Spare.{Gone}
 use Rattle.ether.proofs.Cutting.{rule_at_first}
 use Rattle.ether.proofs.Knowing.{at_end}
@@ -28,7 +28,7 @@ module _ {B L T : Type 0} where
   pub last_at : (all rest : List (Pass B L T)) (p : Pass B L T) → all ≡ rest ++ p ∷ [] → IsAt all (length rest) p
   last_at all rest p is = subst (λ (l : List (Pass B L T)). IsAt l (length rest) p) (sym is) (at_last rest p (length rest) refl)
 
-  views_held : (out : Bool) (k : ℕ) (ls : List ℕ) (v : View B L T) → (holding out k ls v).0.views ≡ v ∷ []
+  views_held : (out : Bool) (k : ℕ) (ls : List (Look B)) (v : View B L T) → (holding out k ls v).0.views ≡ v ∷ []
   views_held true k ls v = refl
   views_held false k ls v = refl
 

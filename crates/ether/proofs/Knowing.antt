@@ -5,7 +5,7 @@ use mathlib.Core.Option.{some, some-injective, some-ne-none}
 use lib.ListN.{get_elem?}
 use Rattle.atomic_table.proofs.Lists.{at_set, set_here, set_else}
 use Rattle.world_views.specs.Views.{View}
-use Rattle.ether.specs.Rule.{Spare, Known, IsKnown, known, spent}
+use Rattle.ether.specs.Rule.{Spare, Known, Look, IsKnown, known, spent}
 use Rattle.ether.specs.Plays.{both, first_part, rest_part}
 use Rattle.ether.proofs.Changing.{below_length}
 
@@ -43,7 +43,7 @@ module _ {B L T : Type 0} where
   only_one w x (suc k) e = absurd (some-ne-none x (sym e))
 
   -- one node's view changes, at its seat
-  pub knows_change : (vs : List (View B L T)) (seats : List (Known B L T)) (id : ℕ) (x y : Spare) (ls ls' : List ℕ) (v w : View B L T) → IsKnown vs seats → get_elem? seats id ≡ some (known x ls (v ∷ [])) → w.node ≡ v.node
+  pub knows_change : (vs : List (View B L T)) (seats : List (Known B L T)) (id : ℕ) (x y : Spare) (ls ls' : List (Look B)) (v w : View B L T) → IsKnown vs seats → get_elem? seats id ≡ some (known x ls (v ∷ [])) → w.node ≡ v.node
       → IsKnown (set vs v.node w) (set seats id (known y ls' (w ∷ [])))
   knows_change vs seats id x y ls ls' v w s at same =
       let mine = s.seen id 0 (known x ls (v ∷ [])) v at refl in

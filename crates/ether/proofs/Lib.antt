@@ -8,4 +8,3 @@ mod Passes
 mod Keys
 mod Moments
 pub mod Gathering
-pub mod Seating

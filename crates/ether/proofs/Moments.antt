@@ -11,7 +11,7 @@ use Rattle.world_views.specs.Laws.{AreOfOneGroup}
 use Rattle.world_views.specs.Own.{ViewOf}
 use Rattle.world_views.specs.Views.{View}
 use Rattle.world_views.proofs.Handing.{of_one_group}
-use Rattle.ether.specs.Rule.{Known, IsKept}
+use Rattle.ether.specs.Rule.{Known, Look, IsKept}
 use Rattle.ether.specs.Rule.Spare.{Gone}
 use Rattle.ether.specs.Plays.{AreOfOneMoment, both, first_part, holding, met, of_one_moment, rest_part}
 use Rattle.ether.proofs.Stowing.{SeatOf, SlotOf}
@@ -51,14 +51,14 @@ module _ {B L T : Type 0} where
   give_back : Me (Option (Envelope B)) (Known B L T) → Me (Option (Envelope B)) (Known B L T)
   give_back m = (rest_part 1 Gone m.0, [])
 
-  one_after : (a : Bool) (k : ℕ) (ls : List ℕ) (v : View B L T) (b : Bool) (l : ℕ) (ls' : List ℕ) (w : View B L T) → keep_first (take_in (holding a k ls v) (lend (holding b l ls' w))) ≡ holding a k ls v
+  one_after : (a : Bool) (k : ℕ) (ls : List (Look B)) (v : View B L T) (b : Bool) (l : ℕ) (ls' : List (Look B)) (w : View B L T) → keep_first (take_in (holding a k ls v) (lend (holding b l ls' w))) ≡ holding a k ls v
   unfolding lend take_in keep_first
   one_after true k ls v true l ls' w = refl
   one_after true k ls v false l ls' w = refl
   one_after false k ls v true l ls' w = refl
   one_after false k ls v false l ls' w = refl
 
-  other_after : (a : Bool) (k : ℕ) (ls : List ℕ) (v : View B L T) (b : Bool) (l : ℕ) (ls' : List ℕ) (w : View B L T)
+  other_after : (a : Bool) (k : ℕ) (ls : List (Look B)) (v : View B L T) (b : Bool) (l : ℕ) (ls' : List (Look B)) (w : View B L T)
       → take_in (left (holding b l ls' w)) (give_back (take_in (holding a k ls v) (lend (holding b l ls' w)))) ≡ holding b l ls' w
   unfolding lend take_in give_back left
   other_after true k ls v true l ls' w = refl
@@ -66,7 +66,7 @@ module _ {B L T : Type 0} where
   other_after false k ls v true l ls' w = refl
   other_after false k ls v false l ls' w = refl
 
-  two_views : (a : Bool) (k : ℕ) (ls : List ℕ) (v : View B L T) (b : Bool) (l : ℕ) (ls' : List ℕ) (w : View B L T) → (take_in (holding a k ls v) (lend (holding b l ls' w))).0.views ≡ v ∷ w ∷ []
+  two_views : (a : Bool) (k : ℕ) (ls : List (Look B)) (v : View B L T) (b : Bool) (l : ℕ) (ls' : List (Look B)) (w : View B L T) → (take_in (holding a k ls v) (lend (holding b l ls' w))).0.views ≡ v ∷ w ∷ []
   unfolding lend take_in
   two_views true k ls v true l ls' w = refl
   two_views true k ls v false l ls' w = refl
@@ -74,7 +74,7 @@ module _ {B L T : Type 0} where
   two_views false k ls v false l ls' w = refl
 
   -- a meeting leaves both seats as they were, and in the midst one seat has both views
-  pub meets_back : (one0 one1 one2 one3 other0 other1 other2 lent back : Me (Option (Envelope B)) (Known B L T)) (a : Bool) (k : ℕ) (ls : List ℕ) (v : View B L T) (b : Bool) (l : ℕ) (ls' : List ℕ) (w : View B L T)
+  pub meets_back : (one0 one1 one2 one3 other0 other1 other2 lent back : Me (Option (Envelope B)) (Known B L T)) (a : Bool) (k : ℕ) (ls : List (Look B)) (v : View B L T) (b : Bool) (l : ℕ) (ls' : List (Look B)) (w : View B L T)
       → one0 ≡ holding a k ls v → other0 ≡ holding b l ls' w
       → other1 ≡ (first_part 0 other0.0.spare other0.0, other0.1) → lent ≡ (rest_part 0 Gone other0.0, []) → one1 ≡ (both one0.0 lent.0, one0.1) → one2 ≡ one1
       → one3 ≡ (first_part 1 one2.0.spare one2.0, one2.1) → back ≡ (rest_part 1 Gone one2.0, []) → other2 ≡ (both other1.0 back.0, other1.1)

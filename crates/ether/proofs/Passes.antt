@@ -8,7 +8,7 @@ use Rattle.raft_log.specs.Node.{Node}
 use Rattle.world_views.specs.declared.envelope.Envelope.{Envelope}
 use Rattle.world_views.specs.Views.{View}
 use Rattle.ether.specs.declared.pass.Pass.{Pass}
-use Rattle.ether.specs.Rule.{Known, blank, blanks, known}
+use Rattle.ether.specs.Rule.{Known, Look, blank, blanks, known, look_at}
 use Rattle.ether.specs.Rule.Spare.{Bank, Home, Out}
 use Rattle.ether.specs.Plays.{IsOlder, after_post, after_take, bank_after, carrying, dealt, first_part, holding, number_in, on_first, rest_part}
 use Rattle.ether.specs.Passes.{AreNewAt, IsOpen, IsPassAt, IsSamePass, first_or, looks_of, view_of}
@@ -19,24 +19,24 @@ slot_in [] = None
 slot_in (c ∷ cs) = c.1
 
 module _ {B L T : Type 0} where
-  view_held : (out : Bool) (k : ℕ) (ls : List ℕ) (v : View B L T) → first_or (blank 0 0) (holding out k ls v).0.views ≡ v
+  view_held : (out : Bool) (k : ℕ) (ls : List (Look B)) (v : View B L T) → first_or (blank 0 0) (holding out k ls v).0.views ≡ v
   view_held true k ls v = refl
   view_held false k ls v = refl
 
-  looks_held : (out : Bool) (k : ℕ) (ls : List ℕ) (v : View B L T) → (holding out k ls v).0.looks ≡ ls
+  looks_held : (out : Bool) (k : ℕ) (ls : List (Look B)) (v : View B L T) → (holding out k ls v).0.looks ≡ ls
   looks_held true k ls v = refl
   looks_held false k ls v = refl
 
-  pub view_is : (p : Pass B L T) (out : Bool) (ls : List ℕ) (v : View B L T) → p.seat.me ≡ holding out p.spare ls v → view_of p ≡ v
+  pub view_is : (p : Pass B L T) (out : Bool) (ls : List (Look B)) (v : View B L T) → p.seat.me ≡ holding out p.spare ls v → view_of p ≡ v
   view_is p out ls v is = ap (λ (m : Me (Option (Envelope B)) (Known B L T)). first_or (blank 0 0) m.0.views) is ∙ view_held out p.spare ls v
 
-  pub looks_are : (p : Pass B L T) (out : Bool) (ls : List ℕ) (v : View B L T) → p.seat.me ≡ holding out p.spare ls v → looks_of p ≡ ls
+  pub looks_are : (p : Pass B L T) (out : Bool) (ls : List (Look B)) (v : View B L T) → p.seat.me ≡ holding out p.spare ls v → looks_of p ≡ ls
   looks_are p out ls v is = ap (λ (m : Me (Option (Envelope B)) (Known B L T)). m.0.looks) is ∙ looks_held out p.spare ls v
 
-  me_is : (p : Pass B L T) (out : Bool) (ls : List ℕ) (v : View B L T) → p.seat.me ≡ holding out p.spare ls v → p.seat.me ≡ holding out p.spare (looks_of p) (view_of p)
+  me_is : (p : Pass B L T) (out : Bool) (ls : List (Look B)) (v : View B L T) → p.seat.me ≡ holding out p.spare ls v → p.seat.me ≡ holding out p.spare (looks_of p) (view_of p)
   me_is p out ls v is = is ∙ (λ d. holding out p.spare (sym (looks_are p out ls v is) d) (sym (view_is p out ls v is) d))
 
-  pub is_pass : (t : TableId) (n : ℕ) (p : Pass B L T) (out : Bool) (ls : List ℕ) (v : View B L T) → p.seat.me ≡ holding out p.spare ls v → p.seat.table_id ≡ t → v.node ≡ p.node
+  pub is_pass : (t : TableId) (n : ℕ) (p : Pass B L T) (out : Bool) (ls : List (Look B)) (v : View B L T) → p.seat.me ≡ holding out p.spare ls v → p.seat.table_id ≡ t → v.node ≡ p.node
       → p.node < n → v.size ≡ n → p.ticks ≡ length v.turns → p.ticks ≤ 1152921504606846976 → IsPassAt t n p
   is_pass t n p out ls v is table node near size ticks few =
       let same = view_is p out ls v is in
@@ -51,7 +51,7 @@ module _ {B L T : Type 0} where
         few = few;
       }
 
-  pub is_open : (p : Pass B L T) (ls : List ℕ) (v : View B L T) (b : ℕ × Node B) → p.seat.me ≡ holding true p.spare ls v → v.opened ≡ Some b → IsOpen p
+  pub is_open : (p : Pass B L T) (ls : List (Look B)) (v : View B L T) (b : ℕ × Node B) → p.seat.me ≡ holding true p.spare ls v → v.opened ≡ Some b → IsOpen p
   is_open p ls v b is opened = ((b, ap (λ (x : View B L T). x.opened) (view_is p true ls v is) ∙ opened), me_is p true ls v is)
 
   -- a pass whose seat knows and holds the same is the same
@@ -112,13 +112,13 @@ module _ {B L T : Type 0} where
   take_keeps v None = (refl, refl, refl, refl)
   take_keeps v (Some e) = (refl, refl, refl, refl)
 
-  took_by : (out : Bool) (k r w : ℕ) (ls : List ℕ) (v : View B L T) (y : Option (Envelope B)) (m m' : Me (Option (Envelope B)) (Known B L T)) → m ≡ holding out k ls v
-      → m' ≡ (known (Out r) (m.0.looks ++ w ∷ []) (on_first (λ x. after_take x y) m.0.views), (r, y) ∷ []) → m' ≡ carrying r y (ls ++ w ∷ []) (after_take v y)
-  took_by true k r w ls v y m m' is is' = is' ∙ ap (λ (x : Me (Option (Envelope B)) (Known B L T)). (known (Out r) (x.0.looks ++ w ∷ []) (on_first (λ z. after_take z y) x.0.views), (r, y) ∷ [])) is
-  took_by false k r w ls v y m m' is is' = is' ∙ ap (λ (x : Me (Option (Envelope B)) (Known B L T)). (known (Out r) (x.0.looks ++ w ∷ []) (on_first (λ z. after_take z y) x.0.views), (r, y) ∷ [])) is
+  took_by : (out : Bool) (k r w : ℕ) (ls : List (Look B)) (v : View B L T) (y : Option (Envelope B)) (m m' : Me (Option (Envelope B)) (Known B L T)) → m ≡ holding out k ls v
+      → m' ≡ (known (Out r) (m.0.looks ++ look_at w y ∷ []) (on_first (λ x. after_take x y) m.0.views), (r, y) ∷ []) → m' ≡ carrying r y (ls ++ look_at w y ∷ []) (after_take v y)
+  took_by true k r w ls v y m m' is is' = is' ∙ ap (λ (x : Me (Option (Envelope B)) (Known B L T)). (known (Out r) (x.0.looks ++ look_at w y ∷ []) (on_first (λ z. after_take z y) x.0.views), (r, y) ∷ [])) is
+  took_by false k r w ls v y m m' is is' = is' ∙ ap (λ (x : Me (Option (Envelope B)) (Known B L T)). (known (Out r) (x.0.looks ++ look_at w y ∷ []) (on_first (λ z. after_take z y) x.0.views), (r, y) ∷ [])) is
 
   -- a seat whose slot was emptied
-  pub emptied : (r : ℕ) (y out : Option (Envelope B)) (ls : List ℕ) (v : View B L T) (m m' : Me (Option (Envelope B)) (Known B L T)) → m ≡ carrying r y ls v → m.1 ≡ (r, out) ∷ rest m.1
+  pub emptied : (r : ℕ) (y out : Option (Envelope B)) (ls : List (Look B)) (v : View B L T) (m m' : Me (Option (Envelope B)) (Known B L T)) → m ≡ carrying r y ls v → m.1 ≡ (r, out) ∷ rest m.1
       → m' ≡ (m.0, (r, None) ∷ rest m.1) → (m' ≡ holding true r ls v) × (y ≡ out)
   emptied r y out ls v m m' is had is' =
       let slot_is : m.1 ≡ (r, y) ∷ [] → out ≡ y = (λ h. ap slot_in (sym had ∙ h)) in
@@ -129,20 +129,27 @@ module _ {B L T : Type 0} where
   slot_first r y k m is = ap (λ (x : Me (Option (Envelope B)) (Known B L T)). x.1) is ∙ sym (ap (λ (x : Me (Option (Envelope B)) (Known B L T)). (r, y) ∷ rest x.1) is)
 
   -- what came out of the mailbox is older than what was posted
-  pub posted_older : (k : ℕ) (ls : List ℕ) (v : View B L T) (e : Envelope B) (r : ℕ) (y out : Option (Envelope B)) (m m' : Me (Option (Envelope B)) (Known B L T)) → m ≡ carrying k (Some e) ls v
-      → m' ≡ (known (Out r) m.0.looks (on_first (λ x. after_post x (number_in m.1)) m.0.views), (r, y) ∷ [])
-      → ((k : ℕ) (e : Envelope B) (looks : List ℕ) (v : View B L T) → m ≡ carrying k (Some e) looks v → IsOlder v e y)
+  pub posted_older : (k : ℕ) (ls ls' : List (Look B)) (v : View B L T) (e : Envelope B) (r : ℕ) (y out : Option (Envelope B)) (m m' : Me (Option (Envelope B)) (Known B L T)) → m ≡ carrying k (Some e) ls v
+      → m' ≡ (known (Out r) ls' (on_first (λ x. after_post x (number_in m.1)) m.0.views), (r, y) ∷ [])
+      → ((k : ℕ) (e : Envelope B) (looks : List (Look B)) (v : View B L T) → m ≡ carrying k (Some e) looks v → IsOlder v e y)
       → m'.1 ≡ (r, out) ∷ rest m'.1 → IsOlder v e out
-  posted_older k ls v e r y out m m' is tells older had =
+  posted_older k ls ls' v e r y out m m' is tells older had =
       let same : out ≡ y = ap slot_in (sym had ∙ ap (λ (x : Me (Option (Envelope B)) (Known B L T)). x.1) tells) in
       subst (IsOlder v e) (sym same) (older k e ls v is)
 
+  -- the pass keeps its look, and with it what came out of the mailbox
+  pub looked : (q : Pass B L T) (old : List (Look B)) (r w w' : ℕ) (y out : Option (Envelope B)) (k : Known B L T) (m : Me (Option (Envelope B)) (Known B L T)) (c : List (ℕ × Option (Envelope B)))
+      → m ≡ (k, (r, y) ∷ []) → k.looks ≡ old ++ look_at w y ∷ [] → w ≡ w' → m.1 ≡ (r, out) ∷ rest m.1 → q.seat.me ≡ (m.0, c) → looks_of q ≡ old ++ look_at w' out ∷ []
+  looked q old r w w' y out k m c is adds box had is' =
+      let same : y ≡ out = ap slot_in (sym (ap (λ (x : Me (Option (Envelope B)) (Known B L T)). x.1) is) ∙ had) in
+      ap (λ (x : Me (Option (Envelope B)) (Known B L T)). x.0.looks) is' ∙ ap (λ (x : Me (Option (Envelope B)) (Known B L T)). x.0.looks) is ∙ adds ∙ (λ d. old ++ look_at (box d) (same d) ∷ [])
+
   -- a pass after a take
   pub took_pass : (t : TableId) (n : ℕ) (p q : Pass B L T) (w : ℕ) (y out : Option (Envelope B)) (m : Me (Option (Envelope B)) (Known B L T)) → IsPassAt t n p
-      → m ≡ (known (Out q.spare) (p.seat.me.0.looks ++ w ∷ []) (on_first (λ x. after_take x y) p.seat.me.0.views), (q.spare, y) ∷ []) → m.1 ≡ (q.spare, out) ∷ rest m.1
+      → m ≡ (known (Out q.spare) (p.seat.me.0.looks ++ look_at w y ∷ []) (on_first (λ x. after_take x y) p.seat.me.0.views), (q.spare, y) ∷ []) → m.1 ≡ (q.spare, out) ∷ rest m.1
       → q.seat.me ≡ (m.0, (q.spare, None) ∷ rest m.1) → q.seat.table_id ≡ t → q.node ≡ p.node → q.ticks ≡ p.ticks → IsPassAt t n q
   took_pass t n p q w y out m is took had is' table node ticks =
-      let ls : List ℕ = looks_of p ++ w ∷ [] in
+      let ls : List (Look B) = looks_of p ++ look_at w y ∷ [] in
       let v : View B L T = after_take (view_of p) y in
       let empty = emptied q.spare y out ls v m q.seat.me (took_by is.out p.spare q.spare w (looks_of p) (view_of p) y p.seat.me m is.me took) had is' in
       let same = take_keeps (view_of p) y in

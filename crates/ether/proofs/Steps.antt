@@ -13,7 +13,7 @@ use Rattle.world_views.specs.declared.envelope.Envelope.{Envelope}
 use Rattle.world_views.specs.Own.{EventOf, ViewOf}
 use Rattle.world_views.specs.Rule.{Stands, IsRule}
 use Rattle.world_views.specs.Views.{View, addressee, brings, opening_count, sender, total, upto}
-use Rattle.ether.specs.Rule.{Spare, Known, MayLie, IsStowed, IsKept, known, mailbox_of}
+use Rattle.ether.specs.Rule.{Spare, Known, Look, MayLie, IsStowed, IsKept, known, look_at, mailbox_of}
 use Rattle.ether.specs.Rule.Spare.{Home, Out}
 use Rattle.ether.specs.Plays.{IsFrom, IsOlder, after_event, after_opening, after_post, after_take, carried_out, carrying, counted, holding, on_view, opened, opens_seat, out_of, posted, taken, ticked}
 use Rattle.ether.proofs.Changing.{Changes, changed, still_stands}
@@ -79,11 +79,11 @@ module _ (M : Machine) (n : ℕ) (s : StateOf M) (r : IsKept M n s) where
   whole : (v : ViewOf M) → get_elem? r.views v.node ≡ some v → upto (slice_index s.words 0) v.turns ≡ v.turns
   whole v at = upto_all (slice_index s.words 0) v.turns (λ j t x h. (r.rule.tickets.once v.node t v at (inr (j, x, h))).0)
 
-  module _ (id : ℕ) (x : Spare) (ls : List ℕ) (v : ViewOf M) (at : get_elem? s.views id ≡ some (known x ls (v ∷ []))) where
+  module _ (id : ℕ) (x : Spare) (ls : List (Look M.Body)) (v : ViewOf M) (at : get_elem? s.views id ≡ some (known x ls (v ∷ []))) where
     known_at : get_elem? r.views v.node ≡ some v
     known_at = (r.known.seen id 0 (known x ls (v ∷ [])) v at refl).0
 
-    changed_kept : (y : Spare) (ls' : List ℕ) (w : ViewOf M) (words : List ℕ) (homes : HomesOf M) (next : ℕ) → slice_index words 0 ≡ next → length words ≡ length s.words → length homes ≡ length s.homes
+    changed_kept : (y : Spare) (ls' : List (Look M.Body)) (w : ViewOf M) (words : List ℕ) (homes : HomesOf M) (next : ℕ) → slice_index words 0 ≡ next → length words ≡ length s.words → length homes ≡ length s.homes
         → Changes M r.views (slice_index s.words 0) next v.node v w → IsStowed M n next (set r.views v.node w) record { words = words; homes = homes; views = set s.views id (known y ls' (w ∷ [])) }
         → IsKept M n record { words = words; homes = homes; views = set s.views id (known y ls' (w ∷ [])) }
     changed_kept y ls' w words homes next is long shelf c stowed =
@@ -104,7 +104,7 @@ module _ (M : Machine) (n : ℕ) (s : StateOf M) (r : IsKept M n s) where
 
 module _ (M : Machine) where
   -- a tick: the event's message, if it brings one, was heard
-  pub ticks : (n slots id : ℕ) (me : Me (SlotOf M) (SeatOf M)) (st : Step (SlotOf M)) (k : ℕ) (ls : List ℕ) (v : ViewOf M) (b : ℕ × Node M.Body) (e : EventOf M)
+  pub ticks : (n slots id : ℕ) (me : Me (SlotOf M) (SeatOf M)) (st : Step (SlotOf M)) (k : ℕ) (ls : List (Look M.Body)) (v : ViewOf M) (b : ℕ × Node M.Body) (e : EventOf M)
       → me ≡ holding true k ls v → v.opened ≡ Some b → length v.turns < 2 ^ 60
       → ((m : Envelope M.Body) → brings e ≡ Some m → (j : ℕ) × (get_elem? v.heard j ≡ some m))
       → Allows (IsKept M n) slots id me 0 (λ x. (x + 1) % 18446744073709551616) (counted (ticked M e) st me)
@@ -126,7 +126,7 @@ module _ (M : Machine) where
       ))
 
   -- the opening, where the spare is out already, and where it is at home
-  opens_out : (n slots id : ℕ) (st : Step (SlotOf M)) (k : ℕ) (ls : List ℕ) (v : ViewOf M) (h : Bool) (new : Node M.Body) → v.opened ≡ None → new.sent ≡ []
+  opens_out : (n slots id : ℕ) (st : Step (SlotOf M)) (k : ℕ) (ls : List (Look M.Body)) (v : ViewOf M) (h : Bool) (new : Node M.Body) → v.opened ≡ None → new.sent ≡ []
       → Allows (IsKept M n) slots id (holding true k ls v) 0 (λ x. (x + 1) % 18446744073709551616) (opens_seat (opened h new) st (holding true k ls v))
   opens_out n slots id st k ls v h new closed fresh s r wide at _ =
       let next : ℕ = slice_index s.words 0 in
@@ -143,7 +143,7 @@ module _ (M : Machine) where
         refl,
       )
 
-  opens_home : (n slots id : ℕ) (st : Step (SlotOf M)) (k : ℕ) (ls : List ℕ) (v : ViewOf M) (h : Bool) (new : Node M.Body) → v.opened ≡ None → new.sent ≡ []
+  opens_home : (n slots id : ℕ) (st : Step (SlotOf M)) (k : ℕ) (ls : List (Look M.Body)) (v : ViewOf M) (h : Bool) (new : Node M.Body) → v.opened ≡ None → new.sent ≡ []
       → Allows (IsKept M n) slots id (holding false k ls v) 0 (λ x. (x + 1) % 18446744073709551616) (opens_seat (opened h new) st (holding false k ls v))
   opens_home n slots id st k ls v h new closed fresh s r wide at _ =
       let next : ℕ = slice_index s.words 0 in
@@ -160,7 +160,7 @@ module _ (M : Machine) where
         refl,
       )
 
-  pub opens_by : (n slots id : ℕ) (me : Me (SlotOf M) (SeatOf M)) (st : Step (SlotOf M)) (out : Bool) (k : ℕ) (ls : List ℕ) (v : ViewOf M) (h : Bool) (new : Node M.Body)
+  pub opens_by : (n slots id : ℕ) (me : Me (SlotOf M) (SeatOf M)) (st : Step (SlotOf M)) (out : Bool) (k : ℕ) (ls : List (Look M.Body)) (v : ViewOf M) (h : Bool) (new : Node M.Body)
       → me ≡ holding out k ls v → v.opened ≡ None → new.sent ≡ []
       → Allows (IsKept M n) slots id me 0 (λ x. (x + 1) % 18446744073709551616) (opens_seat (opened h new) st me)
   opens_by n slots id me st true k ls v h new is closed fresh =
@@ -169,7 +169,7 @@ module _ (M : Machine) where
       subst (λ (m : Me (SlotOf M) (SeatOf M)). Allows (IsKept M n) slots id m 0 (λ x. (x + 1) % 18446744073709551616) (opens_seat (opened h new) st m)) (sym is) (opens_home n slots id st k ls v h new closed fresh)
 
   -- the same of what a step tells, where that is an opening
-  pub opens_as : (n slots id : ℕ) (me : Me (SlotOf M) (SeatOf M)) (st : Step (SlotOf M)) (f : ℕ → SeatOf M → SeatOf M) (out : Bool) (k : ℕ) (ls : List ℕ) (v : ViewOf M) (h : Bool) (new : Node M.Body)
+  pub opens_as : (n slots id : ℕ) (me : Me (SlotOf M) (SeatOf M)) (st : Step (SlotOf M)) (f : ℕ → SeatOf M → SeatOf M) (out : Bool) (k : ℕ) (ls : List (Look M.Body)) (v : ViewOf M) (h : Bool) (new : Node M.Body)
       → f ≡ opened h new → me ≡ holding out k ls v → v.opened ≡ None → new.sent ≡ []
       → Allows (IsKept M n) slots id me 0 (λ x. (x + 1) % 18446744073709551616) (opens_seat f st me)
   opens_as n slots id me st f out k ls v h new made is closed fresh =
@@ -177,7 +177,7 @@ module _ (M : Machine) where
       (opens_by n slots id me st out k ls v h new is closed fresh)
 
   -- or an event
-  pub ticks_as : (n slots id : ℕ) (me : Me (SlotOf M) (SeatOf M)) (st : Step (SlotOf M)) (f : ℕ → SeatOf M → SeatOf M) (k : ℕ) (ls : List ℕ) (v : ViewOf M) (b : ℕ × Node M.Body) (e : EventOf M)
+  pub ticks_as : (n slots id : ℕ) (me : Me (SlotOf M) (SeatOf M)) (st : Step (SlotOf M)) (f : ℕ → SeatOf M → SeatOf M) (k : ℕ) (ls : List (Look M.Body)) (v : ViewOf M) (b : ℕ × Node M.Body) (e : EventOf M)
       → f ≡ ticked M e → me ≡ holding true k ls v → v.opened ≡ Some b → length v.turns < 2 ^ 60
       → ((m : Envelope M.Body) → brings e ≡ Some m → (j : ℕ) × (get_elem? v.heard j ≡ some m))
       → Allows (IsKept M n) slots id me 0 (λ x. (x + 1) % 18446744073709551616) (counted f st me)
@@ -197,7 +197,7 @@ module _ (M : Machine) where
         λ h. own_sent M n r.views (slice_index s.words 0) v.node v at r.rule old lies.0 same.1 (whole M n s r v at) h,
       )
 
-  carried_is : (k k' : ℕ) (e e' : Envelope M.Body) (ls ls' : List ℕ) (v v' : ViewOf M) → carrying k (Some e) ls v ≡ carrying k' (Some e') ls' v' → (e ≡ e') × (v ≡ v')
+  carried_is : (k k' : ℕ) (e e' : Envelope M.Body) (ls ls' : List (Look M.Body)) (v v' : ViewOf M) → carrying k (Some e) ls v ≡ carrying k' (Some e') ls' v' → (e ≡ e') × (v ≡ v')
   carried_is k k' e e' ls ls' v v' h =
       let c : Some e ≡ Some e' = ap (λ (m : Me (SlotOf M) (SeatOf M)). slot_in m.1) h in
       let w : (v ∷ []) ≡ (v' ∷ []) = ap (λ (m : Me (SlotOf M) (SeatOf M)). m.0.views) h in
@@ -208,7 +208,7 @@ module _ (M : Machine) where
       slot_in (c ∷ cs) = c.1
 
   -- a post: the message is in its sender's list
-  pub posts_by : (n slots id a : ℕ) (me : Me (SlotOf M) (SeatOf M)) (st : Step (SlotOf M)) (k : ℕ) (ls : List ℕ) (v : ViewOf M) (e : Envelope M.Body)
+  pub posts_by : (n slots id a : ℕ) (me : Me (SlotOf M) (SeatOf M)) (st : Step (SlotOf M)) (k : ℕ) (ls : List (Look M.Body)) (v : ViewOf M) (e : Envelope M.Body)
       → me ≡ carrying k (Some e) ls v → a ≡ mailbox_of n v.node (addressee e) → v.node < n → e.message.to ≡ suc (addressee e) → addressee e < n
       → e.message.from ≡ suc v.node → (v.honest ≡ true → item v.state.sent e.number ≡ Some e.message) → a < n * n + 1
       → Allows (IsKept M n) slots id me a (λ _. k) (posted st me)
@@ -226,21 +226,22 @@ module _ (M : Machine) where
       let at_v = known_at M n s r id (Out k) ls v at in
       let apart : f ≢ k = (λ d. mailbox-ne-seat a id (sym lay.0 ∙ ap r.stowed.owner d ∙ mine.0)) in
       let c : Changes M r.views next next v.node v w = post_changes M n r.views next v.node v at_v r.rule e.number in
+      let ls' : List (Look M.Body) = ls ++ look_at st.word lay.1.0 ∷ [] in
       let stands : Stands M r.views next e = own_stands M n r.views next v.node v at_v r.rule e from sent (whole M n s r v at_v) in
       let homes : HomesOf M = set s.homes k (some (Some e)) in (
-        known (Out f) ls (w ∷ []),
+        known (Out f) ls' (w ∷ []),
         chain gives (takes f lay.1.0),
         (tt, set_else s.homes k f (some (Some e)) apart ∙ lay.1.1),
-        changed_kept M n s r id (Out k) ls v at (Out f) ls w (set s.words a k) (set homes f maybe.none) next (get_or-set_other s.words a 0 k 0 (omega arith)) (length-set s.words a k)
+        changed_kept M n s r id (Out k) ls v at (Out f) ls' w (set s.words a k) (set homes f maybe.none) next (get_or-set_other s.words a 0 k 0 (omega arith)) (length-set s.words a k)
             (length-set homes f maybe.none ∙ length-set s.homes k _) c
-            (swaps M n next next r.views (set r.views v.node w) s r.stowed (still M n s r id (Out k) ls v at w next c) id a k f (Some e) homes (known (Out k) ls (v ∷ [])) (known (Out f) ls (w ∷ [])) pos there at mine.0 refl
+            (swaps M n next next r.views (set r.views v.node w) s r.stowed (still M n s r id (Out k) ls v at w next c) id a k f (Some e) homes (known (Out k) ls (v ∷ [])) (known (Out f) ls' (w ∷ [])) pos there at mine.0 refl
             (set_here s.homes k (some (Some e)) mine.1) (λ i ne. set_else s.homes k i (some (Some e)) ne) (length-set s.homes k (some (Some e)))
             (still M n s r id (Out k) ls v at w next c e stands, box_is ∙ ap (λ (z : ℕ). mailbox_of n z (addressee e)) (sym (ap pred from)), to, near')),
         (
           lay.1.0,
           refl,
-          λ k' e' ls' v' h.
-              let same = carried_is k k' e e' ls ls' v v' h in
+          λ k' e' looks v' h.
+              let same = carried_is k k' e e' ls looks v v' h in
               subst (λ (z : Envelope M.Body × ViewOf M). IsOlder z.1 z.0 lay.1.0) (λ d. (same.0 d, same.1 d)) (older_by n s r v e a at_v near near' box_is to lay.1.0 lay.1.2),
         ),
       ))
@@ -258,7 +259,7 @@ module _ (M : Machine) where
       take_changes M n r.views (slice_index s.words 0) v.node v at r.rule e lies.0
       (lies.2 ∙ ap suc (same_mailbox n (sender e) (addressee e) from v.node lies.3 near (let one = lies.1 in omega arith)).0)
 
-  takes_true : (n slots id a from : ℕ) (st : Step (SlotOf M)) (k : ℕ) (ls : List ℕ) (v : ViewOf M) → a ≡ mailbox_of n from v.node → v.node < n → a < n * n + 1
+  takes_true : (n slots id a from : ℕ) (st : Step (SlotOf M)) (k : ℕ) (ls : List (Look M.Body)) (v : ViewOf M) → a ≡ mailbox_of n from v.node → v.node < n → a < n * n + 1
       → Allows (IsKept M n) slots id (holding true k ls v) a (λ _. k) (taken from st (holding true k ls v))
   takes_true n slots id a from st k ls v is near low s r wide at _ =
       let next : ℕ = slice_index s.words 0 in
@@ -269,7 +270,7 @@ module _ (M : Machine) where
       let lay = r.stowed.boxes a f pos there in
       let mine = r.stowed.spares id (known (Out k) ls (v ∷ [])) at in
       let y : SlotOf M = lay.1.0 in
-      let ls' : List ℕ = ls ++ st.word ∷ [] in
+      let ls' : List (Look M.Body) = ls ++ look_at st.word y ∷ [] in
       let w : ViewOf M = after_take v y in
       let at_v = known_at M n s r id (Out k) ls v at in
       let apart : f ≢ k = (λ d. mailbox-ne-seat a id (sym lay.0 ∙ ap r.stowed.owner d ∙ mine.0)) in
@@ -285,7 +286,7 @@ module _ (M : Machine) where
         (y, refl, is_from n r.views next a from v.node near is y lay.1.2),
       )
 
-  takes_false : (n slots id a from : ℕ) (st : Step (SlotOf M)) (k : ℕ) (ls : List ℕ) (v : ViewOf M) → a ≡ mailbox_of n from v.node → v.node < n → a < n * n + 1
+  takes_false : (n slots id a from : ℕ) (st : Step (SlotOf M)) (k : ℕ) (ls : List (Look M.Body)) (v : ViewOf M) → a ≡ mailbox_of n from v.node → v.node < n → a < n * n + 1
       → Allows (IsKept M n) slots id (holding false k ls v) a (λ _. k) (taken from st (holding false k ls v))
   takes_false n slots id a from st k ls v is near low s r wide at _ =
       let next : ℕ = slice_index s.words 0 in
@@ -296,7 +297,7 @@ module _ (M : Machine) where
       let lay = r.stowed.boxes a f pos there in
       let mine = r.stowed.spares id (known (Home k) ls (v ∷ [])) at in
       let y : SlotOf M = lay.1.0 in
-      let ls' : List ℕ = ls ++ st.word ∷ [] in
+      let ls' : List (Look M.Body) = ls ++ look_at st.word y ∷ [] in
       let w : ViewOf M = after_take v y in
       let at_v = known_at M n s r id (Home k) ls v at in
       let c : Changes M r.views next next v.node v w = takes_lying n s r v from a at_v near is y lay.1.2 in (
@@ -310,7 +311,7 @@ module _ (M : Machine) where
       )
 
   -- a take, with the spare out or at home
-  pub takes_by : (n slots id a from : ℕ) (me : Me (SlotOf M) (SeatOf M)) (st : Step (SlotOf M)) (out : Bool) (k : ℕ) (ls : List ℕ) (v : ViewOf M)
+  pub takes_by : (n slots id a from : ℕ) (me : Me (SlotOf M) (SeatOf M)) (st : Step (SlotOf M)) (out : Bool) (k : ℕ) (ls : List (Look M.Body)) (v : ViewOf M)
       → me ≡ holding out k ls v → a ≡ mailbox_of n from v.node → v.node < n → a < n * n + 1 → Allows (IsKept M n) slots id me a (λ _. k) (taken from st me)
   takes_by n slots id a from me st true k ls v me_is is near low =
       subst (λ (m : Me (SlotOf M) (SeatOf M)). Allows (IsKept M n) slots id m a (λ _. k) (taken from st m)) (sym me_is) (takes_true n slots id a from st k ls v is near low)
@@ -318,13 +319,13 @@ module _ (M : Machine) where
       subst (λ (m : Me (SlotOf M) (SeatOf M)). Allows (IsKept M n) slots id m a (λ _. k) (taken from st m)) (sym me_is) (takes_false n slots id a from st k ls v is near low)
 
 module _ {B L T : Type 0} where
-  by_shape : (out : Bool) (k : ℕ) (ls : List ℕ) (v : View B L T) (f : View B L T → View B L T) (m m' : Me (Option (Envelope B)) (Known B L T))
+  by_shape : (out : Bool) (k : ℕ) (ls : List (Look B)) (v : View B L T) (f : View B L T → View B L T) (m m' : Me (Option (Envelope B)) (Known B L T))
       → m ≡ holding out k ls v → m' ≡ (record (on_view f m.0) { spare = out_of m.0.spare }, carried_out m.0.spare m.1) → m' ≡ holding true k ls (f v)
   by_shape true k ls v f m m' is is' = is' ∙ ap (λ (x : Me (Option (Envelope B)) (Known B L T)). (record (on_view f x.0) { spare = out_of x.0.spare }, carried_out x.0.spare x.1)) is
   by_shape false k ls v f m m' is is' = is' ∙ ap (λ (x : Me (Option (Envelope B)) (Known B L T)). (record (on_view f x.0) { spare = out_of x.0.spare }, carried_out x.0.spare x.1)) is
 
   -- the seat after an opening, wherever the spare was
-  pub opened_me : (out : Bool) (k : ℕ) (ls : List ℕ) (v : View B L T) (h : Bool) (new : Node B) (f : ℕ → Known B L T → Known B L T) (st : Step (Option (Envelope B))) (t : ℕ) (m m' : Me (Option (Envelope B)) (Known B L T))
+  pub opened_me : (out : Bool) (k : ℕ) (ls : List (Look B)) (v : View B L T) (h : Bool) (new : Node B) (f : ℕ → Known B L T → Known B L T) (st : Step (Option (Envelope B))) (t : ℕ) (m m' : Me (Option (Envelope B)) (Known B L T))
       → f ≡ opened h new → m ≡ holding out k ls v → opens_seat f st m t m' → m' ≡ holding true k ls (after_opening v t h new)
   opened_me out k ls v h new f st t m m' made is is' =
       by_shape out k ls v (λ w. after_opening w t h new) m m' is (subst (λ (a : ℕ → Known B L T → Known B L T). opens_seat a st m t m') made is')

@@ -1,4 +1,3 @@
 pub mod Rule
 pub mod Plays
 pub mod Passes
-pub mod Seats

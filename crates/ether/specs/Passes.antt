@@ -11,7 +11,7 @@ use Rattle.world_views.specs.Rule.{IsRule}
 use Rattle.world_views.specs.Views.{IsAt, View, IsOpened, brings}
 use Rattle.ether.specs.declared.pass.Pass.{Pass}
 use Rattle.ether.specs.Plays.{holding}
-use Rattle.ether.specs.Rule.{blank}
+use Rattle.ether.specs.Rule.{Look, blank}
 
 -- an ether: its table, how many nodes it is for, and the setup of the machine that each hosts
 pub record EtherParts (Setup : Type 0) : Type 0 where
@@ -28,8 +28,8 @@ module _ {B L T : Type 0} where
   abbrev pub view_of : Pass B L T → View B L T
   view_of p = first_or (blank 0 0) p.seat.me.0.views
 
-  -- the mailboxes that it looked into, in order
-  abbrev pub looks_of : Pass B L T → List ℕ
+  -- the mailboxes that it looked into, by posts and takes, and what lay in each, in order
+  abbrev pub looks_of : Pass B L T → List (Look B)
   looks_of p = p.seat.me.0.looks
 
   -- A pass of the ether with this table, for so many nodes. Its spare slot is at home until the opening, or a take before it.

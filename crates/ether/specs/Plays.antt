@@ -8,7 +8,7 @@ use Rattle.world_views.specs.declared.envelope.Envelope.{Envelope}
 use Rattle.world_views.specs.Own.{EventOf, ViewOf, own_state}
 use Rattle.world_views.specs.Rule.{IsRule}
 use Rattle.world_views.specs.Views.{IsAt, View}
-use Rattle.ether.specs.Rule.{Spare, Known, known}
+use Rattle.ether.specs.Rule.{Spare, Known, Look, known, look_at}
 use Rattle.ether.specs.Rule.Spare.{Bank, Home, Out, Gone}
 
 module _ {B L T : Type 0} where
@@ -37,12 +37,12 @@ module _ {B L T : Type 0} where
   on_first f (v ∷ vs) = f v ∷ vs
 
   -- a seat of the node with this view, whose spare is this slot, out or at home
-  abbrev pub holding : Bool → ℕ → List ℕ → View B L T → Me (Option (Envelope B)) (Known B L T)
+  abbrev pub holding : Bool → ℕ → List (Look B) → View B L T → Me (Option (Envelope B)) (Known B L T)
   holding true k looks v = (known (Out k) looks (v ∷ []), (k, None) ∷ [])
   holding false k looks v = (known (Home k) looks (v ∷ []), [])
 
   -- the same, with a message in the slot
-  abbrev pub carrying : ℕ → Option (Envelope B) → List ℕ → View B L T → Me (Option (Envelope B)) (Known B L T)
+  abbrev pub carrying : ℕ → Option (Envelope B) → List (Look B) → View B L T → Me (Option (Envelope B)) (Known B L T)
   carrying k y looks v = (known (Out k) looks (v ∷ []), (k, y) ∷ [])
 
   -- the seat with its first view changed
@@ -113,18 +113,18 @@ module _ {B L T : Type 0} where
   abbrev pub counted : (ℕ → Known B L T → Known B L T) → Tells B L T
   counted f st m r n = n ≡ (f r m.0, m.1)
 
-  -- the slot that was found is the new spare; what lies in it is older than what was posted
+  -- The slot that was found is the new spare. What lies in it is older than what was posted; the look is kept, and with it what was found.
   abbrev pub posted : Tells B L T
   posted st m r n =
       (y : Option (Envelope B))
-      × (n ≡ (known (Out r) m.0.looks (on_first (λ v. after_post v (number_in m.1)) m.0.views), (r, y) ∷ []))
-      × ((k : ℕ) (e : Envelope B) (looks : List ℕ) (v : View B L T) → m ≡ carrying k (Some e) looks v → IsOlder v e y)
+      × (n ≡ (known (Out r) (m.0.looks ++ look_at st.word y ∷ []) (on_first (λ v. after_post v (number_in m.1)) m.0.views), (r, y) ∷ []))
+      × ((k : ℕ) (e : Envelope B) (looks : List (Look B)) (v : View B L T) → m ≡ carrying k (Some e) looks v → IsOlder v e y)
 
-  -- what lay in the mailbox is heard, and is from this node; the look is kept
+  -- what lay in the mailbox is heard, and is from this node; the look is kept, and with it what was found
   abbrev pub taken : ℕ → Tells B L T
   taken from st m r n =
       (y : Option (Envelope B))
-      × (n ≡ (known (Out r) (m.0.looks ++ st.word ∷ []) (on_first (λ v. after_take v y) m.0.views), (r, y) ∷ [])) × IsFrom from y
+      × (n ≡ (known (Out r) (m.0.looks ++ look_at st.word y ∷ []) (on_first (λ v. after_take v y) m.0.views), (r, y) ∷ [])) × IsFrom from y
 
   -- nothing changes, and this is learnt of what the seat knows
   abbrev pub met : (Known B L T → Type 0) → Tells B L T

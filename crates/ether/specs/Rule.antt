@@ -19,10 +19,15 @@ pub data Spare : Type 0 where
   Out : ℕ → Spare
   Gone : Spare
 
--- what a seat knows: its spare slot, the mailboxes that it looked into, and the views of the nodes that it stands for
+-- one look into a mailbox, by a post or a take: the word of the mailbox, and what lay there
+pub record Look (B : Type 0) : Type 0 where
+  pub word : ℕ
+  pub found : Option (Envelope B)
+
+-- what a seat knows: its spare slot, its looks into mailboxes, in order, and the views of the nodes that it stands for
 pub record Known (B L T : Type 0) : Type 0 where
   pub spare : Spare
-  pub looks : List ℕ
+  pub looks : List (Look B)
   pub views : List (View B L T)
 
 -- who has a slot: a mailbox, or a seat
@@ -34,8 +39,11 @@ pub data Owner : Type 0 where
 abbrev pub mailbox_of : ℕ → ℕ → ℕ → ℕ
 mailbox_of n from to = from * n + to + 1
 
+abbrev pub look_at : {B : Type 0} → ℕ → Option (Envelope B) → Look B
+look_at word found = record { word = word; found = found }
+
 module _ {B L T : Type 0} where
-  abbrev pub known : Spare → List ℕ → List (View B L T) → Known B L T
+  abbrev pub known : Spare → List (Look B) → List (View B L T) → Known B L T
   known x looks vs = record { spare = x; looks = looks; views = vs }
 
   -- a seat that stands for no node

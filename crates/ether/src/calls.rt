@@ -4,10 +4,11 @@ ghost use Rattle.ether.specs.declared.fault.EtherFault.TheVariants.{Spent};
 ghost use Rattle.ether.specs.Passes.{IsHeard, IsOpenPass, IsPass, IsSent, IsUnopened, StaysOpen};
 ghost use Rattle.ether.specs.Passes.{WasStarted, IsOpen, looks_of, view_of};
 ghost use Rattle.ether.specs.Plays.{IsFrom, IsOlder, after_event, after_opening, after_post, after_take};
-ghost use Rattle.ether.specs.Rule.{mailbox_of};
+ghost use Rattle.ether.specs.Rule.{look_at, mailbox_of};
 ghost use Rattle.ether.specs.Plays.{opened, ticked};
 ghost use Rattle.raft_log.specs.Seen.{seen};
 ghost use Rattle.raft_node.specs.Parts.{keeper};
+ghost use Rattle.world_views.specs.Views.{addressee};
 
 use crate::ether::Ether;
 use crate::fault::EtherFault;
@@ -111,14 +112,16 @@ impl<M: Hosted> Ether<M> {
         ensures open { StaysOpen self.now pass.old pass.new }
         ensures view { view_of pass.new ≡ after_post (view_of pass.old) envelope.number }
         ensures older { IsOlder (view_of pass.old) envelope result }
-        ensures looks { looks_of pass.new ≡ looks_of pass.old }
+        ensures looks { looks_of pass.new ≡ looks_of pass.old
+            ++ look_at (mailbox_of self.now.size pass.old.node (addressee envelope)) result ∷ [] }
     {
         let shared = &self.table.shared;
         let to = envelope.message.to as u64 - 1;
         let word = (pass.node * self.group.size.value() as u64 + to + 1) as usize;
         let _none = shared.exchange(&mut pass.seat, pass.spare as usize, Some(envelope));
-        pass.spare = shared.swap::<Posts>(&mut pass.seat, word, pass.spare);
-        shared.exchange(&mut pass.seat, pass.spare as usize, None)
+        let older = shared.swap::<Posts>(&mut pass.seat, word, pass.spare);
+        pass.spare = older;
+        shared.exchange(&mut pass.seat, older as usize, None)
     }
 
     /// Takes what lies in the mailbox from the node at this place, from 0 on; nothing where nothing
@@ -134,8 +137,8 @@ impl<M: Hosted> Ether<M> {
         ensures open { IsOpen pass.old → IsOpen pass.new }
         ensures view { view_of pass.new ≡ after_take (view_of pass.old) result }
         ensures from { IsFrom from result }
-        ensures looks { looks_of pass.new
-            ≡ looks_of pass.old ++ mailbox_of self.now.size from pass.old.node ∷ [] }
+        ensures looks { looks_of pass.new ≡ looks_of pass.old
+            ++ look_at (mailbox_of self.now.size from pass.old.node) result ∷ [] }
     {
         self.look::<Brand>(pass, from)
     }
@@ -152,12 +155,13 @@ impl<M: Hosted> Ether<M> {
         ensures open { IsOpen pass.old → IsOpen pass.new }
         ensures view { view_of pass.new ≡ after_take (view_of pass.old) result }
         ensures from { IsFrom from result }
-        ensures looks { looks_of pass.new
-            ≡ looks_of pass.old ++ mailbox_of self.now.size from pass.old.node ∷ [] }
+        ensures looks { looks_of pass.new ≡ looks_of pass.old
+            ++ look_at (mailbox_of self.now.size from pass.old.node) result ∷ [] }
     {
         let shared = &self.table.shared;
         let word = (from * self.group.size.value() as u64 + pass.node + 1) as usize;
-        pass.spare = shared.swap::<Takes<W>>(&mut pass.seat, word, pass.spare);
-        shared.exchange(&mut pass.seat, pass.spare as usize, None)
+        let found = shared.swap::<Takes<W>>(&mut pass.seat, word, pass.spare);
+        pass.spare = found;
+        shared.exchange(&mut pass.seat, found as usize, None)
     }
 }

@@ -16,8 +16,3 @@ pub use fault::EtherFault;
 pub use known::Known;
 pub use pass::Pass;
 pub use rule::{Group, Mailboxes};
-
-#[cfg(test)]
-mod seated;
-#[cfg(test)]
-mod tests;

@@ -2,12 +2,12 @@ use Rattle.std.proofs.Common.{rules, ◌≡◌, ℕ, ◌+◌, ◌*◌, ◌<◌, 
 use Rattle.ether.specs.declared.rule.Group.{Group}
 use Rattle.ether.specs.Passes.{EtherParts, looks_of, view_of}
 use Rattle.ether.specs.Rule.{mailbox_of}
-use Rattle.ether.proofs.Passes.{took_pass}
+use Rattle.ether.proofs.Passes.{looked, took_pass}
 use Rattle.ether.proofs.Steps.{at_step, mailbox_low, takes_by}
 use Rattle.ether.proofs.ether.Ether.look.Goals as goal
 
-pub swap-pass-requires : goal.swap-pass-requires
-swap-pass-requires g c =
+pub swap-found-requires : goal.swap-found-requires
+swap-found-requires g c =
     let is = c.requires.pass in
     let pass = c.args.pass.now in
     let key = c.self.inside.table.shared.key in
@@ -30,5 +30,14 @@ swap-pass-requires g c =
 pub returns-clause-pass : goal.returns-clause-pass
 returns-clause-pass g c =
     let pass = c.args.pass.now in
-    let new = record pass { seat = c.exchange.new.seat; spare = c.swap-pass.result } in
-    (took_pass _ _ pass new _ c.swap-pass.ensures.2.0 c.exchange.result c.swap-pass.new.seat.me c.requires.pass c.swap-pass.ensures.2.1 c.exchange.ensures.2 c.exchange.ensures.3 (search rules) refl refl, refl)
+    let new = record pass { seat = c.exchange.new.seat; spare = c.swap-found.result } in
+    (took_pass _ _ pass new _ c.swap-found.ensures.2.0 c.exchange.result c.swap-found.new.seat.me c.requires.pass c.swap-found.ensures.2.1 c.exchange.ensures.2 c.exchange.ensures.3 (search rules) refl refl, refl)
+
+pub returns-clause-looks : goal.returns-clause-looks
+returns-clause-looks g c =
+    let pass = c.args.pass.now in
+    let n = c.value.result in
+    let size_is : n ≡ c.args.self.now.size = c.value.ensures.value ∙ ap (λ (x : EtherParts g.row.M-Setup.Denot). x.size) c.self.view_is in
+    let box : c.args.from * n + pass.node + 1 ≡ mailbox_of c.args.self.now.size c.args.from pass.node = (λ i. c.args.from * size_is i + pass.node + 1) in
+    looked (record pass { seat = c.exchange.new.seat; spare = c.swap-found.result }) (looks_of pass) c.swap-found.result (c.args.from * n + pass.node + 1) _ c.swap-found.ensures.2.0 c.exchange.result _ c.swap-found.new.seat.me _
+    c.swap-found.ensures.2.1 refl box c.exchange.ensures.2 c.exchange.ensures.3

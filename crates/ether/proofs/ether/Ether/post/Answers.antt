@@ -3,12 +3,12 @@ use Rattle.ether.specs.declared.rule.Group.{Group}
 use Rattle.ether.specs.Passes.{EtherParts, looks_of, view_of}
 use Rattle.ether.specs.Rule.{mailbox_of}
 use Rattle.world_views.specs.Views.{addressee}
-use Rattle.ether.proofs.Passes.{one_behind, posted_older, slot_first}
-use Rattle.ether.proofs.Steps.{mailbox_low, no_step, posts_by}
+use Rattle.ether.proofs.Passes.{looked, one_behind, posted_older, slot_first}
+use Rattle.ether.proofs.Steps.{at_step, mailbox_low, posts_by}
 use Rattle.ether.proofs.ether.Ether.post.Goals as goal
 
-pub swap-pass-requires : goal.swap-pass-requires
-swap-pass-requires g c =
+pub swap-older-requires : goal.swap-older-requires
+swap-older-requires g c =
     let is = c.requires.pass.0 in
     let pass = c.args.pass.now in
     let e = c.args.envelope in
@@ -29,15 +29,29 @@ swap-pass-requires g c =
     in (
       search rules,
       subst (λ (w : ℕ). pass.node * n + (to - 1) + 1 < w) (sym (c.self.invariant.0 ∙ ap (λ (m : ℕ). m * m + 1) (sym group_is))) low,
-      posts_by _ key.size _ _ (pass.node * n + (to - 1) + 1) _ no_step pass.spare (looks_of pass) (view_of pass) e (search rules) box near' named
+      posts_by _ key.size _ _ (pass.node * n + (to - 1) + 1) _ (at_step (pass.node * n + (to - 1) + 1)) pass.spare (looks_of pass) (view_of pass) e (search rules) box near' named
           (subst (λ (m : ℕ). addressee e < m) (sym key_is) near_to) c.requires.sent.0 c.requires.sent.1 (subst (λ (m : ℕ). pass.node * n + (to - 1) + 1 < m * m + 1) (sym key_is) low),
     )
 
 pub exchange-requires : goal.exchange-requires
-exchange-requires g c = (search rules, (c.swap-pass.ensures.2.0, slot_first _ _ _ c.swap-pass.new.seat.me c.swap-pass.ensures.2.1))
+exchange-requires g c = (search rules, (c.swap-older.ensures.2.0, slot_first _ _ _ c.swap-older.new.seat.me c.swap-older.ensures.2.1))
 
 pub returns-clause-older : goal.returns-clause-older
 returns-clause-older g c =
     let pass = c.args.pass.now in
-    posted_older pass.spare (looks_of pass) (view_of pass) c.args.envelope c.swap-pass.result c.swap-pass.ensures.2.0 c.exchange.result c.exchange-none.new.seat.me c.swap-pass.new.seat.me
-    (search rules) c.swap-pass.ensures.2.1 c.swap-pass.ensures.2.2 c.exchange.ensures.2
+    posted_older pass.spare (looks_of pass) _ (view_of pass) c.args.envelope c.swap-older.result c.swap-older.ensures.2.0 c.exchange.result c.exchange-none.new.seat.me c.swap-older.new.seat.me
+    (search rules) c.swap-older.ensures.2.1 c.swap-older.ensures.2.2 c.exchange.ensures.2
+
+pub returns-clause-looks : goal.returns-clause-looks
+returns-clause-looks g c =
+    let pass = c.args.pass.now in
+    let to = c.args.envelope.message.to in
+    let n = c.value.result in
+    let size_is : n ≡ c.args.self.now.size = c.value.ensures.value ∙ ap (λ (x : EtherParts g.row.M-Setup.Denot). x.size) c.self.view_is in
+    let named : to ≡ suc (addressee c.args.envelope) = one_behind to c.requires.addressee.0 in
+    let place : to - 1 ≡ addressee c.args.envelope = omega arith in
+    let box : pass.node * n + (to - 1) + 1 ≡ mailbox_of c.args.self.now.size pass.node (addressee c.args.envelope) =
+    (λ i. pass.node * size_is i + place i + 1)
+    in
+    looked (record pass { seat = c.exchange.new.seat; spare = c.swap-older.result }) (looks_of pass) c.swap-older.result (pass.node * n + (to - 1) + 1) _ c.swap-older.ensures.2.0 c.exchange.result _ c.swap-older.new.seat.me _
+    c.swap-older.ensures.2.1 (search rules) box c.exchange.ensures.2 c.exchange.ensures.3

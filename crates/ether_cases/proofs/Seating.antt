@@ -12,7 +12,7 @@ use Rattle.world_views.specs.declared.node_event.NodeInput.TheVariants.{Deliver}
 use Rattle.world_views.specs.Own.{EventOf, act_of, own_state}
 use Rattle.ether.specs.Passes.{AreNewAt, EtherParts, IsHeard, IsOpen, IsPassAt, IsUnopened, view_of}
 use Rattle.ether.specs.Plays.{after_take}
-use Rattle.ether.specs.Seats.{HasActed, HasDone, IsSeated}
+use Rattle.ether_cases.specs.Seats.{HasActed, HasDone, IsSeated}
 use Rattle.ether.specs.declared.pass.Pass.{Pass}
 use Rattle.atomic_table.specs.Seated.{TableId}
 use Rattle.atomic_table.proofs.Lists.{at_last, at_longer}

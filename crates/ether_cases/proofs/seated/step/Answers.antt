@@ -1,6 +1,6 @@
 use Rattle.raft_log.proofs.Sending.{ok_map}
-use Rattle.ether.proofs.Seating.{done_by}
-use Rattle.ether.proofs.seated.step.Goals as goal
+use Rattle.ether_cases.proofs.Seating.{done_by}
+use Rattle.ether_cases.proofs.seated.step.Goals as goal
 
 pub returns-in-Does-Timeout : goal.returns-in-Does-Timeout
 returns-in-Does-Timeout c = ok_map c.run.result (λ ms h. done_by _ _ _ _ _ _ _ c.in-Does-Timeout.is c.in-Does-Timeout.field-0-is h) c.run.ensures

@@ -1,10 +1,10 @@
 //! Nodes in their seats, for tests.
 ghost use Rattle.std.specs.Prelude.{◌≡◌, ◌<◌, ◌≤◌, IfOk, IfSome, suc};
 ghost use Rattle.ether.specs.Passes.{AreNew, IsHeard, IsPass, IsSent, IsUnopened, view_of};
-ghost use Rattle.ether.specs.Seats.{HasActed, HasDone, IsSeated};
+ghost use Rattle.ether_cases.specs.Seats.{HasActed, HasDone, IsSeated};
 ghost use Rattle.raft_node.specs.Inputs.{act_of};
 
-use crate::{Ether, Pass};
+use ether::{Ether, Pass};
 use raft_log::{GroupSize, Message, NodeId};
 use raft_node::{Described, Input, Node};
 use stable_store::MemoryStore;
