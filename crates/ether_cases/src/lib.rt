@@ -7,3 +7,5 @@ mod mailboxes;
 mod memory;
 #[cfg(test)]
 mod seated;
+#[cfg(test)]
+mod threads;
