@@ -11,7 +11,7 @@ use Rattle.world_views.specs.Own.{ViewOf}
 use Rattle.world_views.specs.Rule.{IsRule}
 use Rattle.world_views.specs.Views.{IsAt, View}
 use Rattle.ether.specs.declared.pass.Pass.{Pass}
-use Rattle.ether.specs.Passes.{AllMeet, IsPassAt, looks_of, view_of}
+use Rattle.ether.specs.Passes.{AllMeet, AreNewAt, IsPassAt, IsUnopened, looks_of, view_of}
 use Rattle.ether.specs.Plays.{AreOfOneMoment, both, holding, rest_part}
 use Rattle.ether.specs.Rule.{Known, Look}
 use Rattle.ether.specs.Rule.Spare.{Gone}
@@ -27,6 +27,12 @@ module _ {B L T : Type 0} where
 
   pub last_at : (all rest : List (Pass B L T)) (p : Pass B L T) → all ≡ rest ++ p ∷ [] → IsAt all (length rest) p
   last_at all rest p is = subst (λ (l : List (Pass B L T)). IsAt l (length rest) p) (sym is) (at_last rest p (length rest) refl)
+
+  -- the last of new passes is new, and so are the others
+  pub popped : (t : TableId) (n : ℕ) (all rest : List (Pass B L T)) (p : Pass B L T) → AreNewAt t n all → all ≡ rest ++ p ∷ [] → AreNewAt t n rest × IsPassAt t n p × IsUnopened p
+  popped t n all rest p are is =
+      let last = are (length rest) p (last_at all rest p is) in
+      (λ i q at. are i q (subst (λ (l : List (Pass B L T)). IsAt l i q) (sym is) (at_longer rest (p ∷ []) i q at)), last.0, ap (λ (v : View B L T). v.opened) last.2)
 
   views_held : (out : Bool) (k : ℕ) (ls : List (Look B)) (v : View B L T) → (holding out k ls v).0.views ≡ v ∷ []
   views_held true k ls v = refl

@@ -10,14 +10,12 @@ use Rattle.world_views.specs.declared.envelope.Envelope.{Envelope}
 use Rattle.world_views.specs.declared.node_event.NodeInput.{NodeInput}
 use Rattle.world_views.specs.declared.node_event.NodeInput.TheVariants.{Deliver}
 use Rattle.world_views.specs.Own.{EventOf, act_of, own_state}
-use Rattle.ether.specs.Passes.{AreNewAt, EtherParts, IsHeard, IsOpen, IsPassAt, IsUnopened, view_of}
+use Rattle.ether.specs.Passes.{EtherParts, IsHeard, IsOpen, IsPassAt, view_of}
 use Rattle.ether.specs.Plays.{after_take}
 use Rattle.ether_cases.specs.Seats.{HasActed, HasDone, IsSeated}
 use Rattle.ether.specs.declared.pass.Pass.{Pass}
-use Rattle.atomic_table.specs.Seated.{TableId}
-use Rattle.atomic_table.proofs.Lists.{at_last, at_longer}
+use Rattle.atomic_table.proofs.Lists.{at_last}
 use Rattle.world_views.specs.Views.{IsAt, View}
-use Rattle.ether.proofs.Gathering.{last_at}
 
 module _ (M : Machine) {Setup Hosted Store : Type 0} where
   -- an act is what an input is
@@ -27,12 +25,6 @@ module _ (M : Machine) {Setup Hosted Store : Type 0} where
       subst (λ (z : EventOf M). HasDone M z old new ms) (sym (does ∙ ap Does is)) record { comes = a.comes; id = a.id; size = a.size; setup = a.setup }
 
 module _ {B L T : Type 0} where
-  -- the last of new passes is new, and so are the others
-  pub popped : (t : TableId) (n : ℕ) (all rest : List (Pass B L T)) (p : Pass B L T) → AreNewAt t n all → all ≡ rest ++ p ∷ [] → AreNewAt t n rest × IsPassAt t n p × IsUnopened p
-  popped t n all rest p are is =
-      let last = are (length rest) p (last_at all rest p is) in
-      (λ i q at. are i q (subst (λ (l : List (Pass B L T)). IsAt l i q) (sym is) (at_longer rest (p ∷ []) i q at)), last.0, ap (λ (v : View B L T). v.opened) last.2)
-
   take_keeps_state : (v : View B L T) (y : Option (Envelope B)) → (after_take v y).state ≡ v.state
   take_keeps_state v None = refl
   take_keeps_state v (Some e) = refl

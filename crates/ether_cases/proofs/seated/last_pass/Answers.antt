@@ -1,4 +1,4 @@
-use Rattle.ether_cases.proofs.Seating.{popped}
+use Rattle.ether.proofs.Gathering.{popped}
 use Rattle.ether_cases.proofs.seated.last_pass.Goals as goal
 
 pub returns-in-Some : goal.returns-in-Some
