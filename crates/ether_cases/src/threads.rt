@@ -8,6 +8,7 @@ use machine_laws::Hosted;
 use std::alloc::Global;
 use std::marker::Send;
 use std::test::Fail;
+use std::thread;
 use std::thread::{Threads, join};
 use world_views::{Envelope, NodeEvent, NodeInput};
 
@@ -40,6 +41,7 @@ fn post_and_look<M: Hosted>(
         if ether.take(pass, from).is_some() {
             return true;
         }
+        thread::yield_now();
     }
     false
 }
