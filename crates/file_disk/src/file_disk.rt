@@ -1,0 +1,82 @@
+//! A disk over an open file.
+ghost use Rattle.std.specs.Prelude.{◌≡◌};
+ghost use Rattle.journal_store.specs.Causes.{HasCause};
+ghost use Rattle.journal_store.specs.declared.disk_fault.DiskFault.TheVariants.{Device};
+
+use crate::disk_file::DiskFile;
+use journal_store::{Disk, DiskFault};
+use std::alloc::Global;
+
+/// A disk over an open file, which counts the calls of the file that fail. It is honest where its file is.
+#[derive(Drop)]
+pub struct FileDisk<F: DiskFile> {
+    pub(crate) file: F,
+    pub(crate) failures: u64,
+}
+
+impl<F: DiskFile> FileDisk<F> {
+    /// A disk over a file, of which no call has failed.
+    pub fn new(file: F) -> Self
+        ensures file { result.file ≡ file }
+        ensures failures { result.failures ≡ 0 }
+    {
+        FileDisk { file, failures: 0 }
+    }
+
+    /// Counts a call that failed, and answers that.
+    fn failed<T>(&mut self) -> Result<T, DiskFault>
+        ensures answer { result ≡ Err Device }
+        ensures cause { HasCause self.old.failures self.new.failures result }
+        ensures file { self.new.file ≡ self.old.file }
+    {
+        if self.failures < u64::MAX {
+            self.failures += 1;
+        }
+        Err(DiskFault::Device)
+    }
+}
+
+impl<F: DiskFile> Disk for FileDisk<F> {
+    ghost honest = { λ d. F.honest d.file };
+
+    ghost states = { λ d. F.states d.file };
+
+    ghost failures = { λ d. d.failures };
+
+    fn len(&mut self) -> Result<usize, DiskFault> {
+        match self.file.size() {
+            Ok(size) => Ok(size as usize),
+            Err(_) => self.failed(),
+        }
+    }
+
+    fn read(&mut self, alloc: Global, place: usize, len: usize) -> Result<Vec<u8>, DiskFault> {
+        let size = self.len()?;
+        let start = place.min(size);
+        let mut bytes = vec![in alloc; 0u8; len.min(size - start)]?;
+        match self.file.fill(start as u64, &mut bytes) {
+            Ok(()) => Ok(bytes),
+            Err(_) => self.failed(),
+        }
+    }
+
+    fn write_at(&mut self, place: usize, bytes: &[u8]) -> Result<(), DiskFault> {
+        match self.file.write(place as u64, bytes) {
+            Ok(()) => Ok(()),
+            Err(_) => self.failed(),
+        }
+    }
+
+    fn sync(&mut self) -> Result<(), DiskFault> {
+        match self.file.sync() {
+            Ok(()) => Ok(()),
+            Err(_) => self.failed(),
+        }
+    }
+
+    fn failures(&self) -> u64 {
+        self.failures
+    }
+
+    ghost reads_as = { λ d h. F.reads_as d.file h };
+}

@@ -1,0 +1,17 @@
+//! A disk over a file of the system, and the journal in it.
+//!
+//! No contract can say what a file of the system holds. So the laws of a disk are proved of a `FileDisk`
+//! over any file whose calls are honest, as `DiskFile` states that, and a file of the system makes each
+//! call that `DiskFile` names as one call of its own, of which nothing is known.
+#![tactic(auto)]
+
+mod disk_file;
+mod file_disk;
+mod journal;
+mod open_fault;
+mod system_file;
+
+pub use disk_file::DiskFile;
+pub use file_disk::FileDisk;
+pub use journal::{FileJournal, adopt_or_make, open_journal};
+pub use open_fault::OpenFault;

@@ -1,0 +1,27 @@
+ghost use Rattle.std.specs.Prelude.{◌≡◌};
+ghost use Rattle.file_disk.specs.declared.open_fault.OpenFault.TheVariants.{Store};
+
+use stable_store::StoreFault;
+use std::io;
+use thiserror::Error;
+
+/// Why no journal is opened at a path.
+#[derive(Debug, Drop, Error)]
+pub enum OpenFault {
+    #[error("the journal is open already")]
+    InUse,
+    #[error("the journal is no regular file")]
+    NotAFile,
+    #[error("the journal cannot be opened: {0}")]
+    System(#[from] io::Error),
+    #[error("the journal cannot be read: {0}")]
+    Store(StoreFault),
+}
+
+impl From<StoreFault> for OpenFault {
+    ghost from_gives = { λ fault e. e ≡ Store fault };
+
+    fn from(fault: StoreFault) -> Self {
+        OpenFault::Store(fault)
+    }
+}

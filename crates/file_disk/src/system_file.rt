@@ -1,0 +1,83 @@
+//! A file of the system.
+ghost use Rattle.std.specs.Prelude.{◌≡◌, IfOk};
+
+use crate::disk_file::DiskFile;
+use crate::file_disk::FileDisk;
+use crate::open_fault::OpenFault;
+use std::fs::{self, File, Files, OpenOptions, TryLockError};
+use std::io;
+use std::os::fd::AsRawFd;
+use std::os::unix::fs::FileExt;
+use std::path::Path;
+
+/// Each call is one of the system's, of which nothing is known.
+impl DiskFile for File {
+    ghost use Rattle.std.specs.Prelude.{false, []};
+    ghost use Rattle.journal_store.specs.DiskLaws.{own_image};
+
+    ghost honest = { λ _. false };
+
+    ghost states = { λ _. [] };
+
+    fn size(&mut self) -> io::Result<u64> {
+        Ok(self.metadata()?.len())
+    }
+
+    fn fill(&mut self, place: u64, buffer: &mut [u8]) -> io::Result<()> {
+        self.read_exact_at(buffer, place)
+    }
+
+    fn write(&mut self, place: u64, bytes: &[u8]) -> io::Result<()> {
+        self.write_all_at(bytes, place)
+    }
+
+    fn sync(&mut self) -> io::Result<()> {
+        self.sync_data()
+    }
+
+    ghost reads_as = { λ f h. own_image [] };
+}
+
+impl FileDisk<File> {
+    /// The file of a path, which is made where it is not there, and locked until the disk is dropped. Its
+    /// folder is synced, so that a crash leaves the file there. `InUse` where it is open as a disk
+    /// already, in this program or another; `NotAFile` where the path names something else.
+    pub fn open<R: Files<File = File>>(rt: &R, path: &str) -> Result<Self, OpenFault>
+        ensures { IfOk result (λ d. d.failures ≡ 0) }
+    {
+        let mut file = OpenOptions::new()
+            .read(true)
+            .write(true)
+            .create(true)
+            .open(rt, path)?;
+        // what is printed to a standard stream that was closed must not land in the file
+        if file.as_raw_fd() <= 2 {
+            file = file.try_clone()?;
+        }
+        if !file.metadata()?.is_file() {
+            return Err(OpenFault::NotAFile);
+        }
+        lock(&file)?;
+        file.sync_all()?;
+        sync_folder(rt, path)?;
+        Ok(FileDisk::new(file))
+    }
+}
+
+/// The lock ends with the file's last handle, or with the program.
+fn lock(file: &File) -> Result<(), OpenFault> {
+    match file.try_lock() {
+        Ok(()) => Ok(()),
+        Err(TryLockError::WouldBlock) => Err(OpenFault::InUse),
+        Err(TryLockError::Error(error)) => Err(OpenFault::System(error)),
+    }
+}
+
+/// Syncs the folder in which a path lies.
+fn sync_folder<R: Files<File = File>>(rt: &R, path: &str) -> io::Result<()> {
+    let folder = match Path::new(path).parent() {
+        Some(folder) if !folder.as_str().is_empty() => folder.as_str(),
+        _ => ".",
+    };
+    fs::open(rt, folder)?.sync_all()
+}
