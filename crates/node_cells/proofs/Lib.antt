@@ -1,0 +1,11 @@
+pub mod Terms
+pub mod Sending
+pub mod Recording
+pub mod Showing
+pub mod Turning
+pub mod Acting
+pub mod Looping
+pub mod Opening
+pub mod Looking
+pub mod Restarting
+pub mod Started

@@ -1,0 +1,114 @@
+-- A cell as it is opened, after a look into a mailbox, and as it is closed.
+use Rattle.std.proofs.Common.{◌≡◌, ℕ, suc, ◌≤◌, List, [], ◌∷◌, length, Option, Some, None, refl, sym, ap, ◌∙◌, subst, arith}
+use Rattle.atomic_table.proofs.Lists.{at_longer}
+use Rattle.raft_log.specs.Node.{Node}
+use Rattle.raft_log.specs.Seen.{seen}
+use Rattle.recorder.specs.declared.node_line.NodeFields.{NodeFields}
+use Rattle.recorder.specs.NodeLines.{fields_of}
+use Rattle.raft_node.specs.Machine.{Machine}
+use Rattle.raft_node.specs.Parts.{Keeper}
+use Rattle.raft_node.specs.Starting.{IsFirst}
+use Rattle.world_views.specs.declared.envelope.Envelope.{Envelope}
+use Rattle.world_views.specs.Own.{ViewOf}
+use Rattle.world_views.specs.Views.{View}
+use Rattle.ether.specs.declared.pass.Pass.{Pass}
+use Rattle.ether.specs.Passes.{EtherParts, IsOpenPass, view_of}
+use Rattle.ether.specs.Plays.{after_opening, after_take}
+use Rattle.node_cells.specs.declared.phase.Phase.{Phase}
+use Rattle.node_cells.specs.declared.phase.Phase.TheVariants.{Up}
+use Rattle.node_cells.specs.declared.record.NodeRecord.{NodeRecord}
+use Rattle.node_cells.specs.Books.{HasTaken, IsBook, IsRecordOf, NotedOf}
+use Rattle.node_cells.specs.Cells.{HasHeard, IsCell, IsIn, Shows, brought, cell_of, view_in}
+use Rattle.node_cells.specs.Openings.{IsClosed, IsFresh}
+use Rattle.node_cells.specs.Sending.{KnowsOneOf}
+use Rattle.node_cells.specs.Turns.{CellOf}
+use Rattle.node_cells.proofs.Recording.{Book, Kept, book_of}
+use Rattle.node_cells.proofs.Sending.{none_known}
+use Rattle.node_cells.proofs.Showing.{Inner}
+use Rattle.node_cells.proofs.Turning.{with_room}
+
+module _ {B L T : Type 0} where
+  -- what a look into a mailbox leaves of a view
+  pub record Took (v w : View B L T) : Type 0 where
+    pub size : w.size ≡ v.size
+    pub node : w.node ≡ v.node
+    pub honest : w.honest ≡ v.honest
+    pub state : w.state ≡ v.state
+    pub heard : (o : Option (Envelope B)) → HasHeard v o → HasHeard w o
+
+  took : (v : View B L T) (came : Option (Envelope B)) → Took v (after_take v came)
+  took v None = record { size = refl; node = refl; honest = refl; state = refl; heard = λ o h. h }
+  took v (Some e) =
+      record { size = refl; node = refl; honest = refl; state = refl; heard = λ o h m is. let r = h m is in (r.0, at_longer v.heard (e ∷ []) r.0 m r.1) }
+
+module _ (M : Machine) {Setup Hosted Store : Type 0} (k : Keeper Store M.Body) where
+  -- ---- an opening
+  module _ (b : Book M Setup) (pass : Pass M.Body M.Line M.Target) (n : Inner M Setup Hosted Store) (t : ℕ) (store : Store)
+      (first : IsFirst k (suc pass.node) b.ether.size b.ether.setup store n) (none : b.turns ≡ []) (opened : IsOpenPass b.ether b.pass) (place : b.pass.node ≡ pass.node)
+      (view : view_of b.pass ≡ after_opening (view_of pass) t (k.condition n.store).honest (seen n.state [])) (new : (view_of pass).turns ≡ []) where
+    abbrev w : ViewOf M
+    w = record (view_of pass) { honest = (k.condition n.store).honest; opened = Some (t, seen n.state []); turns = []; state = seen n.state [] }
+
+    as_new : view_of b.pass ≡ w
+    as_new = view ∙ (λ d. record w { turns = new d })
+
+    kept : Kept M w []
+    kept = record { opened = ((t, seen n.state []), refl); state = refl; recorded = record { turns_are = refl; outs_are = λ honest. refl } }
+
+    pub fresh_book : b.sent ≡ 0 → b.ether.size ≤ 7 → IsBook M b
+    fresh_book sent small =
+        book_of M b opened (subst (λ (z : ViewOf M × List (NotedOf M)). Kept M z.0 z.1) (λ d. (sym as_new d, sym none d)) kept) (omega (arith, sent)) small
+
+    state_is : (view_of b.pass).state ≡ seen n.state []
+    state_is = ap (λ (v : ViewOf M). v.state) as_new
+
+    pub fresh_cell : {U : Type 0} → b.sent ≡ 0 → b.ether.size ≤ 7 → (u : U) (line : NodeFields) → line ≡ fields_of (seen n.state []) → IsCell M k (cell_of b n u Up 0 line)
+    fresh_cell sent small u line shown =
+        record {
+          book = with_room M b 0 (fresh_book sent small);
+          id = first.id_is ∙ ap suc (sym place);
+          size = first.begins.3;
+          setup = first.setup_is;
+          honest = ap (λ (v : ViewOf M). v.honest) as_new;
+          leader = none_known b.ether.size (seen n.state []).leader (ap (λ (s : Node M.Body). s.leader) (first.begins.2 []));
+          heard = λ m e. absurd (cc e);
+          up = λ p. first.is_up;
+          refused = λ p. refl;
+          counted = λ honest. sent ∙ ap (λ (s : Node M.Body). length s.sent) (sym state_is);
+          shown = λ honest. shown ∙ ap (λ (s : Node M.Body). fields_of s) (sym state_is);
+          shows = λ honest. (subst (λ (s : Node M.Body). IsIn n.state s) (sym state_is) refl, first.is_up);
+        }
+
+    pub fresh : {U : Type 0} (u : U) (line : NodeFields) → IsFresh k b.ether pass store u (cell_of b n u Up 0 line)
+    fresh u line =
+        record { ticket = t; started = first; view = view; node = place; ether_is = refl; upstream_is = refl; turns = none; is_up = refl }
+
+  -- ---- a look into a mailbox
+  pub taken_cell : {U : Type 0} (b0 b1 : Book M Setup) (q : Inner M Setup Hosted Store) (u : U) (p : Phase M.Body M.Line) (r : ℕ) (line : NodeFields) (from : ℕ) (came : Option (Envelope M.Body))
+      → IsCell M k (cell_of b0 q u p r line) → HasTaken b0 from came b1 → IsBook M b1 → IsCell M k (cell_of b1 q u p r line)
+  taken_cell b0 b1 q u p r line from came h t book =
+      let tk : Took (view_of b0.pass) (view_of b1.pass) = subst (λ (v : ViewOf M). Took (view_of b0.pass) v) (sym t.view) (took (view_of b0.pass) came) in
+      record {
+        book = with_room M b1 0 book;
+        id = h.id ∙ ap suc (sym t.node);
+        size = h.size ∙ ap (λ (z : EtherParts Setup). z.size) (sym t.ether);
+        setup = h.setup ∙ ap (λ (z : EtherParts Setup). z.setup) (sym t.ether);
+        honest = tk.honest ∙ h.honest;
+        leader = subst (λ (z : EtherParts Setup). KnowsOneOf z.size (seen q.state [])) (sym t.ether) h.leader;
+        heard = tk.heard (brought p) h.heard;
+        up = h.up;
+        refused = h.refused;
+        counted = λ is. t.sent ∙ h.counted (sym tk.honest ∙ is) ∙ ap (λ (s : Node M.Body). length s.sent) (sym tk.state);
+        shown = λ is. h.shown (sym tk.honest ∙ is) ∙ ap (λ (s : Node M.Body). fields_of s) (sym tk.state);
+        shows = λ is. subst (λ (z : (ℕ × ℕ) × Node M.Body). Shows M k z.0.0 (suc z.0.1) z.1 p r q) (λ d. ((sym tk.size d, sym tk.node d), sym tk.state d)) (h.shows (sym tk.honest ∙ is));
+      }
+
+  -- ---- a close
+  pub closed_cell : {U : Type 0} (c : CellOf M Setup Hosted Store U) (r : NodeRecord M.Body M.Line M.Target M.Effect M.Played) → IsCell M k c → r.node ≡ c.node.id → r.turns.items ≡ c.turns → r.state ≡ c.shown → IsClosed M c r
+  closed_cell c r h node turns state =
+      record {
+        node = node ∙ h.id;
+        turns = turns;
+        recorded = subst (λ (l : List (NotedOf M)). IsRecordOf M (view_in c) l) (sym turns) h.book.recorded;
+        state = λ honest. state ∙ h.shown honest;
+      }

@@ -1,0 +1,6 @@
+use Rattle.raft_node.specs.Hosts.{hosted}
+use Rattle.node_cells.proofs.Looping.{Posting}
+use Rattle.node_cells.proofs.book.Book.post_all.Given as goal
+
+abbrev pub invariant-loop-message : goal.invariant-loop-message
+invariant-loop-message g l = Posting (hosted g.M.Hosted.blank g.M.Hosted.opened g.M.Hosted.shut g.M.Hosted.heard g.M.Hosted.claim g.M.Hosted.source (g.M.Machine.effects l.fn.self.ether.setup) (g.M.Hosted.next_claim l.fn.self.ether.setup) (g.M.Hosted.playback l.fn.self.ether.setup) g.M.Hosted.class) l.fn.self l.self l.fn.messages.items l.message-iterator.rest.items

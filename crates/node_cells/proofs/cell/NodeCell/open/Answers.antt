@@ -1,0 +1,56 @@
+use Rattle.std.proofs.Common.{rules, ◌≡◌, ◌≤◌, ℕ, suc, [], refl, ap, ◌∙◌, subst}
+use Rattle.raft_log.specs.declared.node_state.NodeState.{NodeState}
+use Rattle.raft_log.specs.Seen.{seen}
+use Rattle.raft_node.specs.Starting.{IsFirst}
+use Rattle.recorder.specs.NodeLines.{fields_of}
+use Rattle.raft_node.specs.Hosts.{hosted}
+use Rattle.raft_node.specs.Machine.{Machine}
+use Rattle.raft_node.specs.Parts.{Keeper, keeper}
+use Rattle.ether.specs.Passes.{EtherParts, IsOpenPass}
+use Rattle.node_cells.specs.declared.phase.Phase.TheVariants.{Up}
+use Rattle.node_cells.specs.Books.{BookParts}
+use Rattle.node_cells.specs.Cells.{cell_of}
+use Rattle.node_cells.specs.Openings.{IsFresh}
+use Rattle.node_cells.proofs.Opening.{fresh, fresh_cell}
+use Rattle.node_cells.proofs.cell.NodeCell.open.Given as given
+use Rattle.node_cells.proofs.cell.NodeCell.open.Goals as goal
+
+abbrev machine : (g : given.Over) → g.row.M-Setup.Denot → Machine
+machine g s =
+    hosted g.M.Hosted.blank g.M.Hosted.opened g.M.Hosted.shut g.M.Hosted.heard g.M.Hosted.claim g.M.Hosted.source (g.M.Machine.effects s)
+    (g.M.Hosted.next_claim s) (g.M.Hosted.playback s) g.M.Hosted.class
+
+abbrev kept : (g : given.Over) → Keeper g.row.S.Denot g.row.M-Command.Denot
+kept g = keeper g.S.Stable.saved g.S.Stable.may_stand g.S.Stable.condition
+
+pub opening-requires-clause-node : goal.opening-requires-clause-node
+opening-requires-clause-node g c =
+    let id : c.new-id.result ≡ suc c.args.pass.node = search rules in
+    let size : c.size-size.result ≡ c.deref-3.result.now.size = search rules in
+    let setup : c.setup.result.now ≡ c.deref-3.result.now.setup = search rules in
+    (c.args.store, subst (λ (z : (ℕ × ℕ) × g.row.M-Setup.Denot). IsFirst (kept g) z.0.0 z.0.1 z.1 c.args.store c.in-Ok-start.node) (λ d. ((id d, size d), setup d)) c.in-Ok-start.ensures)
+
+pub invariant_of-result : goal.invariant_of-result
+invariant_of-result g c =
+    let id : c.new-id.result ≡ suc c.args.pass.node = search rules in
+    let size : c.size-size.result ≡ c.in-Ok.ether.value.size = search rules in
+    let setup : c.setup.result.now ≡ c.in-Ok.ether.value.setup = search rules in
+    let small : c.size-size.result ≤ 7 = search rules in
+    let first = subst (λ (z : (ℕ × ℕ) × g.row.M-Setup.Denot). IsFirst (kept g) z.0.0 z.0.1 z.1 c.args.store c.in-Ok-start.node) (λ d. ((id d, size d), setup d)) c.in-Ok-start.ensures in
+    let b : BookParts g.row.M-Setup.Denot g.row.M-Command.Denot g.row.M-Line.Denot g.row.M-Target.Denot g.row.M-Effect.Denot g.row.M-Played.Denot = record { ether = c.in-Ok.ether.value; pass = c.opening.new.pass; turns = c.new.result.items; sent = 0; room = 0 } in
+    let opened = subst (λ (e : EtherParts g.row.M-Setup.Denot). IsOpenPass e c.opening.new.pass) c.deref-3.ensures c.opening.ensures.open.0 in
+    fresh_cell (machine g c.in-Ok.ether.value.setup) (kept g) b c.args.pass c.in-Ok-start.node c.opening.result c.args.store first c.new.ensures.items opened c.opening.ensures.open.1 c.opening.ensures.view c.requires.pass.2
+    refl (subst (λ (m : ℕ). m ≤ 7) size small) c.args.upstream c.of-shown.result
+    (c.of-shown.ensures ∙ ap (λ (s : NodeState g.row.M-Command.Denot). fields_of (seen s [])) c.state.ensures)
+
+pub returns : goal.returns
+returns g c =
+    let id : c.new-id.result ≡ suc c.args.pass.node = search rules in
+    let size : c.size-size.result ≡ c.in-Ok.ether.value.size = search rules in
+    let setup : c.setup.result.now ≡ c.in-Ok.ether.value.setup = search rules in
+    let first = subst (λ (z : (ℕ × ℕ) × g.row.M-Setup.Denot). IsFirst (kept g) z.0.0 z.0.1 z.1 c.args.store c.in-Ok-start.node) (λ d. ((id d, size d), setup d)) c.in-Ok-start.ensures in
+    let b : BookParts g.row.M-Setup.Denot g.row.M-Command.Denot g.row.M-Line.Denot g.row.M-Target.Denot g.row.M-Effect.Denot g.row.M-Played.Denot = record { ether = c.in-Ok.ether.value; pass = c.opening.new.pass; turns = c.new.result.items; sent = 0; room = 0 } in
+    let opened = subst (λ (e : EtherParts g.row.M-Setup.Denot). IsOpenPass e c.opening.new.pass) c.deref-3.ensures c.opening.ensures.open.0 in
+    subst (λ (e : EtherParts g.row.M-Setup.Denot). IsFresh (kept g) e c.args.pass c.args.store c.args.upstream (cell_of b c.in-Ok-start.node c.args.upstream Up 0 c.of-shown.result)) c.in-Ok.ensures
+    (fresh (machine g c.in-Ok.ether.value.setup) (kept g) b c.args.pass c.in-Ok-start.node c.opening.result c.args.store first c.new.ensures.items opened c.opening.ensures.open.1 c.opening.ensures.view c.requires.pass.2
+    c.args.upstream c.of-shown.result)

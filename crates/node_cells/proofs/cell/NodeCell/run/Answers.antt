@@ -1,0 +1,184 @@
+use Rattle.std.proofs.Common.{rules, ◌≡◌, List, [], length, Result, Ok, Err, refl, sym, ap, ◌∙◌, subst, map}
+use Rattle.raft_log.specs.Seen.{seen}
+use Rattle.raft_log.specs.declared.node_state.NodeState.{NodeState}
+use Rattle.recorder.specs.NodeLines.{fields_of}
+use Rattle.raft_node.specs.declared.input.Input.{Input}
+use Rattle.raft_node.specs.declared.input.Output.{Output}
+use Rattle.raft_node.specs.declared.node_fault.NodeFault.{NodeFault}
+use Rattle.raft_node.specs.Hosts.{hosted}
+use Rattle.raft_node.specs.Machine.{Machine}
+use Rattle.raft_node.specs.Parts.{Keeper, Parts, keeper}
+use Rattle.raft_node.specs.Stepping.{IsActed, IsSameNode, IsStepped}
+use Rattle.raft_node.specs.Steps.{Act}
+use Rattle.world_run.specs.World.{hands}
+use Rattle.world_run.specs.declared.outcome.Outcome.TheVariants.{Refused}
+use Rattle.world_views.specs.declared.node_event.NodeEvent.TheVariants.{Does}
+use Rattle.world_views.specs.declared.node_event.NodeInput.{NodeInput}
+use Rattle.world_views.specs.Own.{act_of}
+use Rattle.world_views.specs.Views.{View, carries}
+use Rattle.ether.specs.Passes.{EtherParts, view_of}
+use Rattle.node_cells.specs.declared.cell_fault.CellFault.TheVariants.{Node as OfNode}
+use Rattle.node_cells.specs.declared.phase.Phase.TheVariants.{Up}
+use Rattle.node_cells.specs.declared.record.TurnOutput.{TurnOutput}
+use Rattle.node_cells.specs.Books.{HasPosted, IsBook}
+use Rattle.node_cells.specs.Cells.{CellRoom, HasHeard, IsCell, cell_of}
+use Rattle.node_cells.specs.Sending.{to_of}
+use Rattle.node_cells.specs.Turns.{IsEvent, IsGiven, IsNoTurn, IsTurn, input_of}
+use Rattle.node_cells.specs.Upstreams.{HandsOut}
+use Rattle.node_cells.proofs.Acting.{down_case, refused_case, same_act}
+use Rattle.node_cells.proofs.Turning.{comes_out, done_cell, fallen_cell, few_posts, goes_within, may_post, still_cell, still_event, turn_is, turned_cell}
+use Rattle.node_cells.proofs.Showing.{declined}
+use Rattle.node_cells.proofs.cell.NodeCell.run.Given as given
+use Rattle.node_cells.proofs.cell.NodeCell.run.Goals as goal
+
+abbrev machine : (g : given.Over) → g.row.M-Setup.Denot → Machine
+machine g s =
+    hosted g.M.Hosted.blank g.M.Hosted.opened g.M.Hosted.shut g.M.Hosted.heard g.M.Hosted.claim g.M.Hosted.source (g.M.Machine.effects s)
+    (g.M.Hosted.next_claim s) (g.M.Hosted.playback s) g.M.Hosted.class
+
+abbrev kept : (g : given.Over) → Keeper g.row.S.Denot g.row.M-Command.Denot
+kept g = keeper g.S.Stable.saved g.S.Stable.may_stand g.S.Stable.condition
+
+abbrev Inner : (g : given.Over) → Type 0
+Inner g = Parts g.row.M-Setup.Denot g.row.M.Denot g.row.S.Denot g.row.M-Command.Denot
+
+-- the step, as one of the copied input at the ether's setup
+acted : (g : given.Over) (s t : g.row.M-Setup.Denot) (x copy : NodeInput g.row.M-Command.Denot g.row.M-Line.Denot) (y : Input g.row.M-Command.Denot g.row.M-Line.Denot) (q q' : Inner g)
+    (r : Result (Output g.row.M-Command.Denot g.row.M-Effect.Denot) NodeFault) → s ≡ t → y ≡ input_of x → copy ≡ x → IsStepped (machine g s) (kept g) y q r q'
+    → IsActed (machine g t) (kept g) (act_of (machine g t) copy) q r q' × IsSameNode (kept g) q q'
+acted g s t x copy y q q' r e is same h =
+    subst (λ (z : g.row.M-Setup.Denot). IsActed (machine g z) (kept g) (act_of (machine g z) copy) q r q' × IsSameNode (kept g) q q') e
+    (subst (λ (a : Act (machine g s)). IsActed (machine g s) (kept g) a q r q' × IsSameNode (kept g) q q') (same_act (machine g s) x copy y is same) h)
+
+heard : (g : given.Over) (v w : View g.row.M-Command.Denot g.row.M-Line.Denot g.row.M-Target.Denot) (x copy : NodeInput g.row.M-Command.Denot g.row.M-Line.Denot) → w ≡ v → copy ≡ x
+    → HasHeard v (carries x) → HasHeard w (carries copy)
+heard g v w x copy e same h =
+    subst (λ (z : View g.row.M-Command.Denot g.row.M-Line.Denot g.row.M-Target.Denot × NodeInput g.row.M-Command.Denot g.row.M-Line.Denot). HasHeard z.0 (carries z.1)) (λ d. (sym e d, sym same d)) h
+
+pub invariant_of-self : goal.invariant_of-self
+invariant_of-self g c =
+    let i = c.self.inside in
+    let up : i.phase ≡ Up = search rules in
+    let a = acted g _ _ c.args.input c.args.copy c.input_of.result i.node c.step.new.self (Ok c.in-Ok.output) c.self.invariant.setup c.input_of.ensures c.requires.copy c.in-Ok.ensures in
+    done_cell (machine g i.book.ether.setup) (kept g) g.U.Upstream.tally i.book i.node i.upstream i.phase i.refused i.shown c.self.invariant up c.args.copy c.in-Ok.output c.step.new.self a.0 a.1 g.met.S.Stable.sure
+    (heard g _ (view_of i.book.pass) c.args.input c.args.copy (λ d. view_of (c.self.view_is d).parts.pass) c.requires.copy c.requires.heard)
+
+pub note-requires-clause-heard : goal.note-requires-clause-heard
+note-requires-clause-heard g c =
+    heard g _ (view_of c.self.inside.book.pass) c.args.input c.args.copy (λ d. view_of (c.self.view_is d).parts.pass) c.requires.copy c.requires.heard
+
+pub note-requires-clause-out : goal.note-requires-clause-out
+note-requires-clause-out g c =
+    let i = c.self.inside in
+    let up : i.phase ≡ Up = search rules in
+    let a = acted g _ _ c.args.input c.args.copy c.input_of.result i.node c.step.new.self (Ok c.in-Ok.output) c.self.invariant.setup c.input_of.ensures c.requires.copy c.in-Ok.ensures in
+    let given : IsGiven c.in-Ok.output.place c.in-Ok.output.effects.items c.in-Ok-copies.outcome =
+    subst (λ (l : List g.row.M-Effect.Denot). IsGiven c.in-Ok.output.place l c.in-Ok-copies.outcome) c.deref-in-Ok.ensures.value c.in-Ok-copies.ensures.1 in
+    comes_out (machine g i.book.ether.setup) (kept g) g.U.Upstream.tally i.book i.node i.upstream i.phase i.refused i.shown c.self.invariant up c.args.copy c.in-Ok.output c.step.new.self a.0 a.1 c.in-Ok-copies.outcome given
+
+pub post_all-requires-clause-within : goal.post_all-requires-clause-within
+post_all-requires-clause-within g c =
+    let i = c.self.inside in
+    let up : i.phase ≡ Up = search rules in
+    let a = acted g _ _ c.args.input c.args.copy c.input_of.result i.node c.step.new.self (Ok c.in-Ok.output) c.self.invariant.setup c.input_of.ensures c.requires.copy c.in-Ok.ensures in
+    goes_within (machine g i.book.ether.setup) (kept g) g.U.Upstream.tally i.book i.node i.upstream i.phase i.refused i.shown c.self.invariant up c.args.copy c.in-Ok.output c.step.new.self a.0 a.1
+    c.in-Ok-copies.outcome c.note.new.self c.note.ensures.noted
+
+pub post_all-requires-clause-stand : goal.post_all-requires-clause-stand
+post_all-requires-clause-stand g c =
+    let i = c.self.inside in
+    let up : i.phase ≡ Up = search rules in
+    let a = acted g _ _ c.args.input c.args.copy c.input_of.result i.node c.step.new.self (Ok c.in-Ok.output) c.self.invariant.setup c.input_of.ensures c.requires.copy c.in-Ok.ensures in
+    may_post (machine g i.book.ether.setup) (kept g) g.U.Upstream.tally i.book i.node i.upstream i.phase i.refused i.shown c.self.invariant up c.args.copy c.in-Ok.output c.step.new.self a.0 a.1
+    c.in-Ok-copies.outcome c.note.new.self c.note.ensures.noted
+
+pub post_all-requires-clause-few : goal.post_all-requires-clause-few
+post_all-requires-clause-few g c =
+    let i = c.self.inside in
+    let up : i.phase ≡ Up = search rules in
+    let a = acted g _ _ c.args.input c.args.copy c.input_of.result i.node c.step.new.self (Ok c.in-Ok.output) c.self.invariant.setup c.input_of.ensures c.requires.copy c.in-Ok.ensures in
+    few_posts (machine g i.book.ether.setup) (kept g) g.U.Upstream.tally i.book i.node i.upstream i.phase i.refused i.shown c.self.invariant up c.args.copy c.in-Ok.output c.step.new.self a.0 a.1
+    c.in-Ok-copies.outcome c.note.new.self c.note.ensures.noted
+
+pub invariant_of-self-in-Ok : goal.invariant_of-self-in-Ok
+invariant_of-self-in-Ok g c =
+    let i = c.self.inside in
+    let up : i.phase ≡ Up = search rules in
+    let a = acted g _ _ c.args.input c.args.copy c.input_of.result i.node c.step.new.self (Ok c.in-Ok.output) c.self.invariant.setup c.input_of.ensures c.requires.copy c.in-Ok.ensures in
+    let noted = c.note.ensures.noted in
+    let b2 = c.post_all.new.self in
+    let moved : IsBook (machine g i.book.ether.setup) b2 × HasPosted (machine g i.book.ether.setup) c.note.new.self (length c.in-Ok.output.messages.items) b2 =
+    subst (λ (e : EtherParts g.row.M-Setup.Denot). IsBook (machine g e.setup) b2 × HasPosted (machine g e.setup) c.note.new.self (length c.in-Ok.output.messages.items) b2) noted.ether (c.post_all.ensures.book, c.post_all.ensures.posted) in
+    subst (λ (e : EtherParts g.row.M-Setup.Denot). IsCell (machine g e.setup) (kept g) (cell_of b2 c.step.new.self c.hand_all.new.upstream i.phase i.refused c.of-self-inside.result)) (sym (moved.1.ether ∙ noted.ether))
+    (turned_cell (machine g i.book.ether.setup) (kept g) g.U.Upstream.tally i.book i.node i.upstream i.phase i.refused i.shown c.self.invariant up c.args.copy c.in-Ok.output c.step.new.self a.0 a.1
+    c.in-Ok-copies.outcome c.note.new.self noted b2 moved.1 c.hand_all.new.upstream c.of-self-inside.result moved.0
+    (c.of-self-inside.ensures ∙ ap (λ (s : NodeState g.row.M-Command.Denot). fields_of (seen s [])) c.state.ensures))
+
+pub returns-in-Ok-copies : goal.returns-in-Ok-copies
+returns-in-Ok-copies g c =
+    let i = c.self.inside in
+    let up : i.phase ≡ Up = search rules in
+    let a = acted g _ _ c.args.input c.args.copy c.input_of.result i.node c.step.new.self (Ok c.in-Ok.output) c.self.invariant.setup c.input_of.ensures c.requires.copy c.in-Ok.ensures in
+    let noted = c.note.ensures.noted in
+    let b2 = c.post_all.new.self in
+    let moved : IsBook (machine g i.book.ether.setup) b2 × HasPosted (machine g i.book.ether.setup) c.note.new.self (length c.in-Ok.output.messages.items) b2 =
+    subst (λ (e : EtherParts g.row.M-Setup.Denot). IsBook (machine g e.setup) b2 × HasPosted (machine g e.setup) c.note.new.self (length c.in-Ok.output.messages.items) b2) noted.ether (c.post_all.ensures.book, c.post_all.ensures.posted) in
+    let given : IsGiven c.in-Ok.output.place c.in-Ok.output.effects.items c.in-Ok-copies.outcome =
+    subst (λ (l : List g.row.M-Effect.Denot). IsGiven c.in-Ok.output.place l c.in-Ok-copies.outcome) c.deref-in-Ok.ensures.value c.in-Ok-copies.ensures.1 in
+    let handed : HandsOut (hands (machine g i.book.ether.setup) c.in-Ok.output.effects.items) (g.U.Upstream.tally i.upstream) (g.U.Upstream.tally c.hand_all.new.upstream) =
+    subst (λ (l : List g.row.M-Effect.Denot). HandsOut (hands (machine g i.book.ether.setup) l) (g.U.Upstream.tally i.upstream) (g.U.Upstream.tally c.hand_all.new.upstream)) c.deref-in-Ok-2.ensures.value (c.hand_all.ensures i.book.ether.setup) in
+    let out : TurnOutput g.row.M-Effect.Denot = record { posted_to = c.in-Ok-copies.posted_to; place = c.in-Ok.output.place; effects = c.in-Ok.output.effects } in
+    let now = cell_of b2 c.step.new.self c.hand_all.new.upstream i.phase i.refused c.of-self-inside.result in
+    record {
+      turn = subst (λ (z : CellRoom g.row.M-Setup.Denot g.row.M.Denot g.row.S.Denot g.row.M-Command.Denot g.row.M-Line.Denot g.row.M-Target.Denot g.row.M-Effect.Denot g.row.M-Played.Denot g.row.U.Denot × NodeInput g.row.M-Command.Denot g.row.M-Line.Denot).
+          IsTurn (machine g z.0.parts.ether.setup) g.U.Upstream.tally z.0.parts z.1 out now) (λ d. (c.self.view_is d, c.requires.copy d))
+          (turn_is (machine g i.book.ether.setup) (kept g) g.U.Upstream.tally i.book i.node i.upstream i.phase i.refused i.shown c.self.invariant up c.args.copy c.in-Ok.output c.step.new.self a.0 a.1
+          c.in-Ok-copies.outcome c.note.new.self noted b2 moved.1 c.hand_all.new.upstream c.of-self-inside.result moved.0
+          (c.of-self-inside.ensures ∙ ap (λ (s : NodeState g.row.M-Command.Denot). fields_of (seen s [])) c.state.ensures)
+          given handed out refl refl (c.in-Ok-copies.ensures.0 ∙ ap (map to_of) c.deref.ensures.value));
+    }
+
+pub note-requires-in-Refused-clause-out : goal.note-requires-in-Refused-clause-out
+note-requires-in-Refused-clause-out g c =
+    let i = c.self.inside in
+    let up : i.phase ≡ Up = search rules in
+    let a = acted g _ _ c.args.input c.args.copy c.input_of.result i.node c.step.new.self (Err c.in-Err.fault) c.self.invariant.setup c.input_of.ensures c.requires.copy c.in-Err.ensures in
+    (declined (machine g i.book.ether.setup) (kept g) _ c.self.invariant up c.args.copy c.in-Refused.refusal c.step.new.self
+    (refused_case (machine g i.book.ether.setup) (kept g) _ i.node c.step.new.self c.in-Err.fault c.in-Refused.refusal c.in-Refused.is a.0)).out
+
+pub invariant_of-self-in-Refused : goal.invariant_of-self-in-Refused
+invariant_of-self-in-Refused g c =
+    let i = c.self.inside in
+    let up : i.phase ≡ Up = search rules in
+    let a = acted g _ _ c.args.input c.args.copy c.input_of.result i.node c.step.new.self (Err c.in-Err.fault) c.self.invariant.setup c.input_of.ensures c.requires.copy c.in-Err.ensures in
+    let d = refused_case (machine g i.book.ether.setup) (kept g) _ i.node c.step.new.self c.in-Err.fault c.in-Refused.refusal c.in-Refused.is a.0 in
+    let noted = c.note-in-Refused.ensures.noted in
+    let b1 = c.note-in-Refused.new.self in
+    subst (λ (z : EtherParts g.row.M-Setup.Denot × Inner g). IsCell (machine g z.0.setup) (kept g) (cell_of b1 z.1 i.upstream i.phase i.refused i.shown)) (λ t. (sym noted.ether t, sym d.same t))
+    (still_cell (machine g i.book.ether.setup) (kept g) g.U.Upstream.tally i.book i.node i.upstream i.phase i.refused i.shown c.self.invariant up (Does c.args.copy) (Refused c.in-Refused.refusal) b1
+    (declined (machine g i.book.ether.setup) (kept g) _ c.self.invariant up c.args.copy c.in-Refused.refusal c.step.new.self d) noted c.note-in-Refused.ensures.book)
+
+pub returns-in-Refused : goal.returns-in-Refused
+returns-in-Refused g c =
+    let i = c.self.inside in
+    let up : i.phase ≡ Up = search rules in
+    let a = acted g _ _ c.args.input c.args.copy c.input_of.result i.node c.step.new.self (Err c.in-Err.fault) c.self.invariant.setup c.input_of.ensures c.requires.copy c.in-Err.ensures in
+    let d = refused_case (machine g i.book.ether.setup) (kept g) _ i.node c.step.new.self c.in-Err.fault c.in-Refused.refusal c.in-Refused.is a.0 in
+    let noted = c.note-in-Refused.ensures.noted in
+    let b1 = c.note-in-Refused.new.self in
+    let event = still_event (machine g i.book.ether.setup) (kept g) g.U.Upstream.tally i.book i.node i.upstream i.phase i.refused i.shown c.self.invariant up (Does c.args.copy) (Refused c.in-Refused.refusal) b1
+    (declined (machine g i.book.ether.setup) (kept g) _ c.self.invariant up c.args.copy c.in-Refused.refusal c.step.new.self d) noted refl in
+    record {
+      turn = subst (λ (f : NodeFault). IsNoTurn (machine g c.args.self.now.parts.ether.setup) g.U.Upstream.tally c.args.self.now.parts c.args.input (OfNode f) (cell_of b1 c.step.new.self i.upstream i.phase i.refused i.shown)) (sym c.in-Refused.is)
+          (subst (λ (z : (CellRoom g.row.M-Setup.Denot g.row.M.Denot g.row.S.Denot g.row.M-Command.Denot g.row.M-Line.Denot g.row.M-Target.Denot g.row.M-Effect.Denot g.row.M-Played.Denot g.row.U.Denot × NodeInput g.row.M-Command.Denot g.row.M-Line.Denot) × Inner g).
+          IsEvent (machine g z.0.0.parts.ether.setup) g.U.Upstream.tally z.0.0.parts (Does z.0.1) (Refused c.in-Refused.refusal) (cell_of b1 z.1 i.upstream i.phase i.refused i.shown)) (λ t. ((c.self.view_is t, c.requires.copy t), sym d.same t)) event);
+    }
+
+pub invariant_of-self-in-Err : goal.invariant_of-self-in-Err
+invariant_of-self-in-Err g c =
+    let i = c.self.inside in
+    let up : i.phase ≡ Up = search rules in
+    let a = acted g _ _ c.args.input c.args.copy c.input_of.result i.node c.step.new.self (Err c.in-Err.fault) c.self.invariant.setup c.input_of.ensures c.requires.copy c.in-Err.ensures in
+    let d = down_case (machine g i.book.ether.setup) (kept g) _ i.node c.step.new.self c.in-Err.fault c.in_default-fault.not-Refused (c.self.invariant.up up) a.0 in
+    fallen_cell (machine g i.book.ether.setup) (kept g) g.U.Upstream.tally i.book i.node i.upstream i.phase i.refused i.shown c.self.invariant up c.args.copy d.0 c.step.new.self d.1 a.1
+    (heard g _ (view_of i.book.pass) c.args.input c.args.copy (λ t. view_of (c.self.view_is t).parts.pass) c.requires.copy c.requires.heard)

@@ -1,0 +1,113 @@
+-- What a cell keeps beside its node: its pass at the ether, and the record of its turns.
+use Rattle.std.specs.Prelude.{◌≡◌, ◌*◌, ◌+◌, ◌^◌, ◌<◌, ◌≤◌, ℕ, suc, true, List, [], ◌∷◌, ◌++◌, length, map, Option}
+use Rattle.raft_node.specs.Machine.{Machine}
+use Rattle.world_run.specs.declared.outcome.Outcome.{Outcome}
+use Rattle.world_run.specs.Told.{out_of}
+use Rattle.world_views.specs.Outputs.{outs_of}
+use Rattle.world_views.specs.Own.{EventOf, TurnOf, ViewOf, runs}
+use Rattle.world_views.specs.Views.{start}
+use Rattle.raft_node.specs.Steps.{Out}
+use Rattle.ether.specs.declared.pass.Pass.{Pass}
+use Rattle.ether.specs.Passes.{EtherParts, IsOpenPass, looks_of, view_of}
+use Rattle.ether.specs.Plays.{after_event, after_take}
+use Rattle.ether.specs.Rule.{mailbox_of}
+use Rattle.world_views.specs.declared.envelope.Envelope.{Envelope}
+use Rattle.node_cells.specs.declared.cell_fault.CellFault.{CellFault}
+use Rattle.node_cells.specs.declared.cell_fault.CellFault.TheVariants.{Memory, Spent, Node as OfNode}
+use Rattle.node_cells.specs.declared.record.NodeTurn.{NodeTurn}
+use Rattle.node_cells.specs.Posts.{posts_from}
+
+-- its ether and its pass, the turns that were recorded, how many messages were posted, and how many more turns find room
+pub record BookParts (Setup B L T E P : Type 0) : Type 0 where
+  pub ether : EtherParts Setup
+  pub pass : Pass B L T
+  pub turns : List (NodeTurn B L T E P)
+  pub sent : ℕ
+  pub room : ℕ
+
+module _ (M : Machine) where
+  -- a turn of a node that hosts this machine
+  abbrev pub NotedOf : Type 0
+  NotedOf = NodeTurn M.Body M.Line M.Target M.Effect M.Played
+
+  abbrev pub OutcomeOf : Type 0
+  OutcomeOf = Outcome M.Effect M.Played
+
+  abbrev pub noted : ℕ → EventOf M → OutcomeOf → NotedOf
+  noted t e o = record { ticket = t; event = e; outcome = o }
+
+  -- the turn as a view has it
+  abbrev pub turn_in : NotedOf → TurnOf M
+  turn_in r = (r.ticket, r.event)
+
+  -- what came out of it
+  abbrev pub out_in : NotedOf → Out M
+  out_in r = out_of M r.outcome
+
+  -- The record of an opened node: its turns are the view's, and over an honest store each has what comes out of it by the view.
+  pub record IsRecordOf (v : ViewOf M) (turns : List NotedOf) : Type 0 where
+    pub turns_are : map turn_in turns ≡ v.turns
+    pub outs_are : v.honest ≡ true → map out_in turns ≡ outs_of M v
+
+  module _ {Setup : Type 0} where
+    -- The book of an opened pass: its view's state is what its turns lead to, and the record is the view's.
+    pub record IsBook (b : BookParts Setup M.Body M.Line M.Target M.Effect M.Played) : Type 0 where
+      pub opened : IsOpenPass b.ether b.pass
+      pub state : (view_of b.pass).state ≡ runs M (view_of b.pass) (start (view_of b.pass)) (view_of b.pass).turns
+      pub recorded : IsRecordOf (view_of b.pass) b.turns
+      pub few : b.sent ≤ 7 * length (view_of b.pass).turns
+      pub small : b.ether.size ≤ 7
+
+    -- An event was ticked and recorded, with what came out of it.
+    pub record HasNoted (old : BookParts Setup M.Body M.Line M.Target M.Effect M.Played) (e : EventOf M) (o : OutcomeOf) (new : BookParts Setup M.Body M.Line M.Target M.Effect M.Played) : Type 0 where
+      pub ticket : ℕ
+      pub view : view_of new.pass ≡ after_event M (view_of old.pass) ticket e
+      pub turns : new.turns ≡ old.turns ++ noted ticket e o ∷ []
+      pub ether : new.ether ≡ old.ether
+      pub node : new.pass.node ≡ old.pass.node
+      pub sent : new.sent ≡ old.sent
+      pub room : suc new.room ≡ old.room
+
+    -- So many messages were posted, with the next numbers.
+    pub record HasPosted (old : BookParts Setup M.Body M.Line M.Target M.Effect M.Played) (count : ℕ) (new : BookParts Setup M.Body M.Line M.Target M.Effect M.Played) : Type 0 where
+      pub view : view_of new.pass ≡ posts_from (view_of old.pass) old.sent count
+      pub turns : new.turns ≡ old.turns
+      pub ether : new.ether ≡ old.ether
+      pub node : new.pass.node ≡ old.pass.node
+      pub sent : new.sent ≡ old.sent + count
+      pub room : new.room ≡ old.room
+
+module _ {Setup B L T E P : Type 0} where
+  -- the same book, with more or less room
+  abbrev pub IsSameBut : BookParts Setup B L T E P → BookParts Setup B L T E P → Type 0
+  IsSameBut old new = new ≡ record old { room = new.room }
+
+  -- the same, but for the pass, which is another with the same view
+  pub record IsSameBook (old new : BookParts Setup B L T E P) : Type 0 where
+    pub view : view_of new.pass ≡ view_of old.pass
+    pub looks : looks_of new.pass ≡ looks_of old.pass
+    pub turns : new.turns ≡ old.turns
+    pub ether : new.ether ≡ old.ether
+    pub node : new.pass.node ≡ old.pass.node
+    pub sent : new.sent ≡ old.sent
+
+  -- room in the record for so many turns, and tickets for them; all else is as it was
+  pub record HasRoom (old : BookParts Setup B L T E P) (count : ℕ) (new : BookParts Setup B L T E P) : Type 0 where
+    pub room : count ≤ new.room
+    pub tickets : length (view_of old.pass).turns + count ≤ 2 ^ 60
+    pub same : IsSameBut old new
+
+  -- there is none
+  abbrev pub HasNoRoom : BookParts Setup B L T E P → ℕ → CellFault → BookParts Setup B L T E P → Type 0
+  HasNoRoom old count Memory new = IsSameBut old new
+  HasNoRoom old count Spent new = IsSameBut old new × (2 ^ 60 < length (view_of old.pass).turns + count)
+  HasNoRoom old count (OfNode fault) new = ⊥
+
+  -- what lay in the mailbox was heard, and the look is kept
+  pub record HasTaken (old : BookParts Setup B L T E P) (from : ℕ) (came : Option (Envelope B)) (new : BookParts Setup B L T E P) : Type 0 where
+    pub view : view_of new.pass ≡ after_take (view_of old.pass) came
+    pub looks : looks_of new.pass ≡ looks_of old.pass ++ mailbox_of old.ether.size from old.pass.node ∷ []
+    pub turns : new.turns ≡ old.turns
+    pub ether : new.ether ≡ old.ether
+    pub node : new.pass.node ≡ old.pass.node
+    pub sent : new.sent ≡ old.sent

@@ -1,0 +1,9 @@
+pub mod Sending
+pub mod Remembering
+pub mod Upstreams
+pub mod Posts
+pub mod Books
+pub mod Cells
+pub mod Turns
+pub mod Restarts
+pub mod Openings

@@ -1,0 +1,70 @@
+-- How a cell is opened, what it takes, and what it leaves.
+use Rattle.std.specs.Prelude.{◌≡◌, ◌++◌, ◌∷◌, ℕ, suc, true, [], Option, Result, Ok, Err}
+use Rattle.raft_log.specs.Seen.{seen}
+use Rattle.raft_node.specs.Machine.{Machine}
+use Rattle.raft_node.specs.Parts.{Keeper}
+use Rattle.raft_node.specs.Starting.{IsFirst, IsStarted}
+use Rattle.recorder.specs.NodeLines.{fields_of}
+use Rattle.world_views.specs.declared.envelope.Envelope.{Envelope}
+use Rattle.ether.specs.declared.pass.Pass.{Pass}
+use Rattle.ether.specs.Passes.{EtherParts, looks_of, view_of}
+use Rattle.ether.specs.Plays.{after_opening, after_take}
+use Rattle.ether.specs.Rule.{mailbox_of}
+use Rattle.node_cells.specs.declared.cell_fault.CellFault.{CellFault}
+use Rattle.node_cells.specs.declared.cell_fault.CellFault.TheVariants.{Memory, Spent, Node as OfNode}
+use Rattle.node_cells.specs.declared.phase.Phase.TheVariants.{Up}
+use Rattle.node_cells.specs.declared.record.NodeRecord.{NodeRecord}
+use Rattle.node_cells.specs.Books.{IsRecordOf}
+use Rattle.node_cells.specs.Cells.{CellParts, CellRoom, view_in}
+
+module _ {Setup Hosted Store B L T E P U : Type 0} (k : Keeper Store B) where
+  -- A cell as it is opened: its node is as a start from this store gave it, its view is the opening, and nothing is recorded yet.
+  pub record IsFresh (ether : EtherParts Setup) (pass : Pass B L T) (store : Store) (upstream : U) (c : CellParts Setup Hosted Store B L T E P U) : Type 0 where
+    pub ticket : ℕ
+    pub started : IsFirst k (suc pass.node) ether.size ether.setup store c.node
+    pub view : view_in c ≡ after_opening (view_of pass) ticket (k.condition c.node.store).honest (seen c.node.state [])
+    pub node : c.pass.node ≡ pass.node
+    pub ether_is : c.ether ≡ ether
+    pub upstream_is : c.upstream ≡ upstream
+    pub turns : c.turns ≡ []
+    pub is_up : c.phase ≡ Up
+
+  -- by what an opening answers: no cell where there is no memory, or the node did not start
+  abbrev pub HasOpened : EtherParts Setup → Pass B L T → Store → U → Result (CellRoom Setup Hosted Store B L T E P U) CellFault → Type 0
+  HasOpened ether pass store upstream (Ok c) = IsFresh ether pass store upstream c.parts
+  HasOpened ether pass store upstream (Err Memory) = Unit {0}
+  HasOpened ether pass store upstream (Err Spent) = ⊥
+  HasOpened ether pass store upstream (Err (OfNode fault)) = IsStarted {Hosted = Hosted} k (suc pass.node) ether.size ether.setup store (Err fault)
+
+module _ {Setup Hosted Store B L T E P U : Type 0} where
+  -- the same cell, but for its view and its pass
+  pub record IsSameBeside (c d : CellParts Setup Hosted Store B L T E P U) : Type 0 where
+    pub ether : d.ether ≡ c.ether
+    pub node_is : d.node ≡ c.node
+    pub place : d.pass.node ≡ c.pass.node
+    pub turns : d.turns ≡ c.turns
+    pub sent : d.sent ≡ c.sent
+    pub upstream : d.upstream ≡ c.upstream
+    pub phase : d.phase ≡ c.phase
+    pub refused : d.refused ≡ c.refused
+    pub shown : d.shown ≡ c.shown
+
+  -- one look into a mailbox: what lay there was heard
+  pub record HasTakenIn (c : CellParts Setup Hosted Store B L T E P U) (from : ℕ) (came : Option (Envelope B)) (d : CellParts Setup Hosted Store B L T E P U) : Type 0 where
+    pub view : view_in d ≡ after_take (view_in c) came
+    pub looks : looks_of d.pass ≡ looks_of c.pass ++ mailbox_of c.ether.size from c.pass.node ∷ []
+    pub same : IsSameBeside c d
+
+  -- the cell is as it was
+  pub record IsSameCell (c d : CellParts Setup Hosted Store B L T E P U) : Type 0 where
+    pub view : view_in d ≡ view_in c
+    pub looks : looks_of d.pass ≡ looks_of c.pass
+    pub same : IsSameBeside c d
+
+module _ (M : Machine) {Setup Hosted Store U : Type 0} where
+  -- What a cell leaves: the turns of its view, each with what came out of it, and the line of the state that it shows.
+  pub record IsClosed (c : CellParts Setup Hosted Store M.Body M.Line M.Target M.Effect M.Played U) (r : NodeRecord M.Body M.Line M.Target M.Effect M.Played) : Type 0 where
+    pub node : r.node ≡ suc c.pass.node
+    pub turns : r.turns.items ≡ c.turns
+    pub recorded : IsRecordOf M (view_in c) r.turns.items
+    pub state : (view_in c).honest ≡ true → r.state ≡ fields_of (view_in c).state

@@ -1,0 +1,174 @@
+//! What a cell keeps beside its node.
+ghost use Rattle.std.specs.Prelude.{◌≡◌, ◌≤◌, ◌<◌, ◌+◌, ◌*◌, ◌^◌, ◌↔◌, IsTrue, OnOk, OnErr, suc, true, [], ◌∷◌, length, MatchResult};
+ghost use Rattle.ether.specs.Passes.{IsHeard, view_of};
+ghost use Rattle.ether.specs.Plays.{IsFrom};
+ghost use Rattle.node_cells.specs.Books.{HasNoRoom, HasNoted, HasPosted, HasRoom, HasTaken, IsBook, IsSameBook};
+ghost use Rattle.node_cells.specs.Restarts.{HasRestarts};
+ghost use Rattle.world_views.specs.Laws.{AreOfOneGroup};
+ghost use Rattle.node_cells.specs.Sending.{AreWithin, StandFrom};
+ghost use Rattle.world_run.specs.Told.{out_of};
+ghost use Rattle.world_views.specs.Own.{own_out};
+
+use crate::cell_fault::CellFault;
+use crate::record::NodeTurn;
+use ether::{Ether, Pass};
+use machine_laws::{Hosted, Machine};
+use raft_log::Message;
+use raft_node::Described;
+use std::alloc::Global;
+use std::marker::Model;
+use std::sync::Arc;
+use world_run::Outcome;
+use world_views::{Envelope, NodeEvent};
+
+/// A node's pass at its ether, and the record of its turns.
+#[derive(Drop)]
+pub struct Book<M: Hosted> {
+    pub ether: Arc<Ether<M>, Global>,
+    pub pass: Pass<M::Command, M::Line, M::Target>,
+    pub turns: Vec<NodeTurn<M::Command, M::Line, M::Target, M::Effect, M::Played>>,
+    /// How many messages were posted.
+    pub sent: u64,
+}
+
+impl<M: Hosted> Model for Book<M> {
+    ghost use Rattle.std.specs.Prelude.{◌-◌, vec_capacity, vec_len};
+    ghost use Rattle.std.specs.Arc.{arc_value};
+    ghost use Rattle.node_cells.specs.Books.{BookParts};
+
+    ghost Value = { BookParts M.Setup M.Command M.Line M.Target M.Effect M.Played };
+
+    ghost view = { λ b. record {
+      ether = arc_value b.ether;
+      pass = b.pass;
+      turns = b.turns.items;
+      sent = b.sent;
+      room = vec_capacity b.turns - vec_len b.turns;
+    } };
+}
+
+impl<M: Hosted> Book<M> {
+    /// Room in the record for so many turns and one more, and tickets for them.
+    pub fn reserve(&mut self, count: u64) -> Result<(), CellFault>
+        requires { self.old.pass.ticks ≡ length (view_of self.old.pass).turns }
+        ensures { MatchResult result (λ _. HasRoom self.old (suc count) self.new)
+            (λ e. HasNoRoom self.old (suc count) e self.new) }
+    {
+        if !self.pass.has_room(count) {
+            return Err(CellFault::Spent);
+        }
+        if self.turns.reserve(count as usize + 1).is_err() {
+            return Err(CellFault::Memory);
+        }
+        Ok(())
+    }
+
+    /// An event of the node, ticked and recorded.
+    pub fn note(
+        &mut self,
+        event: NodeEvent<M::Command, M::Line, M::Target>,
+        outcome: Outcome<M::Effect, M::Played>,
+    )
+        requires book { IsBook (⟦<M as Described>⟧.machine self.old.ether.setup) self.old }
+        requires heard { IsHeard (view_of self.old.pass) event }
+        requires room { (1 ≤ self.old.room) × (length (view_of self.old.pass).turns < 2 ^ 60) }
+        requires out { (view_of self.old.pass).honest ≡ true →
+            out_of (⟦<M as Described>⟧.machine self.old.ether.setup) outcome
+            ≡ own_out (⟦<M as Described>⟧.machine self.old.ether.setup) (view_of self.old.pass).size
+            (suc (view_of self.old.pass).node) (view_of self.old.pass).state event }
+        ensures book { IsBook (⟦<M as Described>⟧.machine self.old.ether.setup) self.new }
+        ensures noted { HasNoted (⟦<M as Described>⟧.machine self.old.ether.setup) self.old event
+            outcome self.new }
+    {
+        let Ok(ticket) = self.ether.tick(&mut self.pass, &event) else {
+            unreachable!()
+        };
+        self.turns.push_reserved(NodeTurn {
+            ticket,
+            event,
+            outcome,
+        });
+    }
+
+    /// So many restarts, ticked and recorded.
+    pub fn note_restarts(&mut self, count: u64)
+        requires book { IsBook (⟦<M as Described>⟧.machine self.old.ether.setup) self.old }
+        requires room { (count ≤ self.old.room)
+            × (length (view_of self.old.pass).turns + count ≤ 2 ^ 60) }
+        ensures book { IsBook (⟦<M as Described>⟧.machine self.old.ether.setup) self.new }
+        ensures noted { HasRestarts (⟦<M as Described>⟧.machine self.old.ether.setup) self.old count
+            self.new }
+    {
+        for done in 0..count {
+            let _ = done;
+            self.note(NodeEvent::Restart, Outcome::Quiet);
+        }
+    }
+
+    /// Posts what the node sent. An older message that lay there is lost.
+    pub fn post_all(&mut self, messages: Vec<Message<M::Command>>)
+        requires book { IsBook (⟦<M as Described>⟧.machine self.old.ether.setup) self.old }
+        requires within { AreWithin (suc self.old.pass.node) self.old.ether.size messages.items }
+        requires stand { (view_of self.old.pass).honest ≡ true
+            → StandFrom (view_of self.old.pass).state.sent self.old.sent messages.items }
+        requires few { self.old.sent + length messages.items ≤ 7 * length (view_of self.old.pass).turns }
+        ensures book { IsBook (⟦<M as Described>⟧.machine self.old.ether.setup) self.new }
+        ensures posted { HasPosted (⟦<M as Described>⟧.machine self.old.ether.setup) self.old
+            (length messages.items) self.new }
+    {
+        for message in messages {
+            self.post(message);
+        }
+    }
+
+    /// Posts a message that the node sent, with the next number.
+    fn post(&mut self, message: Message<M::Command>)
+        requires book { IsBook (⟦<M as Described>⟧.machine self.old.ether.setup) self.old }
+        requires within { AreWithin (suc self.old.pass.node) self.old.ether.size (message ∷ []) }
+        requires stand { (view_of self.old.pass).honest ≡ true
+            → StandFrom (view_of self.old.pass).state.sent self.old.sent (message ∷ []) }
+        requires few { self.old.sent + 1 ≤ 7 * length (view_of self.old.pass).turns }
+        ensures book { IsBook (⟦<M as Described>⟧.machine self.old.ether.setup) self.new }
+        ensures posted { HasPosted (⟦<M as Described>⟧.machine self.old.ether.setup) self.old 1
+            self.new }
+    {
+        self.sent += 1;
+        let number = self.sent;
+        let _older = self
+            .ether
+            .post(&mut self.pass, Envelope { number, message });
+    }
+
+    /// Takes what lies in the mailbox from the node at this place, from 0 on. It looks once.
+    pub fn take(&mut self, from: u64) -> Option<Envelope<M::Command>>
+        requires book { IsBook (⟦<M as Described>⟧.machine self.old.ether.setup) self.old }
+        requires from { from < self.old.ether.size }
+        ensures book { IsBook (⟦<M as Described>⟧.machine self.old.ether.setup) self.new }
+        ensures taken { HasTaken self.old from result self.new }
+        ensures from { IsFrom from result }
+    {
+        self.ether.take(&mut self.pass, from)
+    }
+
+    /// Two passes in one hand, of one ether: what their nodes did is of one moment.
+    pub fn meet(&mut self, other: &mut Book<M>)
+        requires one { IsBook (⟦<M as Described>⟧.machine self.old.ether.setup) self.old }
+        requires other { IsBook (⟦<M as Described>⟧.machine self.old.ether.setup) other.old }
+        requires ether { self.old.ether ≡ other.old.ether }
+        ensures one { IsBook (⟦<M as Described>⟧.machine self.old.ether.setup) self.new
+            × IsSameBook self.old self.new }
+        ensures other { IsBook (⟦<M as Described>⟧.machine self.old.ether.setup) other.new
+            × IsSameBook other.old other.new }
+        ensures meet { AreOfOneGroup (⟦<M as Described>⟧.machine self.old.ether.setup)
+            (view_of self.old.pass) (view_of other.old.pass) }
+    {
+        self.ether.meet(&mut self.pass, &mut other.pass);
+    }
+
+    /// The record.
+    pub fn into_turns(self) -> Vec<NodeTurn<M::Command, M::Line, M::Target, M::Effect, M::Played>>
+        ensures { result.items ≡ self.turns }
+    {
+        self.turns
+    }
+}

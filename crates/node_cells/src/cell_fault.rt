@@ -1,0 +1,17 @@
+//! Why a call of a cell failed.
+use raft_node::NodeFault;
+use thiserror::Error;
+
+/// Why a call of a cell failed.
+#[derive(Clone, Copy, Debug, Drop, PartialEq, Eq, Error)]
+pub enum CellFault {
+    /// There was no memory, and the cell is as it was.
+    #[error("out of memory")]
+    Memory,
+    /// The node's pass made 2^60 ticks, and the cell is as it was.
+    #[error("the node has no more turns")]
+    Spent,
+    /// The node's own fault.
+    #[error("{0}")]
+    Node(NodeFault),
+}

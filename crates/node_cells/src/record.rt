@@ -1,0 +1,37 @@
+//! What a cell records.
+use raft_log::NodeId;
+use recorder::NodeFields;
+use wire_bytes::{Number, Wire};
+use world_run::Outcome;
+use world_views::NodeEvent;
+
+/// What happened to a node, and what came out of it.
+#[derive(Drop)]
+pub struct NodeTurn<B: Wire, L, T, E, P> {
+    /// Its place among the turns of all nodes of the ether.
+    pub ticket: u64,
+    pub event: NodeEvent<B, L, T>,
+    /// What the turn itself gave.
+    pub outcome: Outcome<E, P>,
+}
+
+/// What a node did since its opening.
+#[derive(Drop)]
+pub struct NodeRecord<B: Wire, L, T, E, P> {
+    pub node: NodeId,
+    /// Its turns, the first first.
+    pub turns: Vec<NodeTurn<B, L, T, E, P>>,
+    /// What it was at the end.
+    pub state: NodeFields,
+}
+
+/// What comes of a turn.
+#[derive(Drop)]
+pub struct TurnOutput<E> {
+    /// To whom its messages were posted, in order: one message may replace another.
+    pub posted_to: Vec<u8>,
+    /// The place that was applied, 0 where none was.
+    pub place: Number,
+    /// The effects that leave, in order.
+    pub effects: Vec<E>,
+}
