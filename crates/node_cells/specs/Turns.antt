@@ -1,5 +1,5 @@
 -- What a turn of a cell, a look and the other calls answer, and what stands after them.
-use Rattle.std.specs.Prelude.{◌≡◌, ◌⊎◌, ◌+◌, ◌<◌, ◌≤◌, ◌^◌, ℕ, suc, Bool, true, List, [], ◌∷◌, ◌++◌, drop, length, map, Result, Ok, Err}
+use Rattle.std.specs.Prelude.{Option, None, Some, ◌≡◌, ◌⊎◌, ◌+◌, ◌<◌, ◌≤◌, ◌^◌, ℕ, suc, Bool, true, List, [], ◌∷◌, ◌++◌, drop, length, map, Result, Ok, Err}
 use Rattle.raft_node.specs.declared.input.Input.{Input}
 use Rattle.raft_node.specs.declared.input.Input.TheVariants as input
 use Rattle.raft_node.specs.declared.node_fault.Cause.TheVariants.{Memory as NoMemory}
@@ -22,6 +22,8 @@ use Rattle.node_cells.specs.declared.cell_fault.CellFault.{CellFault}
 use Rattle.node_cells.specs.declared.cell_fault.CellFault.TheVariants.{Memory, Spent, Node as OfNode}
 use Rattle.node_cells.specs.declared.phase.Phase.TheVariants.{Up, DownInTurn}
 use Rattle.node_cells.specs.declared.record.TurnOutput.{TurnOutput}
+use Rattle.world_views.specs.declared.envelope.Envelope.{Envelope}
+use Rattle.node_cells.specs.Openings.{HasTakenIn}
 use Rattle.node_cells.specs.Books.{OutcomeOf, noted}
 use Rattle.node_cells.specs.Cells.{CellParts, view_in}
 use Rattle.node_cells.specs.Posts.{posts_from}
@@ -130,3 +132,19 @@ module _ (M : Machine) {Setup Hosted Store U : Type 0} where
     abbrev pub HasLooked : CellOf M Setup Hosted Store U → ℕ → M.Target → Result (PlayedAt M.Played) CellFault → CellOf M Setup Hosted Store U → Type 0
     HasLooked c from_place target (Ok looked) d = IsLookedAt c from_place target looked d
     HasLooked c from_place target (Err fault) d = IsNoLook c from_place target fault d
+
+    -- what lay in a mailbox was turned, if something did
+    abbrev pub HasHeardIn : CellOf M Setup Hosted Store U → Option (Envelope M.Body) → Result (Option (TurnOutput M.Effect)) CellFault → CellOf M Setup Hosted Store U → Type 0
+    HasHeardIn c None (Ok None) d = d ≡ c
+    HasHeardIn c None (Ok (Some output)) d = ⊥
+    HasHeardIn c None (Err fault) d = ⊥
+    HasHeardIn c (Some e) (Ok None) d = ⊥
+    HasHeardIn c (Some e) (Ok (Some output)) d = IsTurn c (Deliver e) output d
+    HasHeardIn c (Some e) (Err fault) d = IsNoTurn c (Deliver e) fault d
+
+    -- One look into a mailbox, and a turn of what lay there.
+    pub record HasDelivered (c : CellOf M Setup Hosted Store U) (from : ℕ) (result : Result (Option (TurnOutput M.Effect)) CellFault) (d : CellOf M Setup Hosted Store U) : Type 0 where
+      pub came : Option (Envelope M.Body)
+      pub between : CellOf M Setup Hosted Store U
+      pub taken : HasTakenIn c from came between
+      pub turned : HasHeardIn between came result d

@@ -13,7 +13,7 @@ use crate::cell_fault::CellFault;
 use crate::record::NodeTurn;
 use ether::{Ether, Pass};
 use machine_laws::{Hosted, Machine};
-use raft_log::Message;
+use raft_log::{GroupSize, Message};
 use raft_node::Described;
 use std::alloc::Global;
 use std::marker::Model;
@@ -170,5 +170,12 @@ impl<M: Hosted> Book<M> {
         ensures { result.items ≡ self.turns }
     {
         self.turns
+    }
+
+    /// How many nodes the ether is for.
+    pub fn size(&self) -> GroupSize
+        ensures { result ≡ self.now.ether.size }
+    {
+        self.ether.size()
     }
 }

@@ -1,9 +1,10 @@
 //! A node with its pass, its record, and where its lines go.
-ghost use Rattle.std.specs.Prelude.{◌≡◌, ◌+◌, ◌<◌, ◌≤◌, ◌^◌, ◌↔◌, suc, [], length, map, IfOk, None};
+ghost use Rattle.std.specs.Prelude.{true, ◌≡◌, ◌+◌, ◌<◌, ◌≤◌, ◌^◌, ◌↔◌, suc, [], length, map, IfOk, None};
 ghost use Rattle.std.specs.Arc.{arc_value};
 ghost use Rattle.ether.specs.Passes.{IsPass, IsUnopened, view_of};
 ghost use Rattle.ether.specs.Plays.{IsFrom};
-ghost use Rattle.raft_node.specs.Parts.{keeper};
+ghost use Rattle.raft_node.specs.Parts.{applied_bodies, keeper};
+ghost use Rattle.recorder.specs.NodeLines.{fields_of};
 ghost use Rattle.world_views.specs.Laws.{AreOfOneGroup};
 ghost use Rattle.world_views.specs.Views.{carries};
 ghost use Rattle.node_cells.specs.declared.phase.Phase.TheVariants.{Up};
@@ -12,7 +13,7 @@ ghost use Rattle.node_cells.specs.Remembering.{Remembers};
 ghost use Rattle.node_cells.specs.Openings.{HasOpened, HasTakenIn, IsClosed, IsSameCell};
 ghost use Rattle.node_cells.specs.Restarts.{HasRestarted};
 ghost use Rattle.node_cells.specs.Sending.{to_of};
-ghost use Rattle.node_cells.specs.Turns.{HasLooked, HasTurned, IsGiven};
+ghost use Rattle.node_cells.specs.Turns.{HasDelivered, HasLooked, HasTurned, IsGiven};
 
 use crate::book::Book;
 use crate::cell_fault::CellFault;
@@ -24,7 +25,7 @@ use crate::remembered::Remembered;
 use crate::upstream::Upstream;
 use ether::{Ether, Pass};
 use machine_laws::{Hosted, Machine};
-use raft_log::{Message, NodeId};
+use raft_log::{GroupSize, Message, NodeId};
 use raft_node::{Cause, Described, Looked, Node, NodeFault, Output};
 use recorder::NodeFields;
 use stable_store::Stable;
@@ -320,6 +321,59 @@ impl<M: Hosted, S: Stable<M::Command>, U: Upstream> NodeCell<M, S, U> {
             (_, Some(cause)) => Some(cause),
             (_, None) => Some(Cause::Memory),
         }
+    }
+
+    /// Takes what lies in the mailbox from the node at this place, from 0 on, and turns its delivery.
+    /// Nothing where nothing lies there.
+    pub fn deliver(&mut self, from: u64) -> Result<Option<TurnOutput<M::Effect>>, CellFault>
+        requires { from < self.old.parts.ether.size }
+        ensures { HasDelivered (⟦<M as Described>⟧.machine self.old.parts.ether.setup) U.tally
+            self.old.parts from result self.new.parts }
+    {
+        let Some(envelope) = self.take(from) else {
+            return Ok(None);
+        };
+        match self.turn(NodeInput::Deliver(envelope)) {
+            Ok(output) => Ok(Some(output)),
+            Err(fault) => Err(fault),
+        }
+    }
+
+    pub fn id(&self) -> NodeId
+        ensures { result ≡ suc self.now.parts.pass.node }
+    {
+        self.node.id()
+    }
+
+    /// How many nodes the ether is for.
+    pub fn size(&self) -> GroupSize
+        ensures { result ≡ self.now.parts.ether.size }
+    {
+        self.book.size()
+    }
+
+    /// The line of the state that the cell shows.
+    pub fn fields(&self) -> NodeFields
+        ensures shown { result ≡ self.now.parts.shown }
+        ensures view { (view_in self.now.parts).honest ≡ true
+            → result ≡ fields_of (view_in self.now.parts).state }
+    {
+        self.shown
+    }
+
+    /// The number of the line that is to be claimed next, by what the node applied, while it is up.
+    pub fn next_claim(&self) -> Option<Number>
+        ensures { self.now.parts.node.down ≡ None
+            → result ≡ M.next_claim self.now.parts.node.setup (applied_bodies self.now.parts.node.state) }
+    {
+        self.node.next_claim()
+    }
+
+    /// Where its lines go.
+    pub fn upstream(&self) -> &U
+        ensures { result.now ≡ self.now.parts.upstream }
+    {
+        &self.upstream
     }
 }
 
