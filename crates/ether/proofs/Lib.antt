@@ -8,3 +8,4 @@ mod Passes
 mod Keys
 mod Moments
 pub mod Gathering
+pub mod Heard

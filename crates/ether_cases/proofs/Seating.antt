@@ -42,9 +42,3 @@ module _ {B L T : Type 0} where
         setup = s.setup;
         count = s.count ∙ ap (λ (x : Node B). length x.sent) (sym same);
       }
-
-  -- what was taken was heard
-  pub heard_last : (v w : View B L T) (x : Envelope B) → w ≡ after_take v (Some x) → IsHeard w (Does (Deliver x))
-  heard_last v w x is m h =
-      let same : x ≡ m = cc h in
-      (length v.heard, subst (λ (z : View B L T). IsAt z.heard (length v.heard) m) (sym is) (subst (λ (z : Envelope B). IsAt (v.heard ++ x ∷ []) (length v.heard) z) same (at_last v.heard x (length v.heard) refl)))

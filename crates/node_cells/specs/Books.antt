@@ -10,7 +10,7 @@ use Rattle.raft_node.specs.Steps.{Out}
 use Rattle.ether.specs.declared.pass.Pass.{Pass}
 use Rattle.ether.specs.Passes.{EtherParts, IsOpenPass, looks_of, view_of}
 use Rattle.ether.specs.Plays.{after_event, after_take}
-use Rattle.ether.specs.Rule.{mailbox_of}
+use Rattle.ether.specs.Rule.{look_at, mailbox_of}
 use Rattle.world_views.specs.declared.envelope.Envelope.{Envelope}
 use Rattle.node_cells.specs.declared.cell_fault.CellFault.{CellFault}
 use Rattle.node_cells.specs.declared.cell_fault.CellFault.TheVariants.{Memory, Spent, Node as OfNode}
@@ -106,7 +106,7 @@ module _ {Setup B L T E P : Type 0} where
   -- what lay in the mailbox was heard, and the look is kept
   pub record HasTaken (old : BookParts Setup B L T E P) (from : ℕ) (came : Option (Envelope B)) (new : BookParts Setup B L T E P) : Type 0 where
     pub view : view_of new.pass ≡ after_take (view_of old.pass) came
-    pub looks : looks_of new.pass ≡ looks_of old.pass ++ mailbox_of old.ether.size from old.pass.node ∷ []
+    pub looks : looks_of new.pass ≡ looks_of old.pass ++ look_at (mailbox_of old.ether.size from old.pass.node) came ∷ []
     pub turns : new.turns ≡ old.turns
     pub ether : new.ether ≡ old.ether
     pub node : new.pass.node ≡ old.pass.node

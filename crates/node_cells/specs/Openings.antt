@@ -9,7 +9,7 @@ use Rattle.world_views.specs.declared.envelope.Envelope.{Envelope}
 use Rattle.ether.specs.declared.pass.Pass.{Pass}
 use Rattle.ether.specs.Passes.{EtherParts, looks_of, view_of}
 use Rattle.ether.specs.Plays.{after_opening, after_take}
-use Rattle.ether.specs.Rule.{mailbox_of}
+use Rattle.ether.specs.Rule.{look_at, mailbox_of}
 use Rattle.node_cells.specs.declared.cell_fault.CellFault.{CellFault}
 use Rattle.node_cells.specs.declared.cell_fault.CellFault.TheVariants.{Memory, Spent, Node as OfNode}
 use Rattle.node_cells.specs.declared.phase.Phase.TheVariants.{Up}
@@ -52,7 +52,7 @@ module _ {Setup Hosted Store B L T E P U : Type 0} where
   -- one look into a mailbox: what lay there was heard
   pub record HasTakenIn (c : CellParts Setup Hosted Store B L T E P U) (from : ℕ) (came : Option (Envelope B)) (d : CellParts Setup Hosted Store B L T E P U) : Type 0 where
     pub view : view_in d ≡ after_take (view_in c) came
-    pub looks : looks_of d.pass ≡ looks_of c.pass ++ mailbox_of c.ether.size from c.pass.node ∷ []
+    pub looks : looks_of d.pass ≡ looks_of c.pass ++ look_at (mailbox_of c.ether.size from c.pass.node) came ∷ []
     pub same : IsSameBeside c d
 
   -- the cell is as it was

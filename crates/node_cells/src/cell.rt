@@ -25,7 +25,7 @@ use crate::remembered::Remembered;
 use crate::upstream::Upstream;
 use ether::{Ether, Pass};
 use machine_laws::{Hosted, Machine};
-use raft_log::{GroupSize, Message, NodeId};
+use raft_log::{GroupSize, Message, NodeId, NodeState};
 use raft_node::{Cause, Described, Looked, Node, NodeFault, Output};
 use recorder::NodeFields;
 use stable_store::Stable;
@@ -359,6 +359,13 @@ impl<M: Hosted, S: Stable<M::Command>, U: Upstream> NodeCell<M, S, U> {
             → result ≡ fields_of (view_in self.now.parts).state }
     {
         self.shown
+    }
+
+    /// The node's state, or where it is down the one from before what took it down.
+    pub fn state(&self) -> &NodeState<M::Command>
+        ensures { result.now ≡ self.now.parts.node.state }
+    {
+        self.node.state()
     }
 
     /// The number of the line that is to be claimed next, by what the node applied, while it is up.

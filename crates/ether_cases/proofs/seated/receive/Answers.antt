@@ -1,5 +1,5 @@
 use Rattle.ether.specs.Passes.{view_of}
-use Rattle.ether_cases.proofs.Seating.{heard_last}
+use Rattle.ether.proofs.Heard.{heard_last}
 use Rattle.ether_cases.proofs.seated.receive.Goals as goal
 
 pub act-requires-clause-heard : goal.act-requires-clause-heard
