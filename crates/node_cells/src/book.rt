@@ -134,9 +134,8 @@ impl<M: Hosted> Book<M> {
     {
         self.sent += 1;
         let number = self.sent;
-        let _older = self
-            .ether
-            .post(&mut self.pass, Envelope { number, message });
+        let envelope = Envelope { number, message };
+        let _older = self.ether.post(&mut self.pass, envelope);
     }
 
     /// Takes what lies in the mailbox from the node at this place, from 0 on. It looks once.
