@@ -1,0 +1,35 @@
+use crate::cells::{deliver, is_behind, line_of, look, recorded, restart, three, turn};
+use std::test::Fail;
+use world_views::NodeInput;
+
+#[test]
+fn three_cells_elect_agree_apply_and_look(rt: HostRuntime) -> Result<(), Fail> {
+    let mut cells = three(rt.alloc())?;
+    turn(&mut cells, 0, NodeInput::Timeout)?;
+    deliver(&mut cells, 1, 0)?;
+    deliver(&mut cells, 0, 1)?;
+    turn(&mut cells, 0, NodeInput::Ask(7))?;
+    turn(&mut cells, 0, NodeInput::Beat)?;
+    deliver(&mut cells, 1, 0)?;
+    deliver(&mut cells, 0, 1)?;
+    turn(&mut cells, 0, NodeInput::Apply)?;
+    turn(&mut cells, 0, NodeInput::Apply)?;
+    assert!(rt; look(&mut cells, 0, 2)? == (2, 7));
+    assert!(rt; line_of(&cells, 0)? == (1, 2, 2, 2));
+    assert!(rt; line_of(&cells, 1)? == (1, 2, 0, 0));
+    assert!(rt; recorded(cells, 0)? == 8);
+    Ok(())
+}
+
+#[test]
+fn a_node_that_is_started_again_keeps_its_log_alone(rt: HostRuntime) -> Result<(), Fail> {
+    let mut cells = three(rt.alloc())?;
+    turn(&mut cells, 0, NodeInput::Timeout)?;
+    deliver(&mut cells, 1, 0)?;
+    deliver(&mut cells, 0, 1)?;
+    restart(&mut cells, 0)?;
+    assert!(rt; line_of(&cells, 0)? == (1, 1, 0, 0));
+    assert!(rt; is_behind(&mut cells, 0, 1)?);
+    assert!(rt; recorded(cells, 0)? == 4);
+    Ok(())
+}
