@@ -1,5 +1,5 @@
 -- What a node is told by the clock and by how it stands, and when.
-use Rattle.std.specs.Prelude.{ℕ, ◌+◌, ◌*◌, ◌-◌, ◌&&◌, ◌||◌, Bool, true, false, not, min, ◌^◌, nat_eq, nat_le, nat_lt, if◌then◌else◌, List, [], ◌∷◌, Option, Some, None}
+use Rattle.std.specs.Prelude.{ℕ, ◌+◌, ◌*◌, ◌-◌, ◌&&◌, ◌||◌, Bool, false, not, min, ◌^◌, nat_eq, nat_le, nat_lt, if◌then◌else◌, List, [], ◌∷◌, Option, Some, None}
 use Rattle.bouncer_tower.specs.Bodies.{TowerBody}
 use Rattle.buffer_commands.specs.declared.wire_line.WireLine.{WireLine}
 use Rattle.node_notes.specs.declared.note.Note.{Note}
@@ -80,7 +80,7 @@ unfoldable pub desk_behind : Desk → ℕ → Option Status → Option (Note Tow
 desk_behind desk now (Some status) (Some Beat) = beaten_at desk now status
 desk_behind desk now (Some status) (Some Timeout) = record (counted desk) { led = at now }
 desk_behind desk now (Some status) (Some Restart) = restarted_at desk now
-desk_behind desk now status note = desk
+desk_behind desk now status _ = desk
 
 -- the line that is to be claimed next: its session, where the node holds one, and its number, where there is one
 abbrev pub line_in : Option (ℕ × ℕ) → Option ℕ → Option ((ℕ × ℕ) × ℕ)

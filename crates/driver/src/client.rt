@@ -1,4 +1,10 @@
 //! One client's connection.
+ghost use Rattle.std.specs.Prelude.{◌≡◌, ◌++◌, true, List, OnOk};
+ghost use Rattle.client_gate.specs.Calls.{Call, Stands, gate};
+ghost use Rattle.client_gate.specs.Gates.{last_request};
+ghost use Rattle.client_gate.specs.declared.settings.Settings.{Settings};
+ghost use Rattle.driver.specs.Clients.{ask_of, asked_all, asks_of, parting_unless};
+
 use crate::news::News;
 use crate::order::{Now, Order};
 use bouncer_tower::{Tower, TowerEffect};
@@ -57,7 +63,9 @@ impl Client {
     }
 
     /// Which client it is, of which run of which node.
-    pub fn origin(&self) -> Origin {
+    pub fn origin(&self) -> Origin
+        ensures { result ≡ self.now.origin }
+    {
         self.origin
     }
 
@@ -114,12 +122,18 @@ impl Client {
     }
 
     /// Its requests are asked for. The first one is that it is attached.
+    #[tactic(auto, unfolding(crate::specs::Clients::asked_all))]
     fn ask_all(
         &mut self,
         now: &Now,
         requests: Vec<Request>,
         orders: &mut Vec<Order>,
-    ) -> Result<(), AllocError> {
+    ) -> Result<(), AllocError>
+        ensures asked { OnOk result (orders.new.items ≡ orders.old.items
+            ++ asked_all self.old.is_attached self.old.origin now.now.at requests.items) }
+        ensures gate { self.new.gate ≡ self.old.gate }
+        ensures gone { self.new.is_gone ≡ self.old.is_gone }
+    {
         if requests.is_empty() {
             return Ok(());
         }
@@ -128,24 +142,29 @@ impl Client {
             orders.push(Order::Tells(News::Attached(self.origin)))?;
         }
         self.asked = Timer::from(now.ms);
-        for request in requests {
-            orders.push(asks(self.origin, now, request))?;
-        }
-        Ok(())
+        ask_each(self.origin, now, requests, orders)
     }
 
     /// The requests that are not known to be done are asked for again.
-    fn ask_again(&mut self, now: &Now, orders: &mut Vec<Order>) -> Result<(), AllocError> {
+    fn ask_again(&mut self, now: &Now, orders: &mut Vec<Order>) -> Result<(), AllocError>
+        ensures asked { (s : Settings) (calls : List Call) → Stands s calls self.old.gate →
+            OnOk result (orders.new.items ≡ orders.old.items
+            ++ asks_of self.old.origin now.now.at (gate s calls).waiting) }
+    {
         let waiting = self.gate.again()?;
         self.asked = Timer::from(now.ms);
-        for request in waiting {
-            orders.push(asks(self.origin, now, request))?;
-        }
-        Ok(())
+        ask_each(self.origin, now, waiting, orders)
     }
 
     /// Its connection is closed.
-    pub fn hang_up(&mut self, now: &Now, orders: &mut Vec<Order>) -> Result<(), AllocError> {
+    #[tactic(auto, unfolding(crate::specs::Clients::parting_unless))]
+    pub fn hang_up(&mut self, now: &Now, orders: &mut Vec<Order>) -> Result<(), AllocError>
+        ensures told { (s : Settings) (calls : List Call) → Stands s calls self.old.gate →
+            OnOk result (orders.new.items ≡ orders.old.items ++ parting_unless self.old.is_gone
+            self.old.origin now.now.at (last_request (gate s calls))) }
+        ensures gone { self.new.is_gone ≡ true }
+        ensures origin { self.new.origin ≡ self.old.origin }
+    {
         if self.is_gone {
             return Ok(());
         }
@@ -199,8 +218,27 @@ impl Client {
     }
 }
 
+/// Each request goes to its client's node, in order.
+#[tactic(auto, unfolding(crate::specs::Clients::asks_of))]
+fn ask_each(
+    origin: Origin,
+    now: &Now,
+    requests: Vec<Request>,
+    orders: &mut Vec<Order>,
+) -> Result<(), AllocError>
+    ensures { OnOk result (orders.new.items
+        ≡ orders.old.items ++ asks_of origin now.now.at requests.items) }
+{
+    for request in requests {
+        orders.push(asks(origin, now, request))?;
+    }
+    Ok(())
+}
+
 /// A request goes to its client's node.
-fn asks(origin: Origin, now: &Now, request: Request) -> Order {
+fn asks(origin: Origin, now: &Now, request: Request) -> Order
+    ensures { result ≡ ask_of origin now.now.at request }
+{
     let node = NodeId::new(origin.node());
     let Request { number, action } = request;
     let body = <Tower as Hosted>::asked(origin, number, now.at, action);

@@ -1,4 +1,7 @@
 //! The driver: what happened is told to it, and it gives orders.
+ghost use Rattle.std.specs.Prelude.{◌≡◌, [], IfOk, OnOk, OnErr};
+ghost use Rattle.driver.specs.Links.{last_number, next_number, status_at};
+
 use crate::client::Client;
 use crate::clients::Clients;
 use crate::desk::Desk;
@@ -55,13 +58,22 @@ impl Driver {
     }
 
     /// What is to be done, in this order. None of it is given again.
-    pub fn orders(&mut self) -> Vec<Order> {
+    pub fn orders(&mut self) -> Vec<Order>
+        ensures given { result.items ≡ self.old.orders.items }
+        ensures left { self.new.orders.items ≡ [] }
+    {
         std::mem::replace(&mut self.orders, Vec::new(self.alloc))
     }
 
     /// A client has connected to this node. Its number; none where the node is not up, or the numbers
     /// are spent: its connection is then to be closed.
-    pub fn connect(&mut self, now: &Now, node: NodeId) -> Result<Option<u64>, AllocError> {
+    pub fn connect(&mut self, now: &Now, node: NodeId) -> Result<Option<u64>, AllocError>
+        ensures number { IfOk result (λ number.
+            number ≡ next_number self.old.desks node self.old.numbered) }
+        ensures last { OnOk result (self.new.numbered ≡ last_number self.old.numbered
+            (next_number self.old.desks node self.old.numbered)) }
+        ensures kept { OnErr result (self.new.numbered ≡ self.old.numbered) }
+    {
         let Some(status) = self.status(node) else {
             return Ok(None);
         };
@@ -90,7 +102,9 @@ impl Driver {
     }
 
     /// How a node stood when it was last heard of.
-    fn status(&self, node: NodeId) -> Option<Status> {
+    fn status(&self, node: NodeId) -> Option<Status>
+        ensures { result ≡ status_at self.now.desks node }
+    {
         let desk = self.desks.get(node.value() as usize - 1)?;
         desk.status()
     }

@@ -1,4 +1,7 @@
 //! The connection to the server.
+ghost use Rattle.std.specs.Prelude.{◌≡◌, ◌++◌, ◌∷◌, [], if◌then◌else◌, false, true, IfOk, OnOk};
+ghost use Rattle.driver.specs.Links.{ending, idle_behind, is_open, is_silent, may_connect, node_of};
+
 use crate::news::News;
 use crate::order::{Now, Order, TowerNote};
 use crate::settings::Settings;
@@ -59,7 +62,9 @@ impl Link {
     }
 
     /// The node that it is of, if there is one.
-    pub fn node(&self) -> Option<NodeId> {
+    pub fn node(&self) -> Option<NodeId>
+        ensures { result ≡ node_of self.now.stage }
+    {
         match &self.stage {
             Stage::Idle(_, _) => None,
             Stage::Connecting(node) => Some(*node),
@@ -73,7 +78,12 @@ impl Link {
         now: &Now,
         node: NodeId,
         orders: &mut Vec<Order>,
-    ) -> Result<(), AllocError> {
+    ) -> Result<(), AllocError>
+        ensures told { OnOk result (orders.new.items ≡ orders.old.items
+            ++ (if may_connect self.old.stage now.now.ms then Order.Connect ∷ [] else [])) }
+        ensures stage { OnOk result (self.new.stage ≡ (if may_connect self.old.stage now.now.ms
+            then Stage.Connecting node else self.old.stage)) }
+    {
         match &self.stage {
             Stage::Idle(since, wait) => {
                 if !since.has_passed(*wait as u64, now.ms) {
@@ -130,7 +140,13 @@ impl Link {
     }
 
     /// The connection is gone, or could not be made. Whether its node has to be told.
-    pub fn lose(&mut self, now: &Now, orders: &mut Vec<Order>) -> Result<bool, AllocError> {
+    pub fn lose(&mut self, now: &Now, orders: &mut Vec<Order>) -> Result<bool, AllocError>
+        ensures told { OnOk result
+            (orders.new.items ≡ orders.old.items ++ ending self.old.stage) }
+        ensures stage { OnOk result
+            (self.new.stage ≡ idle_behind self.old.stage self.old.backoff now.now.ms) }
+        ensures lost { IfOk result (λ lost. is_open self.old.stage ≡ false → lost ≡ false) }
+    {
         let lost = match &mut self.stage {
             Stage::Idle(_, _) => return Ok(false),
             Stage::Connecting(_) => false,
@@ -147,7 +163,9 @@ impl Link {
     }
 
     /// Whether the server was silent for too long.
-    pub fn is_silent(&self, now: &Now) -> bool {
+    pub fn is_silent(&self, now: &Now) -> bool
+        ensures { result ≡ is_silent self.now.stage now.now.ms }
+    {
         match &self.stage {
             Stage::Open(session) => session.heard.has_passed(SILENCE, now.ms),
             Stage::Idle(_, _) | Stage::Connecting(_) => false,
