@@ -1,0 +1,8 @@
+//! Worked cases of what drives the nodes, their clients and the server: what is told by hand, and
+//! the orders that must come of it.
+#![tactic(auto)]
+
+#[cfg(test)]
+mod stories;
+#[cfg(test)]
+mod telling;

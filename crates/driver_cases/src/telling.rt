@@ -1,0 +1,118 @@
+//! What happens, told by hand, and orders as text.
+use driver::{Driver, News, Now, Order, Settings, TowerReport};
+use irc_line::Name;
+use node_notes::{Note, Report, Status};
+use raft_log::{NodeId, Role};
+use std::alloc::Global;
+use std::test::Fail;
+use wire_bytes::{Moment, Number, SessionId};
+
+/// This moment, in milliseconds, at one time of day.
+pub fn at(ms: u64) -> Now {
+    Now {
+        ms,
+        at: Moment::new(1_700_000_000),
+    }
+}
+
+/// A driver with timeouts of 1000 ms, beats of 200 ms, and 2 lines at once, then one each 2 s.
+pub fn new_driver(alloc: Global) -> Result<Driver, Fail> {
+    let nick = Name::from_bytes(Vec::from_slice(alloc, b"me")?).ok_or("no name")?;
+    let settings = Settings {
+        nick,
+        password: Vec::from_slice(alloc, b"pw")?,
+        upstream_password: None,
+        beat_ms: 200,
+        timeout_ms: 1000,
+        flood_burst: 2,
+        flood_ms: 2000,
+    };
+    Ok(Driver::new(alloc, settings, &at(0)))
+}
+
+/// How a node stands in term 1 and its first run, with a log of so many entries.
+pub fn standing(role: Role, last: u64) -> Status {
+    Status {
+        role,
+        boot: Number::new(1),
+        term: Number::new(1),
+        last: Number::new(last.min(9)),
+        commit: Number::new(0),
+        applied: Number::new(0),
+        session: None,
+        next_claim: None,
+        down: None,
+    }
+}
+
+/// A leader with the session 1.1, whose next line to be claimed is this one.
+pub fn claiming(number: u64) -> Status {
+    let mut status = standing(Role::Leader, 1);
+    status.session = Some(SessionId::new(1, 1));
+    status.next_claim = Some(Number::new(number.min(9)));
+    status
+}
+
+/// A node's report of how it stands, with no effect.
+pub fn report(alloc: Global, node: NodeId, status: Status, is_last: bool) -> TowerReport {
+    Report {
+        node,
+        status,
+        effects: Vec::new(alloc),
+        led: false,
+        fault: None,
+        is_last,
+    }
+}
+
+/// The orders given since last, each as a word, with a blank behind it.
+pub fn told(alloc: Global, driver: &mut Driver) -> Result<Vec<u8>, Fail> {
+    let mut out = Vec::new(alloc);
+    for order in &driver.orders() {
+        tell(alloc, &mut out, order)?;
+    }
+    Ok(out)
+}
+
+fn tell(alloc: Global, out: &mut Vec<u8>, order: &Order) -> Result<(), Fail> {
+    match order {
+        Order::Tell(node, note) => {
+            let node = node.value();
+            let word = word_of(note);
+            out.extend_from_slice(format!(in alloc; "{word}@{node} ")?.as_bytes())?;
+        }
+        Order::Write(number, bytes) => {
+            out.extend_from_slice(format!(in alloc; "write@{number} ")?.as_bytes())?;
+            out.extend_from_slice(bytes.as_slice())?;
+        }
+        Order::Close(number) => {
+            out.extend_from_slice(format!(in alloc; "close@{number} ")?.as_bytes())?;
+        }
+        Order::Connect => out.extend_from_slice(b"connect ")?,
+        Order::Send(bytes) => {
+            out.extend_from_slice(b"send ")?;
+            out.extend_from_slice(bytes.as_slice())?;
+        }
+        Order::Disconnect => out.extend_from_slice(b"disconnect ")?,
+        Order::Tells(news) => {
+            let node = news.node();
+            out.extend_from_slice(format!(in alloc; "news@{node} [{news}] ")?.as_bytes())?;
+        }
+    }
+    Ok(())
+}
+
+fn word_of<B: wire_bytes::Wire, L>(note: &Note<B, L>) -> &'static str {
+    match note {
+        Note::Timeout => "timeout",
+        Note::Beat => "beat",
+        Note::Ask(_) => "ask",
+        Note::Opened => "opened",
+        Note::Closed => "closed",
+        Note::Heard(_, _) => "heard",
+        Note::Claim => "claim",
+        Note::Wake => "wake",
+        Note::Restart => "restart",
+        Note::End => "end",
+    }
+}
