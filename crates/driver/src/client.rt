@@ -199,8 +199,12 @@ impl Client {
         Ok(())
     }
 
-    /// Whether it did not register in time, or did not answer.
+    /// Whether it did not register in time, or did not answer; one that is gone no more is.
     fn is_too_slow(&self, now: &Now) -> bool {
+        // what a lost client still asks for, its Leave, has to be asked for again
+        if self.is_gone {
+            return false;
+        }
         if self.is_attached {
             self.is_asked && self.heard.has_passed(2 * SILENCE, now.ms)
         } else {

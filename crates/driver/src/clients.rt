@@ -37,10 +37,14 @@ impl Clients {
         bytes: &[u8],
         orders: &mut Vec<Order>,
     ) -> Result<(), AllocError> {
-        match self.all.get_mut(&number) {
-            Some(client) => client.receive(now, bytes, orders),
-            None => Ok(()),
+        let Some(client) = self.all.get_mut(&number) else {
+            return Ok(());
+        };
+        client.receive(now, bytes, orders)?;
+        if client.is_over()? {
+            self.all.remove(&number);
         }
+        Ok(())
     }
 
     /// Something came of a request of the client of this origin.
@@ -88,8 +92,15 @@ impl Clients {
         timeout_ms: u16,
         orders: &mut Vec<Order>,
     ) -> Result<(), AllocError> {
+        let mut over = Vec::new(self.alloc);
         for client in self.all.values_mut() {
             client.tick(now, timeout_ms, orders)?;
+            if client.is_over()? {
+                over.push(client.origin().client())?;
+            }
+        }
+        for number in &over {
+            self.all.remove(number);
         }
         Ok(())
     }
