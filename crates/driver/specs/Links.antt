@@ -1,14 +1,29 @@
 -- The connection to the server, and the numbers of clients.
-use Rattle.std.specs.Prelude.{ℕ, ◌+◌, ◌-◌, ◌^◌, ◌&&◌, Bool, true, false, nat_lt, if◌then◌else◌, List, [], ◌∷◌, Option, Some, None, slice_get}
+use Rattle.std.specs.Prelude.{◌≡◌, ℕ, ◌+◌, ◌-◌, ◌^◌, ◌&&◌, Bool, true, false, nat_eq, nat_lt, if◌then◌else◌, List, [], ◌∷◌, ◌++◌, length, Option, Some, None, slice_get}
+use Rattle.std.specs.Global.{Vec}
+use Rattle.std.specs.Option.{is_some, option_to_list}
+use Rattle.irc_line.specs.Lines.{Parts, cut_spelling, spelling}
+use Rattle.wire_bytes.specs.declared.moment.Moment.{Moment}
+use Rattle.buffer_commands.specs.declared.wire_line.WireLine.{WireLine}
+use Rattle.bouncer_tower.specs.Bodies.{TowerBody}
+use Rattle.node_notes.specs.declared.note.Note.{Note}
+use Rattle.node_notes.specs.declared.note.Note.TheVariants as note
+use Rattle.uplink.specs.declared.input.UplinkInput.{UplinkInput}
+use Rattle.uplink.specs.declared.input.UplinkInput.TheVariants as input
+use Rattle.uplink.specs.Calls.{Fed, Ended, GoesOn, IsAfter}
+use Rattle.uplink.specs.Calls as uplink
+use Rattle.uplink.specs.Sending.{first_bytes}
 use Rattle.node_notes.specs.declared.status.Status.{Status}
 use Rattle.raft_node.specs.declared.node_fault.Cause.{Cause}
 use Rattle.pacing.specs.declared.backoff.Backoff.{Backoff}
 use Rattle.driver.specs.declared.desk.Desk.{Desk}
+use Rattle.driver.specs.declared.link.Session.{Session}
 use Rattle.driver.specs.declared.link.Stage.{Stage}
 use Rattle.driver.specs.declared.link.Stage.TheVariants.{Idle, Connecting, Open}
 use Rattle.driver.specs.declared.news.News.TheVariants.{Closed}
 use Rattle.driver.specs.declared.order.Order.{Order}
-use Rattle.driver.specs.declared.order.Order.TheVariants.{Tells}
+use Rattle.driver.specs.declared.order.Order.TheVariants.{Send, Tells}
+use Rattle.driver.specs.declared.settings.Settings.{Settings}
 use Rattle.driver.specs.Desks.{at, is_over}
 
 -- the node that a connection is of, if there is one
@@ -79,3 +94,81 @@ next_number desks node last = if is_up (status_at desks node) && nat_lt last (2 
 abbrev pub last_number : ℕ → Option ℕ → ℕ
 last_number last None = last
 last_number last (Some number) = number
+
+-- A session begins, of a connection that stands: the server is sent its first bytes.
+pub record HasBegun (settings : Settings) (now node : ℕ) (before : List Order) (session : Session) (after : List Order) : Type 0 where
+  pub first : Vec ℕ
+  pub is_first : first.items ≡ first_bytes settings.nick settings.upstream_password
+  pub orders : after ≡ before ++ Send first ∷ []
+  pub node_is : session.node ≡ node
+  pub since : session.since ≡ at now
+  pub heard : session.heard ≡ at now
+  pub uplink_is : IsAfter session.uplink settings.nick []
+
+-- what a connection that stands comes to: nothing where none was asked for
+abbrev pub Connects : Stage → Settings → ℕ → List Order → Stage → List Order → Type 0
+Connects (Idle since wait) settings now before stage after = (stage ≡ Idle since wait) × (after ≡ before)
+Connects (Connecting node) settings now before stage after =
+    (session : Session) × HasBegun settings now node before session after × (stage ≡ Open session)
+Connects (Open session) settings now before stage after = (stage ≡ Open session) × (after ≡ before)
+
+-- what an uplink gives is a note to its node; a line that no body can hold is none
+abbrev pub note_of : Moment → UplinkInput → List (Note TowerBody WireLine)
+note_of at input.Opened = note.Opened ∷ []
+note_of at (input.Heard line) = if nat_lt 511 (length (spelling line)) then [] else note.Heard at line ∷ []
+note_of at input.Closed = note.Closed ∷ []
+
+unfoldable pub notes_of : Moment → List UplinkInput → List (Note TowerBody WireLine)
+notes_of at [] = []
+notes_of at (input ∷ inputs) = note_of at input ++ notes_of at inputs
+
+-- bytes go to the server, if there are some
+abbrev pub send_some : Vec ℕ → List ℕ → List Order
+send_some bytes [] = []
+send_some bytes (byte ∷ more) = Send bytes ∷ []
+
+-- Bytes came of a session: its uplink was fed, what that wrote goes to the server, and what it gave to the node.
+pub record HasReceived (now : ℕ) (moment : Moment) (bytes : List ℕ) (old : Session) (before : List Order) (new : Session) (notes : List (Note TowerBody WireLine)) (after : List Order) : Type 0 where
+  pub given : List UplinkInput
+  pub reply : Vec ℕ
+  pub goes_on : GoesOn old.uplink (Fed bytes) new.uplink given reply.items
+  pub orders : after ≡ before ++ send_some reply reply.items
+  pub are_notes : notes ≡ notes_of moment given
+  pub node_is : new.node ≡ old.node
+  pub since : new.since ≡ old.since
+  pub heard : new.heard ≡ at now
+
+-- what bytes come to: nothing where there is no session
+abbrev pub Receives : Stage → ℕ → Moment → List ℕ → List Order → Stage → List (Note TowerBody WireLine) → List Order → Type 0
+Receives (Idle since wait) now moment bytes before stage notes after = (stage ≡ Idle since wait) × (notes ≡ []) × (after ≡ before)
+Receives (Connecting node) now moment bytes before stage notes after = (stage ≡ Connecting node) × (notes ≡ []) × (after ≡ before)
+Receives (Open session) now moment bytes before stage notes after =
+    (behind : Session) × HasReceived now moment bytes session before behind notes after × (stage ≡ Open behind)
+
+-- whether the node has to be told of the end: it has where the uplink of its session gives the end
+abbrev pub IsLost : Stage → Bool → Type 0
+IsLost (Idle since wait) lost = lost ≡ false
+IsLost (Connecting node) lost = lost ≡ false
+IsLost (Open session) lost =
+    (behind : uplink.Link) × (given : Option UplinkInput) × GoesOn session.uplink Ended behind (option_to_list given) []
+    × (lost ≡ is_some given)
+
+-- a line goes to the server, cut to what fits into a line
+pub record IsSent (line : Parts) (before after : List Order) : Type 0 where
+  pub bytes : Vec ℕ
+  pub are : bytes.items ≡ cut_spelling line
+  pub orders : after ≡ before ++ Send bytes ∷ []
+
+abbrev pub SendsIf : Bool → Parts → List Order → List Order → Type 0
+SendsIf true line before after = IsSent line before after
+SendsIf false line before after = after ≡ before
+
+-- there is a session of this node
+abbrev pub is_session_of : Stage → ℕ → Bool
+is_session_of (Idle since wait) node = false
+is_session_of (Connecting other) node = false
+is_session_of (Open session) node = nat_eq session.node node
+
+-- a node's line goes to the server in a session of this node, and nowhere else
+abbrev pub Sends : Stage → ℕ → Parts → List Order → List Order → Type 0
+Sends stage node line before after = SendsIf (is_session_of stage node) line before after

@@ -1,9 +1,12 @@
 //! One client's connection.
-ghost use Rattle.std.specs.Prelude.{◌≡◌, ◌++◌, true, List, OnOk};
-ghost use Rattle.client_gate.specs.Calls.{Call, Stands, gate};
+ghost use Rattle.std.specs.Prelude.{◌≡◌, ◌⊎◌, ◌++◌, ◌∷◌, ◌&&◌, ◌||◌, true, false, List, IfOk, OnOk};
+ghost use Rattle.client_gate.specs.Calls.{Call, Feed, Stands, fed_answer, gate};
 ghost use Rattle.client_gate.specs.Gates.{last_request};
 ghost use Rattle.client_gate.specs.declared.settings.Settings.{Settings};
-ghost use Rattle.driver.specs.Clients.{ask_of, asked_all, asks_of, parting_unless};
+ghost use Rattle.driver.specs.Clients.{HasHeard, HasPassed, HasTicked, IsAsked, IsCutOff, IsSameClock, StandsSo};
+ghost use Rattle.driver.specs.Clients.{ask_of, asked_all, asked_behind, asks_of, ended, ended_if, is_done};
+ghost use Rattle.driver.specs.Clients.{is_too_slow, parting_unless, passed};
+ghost use Rattle.driver.specs.Desks.{at};
 
 use crate::news::News;
 use crate::order::{Now, Order};
@@ -75,16 +78,27 @@ impl Client {
         now: &Now,
         bytes: &[u8],
         orders: &mut Vec<Order>,
-    ) -> Result<(), AllocError> {
+    ) -> Result<(), AllocError>
+        ensures passed { (s : Settings) (calls : List Call) → Stands s calls self.old.gate →
+            self.old.is_gone ≡ false → OnOk result
+            (HasPassed s (Feed bytes.now ∷ calls) (fed_answer s calls bytes.now) now.now.at
+                self.old orders.old.items self.new orders.new.items
+            ⊎ IsCutOff s calls now.now.at self.old orders.old.items self.new orders.new.items) }
+        ensures heard { self.old.is_gone ≡ false → (self.new.heard ≡ at now.now.ms)
+            × (self.new.is_asked ≡ false) }
+        ensures gone { self.old.is_gone ≡ true → (self.new ≡ self.old)
+            × (orders.new.items ≡ orders.old.items) }
+    {
         if self.is_gone {
             return Ok(());
         }
         self.heard = Timer::from(now.ms);
         self.is_asked = false;
         match self.gate.feed(bytes) {
-            Ok(fed) => self.pass(now, fed, orders),
-            Err(_) => self.hang_up(now, orders),
+            Ok(fed) => self.pass(now, fed, orders)?,
+            Err(_) => self.hang_up(now, orders)?,
         }
+        Ok(())
     }
 
     /// Something came of a request.
@@ -93,11 +107,37 @@ impl Client {
         now: &Now,
         effect: &TowerEffect,
         orders: &mut Vec<Order>,
-    ) -> Result<(), AllocError> {
+    ) -> Result<(), AllocError>
+        ensures heard { (s : Settings) (calls : List Call) → Stands s calls self.old.gate →
+            OnOk result (HasHeard s calls effect.now now.now.at
+                self.old orders.old.items self.new orders.new.items
+            ⊎ IsCutOff s calls now.now.at self.old orders.old.items self.new orders.new.items) }
+        ensures clock { IsSameClock self.old self.new }
+    {
         match self.gate.on_effect(effect) {
-            Ok(fed) => self.pass(now, fed, orders)?,
+            Ok(fed) => {
+                self.pass(now, fed, orders)?;
+                self.ask_behind(now, effect, orders)?;
+            }
             Err(_) => self.hang_up(now, orders)?,
         }
+        Ok(())
+    }
+
+    /// Where a number was left out, the requests that are not known to be done are asked for again.
+    fn ask_behind(
+        &mut self,
+        now: &Now,
+        effect: &TowerEffect,
+        orders: &mut Vec<Order>,
+    ) -> Result<(), AllocError>
+        ensures asked { (s : Settings) (calls : List Call) → Stands s calls self.old.gate →
+            OnOk result (orders.new.items ≡ orders.old.items
+            ++ asked_behind effect.now self.old.origin now.now.at (gate s calls).waiting) }
+        ensures stands { (s : Settings) (calls : List Call) → Stands s calls self.old.gate →
+            StandsSo s calls self.old.is_gone self.old self.new }
+        ensures clock { IsSameClock self.old self.new }
+    {
         match effect {
             Answer::Gap(_, _) => self.ask_again(now, orders),
             _ => Ok(()),
@@ -105,7 +145,15 @@ impl Client {
     }
 
     /// What its gate answered goes on: the bytes to the client, the requests to its node.
-    fn pass(&mut self, now: &Now, fed: Fed, orders: &mut Vec<Order>) -> Result<(), AllocError> {
+    fn pass(&mut self, now: &Now, fed: Fed, orders: &mut Vec<Order>) -> Result<(), AllocError>
+        ensures passed { (s : Settings) (calls : List Call) → Stands s calls self.old.gate →
+            OnOk result (orders.new.items ≡ orders.old.items
+            ++ passed self.old now.now.at (last_request (gate s calls)) fed) }
+        ensures stands { (s : Settings) (calls : List Call) → Stands s calls self.old.gate →
+            OnOk result (StandsSo s (ended_if fed.close self.old.is_gone calls)
+            (self.old.is_gone || fed.close) self.old self.new) }
+        ensures clock { IsSameClock self.old self.new }
+    {
         let Fed {
             requests,
             reply,
@@ -133,6 +181,8 @@ impl Client {
             ++ asked_all self.old.is_attached self.old.origin now.now.at requests.items) }
         ensures gate { self.new.gate ≡ self.old.gate }
         ensures gone { self.new.is_gone ≡ self.old.is_gone }
+        ensures origin { self.new.origin ≡ self.old.origin }
+        ensures clock { IsSameClock self.old self.new }
     {
         if requests.is_empty() {
             return Ok(());
@@ -150,6 +200,10 @@ impl Client {
         ensures asked { (s : Settings) (calls : List Call) → Stands s calls self.old.gate →
             OnOk result (orders.new.items ≡ orders.old.items
             ++ asks_of self.old.origin now.now.at (gate s calls).waiting) }
+        ensures gate { self.new.gate ≡ self.old.gate }
+        ensures gone { self.new.is_gone ≡ self.old.is_gone }
+        ensures origin { self.new.origin ≡ self.old.origin }
+        ensures clock { IsSameClock self.old self.new }
     {
         let waiting = self.gate.again()?;
         self.asked = Timer::from(now.ms);
@@ -162,8 +216,11 @@ impl Client {
         ensures told { (s : Settings) (calls : List Call) → Stands s calls self.old.gate →
             OnOk result (orders.new.items ≡ orders.old.items ++ parting_unless self.old.is_gone
             self.old.origin now.now.at (last_request (gate s calls))) }
+        ensures stands { (s : Settings) (calls : List Call) → Stands s calls self.old.gate →
+            OnOk result (StandsSo s (ended self.old.is_gone calls) true self.old self.new) }
         ensures gone { self.new.is_gone ≡ true }
         ensures origin { self.new.origin ≡ self.old.origin }
+        ensures clock { IsSameClock self.old self.new }
     {
         if self.is_gone {
             return Ok(());
@@ -184,23 +241,47 @@ impl Client {
         now: &Now,
         timeout_ms: u16,
         orders: &mut Vec<Order>,
-    ) -> Result<(), AllocError> {
+    ) -> Result<(), AllocError>
+        ensures ticked { (s : Settings) (calls : List Call) → Stands s calls self.old.gate →
+            OnOk result (HasTicked s calls now.now.at timeout_ms now.now.ms
+                self.old orders.old.items self.new orders.new.items) }
+        ensures gone { OnOk result
+            (self.new.is_gone ≡ (self.old.is_gone || is_too_slow self.old now.now.ms)) }
+        ensures origin { self.new.origin ≡ self.old.origin }
+    {
         if self.is_too_slow(now) {
-            return self.hang_up(now, orders);
+            self.hang_up(now, orders)?;
+            return Ok(());
         }
-        if self.heard.has_passed(SILENCE, now.ms) && !self.is_asked && !self.is_gone {
-            self.is_asked = true;
-            let ping = Vec::from_slice(self.alloc, PING)?;
-            orders.push(Order::Write(self.origin.client(), ping))?;
-        }
+        self.ask_for_word(now, orders)?;
         if self.asked.has_passed(timeout_ms as u64, now.ms) {
             self.ask_again(now, orders)?;
         }
         Ok(())
     }
 
+    /// One that was silent for long is asked for a word, once.
+    fn ask_for_word(&mut self, now: &Now, orders: &mut Vec<Order>) -> Result<(), AllocError>
+        ensures asked { OnOk result (IsAsked self.old now.now.ms
+            orders.old.items self.new orders.new.items) }
+        ensures gate { self.new.gate ≡ self.old.gate }
+        ensures asked_for { self.new.asked ≡ self.old.asked }
+        ensures gone { self.new.is_gone ≡ self.old.is_gone }
+        ensures origin { self.new.origin ≡ self.old.origin }
+    {
+        if self.is_asked || self.is_gone || !self.heard.has_passed(SILENCE, now.ms) {
+            return Ok(());
+        }
+        self.is_asked = true;
+        let ping = Vec::from_slice(self.alloc, PING)?;
+        orders.push(Order::Write(self.origin.client(), ping))?;
+        Ok(())
+    }
+
     /// Whether it did not register in time, or did not answer; one that is gone no more is.
-    fn is_too_slow(&self, now: &Now) -> bool {
+    fn is_too_slow(&self, now: &Now) -> bool
+        ensures { result ≡ is_too_slow self.now now.now.ms }
+    {
         // what a lost client still asks for, its Leave, has to be asked for again
         if self.is_gone {
             return false;
@@ -213,7 +294,10 @@ impl Client {
     }
 
     /// Whether nothing is left to do for it: its connection is gone, and all that it asked for is done.
-    pub fn is_over(&self) -> Result<bool, AllocError> {
+    pub fn is_over(&self) -> Result<bool, AllocError>
+        ensures { (s : Settings) (calls : List Call) → Stands s calls self.now.gate →
+            IfOk result (λ over. over ≡ (self.now.is_gone && is_done (gate s calls).waiting)) }
+    {
         if !self.is_gone {
             return Ok(false);
         }

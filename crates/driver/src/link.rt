@@ -1,6 +1,11 @@
 //! The connection to the server.
-ghost use Rattle.std.specs.Prelude.{◌≡◌, ◌++◌, ◌∷◌, [], if◌then◌else◌, false, true, IfOk, OnOk};
-ghost use Rattle.driver.specs.Links.{ending, idle_behind, is_open, is_silent, may_connect, node_of};
+ghost use Rattle.std.specs.Prelude.{◌≡◌, ◌++◌, ◌∷◌, [], if◌then◌else◌, IfOk, OnOk, Option};
+ghost use Rattle.std.specs.Option.{is_some, option_to_list};
+ghost use Rattle.uplink.specs.declared.input.UplinkInput.{UplinkInput};
+ghost use Rattle.uplink.specs.Calls.{Ended, GoesOn};
+ghost use Rattle.driver.specs.Links.{Connects, HasBegun, HasReceived, IsLost, Receives, Sends};
+ghost use Rattle.driver.specs.Links.{ending, idle_behind, is_session_of, is_silent, may_connect, node_of};
+ghost use Rattle.driver.specs.Links.{note_of, notes_of, send_some};
 
 use crate::news::News;
 use crate::order::{Now, Order, TowerNote};
@@ -103,20 +108,14 @@ impl Link {
         now: &Now,
         settings: &Settings,
         orders: &mut Vec<Order>,
-    ) -> Result<(), AllocError> {
-        let node = match &self.stage {
-            Stage::Connecting(node) => *node,
-            Stage::Idle(_, _) | Stage::Open(_) => return Ok(()),
-        };
-        let nick = settings.nick.copy(self.alloc)?;
-        let (uplink, first) = Uplink::new(self.alloc, nick, settings.upstream_password.as_ref())?;
-        orders.push(Order::Send(first))?;
-        self.stage = Stage::Open(Session {
-            node,
-            uplink,
-            since: Timer::from(now.ms),
-            heard: Timer::from(now.ms),
-        });
+    ) -> Result<(), AllocError>
+        ensures { OnOk result (Connects self.old.stage settings.now now.now.ms
+            orders.old.items self.new.stage orders.new.items) }
+    {
+        if let Stage::Connecting(node) = &self.stage {
+            let session = begin(self.alloc, *node, now, settings, orders)?;
+            self.stage = Stage::Open(session);
+        }
         Ok(())
     }
 
@@ -126,17 +125,17 @@ impl Link {
         now: &Now,
         bytes: &[u8],
         orders: &mut Vec<Order>,
-    ) -> Result<Vec<TowerNote>, AllocError> {
-        let session = match &mut self.stage {
-            Stage::Open(session) => session,
-            Stage::Idle(_, _) | Stage::Connecting(_) => return Ok(Vec::new(self.alloc)),
-        };
-        session.heard = Timer::from(now.ms);
-        let Passed { inputs, reply } = session.uplink.feed(bytes)?;
-        if !reply.is_empty() {
-            orders.push(Order::Send(reply))?;
+    ) -> Result<Vec<TowerNote>, AllocError>
+        ensures { IfOk result (λ notes. Receives self.old.stage now.now.ms now.now.at bytes.now
+            orders.old.items self.new.stage notes.items orders.new.items) }
+    {
+        match &mut self.stage {
+            Stage::Open(session) => {
+                let notes = receive_in(self.alloc, session, now, bytes, orders)?;
+                Ok(notes)
+            }
+            Stage::Idle(_, _) | Stage::Connecting(_) => Ok(Vec::new(self.alloc)),
         }
-        notes_of(self.alloc, now, inputs)
     }
 
     /// The connection is gone, or could not be made. Whether its node has to be told.
@@ -145,7 +144,7 @@ impl Link {
             (orders.new.items ≡ orders.old.items ++ ending self.old.stage) }
         ensures stage { OnOk result
             (self.new.stage ≡ idle_behind self.old.stage self.old.backoff now.now.ms) }
-        ensures lost { IfOk result (λ lost. is_open self.old.stage ≡ false → lost ≡ false) }
+        ensures lost { IfOk result (λ lost. IsLost self.old.stage lost) }
     {
         let lost = match &mut self.stage {
             Stage::Idle(_, _) => return Ok(false),
@@ -155,7 +154,7 @@ impl Link {
                     self.backoff.reset();
                 }
                 orders.push(Order::Tells(News::Closed(session.node)))?;
-                session.uplink.end().is_some()
+                end(&mut session.uplink)
             }
         };
         self.stage = Stage::Idle(Timer::from(now.ms), self.backoff.fail());
@@ -172,20 +171,28 @@ impl Link {
         }
     }
 
+    /// Whether there is a session of this node.
+    fn is_session_of(&self, node: NodeId) -> bool
+        ensures { result ≡ is_session_of self.now.stage node }
+    {
+        match &self.stage {
+            Stage::Open(session) => session.node == node,
+            Stage::Idle(_, _) | Stage::Connecting(_) => false,
+        }
+    }
+
     /// A line of this node's session goes to the server.
     pub fn send(
         &self,
         node: NodeId,
         line: &Line,
         orders: &mut Vec<Order>,
-    ) -> Result<(), AllocError> {
-        match &self.stage {
-            Stage::Open(session) => {
-                if session.node != node {
-                    return Ok(());
-                }
-            }
-            Stage::Idle(_, _) | Stage::Connecting(_) => return Ok(()),
+    ) -> Result<(), AllocError>
+        ensures { OnOk result (Sends self.now.stage node line.now orders.old.items
+            orders.new.items) }
+    {
+        if !self.is_session_of(node) {
+            return Ok(());
         }
         let mut bytes = Vec::new(self.alloc);
         line.write_cut(&mut bytes)?;
@@ -194,12 +201,74 @@ impl Link {
     }
 }
 
+/// A session of this node begins: the server is sent its first bytes.
+fn begin(
+    alloc: Global,
+    node: NodeId,
+    now: &Now,
+    settings: &Settings,
+    orders: &mut Vec<Order>,
+) -> Result<Session, AllocError>
+    ensures { IfOk result (λ session. HasBegun settings.now now.now.ms node
+        orders.old.items session orders.new.items) }
+{
+    let nick = settings.nick.copy(alloc)?;
+    let (uplink, first) = Uplink::new(alloc, nick, settings.upstream_password.as_ref())?;
+    orders.push(Order::Send(first))?;
+    Ok(Session {
+        node,
+        uplink,
+        since: Timer::from(now.ms),
+        heard: Timer::from(now.ms),
+    })
+}
+
+/// Bytes came of a session.
+fn receive_in(
+    alloc: Global,
+    session: &mut Session,
+    now: &Now,
+    bytes: &[u8],
+    orders: &mut Vec<Order>,
+) -> Result<Vec<TowerNote>, AllocError>
+    ensures { IfOk result (λ notes. HasReceived now.now.ms now.now.at bytes.now session.old
+        orders.old.items session.new notes.items orders.new.items) }
+{
+    session.heard = Timer::from(now.ms);
+    let Passed { inputs, reply } = session.uplink.feed(bytes)?;
+    send_back(reply, orders)?;
+    let notes = notes_of(alloc, now, inputs)?;
+    Ok(notes)
+}
+
+/// What an uplink writes goes to the server, if it is something.
+fn send_back(reply: Vec<u8>, orders: &mut Vec<Order>) -> Result<(), AllocError>
+    ensures { OnOk result (orders.new.items ≡ orders.old.items ++ send_some reply reply.items) }
+{
+    if reply.is_empty() {
+        return Ok(());
+    }
+    orders.push(Order::Send(reply))?;
+    Ok(())
+}
+
+/// The end of a session is told to its uplink. Whether that gives it on.
+fn end(uplink: &mut Uplink) -> bool
+    ensures { (given : Option UplinkInput) × GoesOn uplink.old Ended uplink.new
+        (option_to_list given) [] × (result ≡ is_some given) }
+{
+    uplink.end().is_some()
+}
+
 /// What an uplink gave, as notes to its node.
+#[tactic(auto, unfolding(crate::specs::Links::notes_of))]
 fn notes_of(
     alloc: Global,
     now: &Now,
     inputs: Vec<UplinkInput>,
-) -> Result<Vec<TowerNote>, AllocError> {
+) -> Result<Vec<TowerNote>, AllocError>
+    ensures { IfOk result (λ notes. notes.items ≡ notes_of now.now.at inputs.items) }
+{
     let mut notes = Vec::new(alloc);
     for input in inputs {
         if let Some(note) = note_of(now, input) {
@@ -210,7 +279,9 @@ fn notes_of(
 }
 
 /// What an uplink gave, as a note to its node; a line that has no spelling is none.
-fn note_of(now: &Now, input: UplinkInput) -> Option<TowerNote> {
+fn note_of(now: &Now, input: UplinkInput) -> Option<TowerNote>
+    ensures { option_to_list result ≡ note_of now.now.at input }
+{
     match input {
         UplinkInput::Opened => Some(Note::Opened),
         UplinkInput::Heard(line) => {

@@ -1,0 +1,14 @@
+use Rattle.std.proofs.Common.{rules, refl}
+use Rattle.driver.proofs.link.begin.Goals as goal
+
+pub returns : goal.returns
+returns c =
+    record {
+      first = c.in_ok-uplink.first;
+      is_first = search rules;
+      orders = c.in_ok-push.ensures.items;
+      node_is = refl;
+      since = search rules;
+      heard = search rules;
+      uplink_is = search rules;
+    }
