@@ -136,3 +136,14 @@ fn a_mark_has_one_spelling(rt: HostRuntime) -> Result<(), Fail> {
     assert_eq!(rt; bytes.as_slice(), MARK);
     Ok(())
 }
+
+/// Who may bring the mark of a node.
+fn source_of_mark(node: u8) -> Source {
+    Tower::source(&Tower::mark(mark_of(node)))
+}
+
+#[test]
+fn a_mark_is_of_any_node(rt: HostRuntime) -> Result<(), Fail> {
+    assert!(rt; source_of_mark(9) == Source::Run(9, 1));
+    Ok(())
+}
