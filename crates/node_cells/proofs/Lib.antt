@@ -9,3 +9,4 @@ pub mod Opening
 pub mod Looking
 pub mod Restarting
 pub mod Started
+pub mod Gathered

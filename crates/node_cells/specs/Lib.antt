@@ -7,3 +7,4 @@ pub mod Cells
 pub mod Turns
 pub mod Restarts
 pub mod Openings
+pub mod Groups

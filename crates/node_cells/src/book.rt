@@ -164,11 +164,16 @@ impl<M: Hosted> Book<M> {
         self.ether.meet(&mut self.pass, &mut other.pass);
     }
 
-    /// The record.
-    pub fn into_turns(self) -> Vec<NodeTurn<M::Command, M::Line, M::Target, M::Effect, M::Played>>
-        ensures { result.items ≡ self.turns }
+    /// The pass, and the record.
+    pub fn into_parts(
+        self,
+    ) -> (
+        Pass<M::Command, M::Line, M::Target>,
+        Vec<NodeTurn<M::Command, M::Line, M::Target, M::Effect, M::Played>>,
+    )
+        ensures { (result.0 ≡ self.pass) × (result.1.items ≡ self.turns) }
     {
-        self.turns
+        (self.pass, self.turns)
     }
 
     /// How many nodes the ether is for.

@@ -10,7 +10,7 @@ ghost use Rattle.world_views.specs.Views.{carries};
 ghost use Rattle.node_cells.specs.declared.phase.Phase.TheVariants.{Up};
 ghost use Rattle.node_cells.specs.Cells.{HasHeard, HasMadeRoom, view_in};
 ghost use Rattle.node_cells.specs.Remembering.{Remembers};
-ghost use Rattle.node_cells.specs.Openings.{HasOpened, HasTakenIn, IsClosed, IsSameCell};
+ghost use Rattle.node_cells.specs.Openings.{HasOpened, HasTakenIn, IsSameCell};
 ghost use Rattle.node_cells.specs.Restarts.{HasRestarted};
 ghost use Rattle.node_cells.specs.Sending.{to_of};
 ghost use Rattle.node_cells.specs.Turns.{HasDelivered, HasLooked, HasTurned, IsGiven};
@@ -20,7 +20,7 @@ use crate::cell_fault::CellFault;
 use crate::copying::{addressees, copied_input, input_of, outcome_of};
 use crate::handing::hand_all;
 use crate::phase::{Phase, fallen, first_event};
-use crate::record::{NodeRecord, TurnOutput};
+use crate::record::TurnOutput;
 use crate::remembered::Remembered;
 use crate::upstream::Upstream;
 use ether::{Ether, Pass};
@@ -36,6 +36,8 @@ use std::sync::Arc;
 use wire_bytes::{Number, copied_all};
 use world_run::Outcome;
 use world_views::{Envelope, NodeEvent, NodeInput};
+
+mod leaving;
 
 /// A running node: what a worker keeps under its lock. It has no lock of its own, and no call waits.
 ///
@@ -297,19 +299,6 @@ impl<M: Hosted, S: Stable<M::Command>, U: Upstream> NodeCell<M, S, U> {
             (view_in self.old.parts) (view_in other.old.parts) }
     {
         self.book.meet(&mut other.book);
-    }
-
-    /// The record of the node's turns, and the line of the state that the cell shows.
-    pub fn close(self) -> NodeRecord<M::Command, M::Line, M::Target, M::Effect, M::Played>
-        ensures { IsClosed (⟦<M as Described>⟧.machine self.parts.ether.setup) self.parts result }
-    {
-        let node = self.node.id();
-        let state = self.shown;
-        NodeRecord {
-            node,
-            turns: self.book.into_turns(),
-            state,
-        }
     }
 
     /// Why the node is down, if it is.

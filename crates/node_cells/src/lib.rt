@@ -4,6 +4,7 @@
 mod book;
 mod cell;
 mod cell_fault;
+mod closing;
 mod copying;
 mod handing;
 mod phase;
@@ -13,6 +14,7 @@ mod upstream;
 
 pub use cell::NodeCell;
 pub use cell_fault::CellFault;
+pub use closing::Closing;
 pub use phase::Phase;
 pub use record::{NodeRecord, NodeTurn, TurnOutput};
 pub use upstream::{Upstream, UpstreamFault};

@@ -1,0 +1,88 @@
+//! The records of all nodes of a group.
+ghost use Rattle.std.specs.Prelude.{◌≡◌, [], length, IfOk};
+ghost use Rattle.std.specs.Arc.{arc_value};
+ghost use Rattle.node_cells.specs.Groups.{AreRecordsOfGroup, HasClosed, IsNextCell};
+
+use crate::cell::NodeCell;
+use crate::record::NodeRecord;
+use crate::upstream::Upstream;
+use ether::{Ether, Pass};
+use machine_laws::{Hosted, Machine};
+use raft_node::Described;
+use stable_store::Stable;
+use std::alloc::{AllocError, Global};
+use std::marker::Model;
+use std::sync::Arc;
+use world_views::merged_records_replay;
+
+/// What the cells of one ether left, node 1's first. There is room for all of them from the start on,
+/// so that no call takes memory.
+#[derive(Drop)]
+pub struct Closing<M: Hosted> {
+    ether: Arc<Ether<M>, Global>,
+    passes: Vec<Pass<M::Command, M::Line, M::Target>>,
+    records: Vec<NodeRecord<M::Command, M::Line, M::Target, M::Effect, M::Played>>,
+}
+
+impl<M: Hosted> Model for Closing<M> {
+    ghost use Rattle.std.specs.Prelude.{◌≤◌, map, vec_capacity};
+    ghost use Rattle.std.specs.Arc.{arc_value};
+    ghost use Rattle.raft_node.specs.Hosts.{hosted};
+    ghost use Rattle.ether.specs.Passes.{view_of};
+    ghost use Rattle.node_cells.specs.Groups.{ClosingParts, IsClosing};
+
+    ghost Value = { ClosingParts M.Setup M.Command M.Line M.Target };
+
+    ghost view = { λ c. record { ether = arc_value c.ether; views = map view_of c.passes.items } };
+
+    ghost invariant = { λ c. IsClosing (hosted M.blank M.opened M.shut M.heard M.claim M.source
+        (M.effects c.ether.value.setup) (M.next_claim c.ether.value.setup)
+        (M.playback c.ether.value.setup) M.class) c.ether.value c.passes.items c.records.items
+        × (c.ether.value.size ≤ vec_capacity c.passes)
+        × (c.ether.value.size ≤ vec_capacity c.records) };
+}
+
+impl<M: Hosted> Closing<M> {
+    /// Nothing yet, with room for what all nodes of the ether leave.
+    pub fn new(alloc: Global, ether: &Arc<Ether<M>, Global>) -> Result<Self, AllocError>
+        ensures { IfOk result (λ c. (c.ether ≡ arc_value ether.now) × (c.views ≡ [])) }
+    {
+        let ether = Arc::try_clone(ether)?;
+        let count = ether.size().value() as usize;
+        let passes = Vec::with_capacity(alloc, count)?;
+        let records = Vec::with_capacity(alloc, count)?;
+        Ok(Closing {
+            ether,
+            passes,
+            records,
+        })
+    }
+
+    /// A cell of this ether is closed, whose node is the one behind those that were closed.
+    pub fn close<S: Stable<M::Command>, U: Upstream>(&mut self, cell: NodeCell<M, S, U>)
+        requires { IsNextCell self.old cell.parts }
+        ensures { HasClosed self.old cell.parts self.new }
+    {
+        let (pass, record) = cell.leave();
+        self.passes.push_reserved(pass);
+        self.records.push_reserved(record);
+    }
+
+    /// The records of all nodes, which are of one group.
+    pub fn finish(
+        self,
+    ) -> Vec<NodeRecord<M::Command, M::Line, M::Target, M::Effect, M::Played>>
+        requires { length self.views ≡ self.ether.size }
+        ensures { AreRecordsOfGroup (⟦<M as Described>⟧.machine self.ether.setup) self.ether.size
+            self.views result.items }
+    {
+        merged_records_replay::<M>();
+        let Closing {
+            ether,
+            passes,
+            records,
+        } = self;
+        ether.meet_all(passes);
+        records
+    }
+}
