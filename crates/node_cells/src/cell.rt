@@ -8,7 +8,7 @@ ghost use Rattle.recorder.specs.NodeLines.{fields_of};
 ghost use Rattle.world_views.specs.Laws.{AreOfOneGroup};
 ghost use Rattle.world_views.specs.Views.{carries};
 ghost use Rattle.node_cells.specs.declared.phase.Phase.TheVariants.{Up};
-ghost use Rattle.node_cells.specs.Cells.{HasHeard, HasMadeRoom, view_in};
+ghost use Rattle.node_cells.specs.Cells.{HasHeard, HasMadeRoom, IsIn, view_in};
 ghost use Rattle.node_cells.specs.Remembering.{Remembers};
 ghost use Rattle.node_cells.specs.Openings.{HasOpened, HasTakenIn, IsSameCell};
 ghost use Rattle.node_cells.specs.Restarts.{HasRestarted};
@@ -328,8 +328,10 @@ impl<M: Hosted, S: Stable<M::Command>, U: Upstream> NodeCell<M, S, U> {
         }
     }
 
+    #[tactic(auto, using(crate::proofs::Showing::id_is))]
     pub fn id(&self) -> NodeId
-        ensures { result ≡ suc self.now.parts.pass.node }
+        ensures pass { result ≡ suc self.now.parts.pass.node }
+        ensures view { result ≡ suc (view_in self.now.parts).node }
     {
         self.node.id()
     }
@@ -351,8 +353,11 @@ impl<M: Hosted, S: Stable<M::Command>, U: Upstream> NodeCell<M, S, U> {
     }
 
     /// The node's state, or where it is down the one from before what took it down.
+    #[tactic(auto, using(crate::proofs::Showing::is_up))]
     pub fn state(&self) -> &NodeState<M::Command>
-        ensures { result.now ≡ self.now.parts.node.state }
+        ensures state { result.now ≡ self.now.parts.node.state }
+        ensures view { ((view_in self.now.parts).honest ≡ true)
+            → (self.now.parts.phase ≡ Up) → IsIn result.now (view_in self.now.parts).state }
     {
         self.node.state()
     }
