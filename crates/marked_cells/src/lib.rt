@@ -1,0 +1,7 @@
+//! Nodes that run and mark places of the agreed list, so that a look can wait for all that was committed before.
+#![tactic(auto)]
+
+mod marked_cell;
+mod reaching;
+
+pub use marked_cell::MarkedCell;

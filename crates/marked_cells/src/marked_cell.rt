@@ -1,0 +1,280 @@
+//! A cell that marks places of the agreed list, and waits for its marks.
+ghost use Rattle.std.specs.Prelude.{true, ◌≡◌, ◌<◌, ◌↔◌, suc, [], None};
+ghost use Rattle.std.specs.Arc.{arc_value};
+ghost use Rattle.ether.specs.Passes.{IsPass, IsUnopened, view_of};
+ghost use Rattle.ether.specs.Plays.{IsFrom};
+ghost use Rattle.raft_node.specs.Parts.{applied_bodies, keeper};
+ghost use Rattle.recorder.specs.NodeLines.{fields_of};
+ghost use Rattle.world_views.specs.Laws.{AreOfOneGroup};
+ghost use Rattle.world_views.specs.Views.{carries};
+ghost use Rattle.node_cells.specs.declared.phase.Phase.TheVariants.{Up};
+ghost use Rattle.node_cells.specs.Cells.{HasHeard, IsIn, view_in};
+ghost use Rattle.node_cells.specs.Openings.{HasOpened, HasTakenIn, IsClosed, IsSameCell};
+ghost use Rattle.node_cells.specs.Restarts.{HasRestarted};
+ghost use Rattle.node_cells.specs.Turns.{HasDelivered, HasLooked, HasTurned};
+ghost use Rattle.marked_cells.specs.Marking.{HasLookedAfter, HasMarked};
+
+use crate::reaching::{asks, is_reached, is_refusal, larger, reached_after};
+use body_marks::Marking;
+use ether::{Ether, Pass};
+use machine_laws::{Hosted, Machine};
+use node_cells::{CellFault, NodeCell, NodeRecord, TurnOutput, Upstream};
+use node_steps::Refusal;
+use raft_log::{GroupSize, NodeId, NodeState};
+use raft_node::{Cause, Described, Looked, NodeFault};
+use recorder::NodeFields;
+use stable_store::Stable;
+use std::alloc::Global;
+use std::marker::Model;
+use std::sync::Arc;
+use wire_bytes::{Mark, Number};
+use world_views::{Envelope, NodeInput};
+
+/// The largest number that a mark may have.
+const MOST_NUMBER: u64 = 1 << 60;
+
+/// A running node that knows the greatest number of a mark that its run asked, and the greatest of a mark of this run
+/// among what it applied.
+///
+/// It does all that a `NodeCell` does, by the same contracts. A look that waits for a mark is played by a list that
+/// begins with all that any node had committed when the mark was asked.
+#[derive(Drop)]
+pub struct MarkedCell<M: Marking, S: Stable<M::Command>, U: Upstream> {
+    cell: NodeCell<M, S, U>,
+    asked: Number,
+    reached: Option<Number>,
+}
+
+impl<M: Marking, S: Stable<M::Command>, U: Upstream> Model for MarkedCell<M, S, U> {
+    ghost use Rattle.node_cells.specs.Cells.{CellRoom, view_in};
+    ghost use Rattle.marked_cells.specs.Marks.{Keeps};
+
+    ghost Value = { CellRoom M.Setup M S M.Command M.Line M.Target M.Effect M.Played U };
+
+    ghost view = { λ c. c.cell };
+
+    ghost invariant = { λ c. Keeps M.marked (view_in c.cell.parts) c.asked c.reached };
+}
+
+impl<M: Marking, S: Stable<M::Command>, U: Upstream> MarkedCell<M, S, U> {
+    /// The opening, as that of a `NodeCell`.
+    pub fn open(
+        alloc: Global,
+        ether: &Arc<Ether<M>, Global>,
+        pass: Pass<M::Command, M::Line, M::Target>,
+        store: S,
+        upstream: U,
+    ) -> Result<Self, CellFault>
+        requires pass { IsPass (arc_value ether.now) pass × IsUnopened pass
+            × ((view_of pass).turns ≡ []) }
+        ensures { HasOpened (keeper S.saved S.may_stand S.condition) (arc_value ether.now) pass
+            store upstream result }
+    {
+        match NodeCell::open(alloc, ether, pass, store, upstream) {
+            Ok(cell) => Ok(MarkedCell {
+                cell,
+                asked: Number::new(0),
+                reached: None,
+            }),
+            Err(fault) => Err(fault),
+        }
+    }
+
+    /// One event at the cell's own view, as that of a `NodeCell`.
+    pub fn turn(
+        &mut self,
+        input: NodeInput<M::Command, M::Line>,
+    ) -> Result<TurnOutput<M::Effect>, CellFault>
+        requires heard { HasHeard (view_in self.old.parts) (carries input) }
+        ensures turn { HasTurned (⟦<M as Described>⟧.machine self.old.parts.ether.setup) U.tally
+            self.old.parts input result self.new.parts }
+    {
+        let number = asks::<M>(&input);
+        let before = self.cell.state().standing.applied;
+        match self.cell.turn(input) {
+            Ok(output) => {
+                self.asked = larger(self.asked, number);
+                let (node, state) = (self.cell.id(), self.cell.state());
+                self.reached = reached_after::<M>(self.reached, node, before, state);
+                Ok(output)
+            }
+            Err(fault) => {
+                if is_refusal(&fault) {
+                    self.asked = larger(self.asked, number);
+                }
+                Err(fault)
+            }
+        }
+    }
+
+    /// Asks for the next mark of this run, one more than the greatest that it asked, and answers its number. A mark
+    /// that the node refuses to ask for, as where it knows no leader, was asked all the same: its number is used up.
+    /// `Spent` where the number would pass 2^60, too. A mark that was asked for may still be lost on its way.
+    pub fn mark(&mut self) -> Result<u64, CellFault>
+        ensures { HasMarked (⟦<M as Described>⟧.machine self.old.parts.ether.setup) U.tally
+            M.marked M.mark self.old.parts result self.new.parts }
+    {
+        let asked = self.asked.value();
+        if asked >= MOST_NUMBER {
+            return Err(CellFault::Spent);
+        }
+        let number = asked + 1;
+        let mark = Mark {
+            node: self.cell.id().value(),
+            boot: self.cell.state().standing.boot,
+            number: Number::new(number),
+        };
+        match self.turn(NodeInput::Ask(M::mark(mark))) {
+            Ok(_output) => Ok(number),
+            Err(fault) => Err(fault),
+        }
+    }
+
+    /// A playback of a target, as `look` gives it, once the node has applied a mark of this run with this number or a
+    /// larger one. Until then it answers `Behind`, which is no event.
+    pub fn look_after(
+        &mut self,
+        number: u64,
+        target: M::Target,
+    ) -> Result<Looked<M::Played>, CellFault>
+        ensures { HasLookedAfter (⟦<M as Described>⟧.machine self.old.parts.ether.setup) U.tally
+            M.marked self.old.parts number target result self.new.parts }
+    {
+        if !is_reached(self.reached, number) {
+            let applied = self.cell.fields().applied;
+            let behind = NodeFault::Refused(Refusal::Behind(applied));
+            return Err(CellFault::Node(behind));
+        }
+        self.look(0, target)
+    }
+
+    /// A playback of a target, as that of a `NodeCell`.
+    pub fn look(
+        &mut self,
+        from_place: u64,
+        target: M::Target,
+    ) -> Result<Looked<M::Played>, CellFault>
+        ensures { HasLooked (⟦<M as Described>⟧.machine self.old.parts.ether.setup) U.tally
+            self.old.parts from_place target result self.new.parts }
+    {
+        self.cell.look(from_place, target)
+    }
+
+    /// Takes what lies in the mailbox from the node at this place, from 0 on: node 1 has place 0. It
+    /// looks once.
+    pub fn take(&mut self, from: u64) -> Option<Envelope<M::Command>>
+        requires { from < self.old.parts.ether.size }
+        ensures taken { HasTakenIn self.old.parts from result self.new.parts }
+        ensures from { IsFrom from result }
+    {
+        self.cell.take(from)
+    }
+
+    /// Takes what lies in the mailbox from the node at this place, from 0 on, and turns its delivery.
+    /// Nothing where nothing lies there.
+    pub fn deliver(&mut self, from: u64) -> Result<Option<TurnOutput<M::Effect>>, CellFault>
+        requires { from < self.old.parts.ether.size }
+        ensures { HasDelivered (⟦<M as Described>⟧.machine self.old.parts.ether.setup) U.tally
+            self.old.parts from result self.new.parts }
+    {
+        let before = self.cell.state().standing.applied;
+        match self.cell.deliver(from) {
+            Ok(Some(output)) => {
+                let (node, state) = (self.cell.id(), self.cell.state());
+                self.reached = reached_after::<M>(self.reached, node, before, state);
+                Ok(Some(output))
+            }
+            Ok(None) => Ok(None),
+            Err(fault) => Err(fault),
+        }
+    }
+
+    /// The node stops, and is started again over its store, as that of a `NodeCell`. Its next run has asked for no
+    /// mark, and applied none.
+    pub fn restart(&mut self) -> Result<(), CellFault>
+        ensures { HasRestarted (⟦<M as Described>⟧.machine self.old.parts.ether.setup)
+            self.old.parts result self.new.parts }
+    {
+        match self.cell.restart() {
+            Ok(()) => {
+                self.asked = Number::new(0);
+                self.reached = None;
+                Ok(())
+            }
+            Err(fault) => Err(fault),
+        }
+    }
+
+    /// Two cells of one ether in one hand, left as they were: what their nodes did is of one moment of
+    /// one group.
+    pub fn meet(&mut self, other: &mut MarkedCell<M, S, U>)
+        requires { self.old.parts.ether ≡ other.old.parts.ether }
+        ensures one { IsSameCell self.old.parts self.new.parts }
+        ensures other { IsSameCell other.old.parts other.new.parts }
+        ensures meet { AreOfOneGroup (⟦<M as Described>⟧.machine self.old.parts.ether.setup)
+            (view_in self.old.parts) (view_in other.old.parts) }
+    {
+        self.cell.meet(&mut other.cell);
+    }
+
+    /// The record of the node's turns, and the line of the state that the cell shows.
+    pub fn close(self) -> NodeRecord<M::Command, M::Line, M::Target, M::Effect, M::Played>
+        ensures { IsClosed (⟦<M as Described>⟧.machine self.parts.ether.setup) self.parts result }
+    {
+        self.cell.close()
+    }
+
+    /// Why the node is down, if it is.
+    pub fn down(&self) -> Option<Cause>
+        ensures { (result ≡ None) ↔ (self.now.parts.phase ≡ Up) }
+    {
+        self.cell.down()
+    }
+
+    pub fn id(&self) -> NodeId
+        ensures pass { result ≡ suc self.now.parts.pass.node }
+        ensures view { result ≡ suc (view_in self.now.parts).node }
+    {
+        self.cell.id()
+    }
+
+    /// How many nodes the ether is for.
+    pub fn size(&self) -> GroupSize
+        ensures { result ≡ self.now.parts.ether.size }
+    {
+        self.cell.size()
+    }
+
+    /// The line of the state that the cell shows.
+    pub fn fields(&self) -> NodeFields
+        ensures shown { result ≡ self.now.parts.shown }
+        ensures view { (view_in self.now.parts).honest ≡ true
+            → result ≡ fields_of (view_in self.now.parts).state }
+    {
+        self.cell.fields()
+    }
+
+    /// The node's state, or where it is down the one from before what took it down.
+    pub fn state(&self) -> &NodeState<M::Command>
+        ensures state { result.now ≡ self.now.parts.node.state }
+        ensures view { ((view_in self.now.parts).honest ≡ true)
+            → (self.now.parts.phase ≡ Up) → IsIn result.now (view_in self.now.parts).state }
+    {
+        self.cell.state()
+    }
+
+    /// The number of the line that is to be claimed next, by what the node applied, while it is up.
+    pub fn next_claim(&self) -> Option<Number>
+        ensures { self.now.parts.node.down ≡ None
+            → result ≡ M.next_claim self.now.parts.node.setup (applied_bodies self.now.parts.node.state) }
+    {
+        self.cell.next_claim()
+    }
+
+    /// Where its lines go.
+    pub fn upstream(&self) -> &U
+        ensures { result.now ≡ self.now.parts.upstream }
+    {
+        self.cell.upstream()
+    }
+}
