@@ -224,6 +224,13 @@ impl<M: Marking, S: Stable<M::Command>, U: Upstream> MarkedCell<M, S, U> {
         self.cell.close()
     }
 
+    /// The cell without what it knows of marks.
+    pub fn into_cell(self) -> NodeCell<M, S, U>
+        ensures { result ≡ self }
+    {
+        self.cell
+    }
+
     /// Why the node is down, if it is.
     pub fn down(&self) -> Option<Cause>
         ensures { (result ≡ None) ↔ (self.now.parts.phase ≡ Up) }
