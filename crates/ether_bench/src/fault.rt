@@ -1,0 +1,33 @@
+//! Why a trade did not begin.
+use ether::EtherFault;
+use raft_node::NodeFault;
+use std::alloc::AllocError;
+use thiserror::Error;
+
+/// Why a trade did not begin, or broke off.
+#[derive(Clone, Copy, Debug, Drop, Error)]
+pub enum TradeFault {
+    #[error("out of memory")]
+    Memory,
+    /// A node did not start, or there was no such node.
+    #[error("a node did not start")]
+    Node,
+}
+
+impl From<AllocError> for TradeFault {
+    fn from(_: AllocError) -> Self {
+        TradeFault::Memory
+    }
+}
+
+impl From<EtherFault> for TradeFault {
+    fn from(_: EtherFault) -> Self {
+        TradeFault::Memory
+    }
+}
+
+impl From<NodeFault> for TradeFault {
+    fn from(_: NodeFault) -> Self {
+        TradeFault::Node
+    }
+}
