@@ -74,7 +74,7 @@ impl Client {
         ensures passed { (s : Settings) (calls : List Call) → Stands s calls self.old.gate →
             self.old.is_gone ≡ false → OnOk result
             (HasPassed s (Feed bytes.now ∷ calls) (fed_answer s calls bytes.now) now.now.at
-                self.old orders.old.items self.new orders.new.items
+            self.old orders.old.items self.new orders.new.items
             ⊎ IsCutOff s calls now.now.at self.old orders.old.items self.new orders.new.items) }
         ensures heard { self.old.is_gone ≡ false → (self.new.heard ≡ at now.now.ms)
             × (self.new.is_asked ≡ false) }
@@ -102,7 +102,7 @@ impl Client {
     ) -> Result<(), AllocError>
         ensures heard { (s : Settings) (calls : List Call) → Stands s calls self.old.gate →
             OnOk result (HasHeard s calls effect.now now.now.at
-                self.old orders.old.items self.new orders.new.items
+            self.old orders.old.items self.new orders.new.items
             ⊎ IsCutOff s calls now.now.at self.old orders.old.items self.new orders.new.items) }
         ensures clock { IsSameClock self.old self.new }
     {

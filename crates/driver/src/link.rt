@@ -182,12 +182,7 @@ impl Link {
     }
 
     /// A line of this node's session goes to the server.
-    pub fn send(
-        &self,
-        node: NodeId,
-        line: &Line,
-        orders: &mut Vec<Order>,
-    ) -> Result<(), AllocError>
+    pub fn send(&self, node: NodeId, line: &Line, orders: &mut Vec<Order>) -> Result<(), AllocError>
         ensures { OnOk result (Sends self.now.stage node line.now orders.old.items
             orders.new.items) }
     {

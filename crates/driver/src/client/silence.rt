@@ -29,7 +29,7 @@ impl Client {
     ) -> Result<(), AllocError>
         ensures ticked { (s : Settings) (calls : List Call) → Stands s calls self.old.gate →
             OnOk result (HasTicked s calls now.now.at timeout_ms now.now.ms
-                self.old orders.old.items self.new orders.new.items) }
+            self.old orders.old.items self.new orders.new.items) }
         ensures gone { OnOk result
             (self.new.is_gone ≡ (self.old.is_gone || is_too_slow self.old now.now.ms)) }
         ensures origin { self.new.origin ≡ self.old.origin }
