@@ -65,11 +65,11 @@ module _ (M : Machine) {Setup Hosted Store U : Type 0} where
       let node : p.node ≡ length ps = sym mine.0.node ∙ (ap (λ (v : ViewOf M). v.node) viewed ∙ (next.node ∙ sym (as_many e ps d is))) in
       let place : length ps ≡ length (map view_of ps) = sym (length-map ps view_of) in
       let last : IsLeftBy M (length (map view_of ps)) (view_of p) r =
-          record {
-            node = closed.node ∙ ap suc (sym (ap (λ (q : Pass M.Body M.Line M.Target). q.node) same) ∙ (node ∙ place));
-            recorded = subst (λ (v : ViewOf M). IsRecordOf M v r.turns.items) (sym viewed) closed.recorded;
-            state = λ honest. closed.state (ap (λ (v : ViewOf M). v.honest) (sym viewed) ∙ honest) ∙ ap (λ (v : ViewOf M). fields_of v.state) (sym viewed);
-          } in
+      record {
+        node = closed.node ∙ ap suc (sym (ap (λ (q : Pass M.Body M.Line M.Target). q.node) same) ∙ (node ∙ place));
+        recorded = subst (λ (v : ViewOf M). IsRecordOf M v r.turns.items) (sym viewed) closed.recorded;
+        state = λ honest. closed.state (ap (λ (v : ViewOf M). v.honest) (sym viewed) ∙ honest) ∙ ap (λ (v : ViewOf M). fields_of v.state) (sym viewed);
+      } in
       record {
         passes_are = λ i q at. ⊎_elim
             (λ (old : IsAt ps i q). h.passes_are i q old)

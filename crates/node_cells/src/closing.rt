@@ -69,9 +69,7 @@ impl<M: Hosted> Closing<M> {
     }
 
     /// The records of all nodes, which are of one group.
-    pub fn finish(
-        self,
-    ) -> Vec<NodeRecord<M::Command, M::Line, M::Target, M::Effect, M::Played>>
+    pub fn finish(self) -> Vec<NodeRecord<M::Command, M::Line, M::Target, M::Effect, M::Played>>
         requires { length self.views ≡ self.ether.size }
         ensures { AreRecordsOfGroup (⟦<M as Described>⟧.machine self.ether.setup) self.ether.size
             self.views result.items }

@@ -29,10 +29,10 @@ returns g c =
     let rule : IsRule (machine g i.ether.value.setup) i.ether.value.size c.meet_all.ensures.next views =
     subst (λ (z : EtherParts g.row.M-Setup.Denot). IsRule (machine g z.setup) z.size c.meet_all.ensures.next views) ether c.meet_all.ensures.rule in
     let group : AreRecordsOfGroup (machine g i.ether.value.setup) i.ether.value.size views i.records.items =
-        record {
-          next = c.meet_all.ensures.next;
-          rule = rule;
-          left = c.self.invariant.0.left;
-          replays = λ honest before after. c.merged_records_replay.ensures i.ether.value.setup i.ether.value.size c.meet_all.ensures.next before views rule honest after;
-        } in
+    record {
+      next = c.meet_all.ensures.next;
+      rule = rule;
+      left = c.self.invariant.0.left;
+      replays = λ honest before after. c.merged_records_replay.ensures i.ether.value.setup i.ether.value.size c.meet_all.ensures.next before views rule honest after;
+    } in
     subst (λ (z : Parts). AreRecordsOfGroup (machine g z.ether.setup) z.ether.size z.views i.records.items) c.self.view_is group
