@@ -1,3 +1,4 @@
 pub mod Clients
 pub mod Desks
+pub mod Gone
 pub mod Links

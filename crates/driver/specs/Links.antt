@@ -20,7 +20,8 @@ use Rattle.driver.specs.declared.desk.Desk.{Desk}
 use Rattle.driver.specs.declared.link.Session.{Session}
 use Rattle.driver.specs.declared.link.Stage.{Stage}
 use Rattle.driver.specs.declared.link.Stage.TheVariants.{Idle, Connecting, Open}
-use Rattle.driver.specs.declared.news.News.TheVariants.{Closed}
+use Rattle.driver.specs.declared.news.Ending.{Ending}
+use Rattle.driver.specs.declared.news.News.TheVariants.{Closed, Unopened}
 use Rattle.driver.specs.declared.order.Order.{Order}
 use Rattle.driver.specs.declared.order.Order.TheVariants.{Send, Tells}
 use Rattle.driver.specs.declared.settings.Settings.{Settings}
@@ -44,11 +45,11 @@ is_silent (Idle since wait) now = false
 is_silent (Connecting node) now = false
 is_silent (Open session) now = is_over session.heard 300_000 now
 
--- the end of a session is told to an operator
-abbrev pub ending : Stage → List Order
-ending (Idle since wait) = []
-ending (Connecting node) = []
-ending (Open session) = Tells (Closed session.node) ∷ []
+-- the end of a session, or that none was given, is told to an operator
+abbrev pub ending : Stage → Ending → List Order
+ending (Idle since wait) why = []
+ending (Connecting node) why = Tells (Unopened node why) ∷ []
+ending (Open session) why = Tells (Closed session.node why) ∷ []
 
 -- how long is waited behind a connection that is gone: the first wait again behind a session of a minute
 abbrev pub wait_behind : Stage → Backoff → ℕ → ℕ

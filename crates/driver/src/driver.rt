@@ -6,7 +6,8 @@ use crate::client::Client;
 use crate::clients::Clients;
 use crate::desk::Desk;
 use crate::link::Link;
-use crate::news::News;
+use crate::news::{Ending, News};
+use crate::notices::Notices;
 use crate::order::{Now, Order, TowerNote, TowerReport};
 use crate::settings::Settings;
 use bouncer_tower::{Tower, TowerEffect};
@@ -32,6 +33,7 @@ pub struct Driver {
     settings: Settings,
     /// Node 1's first, also of nodes that there are not: of these nothing is heard.
     desks: [Desk; MOST_NODES],
+    notices: Notices,
     clients: Clients,
     /// The number of the last client.
     numbered: u64,
@@ -49,6 +51,7 @@ impl Driver {
             alloc,
             settings,
             desks,
+            notices: Notices::new(),
             clients: Clients::new(alloc),
             numbered: 0,
             link: Link::new(alloc, now),
@@ -88,6 +91,9 @@ impl Driver {
         self.clients
             .insert(Client::new(self.alloc, origin, gate, now))?;
         self.numbered = number;
+        if let Some(desk) = self.desks.get_mut(node.value() as usize - 1) {
+            desk.see(status.boot);
+        }
         Ok(Some(number))
     }
 
@@ -116,10 +122,14 @@ impl Driver {
             status,
             effects,
             led,
-            fault: _,
+            fault,
             is_last,
         } = report;
         let is_new = self.hear_status(now, node, &status, led, is_last)?;
+        if let Some(desk) = self.desks.get(node.value() as usize - 1) {
+            self.notices
+                .hear(node, &status, desk.done(), fault.is_some());
+        }
         self.pass_all(now, node, effects.as_slice())?;
         if is_new {
             self.begin_run(now, node, status.boot)?;
@@ -170,8 +180,10 @@ impl Driver {
         let orders = &mut self.orders;
         self.clients
             .leave_runs_below(now, node.value(), boot.value(), orders)?;
-        let gone = <Tower as Hosted>::node_gone(node.value(), boot);
-        self.tell(node, Note::Ask(gone))
+        match self.desks.get_mut(node.value() as usize - 1) {
+            Some(desk) => self.notices.begin(now, desk, boot, orders),
+            None => Ok(()),
+        }
     }
 
     fn tell(&mut self, node: NodeId, note: TowerNote) -> Result<(), AllocError> {
@@ -193,7 +205,7 @@ impl Driver {
         }
         if self.link.node() == Some(node) {
             self.orders.push(Order::Disconnect)?;
-            self.close(now)?;
+            self.end_session(now, Ending::LedNoMore)?;
         }
         Ok(())
     }
@@ -220,10 +232,15 @@ impl Driver {
 
     /// The connection to the server is gone, or could not be made.
     pub fn close(&mut self, now: &Now) -> Result<(), AllocError> {
+        self.end_session(now, Ending::Lost)
+    }
+
+    /// There is no connection to the server, or none any more.
+    fn end_session(&mut self, now: &Now, why: Ending) -> Result<(), AllocError> {
         let Some(node) = self.link.node() else {
             return Ok(());
         };
-        if self.link.lose(now, &mut self.orders)? {
+        if self.link.lose(now, why, &mut self.orders)? {
             self.tell(node, Note::Closed)?;
         }
         Ok(())
@@ -233,14 +250,15 @@ impl Driver {
     pub fn tick(&mut self, now: &Now) -> Result<(), AllocError> {
         if self.link.is_silent(now) {
             self.orders.push(Order::Disconnect)?;
-            self.close(now)?;
+            self.end_session(now, Ending::Silent)?;
         }
         let timeout = self.settings.timeout_ms;
         self.clients.tick(now, timeout, &mut self.orders)?;
         for id in 1..MOST_NODES as u8 + 1 {
             self.tick_node(now, NodeId::new(id))?;
         }
-        Ok(())
+        self.notices
+            .tick(now, &self.settings, &mut self.desks, &mut self.orders)
     }
 }
 

@@ -6,12 +6,14 @@ mod client;
 mod clients;
 mod desk;
 mod driver;
+mod gone;
 mod link;
 mod news;
+mod notices;
 mod order;
 mod settings;
 
 pub use driver::Driver;
-pub use news::News;
+pub use news::{Ending, News};
 pub use order::{Now, Order, TowerNote, TowerReport};
 pub use settings::Settings;

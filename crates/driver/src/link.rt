@@ -7,7 +7,7 @@ ghost use Rattle.driver.specs.Links.{Connects, HasBegun, HasReceived, IsLost, Re
 ghost use Rattle.driver.specs.Links.{ending, idle_behind, is_session_of, is_silent, may_connect, node_of};
 ghost use Rattle.driver.specs.Links.{note_of, notes_of, send_some};
 
-use crate::news::News;
+use crate::news::{Ending, News};
 use crate::order::{Now, Order, TowerNote};
 use crate::settings::Settings;
 use buffer_commands::WireLine;
@@ -139,21 +139,29 @@ impl Link {
     }
 
     /// The connection is gone, or could not be made. Whether its node has to be told.
-    pub fn lose(&mut self, now: &Now, orders: &mut Vec<Order>) -> Result<bool, AllocError>
+    pub fn lose(
+        &mut self,
+        now: &Now,
+        why: Ending,
+        orders: &mut Vec<Order>,
+    ) -> Result<bool, AllocError>
         ensures told { OnOk result
-            (orders.new.items ≡ orders.old.items ++ ending self.old.stage) }
+            (orders.new.items ≡ orders.old.items ++ ending self.old.stage why) }
         ensures stage { OnOk result
             (self.new.stage ≡ idle_behind self.old.stage self.old.backoff now.now.ms) }
         ensures lost { IfOk result (λ lost. IsLost self.old.stage lost) }
     {
         let lost = match &mut self.stage {
             Stage::Idle(_, _) => return Ok(false),
-            Stage::Connecting(_) => false,
+            Stage::Connecting(node) => {
+                orders.push(Order::Tells(News::Unopened(*node, why)))?;
+                false
+            }
             Stage::Open(session) => {
                 if session.since.has_passed(GOOD_SESSION, now.ms) {
                     self.backoff.reset();
                 }
-                orders.push(Order::Tells(News::Closed(session.node)))?;
+                orders.push(Order::Tells(News::Closed(session.node, why)))?;
                 end(&mut session.uplink)
             }
         };

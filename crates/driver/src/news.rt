@@ -4,6 +4,27 @@ use raft_node::Cause;
 use std::fmt;
 use wire_bytes::{Number, Origin};
 
+/// Why a connection to the server ended.
+#[derive(Clone, Copy)]
+pub enum Ending {
+    /// It is gone, or could not be made.
+    Lost,
+    /// The server was silent for too long.
+    Silent,
+    /// Its node leads no more.
+    LedNoMore,
+}
+
+impl fmt::Display for Ending {
+    fn fmt<W: fmt::Write>(&self, f: &mut fmt::Formatter<W>) -> fmt::Result {
+        f.write_str(match self {
+            Ending::Lost => "no connection",
+            Ending::Silent => "the server is silent",
+            Ending::LedNoMore => "the node leads no more",
+        })
+    }
+}
+
 /// What an operator is told, a line each: never a password, nor the text of a message.
 #[derive(Clone, Copy)]
 pub enum News {
@@ -15,8 +36,10 @@ pub enum News {
     Elected(NodeId, Number),
     /// The server took the session of the node that leads.
     Opened(NodeId),
-    /// The session is over.
-    Closed(NodeId),
+    /// The server did not give a session, and why.
+    Unopened(NodeId, Ending),
+    /// The session is over, and why.
+    Closed(NodeId, Ending),
     /// A node is down.
     Down(NodeId, Cause),
     /// A node is up, in its run of this number.
@@ -28,7 +51,8 @@ impl News {
     pub fn node(&self) -> u8 {
         match self {
             News::Attached(origin) | News::Left(origin) => origin.node(),
-            News::Elected(node, _) | News::Opened(node) | News::Closed(node) => node.value(),
+            News::Elected(node, _) | News::Opened(node) => node.value(),
+            News::Unopened(node, _) | News::Closed(node, _) => node.value(),
             News::Down(node, _) | News::Up(node, _) => node.value(),
         }
     }
@@ -41,7 +65,8 @@ impl fmt::Display for News {
             News::Left(origin) => write!(f, "client {} left", origin.client()),
             News::Elected(_, term) => write!(f, "leads in term {}", term.value()),
             News::Opened(_) => write!(f, "upstream opened"),
-            News::Closed(_) => write!(f, "upstream closed"),
+            News::Unopened(_, why) => write!(f, "upstream not opened: {why}"),
+            News::Closed(_, why) => write!(f, "upstream closed: {why}"),
             News::Down(_, cause) => write!(f, "down: {cause}"),
             News::Up(_, boot) => write!(f, "up, run {}", boot.value()),
         }

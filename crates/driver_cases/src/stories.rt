@@ -143,10 +143,64 @@ fn the_server_opens_a_session_with_its_welcome(rt: HostRuntime) -> Result<(), Fa
         &rt,
         alloc,
         &mut driver,
-        "news@1 [upstream closed] closed@1 ",
+        "news@1 [upstream closed: no connection] closed@1 ",
     )?;
     driver.tick(&at(1009))?;
     check(&rt, alloc, &mut driver, "beat@1 ")?;
     driver.tick(&at(1010))?;
     check(&rt, alloc, &mut driver, "connect ")
+}
+
+#[test]
+fn word_of_a_run_is_asked_for_until_it_is_applied(rt: HostRuntime) -> Result<(), Fail> {
+    let alloc = rt.alloc();
+    let (one, two) = (NodeId::new(1), NodeId::new(2));
+    let mut driver = begun(alloc, two, Role::Follower)?;
+    check(&rt, alloc, &mut driver, "news@2 [up, run 1] ask@2 ")?;
+    driver.hear(
+        &at(10),
+        report(alloc, two, standing(Role::Follower, 0), true),
+    )?;
+    driver.hear(
+        &at(20),
+        report(alloc, one, standing(Role::Leader, 0), false),
+    )?;
+    let first = "news@1 [leads in term 1] news@1 [up, run 1] ask@1 connect ";
+    check(&rt, alloc, &mut driver, first)?;
+    driver.hear(&at(30), report(alloc, one, standing(Role::Leader, 2), true))?;
+    check(&rt, alloc, &mut driver, "beat@1 ")?;
+    driver.tick(&at(999))?;
+    check(&rt, alloc, &mut driver, "")?;
+    driver.tick(&at(1000))?;
+    check(&rt, alloc, &mut driver, "ask@1 ")?;
+    let mut status = standing(Role::Leader, 3);
+    driver.hear(&at(1010), report(alloc, one, status, true))?;
+    check(&rt, alloc, &mut driver, "beat@1 ")?;
+    status.applied = status.last;
+    driver.hear(&at(1020), report(alloc, one, status, true))?;
+    driver.tick(&at(2100))?;
+    check(&rt, alloc, &mut driver, "timeout@2 ")
+}
+
+#[test]
+fn a_leader_sends_word_of_a_node_that_is_silent_for_ten_timeouts(
+    rt: HostRuntime,
+) -> Result<(), Fail> {
+    let alloc = rt.alloc();
+    let node = NodeId::new(2);
+    let mut driver = begun(alloc, NodeId::new(1), Role::Leader)?;
+    let first = "news@1 [leads in term 1] news@1 [up, run 1] ask@1 connect ";
+    check(&rt, alloc, &mut driver, first)?;
+    driver.hear(
+        &at(0),
+        report(alloc, node, standing(Role::Follower, 0), false),
+    )?;
+    check(&rt, alloc, &mut driver, "news@2 [up, run 1] ask@2 ")?;
+    assert_eq!(rt; driver.connect(&at(0), node)?, Some(1));
+    driver.tick(&at(9_999))?;
+    check(&rt, alloc, &mut driver, "beat@1 timeout@2 ")?;
+    driver.tick(&at(10_000))?;
+    check(&rt, alloc, &mut driver, "ask@1 ")?;
+    driver.tick(&at(10_001))?;
+    check(&rt, alloc, &mut driver, "")
 }

@@ -1,0 +1,123 @@
+//! Word of all nodes whose earlier runs are gone.
+ghost use Rattle.std.specs.Prelude.{◌≡◌};
+
+use crate::desk::Desk;
+use crate::gone::Notice;
+use crate::order::{Now, Order};
+use crate::settings::Settings;
+use node_notes::Status;
+use raft_log::NodeId;
+use std::alloc::AllocError;
+use wire_bytes::Number;
+
+/// The most nodes that there may be.
+const MOST_NODES: usize = 7;
+
+/// Word of each node whose earlier runs are gone.
+#[derive(Drop)]
+pub struct Notices {
+    /// Node 1's first.
+    all: [Option<Notice>; MOST_NODES],
+}
+
+impl Notices {
+    /// There is none.
+    pub fn new() -> Notices {
+        Notices {
+            all: [None, None, None, None, None, None, None],
+        }
+    }
+
+    /// A run of a node began, with this boot: the node is asked at once for word that the earlier ones
+    /// are gone.
+    pub fn begin(
+        &mut self,
+        now: &Now,
+        desk: &mut Desk,
+        boot: Number,
+        orders: &mut Vec<Order>,
+    ) -> Result<(), AllocError> {
+        let mut notice = Notice::new(desk.id(), boot);
+        notice.ask(now, desk, orders)?;
+        if let Some(place) = self.all.get_mut(desk.id().value() as usize - 1) {
+            *place = Some(notice);
+        }
+        Ok(())
+    }
+
+    /// A node stands so, and that many of its notes are done; whether a turn of it did nothing.
+    pub fn hear(&mut self, node: NodeId, status: &Status, done: u64, is_refused: bool) {
+        for place in self.all.iter_mut() {
+            if let Some(notice) = place {
+                if notice.is_via(node) {
+                    notice.hear(status, done, is_refused);
+                }
+            }
+        }
+    }
+
+    /// Time passed: what may be lost is asked for again, at the node that leads; so is word of a node
+    /// that answered nothing for ten timeouts.
+    pub fn tick(
+        &mut self,
+        now: &Now,
+        settings: &Settings,
+        desks: &mut [Desk; MOST_NODES],
+        orders: &mut Vec<Order>,
+    ) -> Result<(), AllocError> {
+        let Some(leader) = leader_of(desks) else {
+            return Ok(());
+        };
+        for index in 0..MOST_NODES {
+            self.bury(now, settings, desks, index);
+            let Some(Some(notice)) = self.all.get_mut(index) else {
+                continue;
+            };
+            if !notice.is_due(now, settings) {
+                continue;
+            }
+            if let Some(desk) = desks.get_mut(leader) {
+                notice.ask(now, desk, orders)?;
+            }
+        }
+        Ok(())
+    }
+
+    /// Where a node answered nothing for ten timeouts, word goes round of its run.
+    fn bury(&mut self, now: &Now, settings: &Settings, desks: &[Desk; MOST_NODES], index: usize) {
+        let Some(desk) = desks.get(index) else {
+            return;
+        };
+        let Some(floor) = desk.dead_below(now, settings) else {
+            return;
+        };
+        if let Some(place) = self.all.get_mut(index) {
+            if is_news(place, floor) {
+                *place = Some(Notice::new(desk.id(), floor));
+            }
+        }
+    }
+}
+
+/// Whether this says more than what went round before.
+fn is_news(place: &Option<Notice>, floor: Number) -> bool {
+    match place {
+        Some(notice) => notice.floor().value() < floor.value(),
+        None => true,
+    }
+}
+
+/// The place of the desk whose node leads in the greatest term, from 0, where one leads.
+fn leader_of(desks: &[Desk; MOST_NODES]) -> Option<usize> {
+    let mut leader = None;
+    let mut greatest = 0u64;
+    for (index, desk) in desks.iter().enumerate() {
+        if let Some(term) = desk.leading() {
+            if leader.is_none() || greatest < term.value() {
+                leader = Some(index);
+                greatest = term.value();
+            }
+        }
+    }
+    leader
+}

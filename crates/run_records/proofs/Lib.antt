@@ -1,0 +1,2 @@
+mod RecordLists
+mod WritableTurns
