@@ -1,4 +1,5 @@
 pub mod Clients
 pub mod Desks
 pub mod Gone
+pub mod Hearing
 pub mod Links

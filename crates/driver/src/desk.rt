@@ -6,14 +6,13 @@ ghost use Rattle.driver.specs.Gone.{dead_below, greatest};
 ghost use Rattle.driver.specs.Desks.{told};
 
 mod clock;
+mod hearing;
 
-use crate::news::News;
 use crate::order::{Now, Order, TowerNote};
 use crate::settings::Settings;
 use node_notes::{Note, Status};
 use pacing::{Backoff, Pace, Timer};
 use raft_log::NodeId;
-use raft_node::Cause;
 use std::alloc::AllocError;
 use wire_bytes::{Number, SessionId};
 
@@ -161,92 +160,6 @@ impl Desk {
     {
         orders.push(Order::Tell(self.id, note))?;
         self.given = self.given.saturating_add(1);
-        Ok(())
-    }
-
-    /// The node's worker told how it stands. Whether a run of the node began.
-    pub fn hear(
-        &mut self,
-        now: &Now,
-        status: &Status,
-        led: bool,
-        is_last: bool,
-        orders: &mut Vec<Order>,
-    ) -> Result<bool, AllocError> {
-        let is_new = self.is_new_run(status);
-        let is_elected = status.leads() && !self.led_in(status.term);
-        let was_up = self.is_up();
-        self.status = Some(*status);
-        if is_last {
-            self.done = self.done.saturating_add(1);
-        }
-        if led || status.leads() {
-            self.led = Timer::from(now.ms);
-        }
-        if is_elected {
-            self.beaten = (Number::new(0), Number::new(0));
-            orders.push(Order::Tells(News::Elected(self.id, status.term)))?;
-        }
-        match status.down {
-            Some(cause) => self.hear_down(now, cause, orders)?,
-            None => self.hear_up(now, was_up, status.boot, orders)?,
-        }
-        Ok(is_new)
-    }
-
-    /// Whether this is of another run than what was heard before.
-    fn is_new_run(&self, status: &Status) -> bool {
-        match &self.status {
-            Some(before) => before.boot.value() != status.boot.value(),
-            None => true,
-        }
-    }
-
-    /// Whether it was heard before that it leads in this term.
-    fn led_in(&self, term: Number) -> bool {
-        match &self.status {
-            Some(before) => before.leads() && before.term.value() == term.value(),
-            None => false,
-        }
-    }
-
-    /// Whether it was up when it was last heard of.
-    fn is_up(&self) -> bool {
-        match &self.status {
-            Some(before) => before.down.is_none(),
-            None => false,
-        }
-    }
-
-    /// It is down.
-    fn hear_down(
-        &mut self,
-        now: &Now,
-        cause: Cause,
-        orders: &mut Vec<Order>,
-    ) -> Result<(), AllocError> {
-        if self.down.is_none() {
-            self.down = Some(Timer::from(now.ms));
-            self.wait_ms = self.backoff.fail();
-            orders.push(Order::Tells(News::Down(self.id, cause)))?;
-        }
-        Ok(())
-    }
-
-    /// It is up.
-    fn hear_up(
-        &mut self,
-        now: &Now,
-        was_up: bool,
-        boot: Number,
-        orders: &mut Vec<Order>,
-    ) -> Result<(), AllocError> {
-        self.down = None;
-        self.heard = Timer::from(now.ms);
-        if !was_up {
-            self.led = Timer::from(now.ms);
-            orders.push(Order::Tells(News::Up(self.id, boot)))?;
-        }
         Ok(())
     }
 }
