@@ -1,9 +1,8 @@
 -- What time brings to a client, by whether it is too slow.
-use Rattle.std.proofs.Common.{◌≡◌, ◌++◌, ◌∙◌, ℕ, Bool, true, false, ◌&&◌, if◌then◌else◌, List, [], Option, refl, sym, ap}
+use Rattle.std.proofs.Common.{◌≡◌, ℕ, Bool, true, false, ◌&&◌, if◌then◌else◌, List, [], Option, refl, sym, ap}
 use Rattle.wire_bytes.specs.declared.moment.Moment.{Moment}
 use Rattle.client_gate.specs.declared.request.Request.{Request}
 use Rattle.driver.specs.declared.client.Client.{Client}
-use Rattle.driver.specs.declared.order.Order.{Order}
 use Rattle.driver.specs.Clients.{asked_in_time, asks_of, is_too_slow, parting, parting_unless}
 use Rattle.driver.specs.Desks.{is_over}
 

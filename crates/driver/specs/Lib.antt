@@ -3,3 +3,4 @@ pub mod Desks
 pub mod Gone
 pub mod Hearing
 pub mod Links
+pub mod Rosters

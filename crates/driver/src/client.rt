@@ -7,6 +7,7 @@ ghost use Rattle.driver.specs.Clients.{HasHeard, HasPassed, IsCutOff, IsSameCloc
 ghost use Rattle.driver.specs.Clients.{ask_of, asked_all, asked_behind, asks_of, ended, ended_if, is_done};
 ghost use Rattle.driver.specs.Clients.{parting_unless, passed};
 ghost use Rattle.driver.specs.Desks.{at};
+ghost use Rattle.driver.specs.Rosters.{IsNew};
 
 mod silence;
 
@@ -43,7 +44,9 @@ pub struct Client {
 
 impl Client {
     /// A client that has just connected.
-    pub fn new(alloc: Global, origin: Origin, gate: ClientGate, now: &Now) -> Client {
+    pub fn new(alloc: Global, origin: Origin, gate: ClientGate, now: &Now) -> Client
+        ensures { IsNew origin gate now.now.ms result }
+    {
         Client {
             alloc,
             origin,

@@ -1,4 +1,7 @@
 //! All clients.
+ghost use Rattle.std.specs.Prelude.{◌≡◌, Option, None, Some, OnOk, OnErr};
+ghost use Rattle.driver.specs.Rosters.{AreOthersSame, Hears, IsKept, IsLost, Receives, Serves, client_at};
+
 use crate::client::Client;
 use crate::order::{Now, Order};
 use bouncer_tower::TowerEffect;
@@ -22,7 +25,12 @@ impl Clients {
     }
 
     /// A client has connected.
-    pub fn insert(&mut self, client: Client) -> Result<(), AllocError> {
+    pub fn insert(&mut self, client: Client) -> Result<(), AllocError>
+        ensures inserted { OnOk result (client_at self.new client.origin.2 ≡ Some client) }
+        ensures others { AreOthersSame client.origin.2 self.old self.new }
+        ensures kept { OnErr result (client_at self.new client.origin.2
+            ≡ client_at self.old client.origin.2) }
+    {
         match self.all.insert(client.origin().client(), client) {
             Ok(_) => Ok(()),
             Err(_) => Err(AllocError),
@@ -36,15 +44,19 @@ impl Clients {
         number: u64,
         bytes: &[u8],
         orders: &mut Vec<Order>,
-    ) -> Result<(), AllocError> {
+    ) -> Result<(), AllocError>
+        ensures others { AreOthersSame number self.old self.new }
+        ensures nobody { client_at self.old number ≡ None →
+            (self.new ≡ self.old) × (orders.new.items ≡ orders.old.items) }
+        ensures served { OnOk result (Serves (λ c. client_at self.old number ≡ Some c)
+            (λ s calls c new. Receives bytes.now now.now.at s calls c orders.old.items
+            new orders.new.items) number self.new) }
+    {
         let Some(client) = self.all.get_mut(&number) else {
             return Ok(());
         };
         client.receive(now, bytes, orders)?;
-        if client.is_over()? {
-            self.all.remove(&number);
-        }
-        Ok(())
+        self.forget_if_over(number)
     }
 
     /// Something came of a request of the client of this origin.
@@ -54,7 +66,15 @@ impl Clients {
         origin: Origin,
         effect: &TowerEffect,
         orders: &mut Vec<Order>,
-    ) -> Result<(), AllocError> {
+    ) -> Result<(), AllocError>
+        ensures others { AreOthersSame origin.2 self.old self.new }
+        ensures nobody { client_at self.old origin.2 ≡ None →
+            (self.new ≡ self.old) × (orders.new.items ≡ orders.old.items) }
+        ensures served { OnOk result (Serves
+            (λ c. (client_at self.old origin.2 ≡ Some c) × (c.origin ≡ origin))
+            (λ s calls c new. Hears effect.now now.now.at s calls c orders.old.items
+            new orders.new.items) origin.2 self.new) }
+    {
         let Some(client) = self.all.get_mut(&origin.client()) else {
             return Ok(());
         };
@@ -62,10 +82,7 @@ impl Clients {
             return Ok(());
         }
         client.hear(now, effect, orders)?;
-        if client.is_over()? {
-            self.all.remove(&origin.client());
-        }
-        Ok(())
+        self.forget_if_over(origin.client())
     }
 
     /// A client's connection is gone.
@@ -74,11 +91,30 @@ impl Clients {
         now: &Now,
         number: u64,
         orders: &mut Vec<Order>,
-    ) -> Result<(), AllocError> {
+    ) -> Result<(), AllocError>
+        ensures others { AreOthersSame number self.old self.new }
+        ensures nobody { client_at self.old number ≡ None →
+            (self.new ≡ self.old) × (orders.new.items ≡ orders.old.items) }
+        ensures served { OnOk result (Serves (λ c. client_at self.old number ≡ Some c)
+            (λ s calls c new. IsLost now.now.at s calls c orders.old.items
+            new orders.new.items) number self.new) }
+    {
         let Some(client) = self.all.get_mut(&number) else {
             return Ok(());
         };
         client.hang_up(now, orders)?;
+        self.forget_if_over(number)
+    }
+
+    /// The client of this number is forgotten where nothing is left to do for it.
+    fn forget_if_over(&mut self, number: u64) -> Result<(), AllocError>
+        ensures others { AreOthersSame number self.old self.new }
+        ensures nobody { client_at self.old number ≡ None → self.new ≡ self.old }
+        ensures kept { OnOk result (IsKept number self.old self.new) }
+    {
+        let Some(client) = self.all.get(&number) else {
+            return Ok(());
+        };
         if client.is_over()? {
             self.all.remove(&number);
         }

@@ -1,6 +1,7 @@
 //! The driver: what happened is told to it, and it gives orders.
-ghost use Rattle.std.specs.Prelude.{◌≡◌, [], IfOk, OnOk, OnErr};
+ghost use Rattle.std.specs.Prelude.{◌≡◌, [], IfOk, IfSome, None, OnErr, OnOk, Some};
 ghost use Rattle.driver.specs.Links.{last_number, next_number, status_at};
+ghost use Rattle.driver.specs.Rosters.{AreOthersSame, ArrivesIf, IsLost, Receives, Serves, client_at};
 
 use crate::client::Client;
 use crate::clients::Clients;
@@ -76,6 +77,11 @@ impl Driver {
         ensures last { OnOk result (self.new.numbered ≡ last_number self.old.numbered
             (next_number self.old.desks node self.old.numbered)) }
         ensures kept { OnErr result (self.new.numbered ≡ self.old.numbered) }
+        ensures arrived { IfOk result (λ number. ArrivesIf (status_at self.old.desks node) number
+            node self.old.settings.password.items self.old.settings.nick now.now.ms
+            self.old.clients self.new.clients) }
+        ensures others { IfOk result (λ number. IfSome number (λ number.
+            AreOthersSame number self.old.clients self.new.clients)) }
     {
         let Some(status) = self.status(node) else {
             return Ok(None);
@@ -98,12 +104,32 @@ impl Driver {
     }
 
     /// Bytes came from a client, however they are cut.
-    pub fn receive(&mut self, now: &Now, number: u64, bytes: &[u8]) -> Result<(), AllocError> {
+    pub fn receive(&mut self, now: &Now, number: u64, bytes: &[u8]) -> Result<(), AllocError>
+        ensures others { AreOthersSame number self.old.clients self.new.clients }
+        ensures nobody { client_at self.old.clients number ≡ None →
+            (self.new.clients ≡ self.old.clients)
+            × (self.new.orders.items ≡ self.old.orders.items) }
+        ensures served { OnOk result (Serves (λ c. client_at self.old.clients number ≡ Some c)
+            (λ s calls c new. Receives bytes.now now.now.at s calls c self.old.orders.items
+            new self.new.orders.items) number self.new.clients) }
+        ensures rest { self.new ≡ record self.old
+            { clients = self.new.clients; orders = self.new.orders } }
+    {
         self.clients.receive(now, number, bytes, &mut self.orders)
     }
 
     /// A client's connection is gone.
-    pub fn lose(&mut self, now: &Now, number: u64) -> Result<(), AllocError> {
+    pub fn lose(&mut self, now: &Now, number: u64) -> Result<(), AllocError>
+        ensures others { AreOthersSame number self.old.clients self.new.clients }
+        ensures nobody { client_at self.old.clients number ≡ None →
+            (self.new.clients ≡ self.old.clients)
+            × (self.new.orders.items ≡ self.old.orders.items) }
+        ensures served { OnOk result (Serves (λ c. client_at self.old.clients number ≡ Some c)
+            (λ s calls c new. IsLost now.now.at s calls c self.old.orders.items
+            new self.new.orders.items) number self.new.clients) }
+        ensures rest { self.new ≡ record self.old
+            { clients = self.new.clients; orders = self.new.orders } }
+    {
         self.clients.lose(now, number, &mut self.orders)
     }
 

@@ -77,11 +77,7 @@ impl Desk {
     }
 
     /// One that leads, and was not heard to lead in this term, was elected: it has sent nothing yet.
-    fn hear_leading(
-        &mut self,
-        status: &Status,
-        orders: &mut Vec<Order>,
-    ) -> Result<(), AllocError>
+    fn hear_leading(&mut self, status: &Status, orders: &mut Vec<Order>) -> Result<(), AllocError>
         ensures told { OnOk result (orders.new.items
             ≡ orders.old.items ++ elected_news self.old status.now) }
         ensures desk { OnOk result (self.new ≡ elected_behind self.old status.now) }
