@@ -1,5 +1,5 @@
 //! What a driver orders, by stories.
-use crate::telling::{at, claiming, new_driver, report, standing, told};
+use crate::telling::{applied, at, claiming, new_driver, report, standing, told};
 use driver::Driver;
 use raft_log::{NodeId, Role};
 use std::alloc::Global;
@@ -173,10 +173,10 @@ fn word_of_a_run_is_asked_for_until_it_is_applied(rt: HostRuntime) -> Result<(),
     check(&rt, alloc, &mut driver, "")?;
     driver.tick(&at(1000))?;
     check(&rt, alloc, &mut driver, "ask@1 ")?;
-    let mut status = standing(Role::Leader, 3);
+    let status = standing(Role::Leader, 3);
     driver.hear(&at(1010), report(alloc, one, status, true))?;
     check(&rt, alloc, &mut driver, "beat@1 ")?;
-    status.applied = status.last;
+    let status = applied(3);
     driver.hear(&at(1020), report(alloc, one, status, true))?;
     driver.tick(&at(2100))?;
     check(&rt, alloc, &mut driver, "timeout@2 ")

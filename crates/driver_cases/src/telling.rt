@@ -45,6 +45,22 @@ pub fn standing(role: Role, last: u64) -> Status {
     }
 }
 
+/// A leader that applied all of its log, of so many entries.
+pub fn applied(last: u64) -> Status {
+    let last = last.min(9);
+    Status {
+        role: Role::Leader,
+        boot: Number::new(1),
+        term: Number::new(1),
+        last: Number::new(last),
+        commit: Number::new(last),
+        applied: Number::new(last),
+        session: None,
+        next_claim: None,
+        down: None,
+    }
+}
+
 /// A leader with the session 1.1, whose next line to be claimed is this one.
 pub fn claiming(number: u64) -> Status {
     let mut status = standing(Role::Leader, 1);
