@@ -1,15 +1,15 @@
 -- Passes and records, gathered node by node.
-use Rattle.std.proofs.Common.{◌≡◌, ◌<◌, ℕ, zero, suc, pred, ◌⊎◌, inl, inr, ⊎_elim, List, [], ◌∷◌, ◌++◌, length, map, true, refl, sym, ap, ◌∙◌, subst, arith}
-use mathlib.Core.Option.{some, some-injective, some-ne-none}
+use Rattle.std.proofs.Common.{◌≡◌, ◌<◌, ℕ, zero, suc, pred, ◌⊎◌, inl, inr, ⊎_elim, List, [], ◌∷◌, ◌++◌, length, map, refl, sym, ap, ◌∙◌, subst, arith}
+use mathlib.Core.Option.{some-injective, some-ne-none}
 use lib.ListN.{length-map}
 use Rattle.raft_node.specs.Machine.{Machine}
 use Rattle.world_views.specs.Own.{ViewOf}
-use Rattle.world_views.specs.Rule.{AreHonest, IsRule}
-use Rattle.world_views.specs.Views.{IsAt, View}
+use Rattle.world_views.specs.Views.{IsAt}
 use Rattle.ether.specs.declared.pass.Pass.{Pass}
 use Rattle.ether.specs.Passes.{EtherParts, IsOpenPass, IsPass, view_of}
 use Rattle.recorder.specs.NodeLines.{fields_of}
-use Rattle.node_cells.specs.Books.{IsRecordOf}
+use Rattle.node_cells.specs.declared.record.Recording.{Recording}
+use Rattle.node_cells.specs.Books.{IsRecordBy}
 use Rattle.node_cells.specs.Cells.{view_in}
 use Rattle.node_cells.specs.Groups.{AreLeftBy, ClosingParts, IsClosing, IsLeftBy, IsNextCell, RecordOf}
 use Rattle.node_cells.specs.Openings.{IsClosed}
@@ -46,28 +46,29 @@ map_end f (y ∷ xs) x = ap (λ l. f y ∷ l) (map_end f xs x)
 
 module _ {Setup B L T : Type 0} where
   -- the passes are as many as the views
-  pub as_many : (e : EtherParts Setup) (ps : List (Pass B L T)) (d : ClosingParts Setup B L T) → record { ether = e; views = map view_of ps } ≡ d → length ps ≡ length d.views
-  as_many e ps d is = sym (length-map ps view_of) ∙ ap (λ (z : ClosingParts Setup B L T). length z.views) is
+  pub as_many : (e : EtherParts Setup) (recording : Recording) (ps : List (Pass B L T)) (d : ClosingParts Setup B L T) → record { ether = e; recording = recording; views = map view_of ps } ≡ d → length ps ≡ length d.views
+  as_many e recording ps d is = sym (length-map ps view_of) ∙ ap (λ (z : ClosingParts Setup B L T). length z.views) is
 
-  pub has_room : (e : EtherParts Setup) (ps : List (Pass B L T)) (d : ClosingParts Setup B L T) → record { ether = e; views = map view_of ps } ≡ d → length d.views < d.ether.size → length ps < e.size
-  has_room e ps d is few = omega (arith, as_many e ps d is, ap (λ (z : ClosingParts Setup B L T). z.ether.size) is, few)
+  pub has_room : (e : EtherParts Setup) (recording : Recording) (ps : List (Pass B L T)) (d : ClosingParts Setup B L T) → record { ether = e; recording = recording; views = map view_of ps } ≡ d → length d.views < d.ether.size → length ps < e.size
+  has_room e recording ps d is few = omega (arith, as_many e recording ps d is, ap (λ (z : ClosingParts Setup B L T). z.ether.size) is, few)
 
 module _ (M : Machine) {Setup Hosted Store U : Type 0} where
   -- one more node's pass and record
-  pub closed_next : (e : EtherParts Setup) (ps : List (Pass M.Body M.Line M.Target)) (rs : List (RecordOf M)) (d : ClosingParts Setup M.Body M.Line M.Target)
+  pub closed_next : (e : EtherParts Setup) (recording : Recording) (ps : List (Pass M.Body M.Line M.Target)) (rs : List (RecordOf M)) (d : ClosingParts Setup M.Body M.Line M.Target)
       (c : CellOf M Setup Hosted Store U) (p : Pass M.Body M.Line M.Target) (r : RecordOf M)
-      → record { ether = e; views = map view_of ps } ≡ d → IsClosing M e ps rs → IsNextCell d c → p ≡ c.pass → IsOpenPass c.ether p → IsClosed M c r
-      → IsClosing M e (ps ++ p ∷ []) (rs ++ r ∷ [])
-  closed_next e ps rs d c p r is h next same mine closed =
+      → record { ether = e; recording = recording; views = map view_of ps } ≡ d → IsClosing M e recording ps rs → IsNextCell d c → p ≡ c.pass → IsOpenPass c.ether p → IsClosed M c r
+      → IsClosing M e recording (ps ++ p ∷ []) (rs ++ r ∷ [])
+  closed_next e recording ps rs d c p r is h next same mine closed =
+      let alike : c.recording ≡ recording = next.recording ∙ sym (ap (λ (z : ClosingParts Setup M.Body M.Line M.Target). z.recording) is) in
       let ether : c.ether ≡ e = next.ether ∙ sym (ap (λ (z : ClosingParts Setup M.Body M.Line M.Target). z.ether) is) in
       let pass : IsPass e p = subst (λ (z : EtherParts Setup). IsPass z p) ether mine.0 in
       let viewed : view_of p ≡ view_in c = ap view_of same in
-      let node : p.node ≡ length ps = sym mine.0.node ∙ (ap (λ (v : ViewOf M). v.node) viewed ∙ (next.node ∙ sym (as_many e ps d is))) in
+      let node : p.node ≡ length ps = sym mine.0.node ∙ (ap (λ (v : ViewOf M). v.node) viewed ∙ (next.node ∙ sym (as_many e recording ps d is))) in
       let place : length ps ≡ length (map view_of ps) = sym (length-map ps view_of) in
-      let last : IsLeftBy M (length (map view_of ps)) (view_of p) r =
+      let last : IsLeftBy M recording (length (map view_of ps)) (view_of p) r =
       record {
         node = closed.node ∙ ap suc (sym (ap (λ (q : Pass M.Body M.Line M.Target). q.node) same) ∙ (node ∙ place));
-        recorded = subst (λ (v : ViewOf M). IsRecordOf M v r.turns.items) (sym viewed) closed.recorded;
+        recorded = subst (λ (z : Recording × ViewOf M). IsRecordBy M z.0 z.1 r.turns.items) (λ i. (alike i, sym viewed i)) closed.recorded;
         state = λ honest. closed.state (ap (λ (v : ViewOf M). v.honest) (sym viewed) ∙ honest) ∙ ap (λ (v : ViewOf M). fields_of v.state) (sym viewed);
       } in
       record {
@@ -75,9 +76,9 @@ module _ (M : Machine) {Setup Hosted Store U : Type 0} where
             (λ (old : IsAt ps i q). h.passes_are i q old)
             (λ (here : (i ≡ length ps) × (p ≡ q)). subst (λ (z : Pass M.Body M.Line M.Target). IsPass e z × (z.node ≡ i)) here.1 (pass, node ∙ sym here.0))
             (at_end ps p q i at);
-        left = subst (λ (vs : List (ViewOf M)). AreLeftBy M vs (rs ++ r ∷ [])) (sym (map_end view_of ps p))
+        left = subst (λ (vs : List (ViewOf M)). AreLeftBy M recording vs (rs ++ r ∷ [])) (sym (map_end view_of ps p))
             (record {
               many = length_end rs (map view_of ps) r (view_of p) h.left.many;
-              each = ends_alike (map view_of ps) rs h.left.many (IsLeftBy M) h.left.each (view_of p) r last;
+              each = ends_alike (map view_of ps) rs h.left.many (IsLeftBy M recording) h.left.each (view_of p) r last;
             });
       }

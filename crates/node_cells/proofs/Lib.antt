@@ -1,6 +1,6 @@
 pub mod Terms
 pub mod Sending
-pub mod Recording
+pub mod Recorded
 pub mod Showing
 pub mod Turning
 pub mod Acting

@@ -24,7 +24,7 @@ use Rattle.node_cells.specs.Books.{HasNoted, OutcomeOf}
 use Rattle.node_cells.specs.Cells.{IsCell, cell_of}
 use Rattle.node_cells.specs.Turns.{IsLookedAt}
 use Rattle.node_cells.specs.Upstreams.{Tally}
-use Rattle.node_cells.proofs.Recording.{Book}
+use Rattle.node_cells.proofs.Recorded.{Book}
 use Rattle.node_cells.proofs.Showing.{Inner, is_up, looked_still}
 use Rattle.node_cells.proofs.Turning.{still_event}
 

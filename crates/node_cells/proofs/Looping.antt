@@ -12,13 +12,14 @@ use Rattle.world_views.specs.declared.node_event.NodeEvent.TheVariants.{Restart}
 use Rattle.world_views.specs.Own.{TurnOf, ViewOf, own_out}
 use Rattle.ether.specs.Passes.{view_of}
 use Rattle.ether.specs.Plays.{after_event}
-use Rattle.node_cells.specs.Books.{HasNoted, HasPosted, IsBook, NotedOf, noted}
+use Rattle.node_cells.specs.declared.record.Recording.{Recording}
+use Rattle.node_cells.specs.Books.{HasNoted, HasPosted, IsBook, NotedOf, noted, recorded_by, room_for}
 use Rattle.node_cells.specs.Posts.{posts_from}
 use Rattle.node_cells.specs.Remembering.{same_terms}
 use Rattle.node_cells.specs.Restarts.{AreRestarts, HasRestarts, after_turns, silent}
 use Rattle.node_cells.specs.Sending.{AreWithin, StandFrom, terms_of}
 use Rattle.node_cells.specs.Upstreams.{HandsOut, Numbered, Tally, failed, taken}
-use Rattle.node_cells.proofs.Recording.{Book}
+use Rattle.node_cells.proofs.Recorded.{Book, recorded-append, recorded-nil, room-left, room-more, room-none}
 
 -- ---- hands
 
@@ -38,6 +39,7 @@ module _ (M : Machine) {Setup : Type 0} where
     pub few : b.sent + length rest ≤ 7 * length (view_of b.pass).turns
     pub view : posts_from (view_of b.pass) b.sent (length rest) ≡ posts_from (view_of b0.pass) b0.sent (length all)
     pub sent : b.sent + length rest ≡ b0.sent + length all
+    pub recording : b.recording ≡ b0.recording
     pub turns : b.turns ≡ b0.turns
     pub ether : b.ether ≡ b0.ether
     pub node : b.pass.node ≡ b0.pass.node
@@ -46,7 +48,7 @@ module _ (M : Machine) {Setup : Type 0} where
   pub posting_first : (b : Book M Setup) (all : List (Message M.Body)) → IsBook M b → AreWithin (suc b.pass.node) b.ether.size all
       → ((view_of b.pass).honest ≡ true → StandFrom (view_of b.pass).state.sent b.sent all) → b.sent + length all ≤ 7 * length (view_of b.pass).turns → Posting b b all all
   posting_first b all book within stand few =
-      record { book = book; within = within; stand = stand; few = few; view = refl; sent = refl; turns = refl; ether = refl; node = refl; room = refl }
+      record { book = book; within = within; stand = stand; few = few; view = refl; sent = refl; recording = refl; turns = refl; ether = refl; node = refl; room = refl }
 
   pub posting_one : (b0 b : Book M Setup) (all : List (Message M.Body)) (m : Message M.Body) (rest : List (Message M.Body)) → Posting b0 b all (m ∷ rest)
       → AreWithin (suc b.pass.node) b.ether.size (m ∷ []) × ((view_of b.pass).honest ≡ true → StandFrom (view_of b.pass).state.sent b.sent (m ∷ [])) × (b.sent + 1 ≤ 7 * length (view_of b.pass).turns)
@@ -64,6 +66,7 @@ module _ (M : Machine) {Setup : Type 0} where
         few = let few = h.few in let long : length (view_of d.pass).turns ≡ length (view_of b.pass).turns = ap (λ (v : ViewOf M). length v.turns) p.view in omega (arith, few, long, one);
         view = (λ i. posts_from (p.view i) (one i) (length rest)) ∙ h.view;
         sent = let s = h.sent in omega (arith, s, one);
+        recording = p.recording ∙ h.recording;
         turns = p.turns ∙ h.turns;
         ether = p.ether ∙ h.ether;
         node = p.node ∙ h.node;
@@ -76,6 +79,7 @@ module _ (M : Machine) {Setup : Type 0} where
         h.book,
         record {
           view = ap (λ (l : List (Message M.Body)). posts_from (view_of b.pass) b.sent (length l)) (sym none) ∙ h.view;
+          recording = h.recording;
           turns = h.turns;
           ether = h.ether;
           node = h.node;
@@ -109,28 +113,30 @@ module _ (M : Machine) {Setup : Type 0} where
   pub record Restarting (b0 b : Book M Setup) (done : ℕ) : Type 0 where
     pub book : IsBook M b
     pub noted_all : HasRestarts M b0 done b
-    pub room : b.room + done ≡ b0.room
+    pub room : b.room + room_for b0.recording done ≡ b0.room
 
   pub restarting_first : (b : Book M Setup) → IsBook M b → Restarting b b 0
   restarting_first b h =
       record {
         book = h;
-        noted_all = record { more = []; restarts = tt; long = refl; view = refl; turns = sym (append-nil b.turns); ether = refl; node = refl; sent = refl };
-        room = omega arith;
+        noted_all = record { more = []; restarts = tt; long = refl; view = refl; recording = refl; turns = sym (ap (λ (l : List (NotedOf M)). b.turns ++ l) (recorded-nil b.recording) ∙ append-nil b.turns); ether = refl; node = refl; sent = refl };
+        room = room-none b.recording b.room;
       }
 
-  pub restarting_room : (b0 b : Book M Setup) (done count : ℕ) → Restarting b0 b done → done < count → count ≤ b0.room → length (view_of b0.pass).turns + count ≤ 2 ^ 60
-      → (1 ≤ b.room) × (length (view_of b.pass).turns < 2 ^ 60)
+  pub restarting_room : (b0 b : Book M Setup) (done count : ℕ) → Restarting b0 b done → done < count → room_for b0.recording count ≤ b0.room → length (view_of b0.pass).turns + count ≤ 2 ^ 60
+      → (room_for b.recording 1 ≤ b.room) × (length (view_of b.pass).turns < 2 ^ 60)
   restarting_room b0 b done count h lt room few =
-      let r = h.room in
       let long = h.noted_all.long in
-      let turns : length (view_of b.pass).turns ≡ length (view_of b0.pass).turns + length h.noted_all.more = ap (λ (v : ViewOf M). length v.turns) h.noted_all.view ∙ turns_length M (view_of b0.pass) h.noted_all.more in
-      (omega (arith, r), omega (arith, long, turns))
+      let turns : length (view_of b.pass).turns ≡ length (view_of b0.pass).turns + length h.noted_all.more = ap (λ (v : ViewOf M). length v.turns) h.noted_all.view ∙ turns_length M (view_of b0.pass) h.noted_all.more in (
+        subst (λ (r : Recording). room_for r 1 ≤ b.room) (sym h.noted_all.recording) (room-left b0.recording done count b0.room b.room h.room lt room),
+        omega (arith, long, turns),
+      )
 
   pub restarting_next : (b0 b d : Book M Setup) (done : ℕ) → Restarting b0 b done → IsBook M d → HasNoted M b Restart outcome.Quiet d → Restarting b0 d (done + 1)
   restarting_next b0 b d done h book n =
       let a = h.noted_all in
       let one : List (TurnOf M) = (n.ticket, Restart) ∷ [] in
+      let last : List (NotedOf M) = noted M n.ticket Restart outcome.Quiet ∷ [] in
       record {
         book = book;
         noted_all = record {
@@ -138,14 +144,16 @@ module _ (M : Machine) {Setup : Type 0} where
           restarts = restarts_more M a.more n.ticket a.restarts;
           long = let l = length-append a.more one in let m = a.long in omega (arith, l, m);
           view = n.view ∙ ap (λ (v : ViewOf M). after_event M v n.ticket Restart) a.view ∙ sym (turns-append M (view_of b0.pass) a.more one);
-          turns = n.turns ∙ ap (λ (l : List (NotedOf M)). l ++ noted M n.ticket Restart outcome.Quiet ∷ []) a.turns
-              ∙ append_assoc b0.turns (map (silent M) a.more) (noted M n.ticket Restart outcome.Quiet ∷ [])
-              ∙ ap (λ (l : List (NotedOf M)). b0.turns ++ l) (sym (map-append (silent M) a.more one));
+          recording = n.recording ∙ a.recording;
+          turns = n.turns ∙ (λ i. a.turns i ++ recorded_by (a.recording i) last)
+              ∙ append_assoc b0.turns (recorded_by b0.recording (map (silent M) a.more)) (recorded_by b0.recording last)
+              ∙ ap (λ (l : List (NotedOf M)). b0.turns ++ l) (sym (recorded-append b0.recording (map (silent M) a.more) last))
+              ∙ ap (λ (l : List (NotedOf M)). b0.turns ++ recorded_by b0.recording l) (sym (map-append (silent M) a.more one));
           ether = n.ether ∙ a.ether;
           node = n.node ∙ a.node;
           sent = n.sent ∙ a.sent;
         };
-        room = let r = h.room in let m = n.room in omega (arith, r, m);
+        room = room-more b0.recording done b0.room b.room d.room h.room (subst (λ (r : Recording). d.room + room_for r 1 ≡ b.room) a.recording n.room);
       }
 
 -- ---- terms

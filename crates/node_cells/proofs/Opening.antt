@@ -17,12 +17,14 @@ use Rattle.ether.specs.Plays.{after_opening, after_take}
 use Rattle.node_cells.specs.declared.phase.Phase.{Phase}
 use Rattle.node_cells.specs.declared.phase.Phase.TheVariants.{Up}
 use Rattle.node_cells.specs.declared.record.NodeRecord.{NodeRecord}
-use Rattle.node_cells.specs.Books.{HasTaken, IsBook, IsRecordOf, NotedOf}
+use Rattle.node_cells.specs.declared.record.Recording.{Recording}
+use Rattle.node_cells.specs.declared.record.Recording.TheVariants.{On, Off}
+use Rattle.node_cells.specs.Books.{HasTaken, IsBook, IsRecordBy, NotedOf}
 use Rattle.node_cells.specs.Cells.{HasHeard, IsCell, IsIn, Shows, brought, cell_of, view_in}
 use Rattle.node_cells.specs.Openings.{IsClosed, IsFresh}
 use Rattle.node_cells.specs.Sending.{KnowsOneOf}
 use Rattle.node_cells.specs.Turns.{CellOf}
-use Rattle.node_cells.proofs.Recording.{Book, Kept, book_of}
+use Rattle.node_cells.proofs.Recorded.{Book, Kept, book_of}
 use Rattle.node_cells.proofs.Sending.{none_known}
 use Rattle.node_cells.proofs.Showing.{Inner}
 use Rattle.node_cells.proofs.Turning.{with_room}
@@ -52,12 +54,16 @@ module _ (M : Machine) {Setup Hosted Store : Type 0} (k : Keeper Store M.Body) w
     as_new : view_of b.pass ≡ w
     as_new = view ∙ (λ d. record w { turns = new d })
 
-    kept : Kept M w []
-    kept = record { opened = ((t, seen n.state []), refl); state = refl; recorded = record { turns_are = refl; outs_are = λ honest. refl } }
+    none_recorded : (r : Recording) → IsRecordBy M r w []
+    none_recorded On = record { turns_are = refl; outs_are = λ honest. refl }
+    none_recorded Off = refl
+
+    kept : Kept M b.recording w []
+    kept = record { opened = ((t, seen n.state []), refl); state = refl; recorded = none_recorded b.recording }
 
     pub fresh_book : b.sent ≡ 0 → b.ether.size ≤ 7 → IsBook M b
     fresh_book sent small =
-        book_of M b opened (subst (λ (z : ViewOf M × List (NotedOf M)). Kept M z.0 z.1) (λ d. (sym as_new d, sym none d)) kept) (omega (arith, sent)) small
+        book_of M b opened (subst (λ (z : ViewOf M × List (NotedOf M)). Kept M b.recording z.0 z.1) (λ d. (sym as_new d, sym none d)) kept) (omega (arith, sent)) small
 
     state_is : (view_of b.pass).state ≡ seen n.state []
     state_is = ap (λ (v : ViewOf M). v.state) as_new
@@ -79,9 +85,9 @@ module _ (M : Machine) {Setup Hosted Store : Type 0} (k : Keeper Store M.Body) w
           shows = λ honest. (subst (λ (s : Node M.Body). IsIn n.state s) (sym state_is) refl, first.is_up);
         }
 
-    pub fresh : {U : Type 0} (u : U) (line : NodeFields) → IsFresh k b.ether pass store u (cell_of b n u Up 0 line)
+    pub fresh : {U : Type 0} (u : U) (line : NodeFields) → IsFresh k b.ether pass store u b.recording (cell_of b n u Up 0 line)
     fresh u line =
-        record { ticket = t; started = first; view = view; node = place; ether_is = refl; upstream_is = refl; turns = none; is_up = refl }
+        record { ticket = t; started = first; view = view; node = place; ether_is = refl; upstream_is = refl; recording_is = refl; turns = none; is_up = refl }
 
   -- ---- a look into a mailbox
   pub taken_cell : {U : Type 0} (b0 b1 : Book M Setup) (q : Inner M Setup Hosted Store) (u : U) (p : Phase M.Body M.Line) (r : ℕ) (line : NodeFields) (from : ℕ) (came : Option (Envelope M.Body))
@@ -109,6 +115,6 @@ module _ (M : Machine) {Setup Hosted Store : Type 0} (k : Keeper Store M.Body) w
       record {
         node = node ∙ h.id;
         turns = turns;
-        recorded = subst (λ (l : List (NotedOf M)). IsRecordOf M (view_in c) l) (sym turns) h.book.recorded;
+        recorded = subst (λ (l : List (NotedOf M)). IsRecordBy M c.recording (view_in c) l) (sym turns) h.book.recorded;
         state = λ honest. state ∙ h.shown honest;
       }

@@ -21,12 +21,12 @@ use Rattle.ether.specs.Plays.{after_event}
 use Rattle.node_cells.specs.declared.phase.Phase.{Phase}
 use Rattle.node_cells.specs.declared.phase.Phase.TheVariants.{Up, DownInTurn, DownInRestart}
 use Rattle.node_cells.specs.declared.remembered.Remembered.{Remembered}
-use Rattle.node_cells.specs.Books.{HasNoted, IsBook, NotedOf, noted}
+use Rattle.node_cells.specs.Books.{HasNoted, IsBook, NotedOf, noted, recorded_by}
 use Rattle.node_cells.specs.Cells.{HasHeard, IsCell, IsIn, IsLater, Shows, Stands, StandsEither, after_input, brought, cell_of}
 use Rattle.node_cells.specs.Remembering.{Remembers}
 use Rattle.node_cells.specs.Restarts.{HasRestarts, IsRefusedRestart, IsRestart, after_turns, fallen, first_of, silent}
 use Rattle.node_cells.specs.Sending.{KnowsOneOf, terms_of}
-use Rattle.node_cells.proofs.Recording.{Book}
+use Rattle.node_cells.proofs.Recorded.{Book, recorded-append}
 use Rattle.node_cells.proofs.Restarting.{restart_shows}
 use Rattle.node_cells.proofs.Sending.{none_known}
 use Rattle.node_cells.proofs.Showing.{Inner}
@@ -168,7 +168,7 @@ module _ (M : Machine) {Setup Hosted Store U : Type 0} (k : Keeper Store M.Body)
           }
 
       pub refused_is : IsRefusedRestart M (cell_of b0 q u p r line) (cell_of b0 q' u (fallen p) (r + 1) line)
-      refused_is = record { phase = refl; refused = omega arith; same = record { ether = refl; pass = refl; turns = refl; sent = refl; upstream = refl; shown = refl } }
+      refused_is = record { phase = refl; refused = omega arith; same = record { ether = refl; pass = refl; recording = refl; turns = refl; sent = refl; upstream = refl; shown = refl } }
 
     -- ---- a restart
     module _ (up : q'.down ≡ None) (b : Begins (size_of q.state) (MayHaveStood k q.store) q'.state) (told : Bool)
@@ -214,7 +214,10 @@ module _ (M : Machine) {Setup Hosted Store U : Type 0} (k : Keeper Store M.Body)
             restarts = rest.restarts;
             few = let few = min-le_right (q'.state.standing.boot - q.state.standing.boot - 1) r in let long = rest.long in omega (arith, few, long, many);
             view = view_2;
-            turns = rest.turns ∙ ap (λ (l : List (NotedOf M)). l ++ map (silent M) rest.more) first.turns ∙ append_assoc b0.turns (noted M first.ticket (first_of p told) Quiet ∷ []) (map (silent M) rest.more);
+            recording = rest.recording ∙ first.recording;
+            turns = rest.turns ∙ (λ i. first.turns i ++ recorded_by (first.recording i) (map (silent M) rest.more))
+                ∙ append_assoc b0.turns (recorded_by b0.recording (noted M first.ticket (first_of p told) Quiet ∷ [])) (recorded_by b0.recording (map (silent M) rest.more))
+                ∙ ap (λ (l : List (NotedOf M)). b0.turns ++ l) (sym (recorded-append b0.recording (noted M first.ticket (first_of p told) Quiet ∷ []) (map (silent M) rest.more)));
             sent = rest.sent ∙ first.sent;
             ether = ether_2;
             upstream = refl;

@@ -33,7 +33,7 @@ use Rattle.node_cells.specs.Posts.{posts_from}
 use Rattle.node_cells.specs.Sending.{AreWithin, KnowsOneOf, StandFrom, to_of}
 use Rattle.node_cells.specs.Turns.{CellOf, FallsInTurn, IsEvent, IsGiven, IsTurn}
 use Rattle.node_cells.specs.Upstreams.{HandsOut, Tally}
-use Rattle.node_cells.proofs.Recording.{Book, posts_are}
+use Rattle.node_cells.proofs.Recorded.{Book, posts_are}
 use Rattle.node_cells.proofs.Showing.{Inner, Stepped, Still, downed, is_up, stepped, stand_behind}
 
 drop_front : {A : Type 0} (xs ys : List A) → drop (length xs) (xs ++ ys) ≡ ys
@@ -170,6 +170,7 @@ module _ (M : Machine) {Setup Hosted Store U : Type 0} (k : Keeper Store M.Body)
                     view = posted.view ∙ (λ d. posts_from (noted.view d) (noted.sent d) (length output.messages.items));
                     sent = posted.sent ∙ ap (λ (n : ℕ). n + length output.messages.items) noted.sent;
                     all_sent = λ honest. (h.counted honest, counted_2 honest);
+                    recording = posted.recording ∙ noted.recording;
                     turns = posted.turns ∙ noted.turns;
                     out = comes_out o given_o;
                     handed = subst (λ (l : List M.Effect). HandsOut (hands M l) (tally u) (tally u'))
@@ -250,7 +251,7 @@ module _ (M : Machine) {Setup Hosted Store U : Type 0} (k : Keeper Store M.Body)
           done = done;
           phase = refl;
           refused = refl;
-          same = record { ether = refl; pass = refl; turns = refl; sent = refl; upstream = refl; shown = refl };
+          same = record { ether = refl; pass = refl; recording = refl; turns = refl; sent = refl; upstream = refl; shown = refl };
         }
 
     -- ---- an event that changes nothing of the node
@@ -291,6 +292,7 @@ module _ (M : Machine) {Setup Hosted Store U : Type 0} (k : Keeper Store M.Body)
             view = noted.view;
             sent = noted.sent ∙ omega arith;
             all_sent = λ honest. (h.counted honest, counted_still honest);
+            recording = noted.recording;
             turns = noted.turns;
             out = still.out;
             handed = subst (λ (l : List M.Effect). HandsOut (hands M l) (tally u) (tally u)) (sym none) refl;

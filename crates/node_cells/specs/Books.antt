@@ -1,5 +1,5 @@
 -- What a cell keeps beside its node: its pass at the ether, and the record of its turns.
-use Rattle.std.specs.Prelude.{◌≡◌, ◌*◌, ◌+◌, ◌^◌, ◌<◌, ◌≤◌, ℕ, suc, true, List, [], ◌∷◌, ◌++◌, length, map, Option}
+use Rattle.std.specs.Prelude.{◌≡◌, ◌*◌, ◌+◌, ◌^◌, ◌<◌, ◌≤◌, ℕ, true, List, [], ◌∷◌, ◌++◌, length, map, Option}
 use Rattle.raft_node.specs.Machine.{Machine}
 use Rattle.world_run.specs.declared.outcome.Outcome.{Outcome}
 use Rattle.world_run.specs.Told.{out_of}
@@ -15,12 +15,26 @@ use Rattle.world_views.specs.declared.envelope.Envelope.{Envelope}
 use Rattle.node_cells.specs.declared.cell_fault.CellFault.{CellFault}
 use Rattle.node_cells.specs.declared.cell_fault.CellFault.TheVariants.{Memory, Spent, Node as OfNode}
 use Rattle.node_cells.specs.declared.record.NodeTurn.{NodeTurn}
+use Rattle.node_cells.specs.declared.record.Recording.{Recording}
+use Rattle.node_cells.specs.declared.record.Recording.TheVariants.{On, Off}
 use Rattle.node_cells.specs.Posts.{posts_from}
 
--- its ether and its pass, the turns that were recorded, how many messages were posted, and how many more turns find room
+-- what is recorded of these turns, or of what came out of them
+abbrev pub recorded_by : {A : Type 0} → Recording → List A → List A
+recorded_by On turns = turns
+recorded_by Off turns = []
+
+-- how much room so many turns want in a record
+abbrev pub room_for : Recording → ℕ → ℕ
+room_for On count = count
+room_for Off count = 0
+
+-- its ether and its pass, whether turns are recorded and those that were, how many messages were posted, and how many more turns
+-- find room
 pub record BookParts (Setup B L T E P : Type 0) : Type 0 where
   pub ether : EtherParts Setup
   pub pass : Pass B L T
+  pub recording : Recording
   pub turns : List (NodeTurn B L T E P)
   pub sent : ℕ
   pub room : ℕ
@@ -49,28 +63,35 @@ module _ (M : Machine) where
     pub turns_are : map turn_in turns ≡ v.turns
     pub outs_are : v.honest ≡ true → map out_in turns ≡ outs_of M v
 
+  -- What is recorded of an opened node: where turns are recorded its record, else nothing.
+  abbrev pub IsRecordBy : Recording → ViewOf M → List NotedOf → Type 0
+  IsRecordBy On v turns = IsRecordOf v turns
+  IsRecordBy Off v turns = turns ≡ []
+
   module _ {Setup : Type 0} where
-    -- The book of an opened pass: its view's state is what its turns lead to, and the record is the view's.
+    -- The book of an opened pass: its view's state is what its turns lead to, and what is recorded is the view's.
     pub record IsBook (b : BookParts Setup M.Body M.Line M.Target M.Effect M.Played) : Type 0 where
       pub opened : IsOpenPass b.ether b.pass
       pub state : (view_of b.pass).state ≡ runs M (view_of b.pass) (start (view_of b.pass)) (view_of b.pass).turns
-      pub recorded : IsRecordOf (view_of b.pass) b.turns
+      pub recorded : IsRecordBy b.recording (view_of b.pass) b.turns
       pub few : b.sent ≤ 7 * length (view_of b.pass).turns
       pub small : b.ether.size ≤ 7
 
-    -- An event was ticked and recorded, with what came out of it.
+    -- An event was ticked, and recorded with what came out of it where turns are recorded.
     pub record HasNoted (old : BookParts Setup M.Body M.Line M.Target M.Effect M.Played) (e : EventOf M) (o : OutcomeOf) (new : BookParts Setup M.Body M.Line M.Target M.Effect M.Played) : Type 0 where
       pub ticket : ℕ
       pub view : view_of new.pass ≡ after_event M (view_of old.pass) ticket e
-      pub turns : new.turns ≡ old.turns ++ noted ticket e o ∷ []
+      pub recording : new.recording ≡ old.recording
+      pub turns : new.turns ≡ old.turns ++ recorded_by old.recording (noted ticket e o ∷ [])
       pub ether : new.ether ≡ old.ether
       pub node : new.pass.node ≡ old.pass.node
       pub sent : new.sent ≡ old.sent
-      pub room : suc new.room ≡ old.room
+      pub room : new.room + room_for old.recording 1 ≡ old.room
 
     -- So many messages were posted, with the next numbers.
     pub record HasPosted (old : BookParts Setup M.Body M.Line M.Target M.Effect M.Played) (count : ℕ) (new : BookParts Setup M.Body M.Line M.Target M.Effect M.Played) : Type 0 where
       pub view : view_of new.pass ≡ posts_from (view_of old.pass) old.sent count
+      pub recording : new.recording ≡ old.recording
       pub turns : new.turns ≡ old.turns
       pub ether : new.ether ≡ old.ether
       pub node : new.pass.node ≡ old.pass.node
@@ -86,27 +107,39 @@ module _ {Setup B L T E P : Type 0} where
   pub record IsSameBook (old new : BookParts Setup B L T E P) : Type 0 where
     pub view : view_of new.pass ≡ view_of old.pass
     pub looks : looks_of new.pass ≡ looks_of old.pass
+    pub recording : new.recording ≡ old.recording
     pub turns : new.turns ≡ old.turns
     pub ether : new.ether ≡ old.ether
     pub node : new.pass.node ≡ old.pass.node
     pub sent : new.sent ≡ old.sent
 
-  -- room in the record for so many turns, and tickets for them; all else is as it was
+  -- Room in the record for so many turns, and tickets for them; all else is as it was. Where none is recorded, no room is made.
   pub record HasRoom (old : BookParts Setup B L T E P) (count : ℕ) (new : BookParts Setup B L T E P) : Type 0 where
-    pub room : count ≤ new.room
+    pub room : room_for old.recording count ≤ new.room
+    pub none_made : old.recording ≡ Off → new.room ≡ old.room
     pub tickets : length (view_of old.pass).turns + count ≤ 2 ^ 60
     pub same : IsSameBut old new
 
-  -- there is none
+  -- There is none; and there is memory enough where nothing is recorded.
   abbrev pub HasNoRoom : BookParts Setup B L T E P → ℕ → CellFault → BookParts Setup B L T E P → Type 0
-  HasNoRoom old count Memory new = IsSameBut old new
+  HasNoRoom old count Memory new = IsSameBut old new × (old.recording ≡ On)
   HasNoRoom old count Spent new = IsSameBut old new × (2 ^ 60 < length (view_of old.pass).turns + count)
   HasNoRoom old count (OfNode fault) new = ⊥
+
+  -- a turn was recorded where turns are recorded; all else is as it was
+  pub record HasKept (old : BookParts Setup B L T E P) (turn : NodeTurn B L T E P) (new : BookParts Setup B L T E P) : Type 0 where
+    pub ether : new.ether ≡ old.ether
+    pub pass : new.pass ≡ old.pass
+    pub recording : new.recording ≡ old.recording
+    pub turns : new.turns ≡ old.turns ++ recorded_by old.recording (turn ∷ [])
+    pub sent : new.sent ≡ old.sent
+    pub room : new.room + room_for old.recording 1 ≡ old.room
 
   -- what lay in the mailbox was heard, and the look is kept
   pub record HasTaken (old : BookParts Setup B L T E P) (from : ℕ) (came : Option (Envelope B)) (new : BookParts Setup B L T E P) : Type 0 where
     pub view : view_of new.pass ≡ after_take (view_of old.pass) came
     pub looks : looks_of new.pass ≡ looks_of old.pass ++ look_at (mailbox_of old.ether.size from old.pass.node) came ∷ []
+    pub recording : new.recording ≡ old.recording
     pub turns : new.turns ≡ old.turns
     pub ether : new.ether ≡ old.ether
     pub node : new.pass.node ≡ old.pass.node

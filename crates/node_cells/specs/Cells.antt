@@ -20,7 +20,8 @@ use Rattle.node_cells.specs.declared.cell_fault.CellFault.TheVariants.{Memory, S
 use Rattle.node_cells.specs.declared.phase.Phase.{Phase}
 use Rattle.node_cells.specs.declared.phase.Phase.TheVariants.{Up, DownInTurn, DownInRestart}
 use Rattle.node_cells.specs.declared.record.NodeTurn.{NodeTurn}
-use Rattle.node_cells.specs.Books.{BookParts, IsBook}
+use Rattle.node_cells.specs.declared.record.Recording.{Recording}
+use Rattle.node_cells.specs.Books.{BookParts, IsBook, room_for}
 use Rattle.node_cells.specs.Sending.{KnowsOneOf}
 
 -- its book, its node and where its lines go; whether the node is up, how many restarts were refused since it was, and the line of
@@ -28,6 +29,7 @@ use Rattle.node_cells.specs.Sending.{KnowsOneOf}
 pub record CellParts (Setup Hosted Store B L T E P U : Type 0) : Type 0 where
   pub ether : EtherParts Setup
   pub pass : Pass B L T
+  pub recording : Recording
   pub turns : List (NodeTurn B L T E P)
   pub sent : ℕ
   pub node : Parts Setup Hosted Store B
@@ -52,6 +54,7 @@ module _ {Setup Hosted Store B L T E P U : Type 0} where
       record {
         ether = b.ether;
         pass = b.pass;
+        recording = b.recording;
         turns = b.turns;
         sent = b.sent;
         node = node;
@@ -63,14 +66,14 @@ module _ {Setup Hosted Store B L T E P U : Type 0} where
 
   -- Room in the record and tickets are there for so many turns, or are not; the cell is as it was.
   abbrev pub HasMadeRoom : ℕ → CellRoom Setup Hosted Store B L T E P U → Result (Unit {0}) CellFault → CellRoom Setup Hosted Store B L T E P U → Type 0
-  HasMadeRoom count c (Ok done) d = (d.parts ≡ c.parts) × (count ≤ d.room) × (length (view_of c.parts.pass).turns + count ≤ 2 ^ 60)
+  HasMadeRoom count c (Ok done) d = (d.parts ≡ c.parts) × (room_for c.parts.recording count ≤ d.room) × (length (view_of c.parts.pass).turns + count ≤ 2 ^ 60)
   HasMadeRoom count c (Err Memory) d = d.parts ≡ c.parts
   HasMadeRoom count c (Err Spent) d = (d.parts ≡ c.parts) × (2 ^ 60 < length (view_of c.parts.pass).turns + count)
   HasMadeRoom count c (Err (OfNode fault)) d = ⊥
 
   -- the cell's book, with room for so many more turns
   abbrev pub book_in : ℕ → CellParts Setup Hosted Store B L T E P U → BookParts Setup B L T E P
-  book_in room c = record { ether = c.ether; pass = c.pass; turns = c.turns; sent = c.sent; room = room }
+  book_in room c = record { ether = c.ether; pass = c.pass; recording = c.recording; turns = c.turns; sent = c.sent; room = room }
 
 module _ {B : Type 0} where
   -- the same was saved, but that up to r runs were begun since

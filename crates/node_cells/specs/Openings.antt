@@ -14,27 +14,29 @@ use Rattle.node_cells.specs.declared.cell_fault.CellFault.{CellFault}
 use Rattle.node_cells.specs.declared.cell_fault.CellFault.TheVariants.{Memory, Spent, Node as OfNode}
 use Rattle.node_cells.specs.declared.phase.Phase.TheVariants.{Up}
 use Rattle.node_cells.specs.declared.record.NodeRecord.{NodeRecord}
-use Rattle.node_cells.specs.Books.{IsRecordOf}
+use Rattle.node_cells.specs.declared.record.Recording.{Recording}
+use Rattle.node_cells.specs.Books.{IsRecordBy}
 use Rattle.node_cells.specs.Cells.{CellParts, CellRoom, view_in}
 
 module _ {Setup Hosted Store B L T E P U : Type 0} (k : Keeper Store B) where
   -- A cell as it is opened: its node is as a start from this store gave it, its view is the opening, and nothing is recorded yet.
-  pub record IsFresh (ether : EtherParts Setup) (pass : Pass B L T) (store : Store) (upstream : U) (c : CellParts Setup Hosted Store B L T E P U) : Type 0 where
+  pub record IsFresh (ether : EtherParts Setup) (pass : Pass B L T) (store : Store) (upstream : U) (recording : Recording) (c : CellParts Setup Hosted Store B L T E P U) : Type 0 where
     pub ticket : ℕ
     pub started : IsFirst k (suc pass.node) ether.size ether.setup store c.node
     pub view : view_in c ≡ after_opening (view_of pass) ticket (k.condition c.node.store).honest (seen c.node.state [])
     pub node : c.pass.node ≡ pass.node
     pub ether_is : c.ether ≡ ether
     pub upstream_is : c.upstream ≡ upstream
+    pub recording_is : c.recording ≡ recording
     pub turns : c.turns ≡ []
     pub is_up : c.phase ≡ Up
 
   -- by what an opening answers: no cell where there is no memory, or the node did not start
-  abbrev pub HasOpened : EtherParts Setup → Pass B L T → Store → U → Result (CellRoom Setup Hosted Store B L T E P U) CellFault → Type 0
-  HasOpened ether pass store upstream (Ok c) = IsFresh ether pass store upstream c.parts
-  HasOpened ether pass store upstream (Err Memory) = Unit {0}
-  HasOpened ether pass store upstream (Err Spent) = ⊥
-  HasOpened ether pass store upstream (Err (OfNode fault)) = IsStarted {Hosted = Hosted} k (suc pass.node) ether.size ether.setup store (Err fault)
+  abbrev pub HasOpened : EtherParts Setup → Pass B L T → Store → U → Recording → Result (CellRoom Setup Hosted Store B L T E P U) CellFault → Type 0
+  HasOpened ether pass store upstream recording (Ok c) = IsFresh ether pass store upstream recording c.parts
+  HasOpened ether pass store upstream recording (Err Memory) = Unit {0}
+  HasOpened ether pass store upstream recording (Err Spent) = ⊥
+  HasOpened ether pass store upstream recording (Err (OfNode fault)) = IsStarted {Hosted = Hosted} k (suc pass.node) ether.size ether.setup store (Err fault)
 
 module _ {Setup Hosted Store B L T E P U : Type 0} where
   -- the same cell, but for its view and its pass
@@ -42,6 +44,7 @@ module _ {Setup Hosted Store B L T E P U : Type 0} where
     pub ether : d.ether ≡ c.ether
     pub node_is : d.node ≡ c.node
     pub place : d.pass.node ≡ c.pass.node
+    pub recording : d.recording ≡ c.recording
     pub turns : d.turns ≡ c.turns
     pub sent : d.sent ≡ c.sent
     pub upstream : d.upstream ≡ c.upstream
@@ -62,9 +65,9 @@ module _ {Setup Hosted Store B L T E P U : Type 0} where
     pub same : IsSameBeside c d
 
 module _ (M : Machine) {Setup Hosted Store U : Type 0} where
-  -- What a cell leaves: the turns of its view, each with what came out of it, and the line of the state that it shows.
+  -- What a cell leaves: where it records, the turns of its view, each with what came out of it, and the line of the state that it shows.
   pub record IsClosed (c : CellParts Setup Hosted Store M.Body M.Line M.Target M.Effect M.Played U) (r : NodeRecord M.Body M.Line M.Target M.Effect M.Played) : Type 0 where
     pub node : r.node ≡ suc c.pass.node
     pub turns : r.turns.items ≡ c.turns
-    pub recorded : IsRecordOf M (view_in c) r.turns.items
+    pub recorded : IsRecordBy M c.recording (view_in c) r.turns.items
     pub state : (view_in c).honest ≡ true → r.state ≡ fields_of (view_in c).state

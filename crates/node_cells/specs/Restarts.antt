@@ -13,7 +13,7 @@ use Rattle.node_cells.specs.declared.cell_fault.CellFault.TheVariants.{Memory, S
 use Rattle.node_cells.specs.declared.phase.Phase.{Phase}
 use Rattle.node_cells.specs.declared.phase.Phase.TheVariants.{Up, DownInTurn, DownInRestart}
 use Rattle.ether.specs.Passes.{view_of}
-use Rattle.node_cells.specs.Books.{BookParts, NotedOf, noted}
+use Rattle.node_cells.specs.Books.{BookParts, NotedOf, noted, recorded_by}
 use Rattle.node_cells.specs.Cells.{CellParts, view_in}
 use Rattle.node_cells.specs.Sending.{terms_of}
 use Rattle.node_cells.specs.Turns.{IsDownAs}
@@ -63,7 +63,8 @@ module _ (M : Machine) where
       pub restarts : AreRestarts more
       pub few : length more ≤ c.refused
       pub view : view_in d ≡ after_turns (after_event M (view_in c) ticket (first_of c.phase same)) more
-      pub turns : d.turns ≡ c.turns ++ noted M ticket (first_of c.phase same) Quiet ∷ map silent more
+      pub recording : d.recording ≡ c.recording
+      pub turns : d.turns ≡ c.turns ++ recorded_by c.recording (noted M ticket (first_of c.phase same) Quiet ∷ map silent more)
       pub sent : d.sent ≡ c.sent
       pub ether : d.ether ≡ c.ether
       pub upstream : d.upstream ≡ c.upstream
@@ -88,14 +89,15 @@ module _ (M : Machine) where
     HasRestarted c (Err fault) d = IsNoRestart c fault d
 
   module _ {Setup : Type 0} where
-    -- So many restarts were ticked and recorded.
+    -- So many restarts were ticked, and recorded where turns are recorded.
     pub record HasRestarts (old : BookParts Setup M.Body M.Line M.Target M.Effect M.Played) (count : ℕ)
         (new : BookParts Setup M.Body M.Line M.Target M.Effect M.Played) : Type 0 where
       pub more : List (TurnOf M)
       pub restarts : AreRestarts more
       pub long : length more ≡ count
       pub view : view_of new.pass ≡ after_turns (view_of old.pass) more
-      pub turns : new.turns ≡ old.turns ++ map silent more
+      pub recording : new.recording ≡ old.recording
+      pub turns : new.turns ≡ old.turns ++ recorded_by old.recording (map silent more)
       pub ether : new.ether ≡ old.ether
       pub node : new.pass.node ≡ old.pass.node
       pub sent : new.sent ≡ old.sent

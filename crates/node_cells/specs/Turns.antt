@@ -24,7 +24,7 @@ use Rattle.node_cells.specs.declared.phase.Phase.TheVariants.{Up, DownInTurn}
 use Rattle.node_cells.specs.declared.record.TurnOutput.{TurnOutput}
 use Rattle.world_views.specs.declared.envelope.Envelope.{Envelope}
 use Rattle.node_cells.specs.Openings.{HasTakenIn}
-use Rattle.node_cells.specs.Books.{OutcomeOf, noted}
+use Rattle.node_cells.specs.Books.{OutcomeOf, noted, recorded_by}
 use Rattle.node_cells.specs.Cells.{CellParts, view_in}
 use Rattle.node_cells.specs.Posts.{posts_from}
 use Rattle.node_cells.specs.Sending.{to_of}
@@ -61,6 +61,7 @@ module _ (M : Machine) {Setup Hosted Store U : Type 0} where
   pub record IsDownAs (c d : CellOf M Setup Hosted Store U) : Type 0 where
     pub ether : d.ether ≡ c.ether
     pub pass : d.pass ≡ c.pass
+    pub recording : d.recording ≡ c.recording
     pub turns : d.turns ≡ c.turns
     pub sent : d.sent ≡ c.sent
     pub upstream : d.upstream ≡ c.upstream
@@ -79,7 +80,7 @@ module _ (M : Machine) {Setup Hosted Store U : Type 0} where
   WasDown c d = (c.phase ≡ Up → ⊥) × (d ≡ c)
 
   module _ (tally : U → Tally) where
-    -- One event at the cell's own view: it drew a ticket, what comes out of it by the view is recorded with it, the messages that it sent were posted, each
+    -- One event at the cell's own view: it drew a ticket, what comes out of it by the view is recorded with it, where turns are recorded, the messages that it sent were posted, each
     -- once, with their numbers, and one line was handed out for each hand among its effects. The node was up, and is.
     pub record IsEvent (c : CellOf M Setup Hosted Store U) (e : EventOf M) (o : OutcomeOf M) (d : CellOf M Setup Hosted Store U) : Type 0 where
       pub ticket : ℕ
@@ -87,7 +88,8 @@ module _ (M : Machine) {Setup Hosted Store U : Type 0} where
       pub view : view_in d ≡ posts_from (after_event M (view_in c) ticket e) c.sent count
       pub sent : d.sent ≡ c.sent + count
       pub all_sent : (view_in c).honest ≡ true → (c.sent ≡ length (view_in c).state.sent) × (d.sent ≡ length (view_in d).state.sent)
-      pub turns : d.turns ≡ c.turns ++ noted M ticket e o ∷ []
+      pub recording : d.recording ≡ c.recording
+      pub turns : d.turns ≡ c.turns ++ recorded_by c.recording (noted M ticket e o ∷ [])
       pub out : (view_in c).honest ≡ true → out_of M o ≡ own_out M (view_in c).size (suc (view_in c).node) (view_in c).state e
       pub handed : HandsOut (hands M (effects_of (out_of M o))) (tally c.upstream) (tally d.upstream)
       pub ether : d.ether ≡ c.ether

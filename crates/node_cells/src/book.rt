@@ -2,7 +2,7 @@
 ghost use Rattle.std.specs.Prelude.{◌≡◌, ◌≤◌, ◌<◌, ◌+◌, ◌*◌, ◌^◌, ◌↔◌, IsTrue, OnOk, OnErr, suc, true, [], ◌∷◌, length, MatchResult};
 ghost use Rattle.ether.specs.Passes.{IsHeard, view_of};
 ghost use Rattle.ether.specs.Plays.{IsFrom};
-ghost use Rattle.node_cells.specs.Books.{HasNoRoom, HasNoted, HasPosted, HasRoom, HasTaken, IsBook, IsSameBook};
+ghost use Rattle.node_cells.specs.Books.{HasKept, HasNoRoom, HasNoted, HasPosted, HasRoom, HasTaken, IsBook, IsSameBook, room_for};
 ghost use Rattle.node_cells.specs.Restarts.{HasRestarts};
 ghost use Rattle.world_views.specs.Laws.{AreOfOneGroup};
 ghost use Rattle.node_cells.specs.Sending.{AreWithin, StandFrom};
@@ -10,7 +10,7 @@ ghost use Rattle.world_run.specs.Told.{out_of};
 ghost use Rattle.world_views.specs.Own.{own_out};
 
 use crate::cell_fault::CellFault;
-use crate::record::NodeTurn;
+use crate::record::{NodeTurn, Recording};
 use ether::{Ether, Pass};
 use machine_laws::{Hosted, Machine};
 use raft_log::{GroupSize, Message};
@@ -26,6 +26,7 @@ use world_views::{Envelope, NodeEvent};
 pub struct Book<M: Hosted> {
     pub ether: Arc<Ether<M>, Global>,
     pub pass: Pass<M::Command, M::Line, M::Target>,
+    pub recording: Recording,
     pub turns: Vec<NodeTurn<M::Command, M::Line, M::Target, M::Effect, M::Played>>,
     /// How many messages were posted.
     pub sent: u64,
@@ -41,6 +42,7 @@ impl<M: Hosted> Model for Book<M> {
     ghost view = { λ b. record {
       ether = arc_value b.ether;
       pass = b.pass;
+      recording = b.recording;
       turns = b.turns.items;
       sent = b.sent;
       room = vec_capacity b.turns - vec_len b.turns;
@@ -48,7 +50,7 @@ impl<M: Hosted> Model for Book<M> {
 }
 
 impl<M: Hosted> Book<M> {
-    /// Room in the record for so many turns and one more, and tickets for them.
+    /// Tickets for so many turns and one more, and room in the record for them, where turns are recorded.
     pub fn reserve(&mut self, count: u64) -> Result<(), CellFault>
         requires { self.old.pass.ticks ≡ length (view_of self.old.pass).turns }
         ensures { MatchResult result (λ _. HasRoom self.old (suc count) self.new)
@@ -57,13 +59,18 @@ impl<M: Hosted> Book<M> {
         if !self.pass.has_room(count) {
             return Err(CellFault::Spent);
         }
-        if self.turns.reserve(count as usize + 1).is_err() {
-            return Err(CellFault::Memory);
+        match self.recording {
+            Recording::On => {
+                if self.turns.reserve(count as usize + 1).is_err() {
+                    return Err(CellFault::Memory);
+                }
+                Ok(())
+            }
+            Recording::Off => Ok(()),
         }
-        Ok(())
     }
 
-    /// An event of the node, ticked and recorded.
+    /// An event of the node, ticked, and recorded where turns are recorded.
     pub fn note(
         &mut self,
         event: NodeEvent<M::Command, M::Line, M::Target>,
@@ -71,7 +78,8 @@ impl<M: Hosted> Book<M> {
     )
         requires book { IsBook (⟦<M as Described>⟧.machine self.old.ether.setup) self.old }
         requires heard { IsHeard (view_of self.old.pass) event }
-        requires room { (1 ≤ self.old.room) × (length (view_of self.old.pass).turns < 2 ^ 60) }
+        requires room { (room_for self.old.recording 1 ≤ self.old.room)
+            × (length (view_of self.old.pass).turns < 2 ^ 60) }
         requires out { (view_of self.old.pass).honest ≡ true →
             out_of (⟦<M as Described>⟧.machine self.old.ether.setup) outcome
             ≡ own_out (⟦<M as Described>⟧.machine self.old.ether.setup) (view_of self.old.pass).size
@@ -83,17 +91,28 @@ impl<M: Hosted> Book<M> {
         let Ok(ticket) = self.ether.tick(&mut self.pass, &event) else {
             unreachable!()
         };
-        self.turns.push_reserved(NodeTurn {
+        self.keep(NodeTurn {
             ticket,
             event,
             outcome,
         });
     }
 
-    /// So many restarts, ticked and recorded.
+    /// Keeps a turn where turns are recorded, and drops it where they are not.
+    fn keep(&mut self, turn: NodeTurn<M::Command, M::Line, M::Target, M::Effect, M::Played>)
+        requires { room_for self.old.recording 1 ≤ self.old.room }
+        ensures { HasKept self.old turn self.new }
+    {
+        match self.recording {
+            Recording::On => self.turns.push_reserved(turn),
+            Recording::Off => drop(turn),
+        }
+    }
+
+    /// So many restarts, ticked, and recorded where turns are recorded.
     pub fn note_restarts(&mut self, count: u64)
         requires book { IsBook (⟦<M as Described>⟧.machine self.old.ether.setup) self.old }
-        requires room { (count ≤ self.old.room)
+        requires room { (room_for self.old.recording count ≤ self.old.room)
             × (length (view_of self.old.pass).turns + count ≤ 2 ^ 60) }
         ensures book { IsBook (⟦<M as Described>⟧.machine self.old.ether.setup) self.new }
         ensures noted { HasRestarts (⟦<M as Described>⟧.machine self.old.ether.setup) self.old count

@@ -1,43 +1,38 @@
 //! A node with its pass, its record, and where its lines go.
-ghost use Rattle.std.specs.Prelude.{true, ◌≡◌, ◌+◌, ◌<◌, ◌≤◌, ◌^◌, ◌↔◌, suc, [], length, map, IfOk, None};
-ghost use Rattle.std.specs.Arc.{arc_value};
-ghost use Rattle.ether.specs.Passes.{IsPass, IsUnopened, view_of};
+ghost use Rattle.std.specs.Prelude.{◌≡◌, ◌<◌, ◌≤◌, ◌^◌, suc, length, map, IfOk};
 ghost use Rattle.ether.specs.Plays.{IsFrom};
-ghost use Rattle.raft_node.specs.Parts.{applied_bodies, keeper};
-ghost use Rattle.recorder.specs.NodeLines.{fields_of};
 ghost use Rattle.world_views.specs.Laws.{AreOfOneGroup};
 ghost use Rattle.world_views.specs.Views.{carries};
 ghost use Rattle.node_cells.specs.declared.phase.Phase.TheVariants.{Up};
-ghost use Rattle.node_cells.specs.Cells.{HasHeard, HasMadeRoom, IsIn, view_in};
-ghost use Rattle.node_cells.specs.Remembering.{Remembers};
-ghost use Rattle.node_cells.specs.Openings.{HasOpened, HasTakenIn, IsSameCell};
-ghost use Rattle.node_cells.specs.Restarts.{HasRestarted};
+ghost use Rattle.node_cells.specs.Books.{room_for};
+ghost use Rattle.node_cells.specs.Cells.{HasHeard, HasMadeRoom, view_in};
+ghost use Rattle.node_cells.specs.Openings.{HasTakenIn, IsSameCell};
 ghost use Rattle.node_cells.specs.Sending.{to_of};
-ghost use Rattle.node_cells.specs.Turns.{HasDelivered, HasLooked, HasTurned, IsGiven};
+ghost use Rattle.node_cells.specs.Turns.{HasDelivered, HasTurned, IsGiven};
 
 use crate::book::Book;
 use crate::cell_fault::CellFault;
 use crate::copying::{addressees, copied_input, input_of, outcome_of};
 use crate::handing::hand_all;
-use crate::phase::{Phase, fallen, first_event};
+use crate::phase::Phase;
 use crate::record::TurnOutput;
-use crate::remembered::Remembered;
 use crate::upstream::Upstream;
-use ether::{Ether, Pass};
 use machine_laws::{Hosted, Machine};
-use raft_log::{GroupSize, Message, NodeId, NodeState};
-use raft_node::{Cause, Described, Looked, Node, NodeFault, Output};
+use raft_log::Message;
+use raft_node::{Cause, Described, Node, NodeFault, Output};
 use recorder::NodeFields;
 use stable_store::Stable;
 use std::alloc::{AllocError, Global};
 use std::marker::Model;
-use std::mem::replace;
-use std::sync::Arc;
-use wire_bytes::{Number, copied_all};
+use wire_bytes::Number;
 use world_run::Outcome;
 use world_views::{Envelope, NodeEvent, NodeInput};
 
 mod leaving;
+mod playing;
+mod reading;
+mod restart;
+mod starting;
 
 /// A running node: what a worker keeps under its lock. It has no lock of its own, and no call waits.
 ///
@@ -74,47 +69,6 @@ impl<M: Hosted, S: Stable<M::Command>, U: Upstream> Model for NodeCell<M, S, U> 
 }
 
 impl<M: Hosted, S: Stable<M::Command>, U: Upstream> NodeCell<M, S, U> {
-    /// The opening: the node of the pass is started over its store. Where it fails all is dropped.
-    pub fn open(
-        alloc: Global,
-        ether: &Arc<Ether<M>, Global>,
-        mut pass: Pass<M::Command, M::Line, M::Target>,
-        store: S,
-        upstream: U,
-    ) -> Result<Self, CellFault>
-        requires pass { IsPass (arc_value ether.now) pass × IsUnopened pass
-            × ((view_of pass).turns ≡ []) }
-        ensures { HasOpened (keeper S.saved S.may_stand S.condition) (arc_value ether.now) pass
-            store upstream result }
-    {
-        let Ok(ether) = Arc::try_clone(ether) else {
-            return Err(CellFault::Memory);
-        };
-        let size = ether.size();
-        size.value();
-        let id = NodeId::new(pass.node() as u8 + 1);
-        let node = match Node::start(alloc, id, size, ether.setup(), store) {
-            Ok(node) => node,
-            Err(fault) => return Err(CellFault::Node(fault)),
-        };
-        ether.opening(&mut pass, &node);
-        let shown = NodeFields::of(node.state());
-        Ok(NodeCell {
-            alloc,
-            book: Book {
-                ether,
-                pass,
-                turns: Vec::new(alloc),
-                sent: 0,
-            },
-            node,
-            upstream,
-            phase: Phase::Up,
-            refused: 0,
-            shown,
-        })
-    }
-
     /// One event at the cell's own view: its step, its tick, its posts, its hands.
     ///
     /// Room in the record and tickets are settled first, and then a copy of the input is made: where
@@ -138,7 +92,7 @@ impl<M: Hosted, S: Stable<M::Command>, U: Upstream> NodeCell<M, S, U> {
         self.run(input, copy)
     }
 
-    /// Room in the record for so many turns and one more, and tickets for them.
+    /// Tickets for so many turns and one more, and room in the record for them, where turns are recorded.
     fn make_room(&mut self, count: u64) -> Result<(), CellFault>
         ensures { HasMadeRoom (suc count) self.old result self.new }
     {
@@ -152,7 +106,7 @@ impl<M: Hosted, S: Stable<M::Command>, U: Upstream> NodeCell<M, S, U> {
         copy: NodeInput<M::Command, M::Line>,
     ) -> Result<TurnOutput<M::Effect>, CellFault>
         requires up { self.old.parts.phase ≡ Up }
-        requires room { (1 ≤ self.old.room)
+        requires room { (room_for self.old.parts.recording 1 ≤ self.old.room)
             × (length (view_in self.old.parts).turns < 2 ^ 60) }
         requires heard { HasHeard (view_in self.old.parts) (carries input) }
         requires copy { copy ≡ input }
@@ -193,54 +147,6 @@ impl<M: Hosted, S: Stable<M::Command>, U: Upstream> NodeCell<M, S, U> {
         }
     }
 
-    /// A playback of a target, where what was applied reaches to this place; else `Behind`. Both are
-    /// events that change nothing. Where there is no memory it is none.
-    pub fn look(
-        &mut self,
-        from_place: u64,
-        target: M::Target,
-    ) -> Result<Looked<M::Played>, CellFault>
-        ensures { HasLooked (⟦<M as Described>⟧.machine self.old.parts.ether.setup) U.tally
-            self.old.parts from_place target result self.new.parts }
-    {
-        if let Some(cause) = self.down() {
-            return Err(CellFault::Node(NodeFault::Down(cause)));
-        }
-        self.make_room(0)?;
-        self.play(from_place, target)
-    }
-
-    /// A look at a node that is up, where there is room for it.
-    fn play(&mut self, from_place: u64, target: M::Target) -> Result<Looked<M::Played>, CellFault>
-        requires up { self.old.parts.phase ≡ Up }
-        requires room { (1 ≤ self.old.room)
-            × (length (view_in self.old.parts).turns < 2 ^ 60) }
-        ensures { HasLooked (⟦<M as Described>⟧.machine self.old.parts.ether.setup) U.tally
-            self.old.parts from_place target result self.new.parts }
-    {
-        match self.node.look(&target, from_place) {
-            Ok(looked) => {
-                let Looked { place, lines } = looked;
-                let Ok(copy) = copied_all(self.alloc, &lines) else {
-                    return Err(CellFault::Memory);
-                };
-                self.book.note(
-                    NodeEvent::Look(from_place, target),
-                    Outcome::Looked { place, lines: copy },
-                );
-                Ok(Looked { place, lines })
-            }
-            Err(fault) => {
-                if let NodeFault::Refused(refusal) = &fault {
-                    let outcome = Outcome::Refused(*refusal);
-                    self.book.note(NodeEvent::Look(from_place, target), outcome);
-                    return Err(CellFault::Node(fault));
-                }
-                Err(CellFault::Node(fault))
-            }
-        }
-    }
-
     /// Takes what lies in the mailbox from the node at this place, from 0 on: node 1 has place 0. It
     /// looks once.
     pub fn take(&mut self, from: u64) -> Option<Envelope<M::Command>>
@@ -249,67 +155,6 @@ impl<M: Hosted, S: Stable<M::Command>, U: Upstream> NodeCell<M, S, U> {
         ensures from { IsFrom from result }
     {
         self.book.take(from)
-    }
-
-    /// The node stops, and is started again over its store: one event, and one more for each earlier
-    /// start that failed after it saved its run. What it had in memory tells whether the store kept
-    /// the turn in which it went down.
-    pub fn restart(&mut self) -> Result<(), CellFault>
-        ensures { HasRestarted (⟦<M as Described>⟧.machine self.old.parts.ether.setup)
-            self.old.parts result self.new.parts }
-    {
-        self.make_room(self.refused)?;
-        let Ok(before) = Remembered::of(self.alloc, self.node.state()) else {
-            return Err(CellFault::Memory);
-        };
-        self.start_again(&before)
-    }
-
-    /// The node is started again, where there is room for what that may publish.
-    fn start_again(&mut self, before: &Remembered) -> Result<(), CellFault>
-        requires before { Remembers before.now self.old.parts.node.state }
-        requires room { (self.old.parts.refused + 1 ≤ self.old.room)
-            × (length (view_in self.old.parts).turns + (self.old.parts.refused + 1) ≤ 2 ^ 60) }
-        ensures { HasRestarted (⟦<M as Described>⟧.machine self.old.parts.ether.setup)
-            self.old.parts result self.new.parts }
-    {
-        self.node.is_whole();
-        if let Err(fault) = self.node.restart() {
-            self.phase = fallen(replace(&mut self.phase, Phase::Up));
-            self.refused += 1;
-            return Err(CellFault::Node(fault));
-        }
-        let same = before.is_in(self.node.state());
-        let more = before.runs_until(self.node.state(), self.refused);
-        let phase = replace(&mut self.phase, Phase::Up);
-        self.book.note(first_event(phase, same), Outcome::Quiet);
-        self.book.note_restarts(more);
-        self.refused = 0;
-        self.shown = NodeFields::of(self.node.state());
-        Ok(())
-    }
-
-    /// Two cells of one ether in one hand, left as they were: what their nodes did is of one moment of
-    /// one group.
-    pub fn meet(&mut self, other: &mut NodeCell<M, S, U>)
-        requires { self.old.parts.ether ≡ other.old.parts.ether }
-        ensures one { IsSameCell self.old.parts self.new.parts }
-        ensures other { IsSameCell other.old.parts other.new.parts }
-        ensures meet { AreOfOneGroup (⟦<M as Described>⟧.machine self.old.parts.ether.setup)
-            (view_in self.old.parts) (view_in other.old.parts) }
-    {
-        self.book.meet(&mut other.book);
-    }
-
-    /// Why the node is down, if it is.
-    pub fn down(&self) -> Option<Cause>
-        ensures { (result ≡ None) ↔ (self.now.parts.phase ≡ Up) }
-    {
-        match (&self.phase, self.node.down()) {
-            (Phase::Up, _) => None,
-            (_, Some(cause)) => Some(cause),
-            (_, None) => Some(Cause::Memory),
-        }
     }
 
     /// Takes what lies in the mailbox from the node at this place, from 0 on, and turns its delivery.
@@ -328,53 +173,16 @@ impl<M: Hosted, S: Stable<M::Command>, U: Upstream> NodeCell<M, S, U> {
         }
     }
 
-    #[tactic(auto, using(crate::proofs::Showing::id_is))]
-    pub fn id(&self) -> NodeId
-        ensures pass { result ≡ suc self.now.parts.pass.node }
-        ensures view { result ≡ suc (view_in self.now.parts).node }
+    /// Two cells of one ether in one hand, left as they were: what their nodes did is of one moment of
+    /// one group.
+    pub fn meet(&mut self, other: &mut NodeCell<M, S, U>)
+        requires { self.old.parts.ether ≡ other.old.parts.ether }
+        ensures one { IsSameCell self.old.parts self.new.parts }
+        ensures other { IsSameCell other.old.parts other.new.parts }
+        ensures meet { AreOfOneGroup (⟦<M as Described>⟧.machine self.old.parts.ether.setup)
+            (view_in self.old.parts) (view_in other.old.parts) }
     {
-        self.node.id()
-    }
-
-    /// How many nodes the ether is for.
-    pub fn size(&self) -> GroupSize
-        ensures { result ≡ self.now.parts.ether.size }
-    {
-        self.book.size()
-    }
-
-    /// The line of the state that the cell shows.
-    pub fn fields(&self) -> NodeFields
-        ensures shown { result ≡ self.now.parts.shown }
-        ensures view { (view_in self.now.parts).honest ≡ true
-            → result ≡ fields_of (view_in self.now.parts).state }
-    {
-        self.shown
-    }
-
-    /// The node's state, or where it is down the one from before what took it down.
-    #[tactic(auto, using(crate::proofs::Showing::is_up))]
-    pub fn state(&self) -> &NodeState<M::Command>
-        ensures state { result.now ≡ self.now.parts.node.state }
-        ensures view { ((view_in self.now.parts).honest ≡ true)
-            → (self.now.parts.phase ≡ Up) → IsIn result.now (view_in self.now.parts).state }
-    {
-        self.node.state()
-    }
-
-    /// The number of the line that is to be claimed next, by what the node applied, while it is up.
-    pub fn next_claim(&self) -> Option<Number>
-        ensures { self.now.parts.node.down ≡ None
-            → result ≡ M.next_claim self.now.parts.node.setup (applied_bodies self.now.parts.node.state) }
-    {
-        self.node.next_claim()
-    }
-
-    /// Where its lines go.
-    pub fn upstream(&self) -> &U
-        ensures { result.now ≡ self.now.parts.upstream }
-    {
-        &self.upstream
+        self.book.meet(&mut other.book);
     }
 }
 

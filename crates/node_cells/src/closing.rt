@@ -4,7 +4,7 @@ ghost use Rattle.std.specs.Arc.{arc_value};
 ghost use Rattle.node_cells.specs.Groups.{AreRecordsOfGroup, HasClosed, IsNextCell};
 
 use crate::cell::NodeCell;
-use crate::record::NodeRecord;
+use crate::record::{NodeRecord, Recording};
 use crate::upstream::Upstream;
 use ether::{Ether, Pass};
 use machine_laws::{Hosted, Machine};
@@ -20,6 +20,7 @@ use world_views::merged_records_replay;
 #[derive(Drop)]
 pub struct Closing<M: Hosted> {
     ether: Arc<Ether<M>, Global>,
+    recording: Recording,
     passes: Vec<Pass<M::Command, M::Line, M::Target>>,
     records: Vec<NodeRecord<M::Command, M::Line, M::Target, M::Effect, M::Played>>,
 }
@@ -33,19 +34,28 @@ impl<M: Hosted> Model for Closing<M> {
 
     ghost Value = { ClosingParts M.Setup M.Command M.Line M.Target };
 
-    ghost view = { λ c. record { ether = arc_value c.ether; views = map view_of c.passes.items } };
+    ghost view = { λ c. record {
+      ether = arc_value c.ether;
+      recording = c.recording;
+      views = map view_of c.passes.items;
+    } };
 
     ghost invariant = { λ c. IsClosing (hosted M.blank M.opened M.shut M.heard M.claim M.source
         (M.effects c.ether.value.setup) (M.next_claim c.ether.value.setup)
-        (M.playback c.ether.value.setup) M.class) c.ether.value c.passes.items c.records.items
+        (M.playback c.ether.value.setup) M.class) c.ether.value c.recording c.passes.items c.records.items
         × (c.ether.value.size ≤ vec_capacity c.passes)
         × (c.ether.value.size ≤ vec_capacity c.records) };
 }
 
 impl<M: Hosted> Closing<M> {
-    /// Nothing yet, with room for what all nodes of the ether leave.
-    pub fn new(alloc: Global, ether: &Arc<Ether<M>, Global>) -> Result<Self, AllocError>
-        ensures { IfOk result (λ c. (c.ether ≡ arc_value ether.now) × (c.views ≡ [])) }
+    /// Nothing yet, with room for what all nodes of the ether leave, whose cells all record or all don't.
+    pub fn new(
+        alloc: Global,
+        ether: &Arc<Ether<M>, Global>,
+        recording: Recording,
+    ) -> Result<Self, AllocError>
+        ensures { IfOk result (λ c. (c.ether ≡ arc_value ether.now) × (c.recording ≡ recording)
+            × (c.views ≡ [])) }
     {
         let ether = Arc::try_clone(ether)?;
         let count = ether.size().value() as usize;
@@ -53,12 +63,14 @@ impl<M: Hosted> Closing<M> {
         let records = Vec::with_capacity(alloc, count)?;
         Ok(Closing {
             ether,
+            recording,
             passes,
             records,
         })
     }
 
-    /// A cell of this ether is closed, whose node is the one behind those that were closed.
+    /// A cell of this ether is closed, which records as the others do, and whose node is the one behind
+    /// those that were closed.
     pub fn close<S: Stable<M::Command>, U: Upstream>(&mut self, cell: NodeCell<M, S, U>)
         requires { IsNextCell self.old cell.parts }
         ensures { HasClosed self.old cell.parts self.new }
@@ -68,17 +80,18 @@ impl<M: Hosted> Closing<M> {
         self.records.push_reserved(record);
     }
 
-    /// The records of all nodes, which are of one group.
+    /// The records of all nodes, which are of one group. They have no turns where none were recorded.
     pub fn finish(self) -> Vec<NodeRecord<M::Command, M::Line, M::Target, M::Effect, M::Played>>
         requires { length self.views ≡ self.ether.size }
-        ensures { AreRecordsOfGroup (⟦<M as Described>⟧.machine self.ether.setup) self.ether.size
-            self.views result.items }
+        ensures { AreRecordsOfGroup (⟦<M as Described>⟧.machine self.ether.setup) self.recording
+            self.ether.size self.views result.items }
     {
         merged_records_replay::<M>();
         let Closing {
             ether,
             passes,
             records,
+            ..
         } = self;
         ether.meet_all(passes);
         records

@@ -16,5 +16,5 @@ pub use cell::NodeCell;
 pub use cell_fault::CellFault;
 pub use closing::Closing;
 pub use phase::Phase;
-pub use record::{NodeRecord, NodeTurn, TurnOutput};
+pub use record::{NodeRecord, NodeTurn, Recording, TurnOutput};
 pub use upstream::{Upstream, UpstreamFault};

@@ -5,6 +5,15 @@ use wire_bytes::{Number, Wire};
 use world_run::Outcome;
 use world_views::NodeEvent;
 
+/// Whether a cell keeps its turns for its record. Its ether keeps its view either way.
+#[derive(Clone, Copy)]
+pub enum Recording {
+    /// Each turn is kept in memory until the cell is closed.
+    On,
+    /// None is: the record that the cell leaves has no turns.
+    Off,
+}
+
 /// What happened to a node, and what came out of it.
 #[derive(Drop)]
 pub struct NodeTurn<B: Wire, L, T, E, P> {
@@ -19,7 +28,7 @@ pub struct NodeTurn<B: Wire, L, T, E, P> {
 #[derive(Drop)]
 pub struct NodeRecord<B: Wire, L, T, E, P> {
     pub node: NodeId,
-    /// Its turns, the first first.
+    /// Its turns, the first first; none where they were not recorded.
     pub turns: Vec<NodeTurn<B, L, T, E, P>>,
     /// What it was at the end.
     pub state: NodeFields,

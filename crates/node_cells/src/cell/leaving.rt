@@ -12,7 +12,8 @@ use raft_node::Described;
 use stable_store::Stable;
 
 impl<M: Hosted, S: Stable<M::Command>, U: Upstream> NodeCell<M, S, U> {
-    /// The record of the node's turns, and the line of the state that the cell shows.
+    /// The record of the node's turns, empty where they were not recorded, and the line of the state that
+    /// the cell shows.
     pub fn close(self) -> NodeRecord<M::Command, M::Line, M::Target, M::Effect, M::Played>
         ensures { IsClosed (⟦<M as Described>⟧.machine self.parts.ether.setup) self.parts result }
     {

@@ -1,7 +1,7 @@
 use Rattle.std.proofs.Common.{rules}
 use Rattle.raft_node.specs.Hosts.{hosted}
 use Rattle.raft_node.specs.Machine.{Machine}
-use Rattle.node_cells.proofs.Looping.{restart_out, restarting_first, restarting_next}
+use Rattle.node_cells.proofs.Looping.{restart_out, restarting_first, restarting_next, restarting_room}
 use Rattle.node_cells.proofs.book.Book.note_restarts.Given as given
 use Rattle.node_cells.proofs.book.Book.note_restarts.Goals as goal
 
@@ -12,6 +12,10 @@ machine g s =
 
 pub loop-done-init : goal.loop-done-init
 loop-done-init g c = restarting_first (machine g c.args.self.now.ether.setup) c.args.self.now c.requires.book
+
+pub note-requires-clause-room : goal.note-requires-clause-room
+note-requires-clause-room g c =
+    restarting_room (machine g c.args.self.now.ether.setup) c.args.self.now c.loop-done.self c.loop-done.done c.args.count c.loop-done.invariant (search rules) c.requires.room.0 c.requires.room.1
 
 pub note-requires-clause-out : goal.note-requires-clause-out
 note-requires-clause-out g c = λ honest. restart_out (machine g c.loop-done.self.ether.setup) _ _ _

@@ -4,7 +4,6 @@ use Rattle.raft_node.specs.Machine.{Machine}
 use Rattle.world_views.specs.declared.node_event.NodeInput.TheVariants.{Deliver}
 use Rattle.ether.specs.Passes.{EtherParts}
 use Rattle.ether.proofs.Heard.{heard_last}
-use Rattle.node_cells.specs.declared.cell_fault.CellFault.{CellFault}
 use Rattle.node_cells.specs.Turns.{IsNoTurn, IsTurn}
 use Rattle.node_cells.proofs.cell.NodeCell.deliver.Given as given
 use Rattle.node_cells.proofs.cell.NodeCell.deliver.Goals as goal

@@ -1,4 +1,4 @@
-use Rattle.std.proofs.Common.{rules, List, ◌≡◌, sym, ap, ◌∙◌, subst, length, ◌<◌, arith}
+use Rattle.std.proofs.Common.{rules, List, ◌≡◌, sym, ap, ◌∙◌, subst, length, ◌<◌}
 use Rattle.raft_node.specs.Hosts.{hosted}
 use Rattle.raft_node.specs.Machine.{Machine}
 use Rattle.ether.specs.declared.pass.Pass.{Pass}
@@ -16,7 +16,7 @@ machine g s =
 
 pub push_reserved-requires : goal.push_reserved-requires
 push_reserved-requires g c =
-    let few : length c.self.inside.passes.items < c.self.inside.ether.value.size = has_room _ c.self.inside.passes.items _ c.self.view_is c.requires.few in
+    let few : length c.self.inside.passes.items < c.self.inside.ether.value.size = has_room _ _ c.self.inside.passes.items _ c.self.view_is c.requires.few in
     search rules
 
 pub invariant_of-self : goal.invariant_of-self
@@ -26,8 +26,8 @@ invariant_of-self g c =
     let r = c.leave-pass.result.1 in
     let ether : c.args.cell.parts.ether ≡ e = c.requires.ether ∙ sym (ap (λ z. z.ether) c.self.view_is) in
     let closed = subst (λ (z : EtherParts g.row.M-Setup.Denot). IsClosed (machine g z.setup) c.args.cell.parts r) ether c.leave-pass.ensures.record in
-    let next = closed_next (machine g e.setup) e i.passes.items i.records.items _ c.args.cell.parts c.leave-pass.result.0 r c.self.view_is c.self.invariant.0 c.requires c.leave-pass.ensures.pass.0 c.leave-pass.ensures.pass.1 closed in (
-      subst (λ (z : List (Pass g.row.M-Command.Denot g.row.M-Line.Denot g.row.M-Target.Denot) × List (RecordOf (machine g e.setup))). IsClosing (machine g e.setup) e z.0 z.1)
+    let next = closed_next (machine g e.setup) e i.recording i.passes.items i.records.items _ c.args.cell.parts c.leave-pass.result.0 r c.self.view_is c.self.invariant.0 c.requires c.leave-pass.ensures.pass.0 c.leave-pass.ensures.pass.1 closed in (
+      subst (λ (z : List (Pass g.row.M-Command.Denot g.row.M-Line.Denot g.row.M-Target.Denot) × List (RecordOf (machine g e.setup))). IsClosing (machine g e.setup) e i.recording z.0 z.1)
           (λ d. (sym c.push_reserved.ensures.items d, sym c.push_reserved-2.ensures.items d)) next,
       search rules,
       search rules,

@@ -1,0 +1,66 @@
+//! What a cell plays.
+ghost use Rattle.std.specs.Prelude.{◌≡◌, ◌<◌, ◌≤◌, ◌^◌, length};
+ghost use Rattle.node_cells.specs.declared.phase.Phase.TheVariants.{Up};
+ghost use Rattle.node_cells.specs.Books.{room_for};
+ghost use Rattle.node_cells.specs.Cells.{view_in};
+ghost use Rattle.node_cells.specs.Turns.{HasLooked};
+
+use crate::cell::NodeCell;
+use crate::cell_fault::CellFault;
+use crate::upstream::Upstream;
+use machine_laws::{Hosted, Machine};
+use raft_node::{Described, Looked, NodeFault};
+use stable_store::Stable;
+use wire_bytes::copied_all;
+use world_run::Outcome;
+use world_views::NodeEvent;
+
+impl<M: Hosted, S: Stable<M::Command>, U: Upstream> NodeCell<M, S, U> {
+    /// A playback of a target, where what was applied reaches to this place; else `Behind`. Both are
+    /// events that change nothing. Where there is no memory it is none.
+    pub fn look(
+        &mut self,
+        from_place: u64,
+        target: M::Target,
+    ) -> Result<Looked<M::Played>, CellFault>
+        ensures { HasLooked (⟦<M as Described>⟧.machine self.old.parts.ether.setup) U.tally
+            self.old.parts from_place target result self.new.parts }
+    {
+        if let Some(cause) = self.down() {
+            return Err(CellFault::Node(NodeFault::Down(cause)));
+        }
+        self.make_room(0)?;
+        self.play(from_place, target)
+    }
+
+    /// A look at a node that is up, where there is room for it.
+    fn play(&mut self, from_place: u64, target: M::Target) -> Result<Looked<M::Played>, CellFault>
+        requires up { self.old.parts.phase ≡ Up }
+        requires room { (room_for self.old.parts.recording 1 ≤ self.old.room)
+            × (length (view_in self.old.parts).turns < 2 ^ 60) }
+        ensures { HasLooked (⟦<M as Described>⟧.machine self.old.parts.ether.setup) U.tally
+            self.old.parts from_place target result self.new.parts }
+    {
+        match self.node.look(&target, from_place) {
+            Ok(looked) => {
+                let Looked { place, lines } = looked;
+                let Ok(copy) = copied_all(self.alloc, &lines) else {
+                    return Err(CellFault::Memory);
+                };
+                self.book.note(
+                    NodeEvent::Look(from_place, target),
+                    Outcome::Looked { place, lines: copy },
+                );
+                Ok(Looked { place, lines })
+            }
+            Err(fault) => {
+                if let NodeFault::Refused(refusal) = &fault {
+                    let outcome = Outcome::Refused(*refusal);
+                    self.book.note(NodeEvent::Look(from_place, target), outcome);
+                    return Err(CellFault::Node(fault));
+                }
+                Err(CellFault::Node(fault))
+            }
+        }
+    }
+}

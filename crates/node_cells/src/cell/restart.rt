@@ -1,0 +1,59 @@
+//! How a cell's node is started again.
+ghost use Rattle.std.specs.Prelude.{◌+◌, ◌≤◌, ◌^◌, length};
+ghost use Rattle.node_cells.specs.Books.{room_for};
+ghost use Rattle.node_cells.specs.Cells.{view_in};
+ghost use Rattle.node_cells.specs.Remembering.{Remembers};
+ghost use Rattle.node_cells.specs.Restarts.{HasRestarted};
+
+use crate::cell::NodeCell;
+use crate::cell_fault::CellFault;
+use crate::phase::{Phase, fallen, first_event};
+use crate::remembered::Remembered;
+use crate::upstream::Upstream;
+use machine_laws::{Hosted, Machine};
+use raft_node::Described;
+use recorder::NodeFields;
+use stable_store::Stable;
+use std::mem::replace;
+use world_run::Outcome;
+
+impl<M: Hosted, S: Stable<M::Command>, U: Upstream> NodeCell<M, S, U> {
+    /// The node stops, and is started again over its store: one event, and one more for each earlier
+    /// start that failed after it saved its run. What it had in memory tells whether the store kept
+    /// the turn in which it went down.
+    pub fn restart(&mut self) -> Result<(), CellFault>
+        ensures { HasRestarted (⟦<M as Described>⟧.machine self.old.parts.ether.setup)
+            self.old.parts result self.new.parts }
+    {
+        self.make_room(self.refused)?;
+        let Ok(before) = Remembered::of(self.alloc, self.node.state()) else {
+            return Err(CellFault::Memory);
+        };
+        self.start_again(&before)
+    }
+
+    /// The node is started again, where there is room for what that may publish.
+    fn start_again(&mut self, before: &Remembered) -> Result<(), CellFault>
+        requires before { Remembers before.now self.old.parts.node.state }
+        requires room { (room_for self.old.parts.recording (self.old.parts.refused + 1)
+            ≤ self.old.room)
+            × (length (view_in self.old.parts).turns + (self.old.parts.refused + 1) ≤ 2 ^ 60) }
+        ensures { HasRestarted (⟦<M as Described>⟧.machine self.old.parts.ether.setup)
+            self.old.parts result self.new.parts }
+    {
+        self.node.is_whole();
+        if let Err(fault) = self.node.restart() {
+            self.phase = fallen(replace(&mut self.phase, Phase::Up));
+            self.refused += 1;
+            return Err(CellFault::Node(fault));
+        }
+        let same = before.is_in(self.node.state());
+        let more = before.runs_until(self.node.state(), self.refused);
+        let phase = replace(&mut self.phase, Phase::Up);
+        self.book.note(first_event(phase, same), Outcome::Quiet);
+        self.book.note_restarts(more);
+        self.refused = 0;
+        self.shown = NodeFields::of(self.node.state());
+        Ok(())
+    }
+}
