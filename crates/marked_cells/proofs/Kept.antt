@@ -29,6 +29,7 @@ use Rattle.world_views.specs.Views.{View}
 use Rattle.ether.specs.Passes.{EtherParts, view_of}
 use Rattle.ether.specs.Plays.{after_event, after_opening, after_take}
 use Rattle.ether.specs.declared.pass.Pass.{Pass}
+use Rattle.node_cells.specs.declared.record.Recording.{Recording}
 use Rattle.node_cells.specs.declared.cell_fault.CellFault.{CellFault}
 use Rattle.node_cells.specs.declared.cell_fault.CellFault.TheVariants.{Memory, Spent, Node as OfNode}
 use Rattle.node_cells.specs.declared.phase.Phase.{Phase}
@@ -41,7 +42,7 @@ use Rattle.node_cells.specs.Posts.{posts_from}
 use Rattle.node_cells.specs.Restarts.{AreRestarts, IsNoRestart, IsRestart, after_turns, first_of}
 use Rattle.node_cells.specs.Turns.{CellOf, FallsInTurn, HasDelivered, HasHeardIn, HasLooked, IsEvent, IsNoTurn, IsTurn}
 use Rattle.node_cells.specs.Upstreams.{Tally}
-use Rattle.node_cells.proofs.Recording.{posts_are}
+use Rattle.node_cells.proofs.Recorded.{posts_are}
 use Rattle.node_cells.proofs.Showing.{does_state, does_out}
 use Rattle.marked_cells.specs.Marks.{Keeps, asked_after, asked_from, asks, has_own, is_refusal, larger, reached_after}
 use Rattle.marked_cells.proofs.Applied.{Reaches, quiet_turn_reaches, turn_reaches}
@@ -279,9 +280,10 @@ started_sound n boot term vote log sent = (
 )
 
 module _ {Setup Hosted Store B L T E P U : Type 0} (marked : B → Option Mark) (k : Keeper Store B) where
-  pub fresh_keeps : (ether : EtherParts Setup) (pass : Pass B L T) (store : Store) (upstream : U) (c : CellParts Setup Hosted Store B L T E P U) → IsFresh k ether pass store upstream c
+  pub fresh_keeps : (ether : EtherParts Setup) (pass : Pass B L T) (store : Store) (upstream : U) (recording : Recording) (c : CellParts Setup Hosted Store B L T E P U)
+      → IsFresh k ether pass store upstream recording c
       → (view_of pass).size ≡ ether.size → (view_of pass).turns ≡ [] → Keeps marked (view_in c) 0 None
-  fresh_keeps ether pass store upstream c is size turns =
+  fresh_keeps ether pass store upstream recording c is size turns =
       let began = is.started.begins in
       let state : seen c.node.state [] ≡ started ether.size (suc began.0.boot) began.0.term began.0.vote began.0.log [] = began.2 [] in
       let w : View B L T = after_opening (view_of pass) is.ticket (k.condition c.node.store).honest (seen c.node.state []) in

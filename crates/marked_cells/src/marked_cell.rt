@@ -18,7 +18,7 @@ use crate::reaching::{asks, is_reached, is_refusal, larger, reached_after};
 use body_marks::Marking;
 use ether::{Ether, Pass};
 use machine_laws::{Hosted, Machine};
-use node_cells::{CellFault, NodeCell, NodeRecord, TurnOutput, Upstream};
+use node_cells::{CellFault, NodeCell, NodeRecord, Recording, TurnOutput, Upstream};
 use node_steps::Refusal;
 use raft_log::{GroupSize, NodeId, NodeState};
 use raft_node::{Cause, Described, Looked, NodeFault};
@@ -64,13 +64,14 @@ impl<M: Marking, S: Stable<M::Command>, U: Upstream> MarkedCell<M, S, U> {
         pass: Pass<M::Command, M::Line, M::Target>,
         store: S,
         upstream: U,
+        recording: Recording,
     ) -> Result<Self, CellFault>
         requires pass { IsPass (arc_value ether.now) pass × IsUnopened pass
             × ((view_of pass).turns ≡ []) }
         ensures { HasOpened (keeper S.saved S.may_stand S.condition) (arc_value ether.now) pass
-            store upstream result }
+            store upstream recording result }
     {
-        match NodeCell::open(alloc, ether, pass, store, upstream) {
+        match NodeCell::open(alloc, ether, pass, store, upstream, recording) {
             Ok(cell) => Ok(MarkedCell {
                 cell,
                 asked: Number::new(0),
