@@ -5,8 +5,9 @@ ghost use Rattle.ether.specs.Passes.{AreNew};
 
 use crate::upstream::NoUpstream;
 use ether::{Ether, Pass};
-use node_cells::NodeCell;
+use node_cells::{NodeCell, Recording};
 use raft_log::GroupSize;
+use recorder::NodeFields;
 use stable_store::MemoryStore;
 use std::alloc::Global;
 use std::sync::Arc;
@@ -19,16 +20,16 @@ pub type ToyCell = NodeCell<Toy, MemoryStore<u8>, NoUpstream>;
 pub type ToyPass = Pass<u8, u8, u8>;
 
 /// The cells of the three nodes of an ether, over new stores, node 1's first.
-pub fn three(alloc: Global) -> Result<Vec<ToyCell>, Fail> {
+pub fn three(alloc: Global, recording: Recording) -> Result<Vec<ToyCell>, Fail> {
     let Some(size) = GroupSize::new(3) else {
         return Err(Fail::from("no such size"));
     };
     let (ether, passes) = Ether::<Toy>::new(alloc, size, &0)?;
     let ether = Arc::new(alloc, ether)?;
     let mut passes = passes;
-    let third = open_last(alloc, &ether, &mut passes)?;
-    let second = open_last(alloc, &ether, &mut passes)?;
-    let first = open_last(alloc, &ether, &mut passes)?;
+    let third = open_last(alloc, &ether, &mut passes, recording)?;
+    let second = open_last(alloc, &ether, &mut passes, recording)?;
+    let first = open_last(alloc, &ether, &mut passes, recording)?;
     let mut cells = Vec::new(alloc);
     cells.push(first)?;
     cells.push(second)?;
@@ -41,6 +42,7 @@ fn open_last(
     alloc: Global,
     ether: &Arc<Ether<Toy>, Global>,
     passes: &mut Vec<ToyPass>,
+    recording: Recording,
 ) -> Result<ToyCell, Fail>
     requires { AreNew (arc_value ether.now) passes.old.items }
     ensures { IfOk result (λ _. AreNew (arc_value ether.now) passes.new.items) }
@@ -49,7 +51,7 @@ fn open_last(
         return Err(Fail::from("no pass is left"));
     };
     let store = MemoryStore::new(alloc);
-    let cell = NodeCell::open(alloc, ether, pass, store, NoUpstream::new())?;
+    let cell = NodeCell::open(alloc, ether, pass, store, NoUpstream::new(), recording)?;
     Ok(cell)
 }
 
@@ -116,21 +118,25 @@ pub fn line_of(cells: &[ToyCell], node: usize) -> Result<(u64, u64, u64, u64), F
     if node >= cells.len() {
         return Err(Fail::from("no such node"));
     }
-    let fields = cells[node].fields();
-    Ok((
+    Ok(places(cells[node].fields()))
+}
+
+/// The term, log, commit and applied place of a line.
+fn places(fields: NodeFields) -> (u64, u64, u64, u64) {
+    (
         fields.term.value(),
         fields.log.value(),
         fields.commit.value(),
         fields.applied.value(),
-    ))
+    )
 }
 
-/// How many turns the node at this place recorded.
-pub fn recorded(cells: Vec<ToyCell>, node: usize) -> Result<usize, Fail> {
-    let mut cells = cells;
+/// The cell at this place is closed: how many turns it recorded, and the term, log, commit and applied
+/// place of the line that it left.
+pub fn left(cells: &mut Vec<ToyCell>, node: usize) -> Result<(usize, (u64, u64, u64, u64)), Fail> {
     if node >= cells.len() {
         return Err(Fail::from("no such node"));
     }
-    let cell = cells.swap_remove(node);
-    Ok(cell.close().turns.len())
+    let record = cells.remove(node).close();
+    Ok((record.turns.len(), places(record.state)))
 }
