@@ -7,7 +7,7 @@ use crate::noting::Notes;
 use crate::upstream::NoUpstream;
 use ether::{Ether, Pass};
 use marked_cells::MarkedCell;
-use node_cells::CellFault;
+use node_cells::{CellFault, Recording};
 use node_steps::Refusal;
 use raft_log::GroupSize;
 use raft_node::NodeFault;
@@ -53,7 +53,7 @@ fn open_last(
         return Err(Fail::from("no pass is left"));
     };
     let store = MemoryStore::new(alloc);
-    let cell = MarkedCell::open(alloc, ether, pass, store, NoUpstream::new())?;
+    let cell = MarkedCell::open(alloc, ether, pass, store, NoUpstream::new(), Recording::On)?;
     Ok(cell)
 }
 
