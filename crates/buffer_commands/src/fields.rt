@@ -11,7 +11,8 @@ pub fn put_two<A: Wire, B: Wire>(out: &mut Vec<u8>, first: &A, second: &B) -> Re
     requires second { B.fits second.now }
     ensures items { out.new.items ≡
         appended result out.old.items (A.spelled first.now ++ B.spelled second.now) }
-    ensures full { OnErr result (LacksRoom out.old (length (A.spelled first.now ++ B.spelled second.now))) }
+    ensures full { OnErr result (LacksRoom out.old
+        (length (A.spelled first.now ++ B.spelled second.now))) }
     ensures capacity { vec_capacity out.old ≤ vec_capacity out.new }
 {
     let len = out.len();

@@ -20,9 +20,19 @@ impl HasLines for BufferMachine {
 
     ghost down = { Down };
 
-    ghost rejoined = { elim [ Close o ↦ None | Show o shown ↦ None | Send o line ↦ None | Rejoin line ↦ Some line ] };
+    ghost rejoined = { elim [
+      | Close o ↦ None
+      | Show o shown ↦ None
+      | Send o line ↦ None
+      | Rejoin line ↦ Some line
+    ] };
 
-    ghost sent = { elim [ Close o ↦ None | Show o shown ↦ None | Send o line ↦ Some (o, line) | Rejoin line ↦ None ] };
+    ghost sent = { elim [
+      | Close o ↦ None
+      | Show o shown ↦ None
+      | Send o line ↦ Some (o, line)
+      | Rejoin line ↦ None
+    ] };
 
     fn heard(alloc: Global, at: Moment, line: &WireLine) -> Result<Command, AllocError> {
         Ok(Command::Upstream(at, line.copy(alloc)?))

@@ -68,7 +68,8 @@ impl<M: Hosted> Ether<M> {
         requires heard { IsHeard (view_of pass.old) event.now }
         ensures open { StaysOpen self.now pass.old pass.new }
         ensures ticket { IfOk result (λ t. view_of pass.new
-            ≡ after_event (⟦<M as Described>⟧.machine self.now.setup) (view_of pass.old) t event.now) }
+            ≡ after_event (⟦<M as Described>⟧.machine self.now.setup) (view_of pass.old) t
+            event.now) }
         ensures spent { IfErr result (λ e. (e ≡ Spent) × (pass.new ≡ pass.old)
             × (length (view_of pass.old).turns ≡ 2 ^ 60)) }
         ensures looks { looks_of pass.new ≡ looks_of pass.old }
@@ -89,7 +90,8 @@ impl<M: Hosted> Ether<M> {
         requires step { W.becomes ≡ ticked (⟦<M as Described>⟧.machine self.now.setup) event.now }
         ensures open { StaysOpen self.now pass.old pass.new }
         ensures view { view_of pass.new
-            ≡ after_event (⟦<M as Described>⟧.machine self.now.setup) (view_of pass.old) result event.now }
+            ≡ after_event (⟦<M as Described>⟧.machine self.now.setup) (view_of pass.old) result
+            event.now }
         ensures looks { looks_of pass.new ≡ looks_of pass.old }
     {
         let _ = event;

@@ -119,7 +119,8 @@ fn seated<'a>(
 
 /// An ether for three nodes, and the passes of nodes 1 and 2.
 fn two_of_three(alloc: Global) -> Result<(ToyEther, ToyPass, ToyPass), TradeFault>
-    ensures { IfOk result (λ r. (IsPass r.0 r.1 × IsUnopened r.1) × (IsPass r.0 r.2 × IsUnopened r.2) × (r.0.size ≡ 3)) }
+    ensures { IfOk result (λ r. (IsPass r.0 r.1 × IsUnopened r.1)
+        × (IsPass r.0 r.2 × IsUnopened r.2) × (r.0.size ≡ 3)) }
 {
     let Some(size) = GroupSize::new(3) else {
         return Err(TradeFault::Node);

@@ -129,7 +129,8 @@ pub fn post(
 
 /// An ether for three nodes, and the passes of nodes 1 and 2.
 pub fn two_of_three(alloc: Global) -> Result<(ToyEther, ToyPass, ToyPass), Fail>
-    ensures { IfOk result (λ r. (IsPass r.0 r.1 × IsUnopened r.1) × (IsPass r.0 r.2 × IsUnopened r.2)) }
+    ensures { IfOk result (λ r. (IsPass r.0 r.1 × IsUnopened r.1)
+        × (IsPass r.0 r.2 × IsUnopened r.2)) }
 {
     let Some(size) = GroupSize::new(3) else {
         return Err(Fail::from("no such size"));
@@ -145,7 +146,8 @@ pub fn two_of_three(alloc: Global) -> Result<(ToyEther, ToyPass, ToyPass), Fail>
 /// The last of some new passes.
 fn last_pass(ether: &ToyEther, passes: &mut Vec<ToyPass>) -> Result<ToyPass, Fail>
     requires { AreNew ether.now passes.old.items }
-    ensures { IfOk result (λ p. AreNew ether.now passes.new.items × IsPass ether.now p × IsUnopened p) }
+    ensures { IfOk result (λ p. AreNew ether.now passes.new.items × IsPass ether.now p
+        × IsUnopened p) }
 {
     let _ = ether;
     match passes.pop() {

@@ -274,7 +274,8 @@ impl<M: Marking, S: Stable<M::Command>, U: Upstream> MarkedCell<M, S, U> {
     /// The number of the line that is to be claimed next, by what the node applied, while it is up.
     pub fn next_claim(&self) -> Option<Number>
         ensures { self.now.parts.node.down ≡ None
-            → result ≡ M.next_claim self.now.parts.node.setup (applied_bodies self.now.parts.node.state) }
+            → result ≡ M.next_claim self.now.parts.node.setup
+            (applied_bodies self.now.parts.node.state) }
     {
         self.cell.next_claim()
     }

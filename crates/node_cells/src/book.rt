@@ -130,7 +130,8 @@ impl<M: Hosted> Book<M> {
         requires within { AreWithin (suc self.old.pass.node) self.old.ether.size messages.items }
         requires stand { (view_of self.old.pass).honest ≡ true
             → StandFrom (view_of self.old.pass).state.sent self.old.sent messages.items }
-        requires few { self.old.sent + length messages.items ≤ 7 * length (view_of self.old.pass).turns }
+        requires few { self.old.sent + length messages.items
+            ≤ 7 * length (view_of self.old.pass).turns }
         ensures book { IsBook (⟦<M as Described>⟧.machine self.old.ether.setup) self.new }
         ensures posted { HasPosted (⟦<M as Described>⟧.machine self.old.ether.setup) self.old
             (length messages.items) self.new }

@@ -193,7 +193,8 @@ fn copies<M: Hosted>(
     place: Number,
     effects: &[M::Effect],
 ) -> Result<(Vec<u8>, Outcome<M::Effect, M::Played>), AllocError>
-    ensures { IfOk result (λ r. (r.0.items ≡ map to_of messages.now) × IsGiven place effects.now r.1) }
+    ensures { IfOk result (λ r. (r.0.items ≡ map to_of messages.now)
+        × IsGiven place effects.now r.1) }
 {
     let posted_to = addressees(alloc, messages)?;
     let outcome = outcome_of(alloc, place, effects)?;

@@ -42,7 +42,8 @@ impl<M: Hosted> Model for Closing<M> {
 
     ghost invariant = { λ c. IsClosing (hosted M.blank M.opened M.shut M.heard M.claim M.source
         (M.effects c.ether.value.setup) (M.next_claim c.ether.value.setup)
-        (M.playback c.ether.value.setup) M.class) c.ether.value c.recording c.passes.items c.records.items
+        (M.playback c.ether.value.setup) M.class) c.ether.value c.recording c.passes.items
+        c.records.items
         × (c.ether.value.size ≤ vec_capacity c.passes)
         × (c.ether.value.size ≤ vec_capacity c.records) };
 }

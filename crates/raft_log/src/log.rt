@@ -184,7 +184,8 @@ impl<B: Wire> Log<B> {
     pub fn repaired(&self, prev: Number, entries: Vec<Entry<B>>) -> (Number, Vec<Entry<B>>)
         requires within { prev ≤ length self.now }
         requires room { prev + length entries.items ≤ entry_limit }
-        ensures value { take result.0 self.now ++ result.1.items ≡ repair self.now prev entries.items }
+        ensures value { take result.0 self.now ++ result.1.items
+            ≡ repair self.now prev entries.items }
         ensures kept { result.0 ≤ length self.now }
         ensures few { length result.1.items ≤ length entries.items }
         ensures room { result.0 + length result.1.items ≤ entry_limit }

@@ -109,7 +109,8 @@ impl Peers {
 
     /// With the vote of this node alone.
     pub fn only(self, node: NodeId) -> Peers
-        ensures { result ≡ record self { voters = with_item (replicate self.size false) node true } }
+        ensures { result
+            ≡ record self { voters = with_item (replicate self.size false) node true } }
     {
         let mut peers = self;
         peers.voters = [false; 7];

@@ -15,7 +15,8 @@ pub fn each_request_takes_effect_once<M: HasClients>()
         → times origin number (fresh bodies) ≤ 1 }
     ensures dropped { (later earlier : History (Body M.Command M.Action)) (place : ℕ)
         (origin : Origin)
-        (number at : ℕ) (action : M.Action) → stays (fresh earlier) (Body.Asked origin number at action) ≡ false
+        (number at : ℕ) (action : M.Action)
+        → stays (fresh earlier) (Body.Asked origin number at action) ≡ false
         → plain M.client (later ++ (place, Body.Asked origin number at action) ∷ earlier)
         ≡ plain M.client (later ++ earlier) }
 {}

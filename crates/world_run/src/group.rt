@@ -55,8 +55,10 @@ impl<M: Hosted> Group<M> {
     ) -> Result<Outcome<M::Effect, M::Played>, AllocError>
         requires { IsGroup self.old.setup self.old.size self.old.cells.items }
         ensures same { (self.new.setup ≡ self.old.setup) × (self.new.size ≡ self.old.size) }
-        ensures group { IfOk result (λ _. IsGroup self.old.setup self.old.size self.new.cells.items) }
-        ensures comes { IfOk result (HasHappened (⟦<M as Described>⟧.machine self.old.setup) event.now
+        ensures group { IfOk result
+            (λ _. IsGroup self.old.setup self.old.size self.new.cells.items) }
+        ensures comes { IfOk result (HasHappened
+            (⟦<M as Described>⟧.machine self.old.setup) event.now
             self.old.cells.items self.new.cells.items) }
     {
         match event {
@@ -80,7 +82,8 @@ impl<M: Hosted> Group<M> {
     ) -> Result<Outcome<M::Effect, M::Played>, AllocError>
         requires { IsGroup self.old.setup self.old.size self.old.cells.items }
         ensures same { (self.new.setup ≡ self.old.setup) × (self.new.size ≡ self.old.size) }
-        ensures group { IfOk result (λ _. IsGroup self.old.setup self.old.size self.new.cells.items) }
+        ensures group { IfOk result
+            (λ _. IsGroup self.old.setup self.old.size self.new.cells.items) }
         ensures comes { IfOk result (HasOwnedAt (⟦<M as Described>⟧.machine self.old.setup) node
             (told_own (⟦<M as Described>⟧.machine self.old.setup) own)
             self.old.cells.items self.new.cells.items) }

@@ -13,7 +13,8 @@ impl<M: Hosted> World<M> {
     /// The lines that were handed upstream, by all nodes and all their runs, each with its number, in
     /// the order of the events. Of a world that is not that of some events it says what came out.
     pub fn handed(&self, alloc: Global) -> Result<Vec<(u64, &Line)>, AllocError>
-        ensures outs { IfOk result (λ v. map (λ h. (h.0, h.1.now)) v.items ≡ handed_in M.class self.now.outs) }
+        ensures outs { IfOk result (λ v. map (λ h. (h.0, h.1.now)) v.items
+            ≡ handed_in M.class self.now.outs) }
         ensures handed { IfOk result (λ v. (setup : M.Setup) → IsHandedOf
             (⟦<M as Described>⟧.machine setup) self.now (map (λ h. (h.0, h.1.now)) v.items)) }
     {

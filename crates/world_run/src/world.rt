@@ -51,7 +51,8 @@ impl<M: Hosted> World<M> {
         setup: &M::Setup,
         events: &[Event<M::Command, M::Line, M::Target>],
     ) -> Result<Self, WorldFault>
-        ensures world { IfOk result (IsWorld (⟦<M as Described>⟧.machine setup.now) size events.now) }
+        ensures world { IfOk result
+            (IsWorld (⟦<M as Described>⟧.machine setup.now) size events.now) }
         ensures agreed { IfOk result (λ _. IsAgreed (⟦<M as Described>⟧.machine setup.now) size
             (events_of (⟦<M as Described>⟧.machine setup.now) events.now)) }
         ensures faithful { IfOk result (λ _. IsFaithful (⟦<M as Described>⟧.machine setup.now) size
