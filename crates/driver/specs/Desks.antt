@@ -24,11 +24,11 @@ is_over timer wait now = nat_le wait (now - timer.since)
 abbrev pub patience : Settings → ℕ → ℕ
 patience settings id = settings.timeout_ms + 50 * id
 
--- a leader sends where its log or what is agreed of it grew since it last sent, or where it sent nothing for a while; but not
--- while its last such note is not done
+-- a leader sends where its log or what is agreed of it grew since it last sent, where a node that lags behind it answered since
+-- then, or where it sent nothing for a while; but not while its last such note is not done
 unfoldable pub is_to_beat : Desk → Settings → ℕ → Status → Bool
 is_to_beat desk settings now status =
-    (nat_lt desk.beaten.0 status.last || nat_lt desk.beaten.1 status.commit || is_over desk.beat settings.beat_ms now)
+    (nat_lt desk.beaten.0 status.last || nat_lt desk.beaten.1 status.commit || desk.is_answered || is_over desk.beat settings.beat_ms now)
     && nat_le desk.beat_note desk.done
 
 -- what a node is told that is up: a leader to send, and any other, where it heard of no leader for too long, to ask for votes
@@ -49,6 +49,10 @@ note_for desk settings now (Some status) None = note_up desk settings now status
 abbrev pub note_at : Desk → Settings → ℕ → Option (Note TowerBody WireLine)
 note_at desk settings now = note_for desk settings now desk.status desk.down
 
+-- as many notes of a node wait as may: 256 that it was given are not done
+abbrev pub is_full : Desk → Bool
+is_full desk = nat_le 256 (desk.given - desk.done)
+
 -- a note as orders to the node
 abbrev pub told : ℕ → Option (Note TowerBody WireLine) → List Order
 told id None = []
@@ -65,7 +69,7 @@ at now = record { since = now }
 -- a leader that was told to send: when, by which note, and what it stood at then
 abbrev pub beaten_at : Desk → ℕ → Status → Desk
 beaten_at desk now status = record (counted desk)
-    { beat = at now; beaten = (status.last, status.commit); beat_note = min (desk.given + 1) (2 ^ 64 - 1) }
+    { beat = at now; beaten = (status.last, status.commit); is_answered = false; beat_note = min (desk.given + 1) (2 ^ 64 - 1) }
 
 -- a node that was told to start again waits twice as long as before until it is told next, up to a limit
 abbrev pub restarted_at : Desk → ℕ → Desk

@@ -1,16 +1,20 @@
 -- When word goes round that earlier runs of a node are gone.
-use Rattle.std.specs.Prelude.{ℕ, ◌+◌, ◌*◌, ◌^◌, nat_lt, ◌&&◌, Bool, true, false, nat_eq, nat_le, if◌then◌else◌, Option, Some, None}
+use Rattle.std.specs.Prelude.{ℕ, ◌+◌, ◌-◌, ◌*◌, ◌^◌, min, nat_lt, ◌&&◌, Bool, true, false, nat_eq, nat_le, if◌then◌else◌, List, Option, Some, None, slice_get}
 use Rattle.bouncer_tower.specs.Bodies.{TowerBody}
 use Rattle.bouncer_tower.specs.Hosting.{of_buffers}
 use Rattle.buffer_commands.specs.declared.command.Command.TheVariants.{NodeGone}
+use Rattle.buffer_commands.specs.declared.wire_line.WireLine.{WireLine}
 use Rattle.node_notes.specs.Notes.{leads}
+use Rattle.node_notes.specs.declared.note.Note.{Note}
+use Rattle.node_notes.specs.declared.note.Note.TheVariants.{Restart}
 use Rattle.node_notes.specs.declared.status.Status.{Status}
 use Rattle.driver.specs.declared.desk.Desk.{Desk}
 use Rattle.driver.specs.declared.gone.Lead.{Lead}
 use Rattle.driver.specs.declared.gone.Notice.{Notice}
 use Rattle.driver.specs.declared.gone.Progress.{Progress}
 use Rattle.driver.specs.declared.gone.Progress.TheVariants.{Told, Appended, Lost, Applied}
-use Rattle.driver.specs.Desks.{at, is_over}
+use Rattle.driver.specs.Desks.{at, counted, is_over}
+use Rattle.driver.specs.Hearing.{is_none}
 
 -- that the runs of a node with a smaller boot are gone
 abbrev pub gone_body : ℕ → ℕ → TowerBody
@@ -77,3 +81,45 @@ dead_below desk wait now = gone_below desk.seen (is_over desk.heard (10 * wait) 
 abbrev pub is_news : Option Notice → ℕ → Bool
 is_news None floor = true
 is_news (Some notice) floor = nat_lt notice.floor floor
+
+-- word that is known to be applied: the runs below its floor are gone for all nodes
+abbrev pub floor_by : Progress → ℕ → Option ℕ
+floor_by (Told note lead) floor = None
+floor_by (Appended lead place) floor = None
+floor_by Lost floor = None
+floor_by Applied floor = Some floor
+
+abbrev pub applied_floor : Option Notice → Option ℕ
+applied_floor None = None
+applied_floor (Some notice) = floor_by notice.progress notice.floor
+
+-- a node that stands so is up in a run below this one
+abbrev pub is_up_below : Option Status → ℕ → Bool
+is_up_below None floor = false
+is_up_below (Some status) floor = is_none status.down && nat_lt status.boot floor
+
+-- a node is to start again where it lives on in a run that is gone; but not while its last such note is not done
+abbrev pub is_to_restart : Desk → ℕ → Bool
+is_to_restart desk floor = is_up_below desk.status floor && nat_le desk.restart_note desk.done
+
+-- what a node is told of which the runs below this one are gone, if they are
+abbrev pub restart_if : Desk → Option ℕ → Option (Note TowerBody WireLine)
+restart_if desk None = None
+restart_if desk (Some floor) = if is_to_restart desk floor then Some Restart else None
+
+-- what is known of the node then
+abbrev pub restart_behind : Desk → Option (Note TowerBody WireLine) → Desk
+restart_behind desk None = desk
+restart_behind desk (Some note) = record (counted desk) { restart_note = min (desk.given + 1) (2 ^ 64 - 1) }
+
+-- the word that goes round of a node, if there is one
+abbrev pub notice_in : Option (Option Notice) → Option Notice
+notice_in None = None
+notice_in (Some place) = place
+
+abbrev pub notice_at : List (Option Notice) → ℕ → Option Notice
+notice_at all node = notice_in (slice_get all (node - 1))
+
+-- what a node is told by the word that goes round of it
+abbrev pub restart_at : List (Option Notice) → Desk → Option (Note TowerBody WireLine)
+restart_at all desk = restart_if desk (applied_floor (notice_at all desk.id))

@@ -1,5 +1,5 @@
 -- What is known of a node behind word of how it stands, and what an operator is told of it.
-use Rattle.std.specs.Prelude.{ℕ, ◌+◌, ◌-◌, ◌^◌, ◌&&◌, ◌||◌, Bool, true, false, not, min, nat_eq, if◌then◌else◌, List, [], ◌∷◌, ◌++◌, Option, Some, None}
+use Rattle.std.specs.Prelude.{ℕ, ◌+◌, ◌&&◌, ◌||◌, Bool, true, false, not, min, nat_eq, nat_lt, if◌then◌else◌, List, [], ◌∷◌, ◌++◌, Option, Some, None}
 use Rattle.node_notes.specs.declared.status.Status.{Status}
 use Rattle.node_notes.specs.Notes.{leads}
 use Rattle.pacing.specs.declared.timer.Timer.{Timer}
@@ -64,11 +64,11 @@ abbrev pub up_behind : Desk → ℕ → Bool → Desk
 up_behind desk now true = record desk { down = None; heard = at now }
 up_behind desk now false = record desk { down = None; heard = at now; led = at now }
 
--- it stands so, its note is done or not, and a leader was heard of, itself or another, or was not
+-- it stands so, one more of the notes that it was given is done or not, and a leader was heard of, itself or another, or was not
 abbrev pub told_behind : Desk → ℕ → Status → Bool → Bool → Desk
 told_behind desk now status led is_last = record desk {
   status = Some status;
-  done = (if is_last then min (desk.done + 1) (2 ^ 64 - 1) else desk.done);
+  done = (if is_last then min (desk.done + 1) desk.given else desk.done);
   led = (if led || leads status then at now else desk.led);
 }
 
@@ -88,3 +88,13 @@ stood_news desk status (Some cause) = down_news desk.id cause desk.down
 -- what an operator is told
 abbrev pub heard_news : Desk → Status → List Order
 heard_news desk status = elected_news desk status ++ stood_news desk status status.down
+
+-- a node of which this is known leads in the term of another that stands so, and has more entries
+abbrev pub is_ahead : Option Status → Status → Bool
+is_ahead None other = false
+is_ahead (Some status) other = leads status && nat_eq status.term other.term && nat_lt other.last status.last
+
+-- what is known of a node once another that stands so heard of the leader of its term: it is answered where it is that leader,
+-- and the other lags behind
+abbrev pub answered_by : Desk → Status → Desk
+answered_by desk other = if is_ahead desk.status other then record desk { is_answered = true } else desk

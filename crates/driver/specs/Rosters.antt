@@ -1,5 +1,5 @@
 -- What happens to one of all clients.
-use Rattle.std.specs.Prelude.{◌≡◌, ◌⊎◌, ◌++◌, ◌&&◌, ℕ, true, false, if◌then◌else◌, List, [], ◌∷◌, Option, Some, None}
+use Rattle.std.specs.Prelude.{◌≡◌, ◌⊎◌, ◌++◌, ◌-◌, ◌&&◌, ℕ, Bool, true, false, not, if◌then◌else◌, List, [], ◌∷◌, Option, Some, None, slice_get}
 use Rattle.std.specs.Ordering.{nat_cmp}
 use Rattle.std.specs.BTreeMap.{get}
 use Rattle.client_gate.specs.declared.settings.Settings.{Settings}
@@ -12,12 +12,28 @@ use Rattle.wire_bytes.specs.declared.origin.Origin.{Origin}
 use Rattle.driver.specs.declared.client.Client.{Client}
 use Rattle.driver.specs.declared.clients.Clients.{Clients}
 use Rattle.driver.specs.declared.order.Order.{Order}
-use Rattle.driver.specs.Desks.{at}
+use Rattle.driver.specs.declared.desk.Desk.{Desk}
+use Rattle.driver.specs.Desks.{at, is_full}
 use Rattle.driver.specs.Clients.{HasHeard, HasPassed, IsCutOff, StandsSo, ended, is_done, parting_unless}
 
 -- the client of this number, if there is one
 abbrev pub client_at : Clients → ℕ → Option Client
 client_at clients number = get nat_cmp clients.all number
+
+-- the node of a client, if there is one
+abbrev pub node_in : Option Client → Option ℕ
+node_in None = None
+node_in (Some client) = Some client.origin.0
+
+-- bytes are read that may bring notes to a node of which this is known: not while as many as may wait already
+abbrev pub takes_notes : Option Desk → Bool
+takes_notes None = true
+takes_notes (Some desk) = not (is_full desk)
+
+-- bytes are read that may bring notes to this node, if they are for one
+abbrev pub is_read_for : List Desk → Option ℕ → Bool
+is_read_for desks None = true
+is_read_for desks (Some node) = takes_notes (slice_get desks (node - 1))
 
 -- all other numbers have the clients that they had
 abbrev pub AreOthersSame : ℕ → Clients → Clients → Type 0

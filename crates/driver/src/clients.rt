@@ -1,10 +1,11 @@
 //! All clients.
 ghost use Rattle.std.specs.Prelude.{◌≡◌, Option, None, Some, OnOk, OnErr};
-ghost use Rattle.driver.specs.Rosters.{AreOthersSame, Hears, IsKept, IsLost, Receives, Serves, client_at};
+ghost use Rattle.driver.specs.Rosters.{AreOthersSame, Hears, IsKept, IsLost, Receives, Serves, client_at, node_in};
 
 use crate::client::Client;
 use crate::order::{Now, Order};
 use bouncer_tower::TowerEffect;
+use raft_log::NodeId;
 use std::alloc::{AllocError, Global};
 use std::collections::BTreeMap;
 use wire_bytes::Origin;
@@ -119,6 +120,16 @@ impl Clients {
             self.all.remove(&number);
         }
         Ok(())
+    }
+
+    /// The node of the client of this number, if there is one.
+    pub fn node_of(&self, number: u64) -> Option<NodeId>
+        ensures { result ≡ node_in (client_at self.now number) }
+    {
+        match self.all.get(&number) {
+            Some(client) => Some(NodeId::new(client.origin().node())),
+            None => None,
+        }
     }
 
     /// Time passed.

@@ -2,8 +2,8 @@
 ghost use Rattle.std.specs.Prelude.{◌≡◌, ◌++◌, ◌∷◌, [], min, ◌+◌, OnOk, Some, None, ◌^◌, ◌-◌, if◌then◌else◌};
 ghost use Rattle.node_notes.specs.Notes.{leads};
 ghost use Rattle.node_notes.specs.declared.note.Note.TheVariants.{Beat};
-ghost use Rattle.driver.specs.Gone.{dead_below, greatest};
-ghost use Rattle.driver.specs.Desks.{told};
+ghost use Rattle.driver.specs.Gone.{dead_below, greatest, is_to_restart, restart_behind, restart_if};
+ghost use Rattle.driver.specs.Desks.{is_full, told};
 
 mod clock;
 mod hearing;
@@ -21,6 +21,10 @@ const LONGEST: u32 = 60_000;
 
 /// After how many timeouts without an answer a node counts as dead.
 const DEAD: u64 = 10;
+
+/// While so many notes of a node are not done, nothing more is read for it: else its beats would wait
+/// behind all that was read, and the other nodes would choose another leader.
+const MOST_WAITING: u64 = 256;
 
 /// The largest boot.
 const MOST_BOOT: u64 = 1 << 60;
@@ -47,6 +51,8 @@ pub struct Desk {
     beat: Timer,
     beat_note: u64,
     beaten: (Number, Number),
+    /// Another node that lags behind it answered since then.
+    is_answered: bool,
     claimed: Option<Claimed>,
     /// Since when it is down, if it is, and how long until it is started again.
     down: Option<Timer>,
@@ -56,6 +62,8 @@ pub struct Desk {
     heard: Timer,
     /// The greatest boot in the origin of a client of it, if it had one.
     seen: Option<Number>,
+    /// By which of its notes it was last told to start again though it was up.
+    restart_note: u64,
 }
 
 impl Desk {
@@ -71,12 +79,14 @@ impl Desk {
             beat: Timer::from(now.ms),
             beat_note: 0,
             beaten: (Number::new(0), Number::new(0)),
+            is_answered: false,
             claimed: None,
             down: None,
             wait_ms: first,
             backoff: Backoff::new(first, LONGEST),
             heard: Timer::from(now.ms),
             seen: None,
+            restart_note: 0,
         }
     }
 
@@ -98,6 +108,13 @@ impl Desk {
         ensures { result ≡ self.now.done }
     {
         self.done
+    }
+
+    /// Whether as many of its notes wait as may.
+    pub fn is_full(&self) -> bool
+        ensures { result ≡ is_full self.now }
+    {
+        self.given.saturating_sub(self.done) >= MOST_WAITING
     }
 
     /// A client of it has an origin with this boot.
@@ -126,6 +143,37 @@ impl Desk {
             return None;
         }
         Some(Number::new(seen.value() + 1))
+    }
+
+    /// The runs of the node below this one are gone for all nodes: where it is up in one of them it is told
+    /// to start again, so that it gets a run whose clients count. At most one such note waits.
+    pub fn restart_below(
+        &mut self,
+        floor: Number,
+        orders: &mut Vec<Order>,
+    ) -> Result<(), AllocError>
+        ensures told { OnOk result (orders.new.items
+            ≡ orders.old.items ++ told self.old.id (restart_if self.old (Some floor))) }
+        ensures desk { OnOk result (self.new
+            ≡ restart_behind self.old (restart_if self.old (Some floor))) }
+    {
+        if self.is_to_restart(floor) {
+            self.tell(Note::Restart, orders)?;
+            self.restart_note = self.given;
+        }
+        Ok(())
+    }
+
+    /// Whether it is up in a run below this one, and was not told to start again just before.
+    fn is_to_restart(&self, floor: Number) -> bool
+        ensures { result ≡ is_to_restart self.now floor }
+    {
+        let Some(status) = &self.status else {
+            return false;
+        };
+        status.down.is_none()
+            && status.boot.value() < floor.value()
+            && self.restart_note <= self.done
     }
 
     /// How the node stood when it was last heard of.

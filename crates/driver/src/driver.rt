@@ -3,23 +3,24 @@ ghost use Rattle.std.specs.Prelude.{◌≡◌, [], IfOk, IfSome, None, OnErr, On
 ghost use Rattle.driver.specs.Links.{last_number, next_number, status_at};
 ghost use Rattle.driver.specs.Rosters.{AreOthersSame, ArrivesIf, IsLost, Receives, Serves, client_at};
 
+mod hearing;
+mod reading;
+
 use crate::client::Client;
 use crate::clients::Clients;
 use crate::desk::Desk;
 use crate::link::Link;
 use crate::news::{Ending, News};
 use crate::notices::Notices;
-use crate::order::{Now, Order, TowerNote, TowerReport};
+use crate::order::{Now, Order, TowerNote};
 use crate::settings::Settings;
-use bouncer_tower::{Tower, TowerEffect};
 use client_gate::ClientGate;
 use irc_line::Line;
-use machine_laws::{Class, Hosted};
-use node_notes::{Note, Report, Status};
+use node_notes::{Note, Status};
 use pacing::Pace;
 use raft_log::NodeId;
 use std::alloc::{AllocError, Global};
-use wire_bytes::{Number, Origin};
+use wire_bytes::Origin;
 
 /// The most nodes that there may be.
 const MOST_NODES: usize = 7;
@@ -141,75 +142,9 @@ impl Driver {
         desk.status()
     }
 
-    /// A node's worker told something.
-    pub fn hear(&mut self, now: &Now, report: TowerReport) -> Result<(), AllocError> {
-        let Report {
-            node,
-            status,
-            effects,
-            led,
-            fault,
-            is_last,
-        } = report;
-        let is_new = self.hear_status(now, node, &status, led, is_last)?;
-        if let Some(desk) = self.desks.get(node.value() as usize - 1) {
-            self.notices
-                .hear(node, &status, desk.done(), fault.is_some());
-        }
-        self.pass_all(now, node, effects.as_slice())?;
-        if is_new {
-            self.begin_run(now, node, status.boot)?;
-        }
-        self.tick_node(now, node)
-    }
-
-    /// How a node stands was told. Whether a run of it began.
-    fn hear_status(
-        &mut self,
-        now: &Now,
-        node: NodeId,
-        status: &Status,
-        led: bool,
-        is_last: bool,
-    ) -> Result<bool, AllocError> {
-        let orders = &mut self.orders;
-        match self.desks.get_mut(node.value() as usize - 1) {
-            Some(desk) => desk.hear(now, status, led, is_last, orders),
-            None => Ok(false),
-        }
-    }
-
-    /// Effects that left a node go to its clients, or to the server.
-    fn pass_all(
-        &mut self,
-        now: &Now,
-        node: NodeId,
-        effects: &[TowerEffect],
-    ) -> Result<(), AllocError> {
-        for effect in effects {
-            match <Tower as Hosted>::class(effect) {
-                Class::To(origin) => self.clients.hear(now, origin, effect, &mut self.orders)?,
-                Class::Rejoin(_, line) => self.link.send(node, line, &mut self.orders)?,
-                Class::Hand(_, _, _) | Class::Nowhere => {}
-            }
-        }
-        Ok(())
-    }
-
     /// A line was handed out by a node, for its session.
     pub fn hand(&mut self, node: NodeId, line: &Line) -> Result<(), AllocError> {
         self.link.send(node, line, &mut self.orders)
-    }
-
-    /// A run of a node began: word goes round that its earlier runs are gone.
-    fn begin_run(&mut self, now: &Now, node: NodeId, boot: Number) -> Result<(), AllocError> {
-        let orders = &mut self.orders;
-        self.clients
-            .leave_runs_below(now, node.value(), boot.value(), orders)?;
-        match self.desks.get_mut(node.value() as usize - 1) {
-            Some(desk) => self.notices.begin(now, desk, boot, orders),
-            None => Ok(()),
-        }
     }
 
     fn tell(&mut self, node: NodeId, note: TowerNote) -> Result<(), AllocError> {
@@ -225,6 +160,7 @@ impl Driver {
             return Ok(());
         };
         desk.tick(now, &self.settings, &mut self.orders)?;
+        self.notices.restart_outlived(desk, &mut self.orders)?;
         if desk.leads() {
             desk.claim(now, &self.settings, &mut self.pace, &mut self.orders)?;
             return self.link.connect(now, node, &mut self.orders);

@@ -2,7 +2,7 @@
 ghost use Rattle.std.specs.Prelude.{◌≡◌, ◌++◌, ◌∷◌, [], OnOk, Some};
 ghost use Rattle.node_notes.specs.declared.note.Note.TheVariants.{Ask};
 ghost use Rattle.driver.specs.Desks.{told};
-ghost use Rattle.driver.specs.Gone.{appended_by, asked_of, gone_body, is_due, lead_of, progress_after, standing_by};
+ghost use Rattle.driver.specs.Gone.{applied_floor, appended_by, asked_of, gone_body, is_due, lead_of, progress_after, standing_by};
 
 use crate::desk::Desk;
 use crate::order::{Now, Order};
@@ -67,6 +67,16 @@ impl Notice {
         ensures { result ≡ self.now.floor }
     {
         self.floor
+    }
+
+    /// The runs of its node below this one are gone for all nodes, once it is known to be applied.
+    pub fn applied_floor(&self) -> Option<Number>
+        ensures { result ≡ applied_floor (Some self.now) }
+    {
+        match self.progress {
+            Progress::Applied => Some(self.floor),
+            Progress::Told(_, _) | Progress::Appended(_, _) | Progress::Lost => None,
+        }
     }
 
     /// Whether it was asked last at this node.

@@ -1,5 +1,7 @@
 //! Word of all nodes whose earlier runs are gone.
-ghost use Rattle.std.specs.Prelude.{◌≡◌};
+ghost use Rattle.std.specs.Prelude.{◌≡◌, ◌++◌, OnOk};
+ghost use Rattle.driver.specs.Desks.{told};
+ghost use Rattle.driver.specs.Gone.{applied_floor, notice_at, restart_at, restart_behind};
 
 use crate::desk::Desk;
 use crate::gone::Notice;
@@ -81,6 +83,34 @@ impl Notices {
             }
         }
         Ok(())
+    }
+
+    /// A node that lives on in a run that is gone for all nodes is started again: what its clients ask for
+    /// is refused from then on.
+    pub fn restart_outlived(
+        &self,
+        desk: &mut Desk,
+        orders: &mut Vec<Order>,
+    ) -> Result<(), AllocError>
+        ensures told { OnOk result (orders.new.items ≡ orders.old.items
+            ++ told desk.old.id (restart_at self.now.all desk.old)) }
+        ensures desk { OnOk result
+            (desk.new ≡ restart_behind desk.old (restart_at self.now.all desk.old)) }
+    {
+        match self.applied_floor(desk.id()) {
+            Some(floor) => desk.restart_below(floor, orders),
+            None => Ok(()),
+        }
+    }
+
+    /// The runs of a node below this one are gone for all nodes, if word of that is known to be applied.
+    fn applied_floor(&self, node: NodeId) -> Option<Number>
+        ensures { result ≡ applied_floor (notice_at self.now.all node) }
+    {
+        match self.all.get(node.value() as usize - 1) {
+            Some(Some(notice)) => notice.applied_floor(),
+            _ => None,
+        }
     }
 
     /// Where a node answered nothing for ten timeouts, word goes round of its run.

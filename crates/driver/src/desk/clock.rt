@@ -52,8 +52,8 @@ impl Desk {
         Ok(())
     }
 
-    /// A leader sends where its log or what is agreed of it grew, or where it sent nothing for a while;
-    /// at most one such note waits.
+    /// A leader sends where its log or what is agreed of it grew, where a node that lags behind it
+    /// answered, or where it sent nothing for a while; at most one such note waits.
     fn tick_leader(
         &mut self,
         now: &Now,
@@ -71,6 +71,7 @@ impl Desk {
         }
         self.beat = Timer::from(now.ms);
         self.beaten = (status.last, status.commit);
+        self.is_answered = false;
         self.tell(Note::Beat, orders)?;
         self.beat_note = self.given;
         Ok(())
@@ -83,8 +84,8 @@ impl Desk {
     {
         let (last, commit) = self.beaten;
         let has_news = last.value() < status.last.value() || commit.value() < status.commit.value();
-        let is_due = has_news || self.beat.has_passed(settings.beat_ms as u64, now.ms);
-        is_due && self.beat_note <= self.done
+        let is_over = self.beat.has_passed(settings.beat_ms as u64, now.ms);
+        (has_news || self.is_answered || is_over) && self.beat_note <= self.done
     }
 
     /// The next line is claimed for the session, where the node has one, and where the pace allows it.

@@ -1,7 +1,7 @@
 //! What a node's worker tells of how the node stands.
 ghost use Rattle.std.specs.Prelude.{◌≡◌, ◌++◌, IfOk, OnOk, None, Some};
 ghost use Rattle.driver.specs.Hearing.{down_behind, down_news, elected_behind, elected_news, heard_behind, heard_news};
-ghost use Rattle.driver.specs.Hearing.{is_new_run, led_in, up_behind, up_news, was_up};
+ghost use Rattle.driver.specs.Hearing.{answered_by, is_ahead, is_new_run, led_in, up_behind, up_news, was_up};
 
 use crate::desk::Desk;
 use crate::news::News;
@@ -34,7 +34,7 @@ impl Desk {
         self.hear_leading(status, orders)?;
         self.status = Some(*status);
         if is_last {
-            self.done = self.done.saturating_add(1);
+            self.done = self.done.saturating_add(1).min(self.given);
         }
         if led || status.leads() {
             self.led = Timer::from(now.ms);
@@ -44,6 +44,28 @@ impl Desk {
             None => self.hear_up(now, was_up, status.boot, orders)?,
         }
         Ok(is_new)
+    }
+
+    /// A node that stands so heard of the leader of its term: where that is this node, and the other one
+    /// lags behind it, the next entries are to go out at once.
+    pub fn hear_answer(&mut self, other: &Status)
+        ensures { self.new ≡ answered_by self.old other.now }
+    {
+        if self.is_ahead_of(other) {
+            self.is_answered = true;
+        }
+    }
+
+    /// Whether it leads in the term of a node that stands so, and has more entries than that.
+    fn is_ahead_of(&self, other: &Status) -> bool
+        ensures { result ≡ is_ahead self.now.status other.now }
+    {
+        let Some(status) = &self.status else {
+            return false;
+        };
+        status.leads()
+            && status.term.value() == other.term.value()
+            && other.last.value() < status.last.value()
     }
 
     /// Whether this is of another run than what was heard before.
