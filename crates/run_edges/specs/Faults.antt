@@ -1,0 +1,28 @@
+-- What faults of lower calls are to the program.
+use Rattle.std.specs.Prelude.{◌≡◌, ◌≢◌, ◌⊎◌}
+use Rattle.std.specs.declared.io.ErrorKind.{ErrorKind}
+use Rattle.std.specs.declared.io.ErrorKind.TheVariants.{OutOfMemory}
+use Rattle.sockets.specs.declared.event_loop.LoopFault.{LoopFault}
+use Rattle.sockets.specs.declared.event_loop.LoopFault.TheVariants as ended
+use Rattle.whole_input.specs.declared.read_fault.ReadFault.{ReadFault}
+use Rattle.whole_input.specs.declared.read_fault.ReadFault.TheVariants as input
+use Rattle.run_edges.specs.declared.run_fault.RunFault.{RunFault}
+use Rattle.run_edges.specs.declared.run_fault.RunFault.TheVariants.{InputTooLong, Memory, Read, Socket}
+
+-- this fault, or want of memory
+abbrev pub IsOrMemory : RunFault → RunFault → Type 0
+IsOrMemory fault f = (f ≡ fault) ⊎ (f ≡ Memory)
+
+-- an error of the system is want of memory where it is of that kind, and else that fault
+pub record IsFaultOfError (kind : ErrorKind) (otherwise fault : RunFault) : Type 0 where
+  pub memory : kind ≡ OutOfMemory → fault ≡ Memory
+  pub other : kind ≢ OutOfMemory → fault ≡ otherwise
+
+abbrev pub fault_of_reading : ReadFault → RunFault
+fault_of_reading input.InputTooLong = InputTooLong
+fault_of_reading input.Read = Read
+fault_of_reading input.Memory = Memory
+
+abbrev pub fault_of_loop : LoopFault → RunFault
+fault_of_loop ended.Socket = Socket
+fault_of_loop ended.Memory = Memory
