@@ -49,9 +49,9 @@ note_for desk settings now (Some status) None = note_up desk settings now status
 abbrev pub note_at : Desk → Settings → ℕ → Option (Note TowerBody WireLine)
 note_at desk settings now = note_for desk settings now desk.status desk.down
 
--- as many notes of a node wait as may: 256 that it was given are not done
+-- as many notes of a node wait as may: 32 that it was given are not done
 abbrev pub is_full : Desk → Bool
-is_full desk = nat_le 256 (desk.given - desk.done)
+is_full desk = nat_le 32 (desk.given - desk.done)
 
 -- a note as orders to the node
 abbrev pub told : ℕ → Option (Note TowerBody WireLine) → List Order
