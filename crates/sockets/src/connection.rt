@@ -28,6 +28,8 @@ pub struct Connection {
     written: usize,
     /// It is to be closed once all is written.
     is_ending: bool,
+    /// Something may have come that is not read yet, since the notes that it would bring had to wait.
+    pub is_put_off: bool,
 }
 
 impl Connection {
@@ -37,6 +39,7 @@ impl Connection {
             unsent: Vec::new(alloc),
             written: 0,
             is_ending: false,
+            is_put_off: false,
         }
     }
 

@@ -72,6 +72,7 @@ pub fn run_loop<R: Net + Wait + Clock, N: Nodes, O: Operator>(
         let now = clock.now(rt).map_err(|_| LoopFault::Socket)?;
         sockets.serve_all(&now, driver, &events)?;
         let is_over = hear_words(rt, &now, driver, words)?;
+        sockets.take_up(&now, driver)?;
         driver.tick(&now)?;
         carry_out(rt, &now, driver, sockets, nodes, operator)?;
         if is_over {

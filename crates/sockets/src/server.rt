@@ -6,8 +6,12 @@ use driver::{Driver, Now};
 use mio::{Events, Interest, Token};
 use raft_log::NodeId;
 
-/// How many bytes of one client are read at once.
-const READ: usize = 8192;
+/// How many bytes are read before it is asked again whether more are to be read: few, since each line of
+/// them is a note that waits.
+const PIECE: usize = 512;
+
+/// How many pieces of one connection are read before the others are looked at.
+const PIECES: usize = 16;
 
 /// How many clients are taken at once.
 const TAKEN: usize = 64;
@@ -78,35 +82,60 @@ impl Sockets {
 
     /// A client's connection may be read from or written to.
     pub fn serve(&mut self, now: &Now, driver: &mut Driver, number: u64) -> Result<(), LoopFault> {
-        let mut buffer = [0u8; READ];
         let Some(connection) = self.clients.get_mut(&number) else {
             return Ok(());
         };
-        let stands = connection.flush() && !connection.is_over();
-        match connection.read(&mut buffer) {
-            Got::Bytes(count) => {
-                if let Some(bytes) = buffer.get(..count) {
-                    driver.receive(now, number, bytes)?;
-                }
-                let token = Token(CLIENTS.saturating_add(number as usize));
-                let interest = Interest::READABLE | Interest::WRITABLE;
-                // more may wait than was read
-                let again = self
-                    .poll
-                    .registry()
-                    .reregister(&mut connection.stream, token, interest);
-                if again.is_err() || !stands {
-                    self.drop_client(now, driver, number)?;
-                }
-            }
-            Got::Nothing => {
-                if !stands {
-                    self.drop_client(now, driver, number)?;
-                }
-            }
-            Got::End => self.drop_client(now, driver, number)?,
+        let flushed = connection.flush();
+        if connection.is_over() {
+            return self.drop_client(now, driver, number);
         }
-        Ok(())
+        let stands = self.read_client(now, driver, number)?;
+        if stands && (flushed || self.is_put_off(number)) {
+            return Ok(());
+        }
+        self.drop_client(now, driver, number)
+    }
+
+    /// Reads what a client sent, as far as it is to be read. Whether its connection still stands.
+    fn read_client(
+        &mut self,
+        now: &Now,
+        driver: &mut Driver,
+        number: u64,
+    ) -> Result<bool, LoopFault> {
+        let mut piece = [0u8; PIECE];
+        for _ in 0..PIECES {
+            if !driver.reads_client(number) {
+                self.put_off(number)?;
+                return Ok(true);
+            }
+            let Some(connection) = self.clients.get_mut(&number) else {
+                return Ok(false);
+            };
+            match connection.read(&mut piece) {
+                Got::Bytes(count) => {
+                    if let Some(bytes) = piece.get(..count) {
+                        driver.receive(now, number, bytes)?;
+                    }
+                }
+                Got::Nothing => return Ok(true),
+                Got::End => return Ok(false),
+            }
+        }
+        Ok(self.watch_client(number))
+    }
+
+    /// More may wait at a client's connection than was read, so that it is told of again. Whether it is.
+    fn watch_client(&mut self, number: u64) -> bool {
+        let Some(connection) = self.clients.get_mut(&number) else {
+            return false;
+        };
+        let token = Token(CLIENTS.saturating_add(number as usize));
+        let interest = Interest::READABLE | Interest::WRITABLE;
+        let registry = self.poll.registry();
+        registry
+            .reregister(&mut connection.stream, token, interest)
+            .is_ok()
     }
 
     /// A client's connection is gone.
@@ -123,36 +152,54 @@ impl Sockets {
 
     /// The server's connection may be read from or written to.
     pub fn serve_server(&mut self, now: &Now, driver: &mut Driver) -> Result<(), LoopFault> {
-        let mut buffer = [0u8; READ];
         let Some(connection) = &mut self.server else {
             return Ok(());
         };
         if connection.stream.peer_addr().is_ok() {
             driver.connected(now)?;
         }
-        let stands = connection.flush() && !connection.is_over();
-        match connection.read(&mut buffer) {
-            Got::Bytes(count) => {
-                if let Some(bytes) = buffer.get(..count) {
-                    driver.receive_line(now, bytes)?;
-                }
-                let interest = Interest::READABLE | Interest::WRITABLE;
-                let again = self
-                    .poll
-                    .registry()
-                    .reregister(&mut connection.stream, Token(SERVER), interest);
-                if again.is_err() || !stands {
-                    self.drop_server(now, driver)?;
-                }
-            }
-            Got::Nothing => {
-                if !stands {
-                    self.drop_server(now, driver)?;
-                }
-            }
-            Got::End => self.drop_server(now, driver)?,
+        let flushed = connection.flush();
+        let stands = self.read_server(now, driver)?;
+        if stands && (flushed || self.is_server_put_off()) {
+            return Ok(());
         }
-        Ok(())
+        self.drop_server(now, driver)
+    }
+
+    /// Reads what the server sent, as far as it is to be read. Whether its connection still stands.
+    fn read_server(&mut self, now: &Now, driver: &mut Driver) -> Result<bool, LoopFault> {
+        let mut piece = [0u8; PIECE];
+        for _ in 0..PIECES {
+            let Some(connection) = &mut self.server else {
+                return Ok(false);
+            };
+            if !driver.reads_server() {
+                connection.is_put_off = true;
+                return Ok(true);
+            }
+            match connection.read(&mut piece) {
+                Got::Bytes(count) => {
+                    if let Some(bytes) = piece.get(..count) {
+                        driver.receive_line(now, bytes)?;
+                    }
+                }
+                Got::Nothing => return Ok(true),
+                Got::End => return Ok(false),
+            }
+        }
+        Ok(self.watch_server())
+    }
+
+    /// More may wait at the server's connection than was read, so that it is told of again. Whether it is.
+    fn watch_server(&mut self) -> bool {
+        let Some(connection) = &mut self.server else {
+            return false;
+        };
+        let interest = Interest::READABLE | Interest::WRITABLE;
+        let registry = self.poll.registry();
+        registry
+            .reregister(&mut connection.stream, Token(SERVER), interest)
+            .is_ok()
     }
 
     /// The server's connection is gone.

@@ -29,6 +29,8 @@ pub struct Sockets {
     pub clients: BTreeMap<u64, Connection>,
     pub server_address: SocketAddr,
     pub server: Option<Connection>,
+    /// The clients whose reading is put off.
+    pub put_off: Vec<u64>,
 }
 
 impl Sockets {
@@ -41,6 +43,7 @@ impl Sockets {
             clients: BTreeMap::new(alloc),
             server_address,
             server: None,
+            put_off: Vec::new(alloc),
         })
     }
 
