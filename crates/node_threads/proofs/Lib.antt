@@ -1,0 +1,5 @@
+pub mod Home
+pub mod Crew
+pub mod Opened
+mod HomeMarked
+pub mod Started

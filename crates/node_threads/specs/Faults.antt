@@ -1,0 +1,67 @@
+-- What the faults of lower calls are as faults of a cluster, and when each comes.
+use Rattle.std.specs.Prelude.{◌≡◌, ◌<◌, ◌≤◌, ℕ, Bool, true, false, Result, Ok, Err}
+use Rattle.node_steps.specs.declared.refusal.Refusal.TheVariants.{LogFull, TermsSpent, NoLeader, Behind, BadOrigin}
+use Rattle.raft_node.specs.declared.node_fault.NodeFault.TheVariants.{Down, Refused}
+use Rattle.node_cells.specs.declared.cell_fault.CellFault.{CellFault}
+use Rattle.node_cells.specs.declared.cell_fault.CellFault.TheVariants as of_cell
+use Rattle.node_threads.specs.declared.cluster_fault.ClusterFault.{ClusterFault}
+use Rattle.node_threads.specs.declared.cluster_fault.ClusterFault.TheVariants.{Memory, NoNode, Stopped, Node, Spent}
+
+abbrev pub from_cell : CellFault → ClusterFault
+from_cell of_cell.Memory = Memory
+from_cell of_cell.Spent = Spent
+from_cell (of_cell.Node fault) = Node fault
+
+-- The answer of a call that goes to the worker of the node of this number, in a group of this size: there is no such node exactly where the answer
+-- says so, and no fault of the node's own comes.
+abbrev pub IsTold : {A : Type 0} → ℕ → ℕ → Result A ClusterFault → Type 0
+IsTold size node (Ok x) = node ≤ size
+IsTold size node (Err Memory) = node ≤ size
+IsTold size node (Err (NoNode n)) = (size < node) × (n ≡ node)
+IsTold size node (Err Stopped) = node ≤ size
+IsTold size node (Err (Node fault)) = ⊥
+IsTold size node (Err Spent) = ⊥
+
+-- the same, where the worker's answer may be a fault of the node's own
+abbrev pub IsAnswered : {A : Type 0} → ℕ → ℕ → Result A ClusterFault → Type 0
+IsAnswered size node (Ok x) = node ≤ size
+IsAnswered size node (Err Memory) = node ≤ size
+IsAnswered size node (Err (NoNode n)) = (size < node) × (n ≡ node)
+IsAnswered size node (Err Stopped) = node ≤ size
+IsAnswered size node (Err (Node fault)) = node ≤ size
+IsAnswered size node (Err Spent) = node ≤ size
+
+-- why something did not come to a worker
+abbrev pub IsUndelivered : ClusterFault → Type 0
+IsUndelivered Memory = Unit {0}
+IsUndelivered (NoNode n) = ⊥
+IsUndelivered Stopped = Unit {0}
+IsUndelivered (Node fault) = ⊥
+IsUndelivered Spent = ⊥
+
+-- what a worker may answer
+abbrev pub IsNotOfCaller : {A : Type 0} → Result A ClusterFault → Type 0
+IsNotOfCaller (Ok x) = Unit {0}
+IsNotOfCaller (Err Memory) = Unit {0}
+IsNotOfCaller (Err (NoNode n)) = ⊥
+IsNotOfCaller (Err Stopped) = Unit {0}
+IsNotOfCaller (Err (Node fault)) = Unit {0}
+IsNotOfCaller (Err Spent) = Unit {0}
+
+-- the node knew no leader, or had not applied so much
+abbrev pub comes_early : ClusterFault → Bool
+comes_early Memory = false
+comes_early (NoNode n) = false
+comes_early Stopped = false
+comes_early (Node (Down cause)) = false
+comes_early (Node (Refused LogFull)) = false
+comes_early (Node (Refused TermsSpent)) = false
+comes_early (Node (Refused NoLeader)) = true
+comes_early (Node (Refused (Behind place))) = true
+comes_early (Node (Refused BadOrigin)) = false
+comes_early Spent = false
+
+-- such a fault is the answer
+abbrev pub is_early : {A : Type 0} → Result A ClusterFault → Bool
+is_early (Ok x) = false
+is_early (Err fault) = comes_early fault

@@ -1,0 +1,4 @@
+pub mod Faults
+pub mod Homes
+pub mod Joins
+pub mod Work

@@ -1,0 +1,195 @@
+//! The nodes of one process.
+ghost use Rattle.std.specs.Prelude.{◌≡◌, ◌<◌, ◌≤◌, MatchResult};
+ghost use Rattle.node_threads.specs.declared.cluster_fault.ClusterFault.TheVariants.{NoNode};
+ghost use Rattle.node_threads.specs.Faults.{IsAnswered, IsNotOfCaller, IsTold};
+ghost use Rattle.node_threads.specs.Homes.{AreLeft};
+
+use crate::cluster_fault::ClusterFault;
+use crate::inlet::Inlet;
+use crate::job::Job;
+use crate::leaver::join_all;
+use crate::worker::Running;
+use body_marks::Marking;
+use crossbeam_channel::{Receiver, SendError, Sender, bounded};
+use machine_laws::{Hosted, Machine};
+use node_cells::{CellFault, Closing, NodeRecord, Upstream};
+use node_notes::{Note, Status};
+use raft_log::NodeId;
+use raft_node::{Described, Looked};
+use stable_store::Stable;
+use std::alloc::Global;
+use std::marker::Model;
+use std::sync::Wait;
+use std::thread;
+use std::thread::Threads;
+
+mod confirming;
+mod opening;
+mod starting;
+
+/// The nodes of one process, each in a thread of its own.
+#[derive(Drop)]
+pub struct Cluster<M: Marking, S: Stable<M::Command>, U: Upstream> {
+    alloc: Global,
+    /// Node 1's first.
+    inboxes: Vec<Sender<Job<M>>>,
+    /// Node 1's first.
+    threads: Vec<Running<M, S, U>>,
+    /// For what they leave.
+    closing: Closing<M>,
+}
+
+impl<M: Marking, S: Stable<M::Command>, U: Upstream> Model for Cluster<M, S, U> {
+    ghost use Rattle.std.specs.Prelude.{◌≡◌, [], length, map};
+    ghost use Rattle.node_threads.specs.Homes.{AllFrom, ClusterParts, IsHome, home_of};
+
+    ghost Value = { ClusterParts M.Setup M S M.Command M.Line M.Target M.Effect M.Played U };
+
+    ghost view = { λ c. record {
+      ether = c.closing.ether;
+      recording = c.closing.recording;
+      cells = map (λ t. t.promise.cell.value.parts) c.threads.items;
+    } };
+
+    ghost invariant = { λ c. (length c.inboxes.items ≡ c.closing.ether.size)
+        × (length c.threads.items ≡ c.closing.ether.size) × (c.closing.views ≡ [])
+        × AllFrom (λ i t. IsHome c.closing.ether c.closing.recording i
+        (home_of t.promise.cell.value.parts)) 0 c.threads.items };
+}
+
+impl<M: Marking, S: Stable<M::Command>, U: Upstream> Cluster<M, S, U> {
+    /// The inbox of a node's worker.
+    fn inbox(&self, node: NodeId) -> Result<&Sender<Job<M>>, ClusterFault>
+        ensures { MatchResult result (λ _. node ≤ self.now.ether.size)
+            (λ e. (self.now.ether.size < node) × (e ≡ NoNode node)) }
+    {
+        match self.inboxes.get(node.value() as usize - 1) {
+            Some(inbox) => Ok(inbox),
+            None => Err(ClusterFault::NoNode(node.value())),
+        }
+    }
+
+    /// A node is told something; the call does not wait for what comes of it.
+    pub fn submit(
+        &self,
+        rt: &impl Wait,
+        node: NodeId,
+        note: Note<M::Command, M::Line>,
+    ) -> Result<(), ClusterFault>
+        ensures { IsTold self.now.ether.size node result }
+    {
+        self.tell(rt, node, Job::Note(note))
+    }
+
+    /// Where another thread puts what a node is told.
+    pub fn inlet(&self, node: NodeId) -> Result<Inlet<M>, ClusterFault>
+        ensures { IsTold self.now.ether.size node result }
+    {
+        match self.inbox(node)?.clone() {
+            Ok(inbox) => Ok(Inlet { inbox }),
+            Err(_) => Err(ClusterFault::Memory),
+        }
+    }
+
+    /// A worker has something more to do.
+    fn tell(&self, rt: &impl Wait, node: NodeId, job: Job<M>) -> Result<(), ClusterFault>
+        ensures { IsTold self.now.ether.size node result }
+    {
+        match self.inbox(node)?.send(rt, job) {
+            Ok(()) => Ok(()),
+            Err(SendError::OutOfMemory(_)) => Err(ClusterFault::Memory),
+            Err(SendError::Disconnected(_)) => Err(ClusterFault::Stopped),
+        }
+    }
+
+    /// A playback of a target at a node, where what it applied reaches to a place.
+    pub fn look(
+        &self,
+        rt: &impl Wait,
+        node: NodeId,
+        from_place: u64,
+        target: M::Target,
+    ) -> Result<Looked<M::Played>, ClusterFault>
+        ensures { IsAnswered self.now.ether.size node result }
+    {
+        self.inbox(node)?;
+        let (reply, answer) = bounded(self.alloc, 1)?;
+        self.tell(rt, node, Job::Look(from_place, target, reply))?;
+        answer_of(rt, &answer)
+    }
+
+    /// A node is started again over its store.
+    pub fn restart(&self, rt: &impl Wait, node: NodeId) -> Result<(), ClusterFault>
+        ensures { IsAnswered self.now.ether.size node result }
+    {
+        self.inbox(node)?;
+        let (reply, answer) = bounded(self.alloc, 1)?;
+        self.tell(rt, node, Job::Restart(reply))?;
+        answer_of(rt, &answer)
+    }
+
+    /// How a node stands.
+    pub fn status(&self, rt: &impl Wait, node: NodeId) -> Result<Status, ClusterFault>
+        ensures { IsTold self.now.ether.size node result }
+    {
+        self.inbox(node)?;
+        let (reply, answer) = bounded(self.alloc, 1)?;
+        self.tell(rt, node, Job::Status(reply))?;
+        match answer.recv(rt) {
+            Ok(status) => Ok(status),
+            Err(_) => Err(ClusterFault::Stopped),
+        }
+    }
+
+    /// All workers end, and are joined. Gives what the nodes recorded, node 1's first.
+    ///
+    /// What waits in an inbox by then is done first.
+    pub fn stop<R: Threads + Wait>(
+        self,
+        rt: &R,
+    ) -> Vec<NodeRecord<M::Command, M::Line, M::Target, M::Effect, M::Played>>
+        ensures { AreLeft (⟦<M as Described>⟧.machine self.ether.setup) self result.items }
+    {
+        let Cluster {
+            inboxes,
+            threads,
+            closing,
+            ..
+        } = self;
+        let mut closing = closing;
+        end_all(rt, inboxes.as_slice());
+        join_all(rt, threads, &mut closing);
+        closing.finish()
+    }
+}
+
+/// What a worker answers.
+pub fn answer_of<T: Drop>(
+    rt: &impl Wait,
+    answer: &Receiver<Result<T, CellFault>>,
+) -> Result<T, ClusterFault>
+    ensures { IsNotOfCaller result }
+{
+    match answer.recv(rt) {
+        Ok(Ok(given)) => Ok(given),
+        Ok(Err(fault)) => Err(ClusterFault::from(fault)),
+        Err(_) => Err(ClusterFault::Stopped),
+    }
+}
+
+/// All workers are told to end.
+fn end_all<M: Marking>(rt: &impl Wait, inboxes: &[Sender<Job<M>>]) {
+    for inbox in inboxes {
+        end(rt, inbox);
+    }
+}
+
+/// A worker is told to end. Where there is no memory for that, it is told again.
+fn end<M: Marking>(rt: &impl Wait, inbox: &Sender<Job<M>>) {
+    for _ in rt.forever() {
+        match inbox.send(rt, Job::Note(Note::End)) {
+            Err(SendError::OutOfMemory(_)) => thread::yield_now(),
+            Ok(()) | Err(SendError::Disconnected(_)) => break,
+        }
+    }
+}

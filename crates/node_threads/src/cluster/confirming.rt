@@ -1,0 +1,117 @@
+//! Looks that show all that was committed before.
+ghost use Rattle.std.specs.Prelude.{◌≡◌, false};
+ghost use Rattle.node_threads.specs.Faults.{IsAnswered, comes_early, is_early};
+
+use crate::cluster::{Cluster, answer_of};
+use crate::cluster_fault::ClusterFault;
+use crate::job::Job;
+use body_marks::Marking;
+use crossbeam_channel::bounded;
+use machine_laws::{Hosted, Machine};
+use node_cells::Upstream;
+use node_steps::Refusal;
+use raft_log::NodeId;
+use raft_node::{Looked, NodeFault};
+use stable_store::Stable;
+use std::sync::Wait;
+use std::thread;
+use wire_bytes::Copied;
+
+/// How many looks come too early before a new mark is asked for.
+const MOST_LOOKS: u64 = 100_000;
+
+impl<M: Marking, S: Stable<M::Command>, U: Upstream> Cluster<M, S, U> {
+    /// A playback of a target at a node, which shows all that any node had committed when this was
+    /// called: the node marks a place, and is looked at once it has applied its mark.
+    ///
+    /// A new mark is asked for where the node knows no leader, and after each 100,000 looks that
+    /// come too early, since a mark may be lost on its way to the leader. It does not return
+    /// before. Another thread has to tell the leader to beat meanwhile, as by an `Inlet`: no list
+    /// is agreed on without.
+    pub fn confirmed(
+        &self,
+        rt: &impl Wait,
+        node: NodeId,
+        target: M::Target,
+    ) -> Result<Looked<M::Played>, ClusterFault>
+        ensures answered { IsAnswered self.now.ether.size node result }
+        ensures waited { is_early result ≡ false }
+    {
+        self.inbox(node)?;
+        for _ in rt.forever() {
+            let outcome = self.look_at_mark(rt, node, &target);
+            if !is_early(&outcome) {
+                return outcome;
+            }
+            thread::yield_now();
+        }
+        Err(ClusterFault::Stopped)
+    }
+
+    /// A look at the node's next mark, or a fault where it is not applied for so many looks.
+    fn look_at_mark(
+        &self,
+        rt: &impl Wait,
+        node: NodeId,
+        target: &M::Target,
+    ) -> Result<Looked<M::Played>, ClusterFault>
+        ensures { IsAnswered self.now.ether.size node result }
+    {
+        let number = self.mark(rt, node)?;
+        for _ in 1..MOST_LOOKS {
+            let outcome = self.look_after(rt, node, number, target);
+            if !is_early(&outcome) {
+                return outcome;
+            }
+            thread::yield_now();
+        }
+        self.look_after(rt, node, number, target)
+    }
+
+    /// The node asks for its next mark: the mark's number.
+    fn mark(&self, rt: &impl Wait, node: NodeId) -> Result<u64, ClusterFault>
+        ensures { IsAnswered self.now.ether.size node result }
+    {
+        self.inbox(node)?;
+        let (reply, answer) = bounded(self.alloc, 1)?;
+        self.tell(rt, node, Job::Mark(reply))?;
+        answer_of(rt, &answer)
+    }
+
+    /// A playback of a target at a node that has applied its mark of this number.
+    fn look_after(
+        &self,
+        rt: &impl Wait,
+        node: NodeId,
+        number: u64,
+        target: &M::Target,
+    ) -> Result<Looked<M::Played>, ClusterFault>
+        ensures { IsAnswered self.now.ether.size node result }
+    {
+        self.inbox(node)?;
+        let (reply, answer) = bounded(self.alloc, 1)?;
+        let target = target.copy(self.alloc)?;
+        self.tell(rt, node, Job::LookAfter(number, target, reply))?;
+        answer_of(rt, &answer)
+    }
+}
+
+/// Whether there was no leader to ask, or the mark was not applied.
+fn is_early<T>(outcome: &Result<T, ClusterFault>) -> bool
+    ensures { result ≡ is_early outcome.now }
+{
+    match outcome {
+        Ok(_) => false,
+        Err(fault) => comes_early(fault),
+    }
+}
+
+/// Whether a fault says that the node knows no leader, or that it has not applied so much.
+fn comes_early(fault: &ClusterFault) -> bool
+    ensures { result ≡ comes_early fault.now }
+{
+    matches!(
+        fault,
+        ClusterFault::Node(NodeFault::Refused(Refusal::NoLeader | Refusal::Behind(_)))
+    )
+}

@@ -1,0 +1,174 @@
+//! The workers of a cluster, whose nodes are opened before a thread begins.
+ghost use Rattle.std.specs.Prelude.{◌≡◌, ◌<◌, ◌≤◌, [], suc, length, IfOk, IfErr};
+ghost use Rattle.std.specs.Arc.{arc_value};
+ghost use Rattle.node_threads.specs.declared.cluster_fault.ClusterFault.TheVariants.{Memory};
+ghost use Rattle.ether.specs.Passes.{AreNew, IsPass, IsUnopened, view_of};
+ghost use Rattle.node_cells.specs.Openings.{IsFresh};
+ghost use Rattle.raft_node.specs.Parts.{keeper};
+ghost use Rattle.node_threads.specs.Homes.{AllFrom, IsNoStart, IsNotOpened, IsOpenedOver};
+
+use crate::cluster_fault::ClusterFault;
+use crate::gate::Gate;
+use crate::job::Job;
+use crate::outlet::Outlet;
+use crate::part::Part;
+use crate::station::Station;
+use crate::worker::Worker;
+use body_marks::Marking;
+use crossbeam_channel::{Receiver, Sender, unbounded};
+use ether::{Ether, Pass};
+use machine_laws::{Hosted, Machine};
+use marked_cells::MarkedCell;
+use node_cells::{Recording, Upstream};
+use raft_log::{GroupSize, NodeId};
+use stable_store::Stable;
+use std::alloc::Global;
+use std::sync::Arc;
+
+/// The two ends of the inboxes of all workers, node 1's first.
+#[derive(Drop)]
+pub struct Inboxes<M: Marking> {
+    pub inboxes: Vec<Sender<Job<M>>>,
+    pub outboxes: Vec<Receiver<Job<M>>>,
+}
+
+/// The workers of all nodes, node 1's first.
+pub fn workers<
+    M: Marking,
+    S: Stable<M::Command>,
+    U: Upstream,
+    G: Gate + Drop,
+    O: Outlet<M::Effect>,
+>(
+    alloc: Global,
+    ether: &Arc<Ether<M>, Global>,
+    passes: Vec<Pass<M::Command, M::Line, M::Target>>,
+    parts: Vec<Part<S, U, O>>,
+    gate: G,
+    ends: &Inboxes<M>,
+    recording: Recording,
+) -> Result<Vec<Worker<M, S, U, G, O>>, ClusterFault>
+    requires passes { AreNew (arc_value ether.now) passes.items }
+    requires parts { length parts.items ≡ length passes.items }
+    requires size { length passes.items ≡ (arc_value ether.now).size }
+    requires ends { length ends.now.outboxes.items ≡ (arc_value ether.now).size }
+    ensures opened { IfOk result (λ ws. AllFrom (λ i w. IsOpenedOver
+        (keeper S.saved S.may_stand S.condition) (arc_value ether.now) recording parts.items i
+        w.cell.parts) 0 ws.items) }
+    ensures all { IfOk result (λ ws. length ws.items ≡ (arc_value ether.now).size) }
+    ensures fault { IfErr result (IsNoStart (keeper S.saved S.may_stand S.condition)
+        (arc_value ether.now).size (arc_value ether.now).setup parts.items) }
+{
+    let gate = match Arc::new(alloc, gate) {
+        Ok(gate) => gate,
+        Err(_) => return Err(ClusterFault::Memory),
+    };
+    let mut workers = Vec::new(alloc);
+    let mut parts = parts.into_iter();
+    for pass in passes {
+        let Some(part) = parts.next() else {
+            unreachable!()
+        };
+        let worker = match open_worker(alloc, ether, pass, part, &gate, ends, recording) {
+            Ok(worker) => worker,
+            Err(fault) => return Err(fault),
+        };
+        if workers.push(worker).is_err() {
+            return Err(ClusterFault::Memory);
+        }
+    }
+    Ok(workers)
+}
+
+/// The worker of a new pass, whose node is opened over the store of its part.
+fn open_worker<M: Marking, S: Stable<M::Command>, U: Upstream, G: Drop, O: Outlet<M::Effect>>(
+    alloc: Global,
+    ether: &Arc<Ether<M>, Global>,
+    pass: Pass<M::Command, M::Line, M::Target>,
+    part: Part<S, U, O>,
+    gate: &Arc<G>,
+    ends: &Inboxes<M>,
+    recording: Recording,
+) -> Result<Worker<M, S, U, G, O>, ClusterFault>
+    requires pass { IsPass (arc_value ether.now) pass × IsUnopened pass
+        × ((view_of pass).turns ≡ []) }
+    requires ends { pass.node < length ends.now.outboxes.items }
+    ensures opened { IfOk result (λ w. IsFresh (keeper S.saved S.may_stand S.condition)
+        (arc_value ether.now) pass part.store part.upstream recording w.cell.parts) }
+    ensures fault { IfErr result (IsNotOpened (keeper S.saved S.may_stand S.condition)
+        (arc_value ether.now).size (arc_value ether.now).setup (suc pass.node) part.store) }
+{
+    let Part {
+        store,
+        upstream,
+        outlet,
+    } = part;
+    let cell = MarkedCell::open(alloc, ether, pass, store, upstream, recording)?;
+    let station = station(alloc, cell.id(), gate, outlet, ends)?;
+    Ok(Worker { cell, station })
+}
+
+/// What the worker of this node has beside its cell.
+fn station<M: Marking, G: Drop, O: Outlet<M::Effect>>(
+    alloc: Global,
+    id: NodeId,
+    gate: &Arc<G>,
+    outlet: O,
+    ends: &Inboxes<M>,
+) -> Result<Station<M, G, O>, ClusterFault>
+    requires { id ≤ length ends.now.outboxes.items }
+    ensures { IfErr result (λ e. e ≡ Memory) }
+{
+    let inbox = &ends.outboxes[id.value() as usize - 1];
+    let Ok(inbox) = inbox.clone() else {
+        return Err(ClusterFault::Memory);
+    };
+    let Ok(gate) = Arc::try_clone(gate) else {
+        return Err(ClusterFault::Memory);
+    };
+    Ok(Station {
+        alloc,
+        id,
+        inbox,
+        others: clones(alloc, ends.inboxes.as_slice())?,
+        gate,
+        outlet,
+        turns: 0,
+    })
+}
+
+/// The same inboxes, once more.
+fn clones<M: Marking>(
+    alloc: Global,
+    inboxes: &[Sender<Job<M>>],
+) -> Result<Vec<Sender<Job<M>>>, ClusterFault>
+    ensures { IfErr result (λ e. e ≡ Memory) }
+{
+    let mut all = Vec::new(alloc);
+    for inbox in inboxes {
+        let Ok(one) = inbox.clone() else {
+            return Err(ClusterFault::Memory);
+        };
+        if all.push(one).is_err() {
+            return Err(ClusterFault::Memory);
+        }
+    }
+    Ok(all)
+}
+
+/// The two ends of an inbox for each node.
+pub fn make_inboxes<M: Marking>(alloc: Global, size: GroupSize) -> Result<Inboxes<M>, ClusterFault>
+    ensures all { IfOk result (λ ends. (length ends.inboxes.items ≡ size)
+        × (length ends.outboxes.items ≡ size)) }
+    ensures fault { IfErr result (λ e. e ≡ Memory) }
+{
+    let mut inboxes = Vec::new(alloc);
+    let mut outboxes = Vec::new(alloc);
+    for _ in 0..size.value() {
+        let (inbox, outbox) = unbounded(alloc)?;
+        if inboxes.push(inbox).is_err() || outboxes.push(outbox).is_err() {
+            return Err(ClusterFault::Memory);
+        }
+    }
+    Ok(Inboxes { inboxes, outboxes })
+}

@@ -1,0 +1,46 @@
+//! Threads that are joined one by one, each into what the ones before it left.
+ghost use Rattle.node_threads.specs.Joins.{CanJoinAll, JoinsAll};
+
+use crate::worker::Running;
+use body_marks::Marking;
+use machine_laws::Hosted;
+use node_cells::{Closing, Upstream};
+use stable_store::Stable;
+use std::thread::Threads;
+
+/// A thread that leaves something, which is put with what others left.
+pub trait Leaver<C>: Drop {
+    /// That it may be put with what others left.
+    ghost can_join: { C → Self → Type 0 };
+
+    /// What was left, before and after.
+    ghost joins: { C → Self → C → Type 0 };
+
+    /// Waits for the thread.
+    fn join_into<R: Threads>(self, rt: &R, left: &mut C)
+        requires { can_join left.old self }
+        ensures { joins left.old self left.new };
+}
+
+impl<M: Marking, S: Stable<M::Command>, U: Upstream> Leaver<Closing<M>> for Running<M, S, U> {
+    ghost use Rattle.node_threads.specs.Homes.{HasJoined, IsNextHome, home_of};
+
+    ghost can_join = { λ left t. IsNextHome left (home_of t.promise.cell.value.parts) };
+
+    ghost joins = { λ old t new. HasJoined old (home_of t.promise.cell.value.parts) new };
+
+    fn join_into<R: Threads>(self, rt: &R, left: &mut Closing<M>) {
+        let cell = self.join(rt);
+        left.close(cell);
+    }
+}
+
+/// Joins all threads, in order.
+pub fn join_all<R: Threads, C, H: Leaver<C>>(rt: &R, threads: Vec<H>, left: &mut C)
+    requires { CanJoinAll H.can_join H.joins left.old threads.items }
+    ensures { JoinsAll H.joins left.old threads.items left.new }
+{
+    for thread in threads {
+        thread.join_into(rt, left);
+    }
+}

@@ -1,0 +1,243 @@
+//! What a worker has beside its node's cell, and what it does with it.
+ghost use Rattle.std.specs.Prelude.{◌<◌, IfSome};
+ghost use Rattle.world_views.specs.Views.{carries};
+ghost use Rattle.node_cells.specs.Cells.{HasHeard, view_in};
+ghost use Rattle.marked_cells.specs.Marking.{HasMarked};
+ghost use Rattle.node_threads.specs.Homes.{IsSameHome};
+ghost use Rattle.node_threads.specs.Work.{HasHadTurn};
+
+use crate::gate::Gate;
+use crate::job::Job;
+use crate::outlet::Outlet;
+use body_marks::Marking;
+use crossbeam_channel::{Receiver, Sender};
+use machine_laws::{Hosted, Machine};
+use marked_cells::MarkedCell;
+use node_cells::{CellFault, Upstream};
+use node_notes::{Note, Status};
+use raft_log::{Kind, NodeId};
+use raft_node::Described;
+use stable_store::Stable;
+use std::alloc::Global;
+use std::sync::{Arc, Wait};
+use wire_bytes::Wire;
+use world_views::NodeInput;
+
+mod telling;
+
+/// The most nodes that there may be.
+const MOST_NODES: u8 = 7;
+
+/// What a worker has beside its node's cell.
+#[derive(Drop)]
+pub struct Station<M: Marking, G: Drop, O: Outlet<M::Effect>> {
+    pub alloc: Global,
+    pub id: NodeId,
+    pub inbox: Receiver<Job<M>>,
+    /// The inboxes of all workers, node 1's first.
+    pub others: Vec<Sender<Job<M>>>,
+    pub gate: Arc<G>,
+    pub outlet: O,
+    /// How many turns it came to.
+    pub turns: u64,
+}
+
+impl<M: Marking, G: Gate + Drop, O: Outlet<M::Effect>> Station<M, G, O> {
+    /// Does what comes to the inbox, until it is told to end.
+    pub fn work<R: Wait, S: Stable<M::Command>, U: Upstream>(
+        &mut self,
+        rt: &R,
+        cell: &mut MarkedCell<M, S, U>,
+    )
+        ensures { IsSameHome cell.old.parts cell.new.parts }
+    {
+        self.report_standing(rt, cell, false);
+        for _ in rt.forever() {
+            let Ok(job) = self.inbox.recv(rt) else {
+                break;
+            };
+            if let Job::Note(Note::End) = &job {
+                break;
+            }
+            self.run(rt, cell, job);
+        }
+    }
+
+    /// Does a job, takes the messages that came, applies what is agreed, and reports, but for a
+    /// look that may come too early: there may be many, and nothing comes of most.
+    fn run<R: Wait, S: Stable<M::Command>, U: Upstream>(
+        &mut self,
+        rt: &R,
+        cell: &mut MarkedCell<M, S, U>,
+        job: Job<M>,
+    )
+        ensures { IsSameHome cell.old.parts cell.new.parts }
+    {
+        let waits = matches!(&job, Job::LookAfter(_, _, _));
+        self.begin(rt, cell, job);
+        self.take_all(rt, cell);
+        self.apply_all(rt, cell);
+        if !waits {
+            self.report_standing(rt, cell, true);
+        }
+    }
+
+    /// Does what a job says.
+    fn begin<R: Wait, S: Stable<M::Command>, U: Upstream>(
+        &mut self,
+        rt: &R,
+        cell: &mut MarkedCell<M, S, U>,
+        job: Job<M>,
+    )
+        ensures { IsSameHome cell.old.parts cell.new.parts }
+    {
+        match job {
+            Job::Note(Note::Restart) => {
+                let _ = cell.restart();
+            }
+            Job::Note(note) => {
+                if let Some(input) = note.into_input() {
+                    self.turn(rt, cell, input, false);
+                }
+            }
+            Job::Look(from_place, target, reply) => {
+                let _ = reply.send(rt, cell.look(from_place, target));
+            }
+            Job::Mark(reply) => {
+                let _ = reply.send(rt, self.mark(rt, cell));
+            }
+            Job::LookAfter(number, target, reply) => {
+                let _ = reply.send(rt, cell.look_after(number, target));
+            }
+            Job::Restart(reply) => {
+                let _ = reply.send(rt, cell.restart());
+            }
+            Job::Status(reply) => {
+                let _ = reply.send(rt, status(cell));
+            }
+        }
+    }
+
+    /// One turn of the node. Whoever was posted to is woken, and what leaves is passed on.
+    fn turn<R: Wait, S: Stable<M::Command>, U: Upstream>(
+        &mut self,
+        rt: &R,
+        cell: &mut MarkedCell<M, S, U>,
+        input: NodeInput<M::Command, M::Line>,
+        led: bool,
+    )
+        requires { HasHeard (view_in cell.old.parts) (carries input) }
+        ensures { HasHadTurn (⟦<M as Described>⟧.machine cell.old.parts.ether.setup) U.tally
+            cell.old.parts input cell.new.parts }
+    {
+        self.pass_gate(rt);
+        let turned = cell.turn(input);
+        self.pass_on(rt, cell, turned, led);
+    }
+
+    /// The node's next mark. Where it was asked for all others are woken, since one of them leads.
+    fn mark<R: Wait, S: Stable<M::Command>, U: Upstream>(
+        &mut self,
+        rt: &R,
+        cell: &mut MarkedCell<M, S, U>,
+    ) -> Result<u64, CellFault>
+        ensures { HasMarked (⟦<M as Described>⟧.machine cell.old.parts.ether.setup) U.tally
+            M.marked M.mark cell.old.parts result cell.new.parts }
+    {
+        self.pass_gate(rt);
+        let marked = cell.mark();
+        if marked.is_ok() {
+            self.wake_all(rt);
+        }
+        marked
+    }
+
+    /// One turn more begins.
+    fn pass_gate<R: Wait>(&mut self, rt: &R) {
+        self.turns = self.turns.saturating_add(1);
+        self.gate.pass(rt, self.id.value(), self.turns);
+    }
+
+    /// Takes each mailbox once, by rising number of the sender.
+    fn take_all<R: Wait, S: Stable<M::Command>, U: Upstream>(
+        &mut self,
+        rt: &R,
+        cell: &mut MarkedCell<M, S, U>,
+    )
+        ensures { IsSameHome cell.old.parts cell.new.parts }
+    {
+        for from in 0..MOST_NODES {
+            if from >= cell.size().value() {
+                break;
+            }
+            self.take_from(rt, cell, from as u64);
+        }
+    }
+
+    /// Takes what lies in the mailbox from the node at this place, from 0 on, and turns its
+    /// delivery.
+    fn take_from<R: Wait, S: Stable<M::Command>, U: Upstream>(
+        &mut self,
+        rt: &R,
+        cell: &mut MarkedCell<M, S, U>,
+        from: u64,
+    )
+        requires { from < cell.old.parts.ether.size }
+        ensures { IsSameHome cell.old.parts cell.new.parts }
+    {
+        let Some(input) = next_from(cell, from) else {
+            return;
+        };
+        let led = is_led(&input, cell.state().standing.term.value());
+        self.turn(rt, cell, input, led);
+    }
+
+    /// Applies until all is applied that is agreed.
+    fn apply_all<R: Wait, S: Stable<M::Command>, U: Upstream>(
+        &mut self,
+        rt: &R,
+        cell: &mut MarkedCell<M, S, U>,
+    )
+        ensures { IsSameHome cell.old.parts cell.new.parts }
+    {
+        for _ in 0..u64::MAX {
+            let status = status(cell);
+            if status.down.is_some() || status.commit.value() <= status.applied.value() {
+                break;
+            }
+            self.turn(rt, cell, NodeInput::Apply, false);
+        }
+    }
+}
+
+/// How the node of a cell stands.
+fn status<M: Marking, S: Stable<M::Command>, U: Upstream>(cell: &MarkedCell<M, S, U>) -> Status {
+    Status::of(cell.state(), cell.next_claim(), cell.down())
+}
+
+/// The delivery of what lies in the mailbox from the node at this place, from 0 on, if something
+/// does.
+fn next_from<M: Marking, S: Stable<M::Command>, U: Upstream>(
+    cell: &mut MarkedCell<M, S, U>,
+    from: u64,
+) -> Option<NodeInput<M::Command, M::Line>>
+    requires { from < cell.old.parts.ether.size }
+    ensures same { IsSameHome cell.old.parts cell.new.parts }
+    ensures heard { IfSome result (λ input. HasHeard (view_in cell.new.parts) (carries input)) }
+{
+    match cell.take(from) {
+        Some(envelope) => Some(NodeInput::Deliver(envelope)),
+        None => None,
+    }
+}
+
+/// Whether an input is a message of the leader of this term or of a later one.
+fn is_led<B: Wire, L>(input: &NodeInput<B, L>, term: u64) -> bool {
+    let NodeInput::Deliver(envelope) = input else {
+        return false;
+    };
+    match &envelope.message.kind {
+        Kind::Append(_) => envelope.message.term.value() >= term,
+        _ => false,
+    }
+}
