@@ -3,6 +3,8 @@
 #![tactic(auto)]
 
 #[cfg(test)]
+mod node_stories;
+#[cfg(test)]
 mod stories;
 #[cfg(test)]
 mod telling;

@@ -1,23 +1,8 @@
 //! What a driver orders, by stories.
-use crate::telling::{applied, at, claiming, new_driver, report, standing, told};
-use driver::Driver;
+use crate::telling::{applied, at, begun, check, claiming, report, standing};
 use raft_log::{NodeId, Role};
 use std::alloc::Global;
-use std::process::Abort;
 use std::test::Fail;
-
-fn check(rt: &impl Abort, alloc: Global, driver: &mut Driver, wanted: &str) -> Result<(), Fail> {
-    let orders = told(alloc, driver)?;
-    assert_eq!(rt; orders.as_slice(), wanted.as_bytes());
-    Ok(())
-}
-
-/// A driver that heard at 0 ms that this node runs, and stands in this role.
-fn begun(alloc: Global, node: NodeId, role: Role) -> Result<Driver, Fail> {
-    let mut driver = new_driver(alloc)?;
-    driver.hear(&at(0), report(alloc, node, standing(role, 0), false))?;
-    Ok(driver)
-}
 
 #[test]
 fn a_node_waits_for_a_leader_50_ms_longer_than_the_one_before(rt: HostRuntime) -> Result<(), Fail> {

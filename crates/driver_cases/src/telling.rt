@@ -4,6 +4,7 @@ use irc_line::Name;
 use node_notes::{Note, Report, Status};
 use raft_log::{NodeId, Role};
 use std::alloc::Global;
+use std::process::Abort;
 use std::test::Fail;
 use wire_bytes::{Moment, Number, SessionId};
 
@@ -69,6 +70,13 @@ pub fn claiming(number: u64) -> Status {
     status
 }
 
+/// A follower in its second run, with an empty log.
+pub fn in_second_run() -> Status {
+    let mut status = standing(Role::Follower, 0);
+    status.boot = Number::new(2);
+    status
+}
+
 /// A node's report of how it stands, with no effect.
 pub fn report(alloc: Global, node: NodeId, status: Status, is_last: bool) -> TowerReport {
     Report {
@@ -78,6 +86,14 @@ pub fn report(alloc: Global, node: NodeId, status: Status, is_last: bool) -> Tow
         led: false,
         fault: None,
         is_last,
+    }
+}
+
+/// A node's report that it heard of the leader of its term, and stands so.
+pub fn answer(alloc: Global, node: NodeId, status: Status) -> TowerReport {
+    Report {
+        led: true,
+        ..report(alloc, node, status, false)
     }
 }
 
@@ -131,4 +147,23 @@ fn word_of<B: wire_bytes::Wire, L>(note: &Note<B, L>) -> &'static str {
         Note::Restart => "restart",
         Note::End => "end",
     }
+}
+
+/// The orders given since last are these, as text.
+pub fn check(
+    rt: &impl Abort,
+    alloc: Global,
+    driver: &mut Driver,
+    wanted: &str,
+) -> Result<(), Fail> {
+    let orders = told(alloc, driver)?;
+    assert_eq!(rt; orders.as_slice(), wanted.as_bytes());
+    Ok(())
+}
+
+/// A driver that heard at 0 ms that this node runs, and stands in this role.
+pub fn begun(alloc: Global, node: NodeId, role: Role) -> Result<Driver, Fail> {
+    let mut driver = new_driver(alloc)?;
+    driver.hear(&at(0), report(alloc, node, standing(role, 0), false))?;
+    Ok(driver)
 }
