@@ -1,0 +1,116 @@
+//! Clients that ask over and over until they are answered.
+use crate::clusters::{Counter, Crew, MOST_POLLS, rest};
+use crate::inputs::Inputs;
+use crate::request::Request;
+use body_marks::Marking;
+use machine_laws::{Hosted, Machine};
+use node_notes::Note;
+use raft_log::NodeId;
+use std::alloc::{AllocError, Global};
+use std::rt::Clock;
+use std::sync::atomic::Ordering;
+use std::sync::{Arc, Wait};
+use std::test::Fail;
+use wire_bytes::Wire;
+
+/// How often a request is polled for before it is asked again.
+const POLLS_A_REQUEST: u64 = 100;
+
+/// How often it is polled for before node 1 is told to beat again.
+const POLLS_A_BEAT: u64 = 10;
+
+/// The client 1 of the first run of a node.
+#[derive(Drop)]
+pub struct Client {
+    node: NodeId,
+    done: Counter,
+    /// How often it submitted each of its requests.
+    pub submitted: Inputs,
+}
+
+impl Client {
+    /// The client of this node, whose requests that took effect are counted there.
+    pub fn new(node: NodeId, done: &Counter) -> Result<Client, AllocError> {
+        Ok(Client {
+            node,
+            done: Arc::try_clone(done)?,
+            submitted: Inputs::none(),
+        })
+    }
+
+    /// Whether this request of it took effect.
+    fn is_done(&self, request: Request) -> bool {
+        self.done.load(Ordering::SeqCst) >= request.number() as u64
+    }
+
+    /// Submits a request.
+    fn submit<M: Marking, R: Wait>(
+        &mut self,
+        rt: &R,
+        alloc: Global,
+        crew: &Crew<M>,
+        request: Request,
+    ) -> Result<(), Fail> {
+        let bytes = request.spelled(alloc, self.node)?;
+        let (body, _) = M::Command::take(alloc, bytes.as_slice()).map_err(|_| "spelling")?;
+        crew.submit(rt, self.node, Note::Ask(body))?;
+        self.submitted.count_request(request);
+        Ok(())
+    }
+}
+
+/// Each client asks for its requests in turn. Gives how often node 1 was told to beat.
+pub fn ask_all<M: Marking, R: Wait + Clock>(
+    rt: &R,
+    alloc: Global,
+    crew: &Crew<M>,
+    clients: &mut [Client],
+) -> Result<u64, Fail> {
+    let mut beats = 0u64;
+    for request in [Request::Attach, Request::Detach, Request::Say] {
+        beats = beats.saturating_add(ask_each(rt, alloc, crew, clients, request)?);
+    }
+    Ok(beats)
+}
+
+/// Each client asks for this, and again until it took effect. Gives how often node 1 was told to
+/// beat, some polls behind each request, so that no message of the one replaces one of the other.
+fn ask_each<M: Marking, R: Wait + Clock>(
+    rt: &R,
+    alloc: Global,
+    crew: &Crew<M>,
+    clients: &mut [Client],
+    request: Request,
+) -> Result<u64, Fail> {
+    let mut beats = 0u64;
+    for poll in 0..MOST_POLLS {
+        if clients.iter().all(|client| client.is_done(request)) {
+            return Ok(beats);
+        }
+        if poll % POLLS_A_REQUEST == 0 {
+            submit_again(rt, alloc, crew, clients, request)?;
+        }
+        if poll % POLLS_A_BEAT == POLLS_A_BEAT / 2 {
+            crew.submit(rt, NodeId::new(1), Note::Beat)?;
+            beats = beats.saturating_add(1);
+        }
+        rest(rt);
+    }
+    Err(Fail::from("a request did not take effect"))
+}
+
+/// Each client for which this did not take effect submits it.
+fn submit_again<M: Marking, R: Wait>(
+    rt: &R,
+    alloc: Global,
+    crew: &Crew<M>,
+    clients: &mut [Client],
+    request: Request,
+) -> Result<(), Fail> {
+    for client in clients {
+        if !client.is_done(request) {
+            client.submit(rt, alloc, crew, request)?;
+        }
+    }
+    Ok(())
+}

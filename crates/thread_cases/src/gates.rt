@@ -1,0 +1,99 @@
+//! Gates that hold workers.
+ghost use Rattle.std.specs.Prelude.{◌<◌};
+
+use crate::clusters::{Flag, MOST_POLLS, rest};
+use node_threads::Gate;
+use std::alloc::AllocError;
+use std::rt::Clock;
+use std::sync::atomic::{AtomicBool, Ordering};
+use std::sync::{Arc, Wait};
+
+/// How often a gate looks at node 3 once it is let go, before it lets it pass.
+const MORE_POLLS: u64 = 1_000_000;
+
+/// Holds the workers of nodes 1 and 2 at their first turns, each until the other came there, for so
+/// many milliseconds at most.
+#[derive(Drop)]
+pub struct Meeting<C: Clock + Drop> {
+    clock: C,
+    /// Whether node 1 came, and whether node 2 did.
+    came: [AtomicBool; 2],
+    /// Whether one of them waited in vain.
+    has_failed: Flag,
+}
+
+impl<C: Clock + Drop> Meeting<C> {
+    pub fn new(clock: C, has_failed: &Flag) -> Result<Meeting<C>, AllocError> {
+        Ok(Meeting {
+            clock,
+            came: [AtomicBool::new(false), AtomicBool::new(false)],
+            has_failed: Arc::try_clone(has_failed)?,
+        })
+    }
+
+    /// The one came, and waits until the other did.
+    fn meet(&self, one: usize, other: usize)
+        requires { one < 2 × other < 2 }
+    {
+        self.came[one].store(true, Ordering::SeqCst);
+        for _ in 0..MOST_POLLS {
+            if self.came[other].load(Ordering::SeqCst) {
+                return;
+            }
+            rest(&self.clock);
+        }
+        self.has_failed.store(true, Ordering::SeqCst);
+    }
+}
+
+impl<C: Clock + Drop> Gate for Meeting<C> {
+    fn pass<R: Wait>(&self, _rt: &R, node: u8, turn: u64) {
+        match (node, turn) {
+            (1, 1) => self.meet(0, 1),
+            (2, 1) => self.meet(1, 0),
+            _ => {}
+        }
+    }
+}
+
+/// Holds the worker of node 3 until it is let go, and then for 1,000,000 polls more.
+#[derive(Drop)]
+pub struct Holding<C: Clock + Drop> {
+    clock: C,
+    is_let_go: Flag,
+    /// Whether node 3 passes at once.
+    is_open: AtomicBool,
+}
+
+impl<C: Clock + Drop> Holding<C> {
+    pub fn new(clock: C, is_let_go: &Flag) -> Result<Holding<C>, AllocError> {
+        Ok(Holding {
+            clock,
+            is_let_go: Arc::try_clone(is_let_go)?,
+            is_open: AtomicBool::new(false),
+        })
+    }
+
+    /// Waits until node 3 is let go, for so many milliseconds at most.
+    fn wait(&self) {
+        for _ in 0..MOST_POLLS {
+            if self.is_let_go.load(Ordering::SeqCst) {
+                return;
+            }
+            rest(&self.clock);
+        }
+    }
+}
+
+impl<C: Clock + Drop> Gate for Holding<C> {
+    fn pass<R: Wait>(&self, _rt: &R, node: u8, _turn: u64) {
+        if node != 3 || self.is_open.load(Ordering::SeqCst) {
+            return;
+        }
+        self.wait();
+        for _ in 0..MORE_POLLS {
+            let _ = self.is_let_go.load(Ordering::SeqCst);
+        }
+        self.is_open.store(true, Ordering::SeqCst);
+    }
+}
