@@ -1,7 +1,6 @@
 //! What a driver orders, by stories.
 use crate::telling::{applied, at, begun, check, claiming, report, standing};
 use raft_log::{NodeId, Role};
-use std::alloc::Global;
 use std::test::Fail;
 
 #[test]

@@ -74,11 +74,13 @@ impl<M: Marking, G: Gate + Drop, O: Outlet<M::Effect>> Station<M, G, O> {
         ensures { IsSameHome cell.old.parts cell.new.parts }
     {
         let waits = matches!(&job, Job::LookAfter(_, _, _));
+        // what another worker or a caller that waits tells is no note that is counted as done
+        let is_told = matches!(&job, Job::Note(note) if !matches!(note, Note::Wake));
         self.begin(rt, cell, job);
         self.take_all(rt, cell);
         self.apply_all(rt, cell);
         if !waits {
-            self.report_standing(rt, cell, true);
+            self.report_standing(rt, cell, is_told);
         }
     }
 
