@@ -1,0 +1,227 @@
+"""Times `run` of the program named as argument: three nodes over journals in a new folder, and a server on loopback that
+is played here, which says lines to one channel.
+
+Prints the memory and the processor of a run at rest; for 1, 10 and 50 clients spread over the nodes how long 20,000
+lines take that are said at once, with the lines and the deliveries a second; the delay of 2,000 lines at 200 a second
+from the server to a client of the node that leads, and to clients of the others, as median and 99th percentile; and how
+long a client waits for a playback of 500 lines.
+
+All is read and written by this one process, so that its own time is in every number.
+"""
+import os
+import re
+import selectors
+import shutil
+import socket
+import statistics
+import subprocess
+import sys
+import tempfile
+import time
+
+FLOOD = 20_000
+PACED = 2_000
+RATE = 200
+PLAYED = 500
+LIMIT = 60
+
+
+def free_port():
+    with socket.socket() as chosen:
+        chosen.bind(("127.0.0.1", 0))
+        return chosen.getsockname()[1]
+
+
+class End:
+    """One end of a connection: what is to be sent, and the lines that came."""
+
+    def __init__(self, room, stream):
+        self.room, self.stream, self.rest = room, stream, b""
+        self.lines, self.times, self.count = [], [], 0
+        self.keeps = True
+        stream.setblocking(False)
+        stream.setsockopt(socket.IPPROTO_TCP, socket.TCP_NODELAY, 1)
+        room.register(stream, selectors.EVENT_READ, self)
+
+    def send(self, data):
+        self.stream.setblocking(True)
+        self.stream.sendall(data)
+        self.stream.setblocking(False)
+
+    def read(self):
+        data = self.stream.recv(1 << 20)
+        if not data:
+            sys.exit("a connection was closed")
+        now = time.perf_counter()
+        *lines, self.rest = (self.rest + data).split(b"\r\n")
+        said = [line for line in lines if b" PRIVMSG #x :" in line]
+        self.count += len(said)
+        if self.keeps:
+            self.lines += lines
+            self.times += [(now, line) for line in said]
+
+    def close(self):
+        self.room.unregister(self.stream)
+        self.stream.close()
+
+
+class Run:
+    """The program, the server, and clients."""
+
+    def __init__(self, program):
+        self.room = selectors.DefaultSelector()
+        self.folder = tempfile.mkdtemp()
+        self.ports = [free_port() for _ in range(3)]
+        self.server = socket.create_server(("127.0.0.1", 0))
+        config = os.path.join(self.folder, "hukbarg.toml")
+        with open(config, "w") as out:
+            out.write(
+                'nick = "me"\npassword = "word"\n'
+                f'upstream = "127.0.0.1:{self.server.getsockname()[1]}"\n'
+                f"listen = {[f'127.0.0.1:{port}' for port in self.ports]}\n".replace("'", '"')
+                + f'store = "{self.folder}/store"\nchan_buffer_size = {PLAYED}\nmulti_clients = true\nflood_ms = 0\n'
+            )
+        self.log = open(os.path.join(self.folder, "log"), "w+")
+        self.program = subprocess.Popen(
+            [program, "run", config], stdin=subprocess.PIPE, stderr=self.log, cwd=self.folder
+        )
+        self.server.settimeout(LIMIT)
+        stream, _ = self.server.accept()
+        self.upstream = End(self.room, stream)
+        self.until(lambda: any(line.startswith(b"USER ") for line in self.upstream.lines))
+        self.upstream.send(b":server 001 me :hi\r\n")
+        time.sleep(0.3)
+
+    def until(self, done):
+        """Reads until something is so."""
+        limit = time.perf_counter() + LIMIT
+        while not done():
+            if time.perf_counter() > limit:
+                sys.exit("this takes too long")
+            for key, _ in self.room.select(1):
+                key.data.read()
+
+    def leader(self):
+        """The node that leads, 0 for node 1, as the log tells."""
+        self.log.seek(0)
+        leads = re.findall(r"node (\d).*lead", self.log.read())
+        return int(leads[-1]) - 1 if leads else 0
+
+    def client(self, node):
+        stream = socket.create_connection(("127.0.0.1", self.ports[node]))
+        client = End(self.room, stream)
+        client.send(b"PASS word\r\nNICK me\r\nUSER me 0 * me\r\n")
+        self.until(lambda: any(b" 001 " in line for line in client.lines))
+        return client
+
+    def join(self, client):
+        client.send(b"JOIN #x\r\n")
+        self.until(lambda: any(line.startswith(b"JOIN #x") for line in self.upstream.lines))
+        self.upstream.send(b":me!me@here JOIN #x\r\n")
+        time.sleep(0.2)
+
+    def spread(self, count):
+        """So many clients, the first at the node that leads."""
+        first = self.leader()
+        return [self.client((first + place) % 3) for place in range(count)]
+
+    def memory(self):
+        with open(f"/proc/{self.program.pid}/status") as status:
+            return int(re.search(r"VmRSS:\s+(\d+)", status.read())[1]) / 1024
+
+    def processor(self):
+        with open(f"/proc/{self.program.pid}/stat") as stat:
+            fields = stat.read().rsplit(")", 1)[1].split()
+        return (int(fields[11]) + int(fields[12])) / os.sysconf("SC_CLK_TCK")
+
+    def end(self):
+        self.program.stdin.close()
+        status = self.program.wait(LIMIT)
+        shutil.rmtree(self.folder)
+        if status != 0:
+            sys.exit(f"the program ended with {status}")
+
+
+def said(number):
+    return b":bob!b@there PRIVMSG #x :line %d\r\n" % number
+
+
+def at_rest(run):
+    before, began = run.processor(), time.perf_counter()
+    time.sleep(10)
+    share = (run.processor() - before) / (time.perf_counter() - began)
+    print(f"at rest: {run.memory():.1f} MB, {100 * share:.2f} % of a processor")
+
+
+def flood(run, count):
+    clients = run.spread(count)
+    for client in clients:
+        client.keeps, client.count = False, 0
+    began = time.perf_counter()
+    lines = [said(number) for number in range(FLOOD)]
+    for first in range(0, FLOOD, 500):
+        run.upstream.send(b"".join(lines[first : first + 500]))
+        for key, _ in run.room.select(0):
+            key.data.read()
+    run.until(lambda: all(client.count >= FLOOD for client in clients))
+    taken = time.perf_counter() - began
+    print(
+        f"{FLOOD:,} lines to {count} clients: {taken:.3f} s, {FLOOD / taken:,.0f} lines a second,"
+        f" {count * FLOOD / taken:,.0f} deliveries a second"
+    )
+    for client in clients:
+        client.close()
+
+
+def delays(run):
+    clients = run.spread(3)
+    sent = {}
+    began = time.perf_counter()
+    for number in range(PACED):
+        due = began + number / RATE
+        while time.perf_counter() < due:
+            for key, _ in run.room.select(max(0, due - time.perf_counter())):
+                key.data.read()
+        sent[b"line %d" % number] = time.perf_counter()
+        run.upstream.send(said(number))
+    run.until(lambda: all(client.count >= PACED for client in clients))
+    for place, client in enumerate(clients):
+        late = [at - sent[line.split(b" :", 1)[1]] for at, line in client.times]
+        where = "at the node that leads" if place == 0 else "at another node"
+        late.sort()
+        print(
+            f"delay {where}: median {1000 * statistics.median(late):.2f} ms,"
+            f" 99th percentile {1000 * late[len(late) * 99 // 100]:.2f} ms"
+        )
+    for client in clients:
+        client.close()
+
+
+def playback(run):
+    time.sleep(0.5)
+    run.upstream.send(b"".join(said(number) for number in range(PLAYED)))
+    time.sleep(1)
+    stream = socket.create_connection(("127.0.0.1", run.ports[run.leader()]))
+    client = End(run.room, stream)
+    began = time.perf_counter()
+    client.send(b"PASS word\r\nNICK me\r\nUSER me 0 * me\r\n")
+    run.until(lambda: client.count >= PLAYED)
+    taken = time.perf_counter() - began
+    client.close()
+    print(f"playback of {PLAYED} lines, from PASS to the last: {1000 * taken:.2f} ms")
+
+
+def main():
+    run = Run(sys.argv[1])
+    at_rest(run)
+    first = run.client(run.leader())
+    run.join(first)
+    first.close()
+    for count in (1, 10, 50):
+        flood(run, count)
+    delays(run)
+    playback(run)
+    run.end()
+
+
+main()
