@@ -1,5 +1,5 @@
-//! `bouncer`: folds numbered commands into what the clients of a bouncer are shown, and runs events over
-//! the nodes of one, again too where they were recorded.
+//! `bouncer`: runs a bouncer; folds numbered commands into what its clients are shown, and runs events over
+//! its nodes, again too where they were recorded.
 #![tactic(auto)]
 
 mod fault;
@@ -20,15 +20,20 @@ mod tests;
 
 use crate::fault::FoldFault;
 use crate::fold::fold;
+use bouncer_run::{System, run};
 use records::Verdict;
 use std::env::{Args, args};
 use std::fmt::Display;
 use std::io::ErrorKind;
 use std::process::ExitCode;
+use std::rt::Runtime;
 use std::{fs, io};
 use world_app::{RecordFault, replay_record, size_of, world};
 
 const USAGE: &str = "usage: bouncer [fold | world N | replay FILE | run CONFIG]";
+
+/// The program's name, and its version.
+const VERSION: &str = "bouncer 0.1.0";
 
 /// The exit code where a record differs from a run of its events.
 const DIFFERS: u8 = 3;
@@ -41,10 +46,15 @@ enum Task {
     World(u32),
     /// To run what is recorded in the file of this path again.
     Replay(String),
+    /// To run the bouncer that the configuration in the file of this path says.
+    Run(String),
+    Help,
+    Version,
 }
 
 /// What the words, the program's name first, ask for: a fold where none follows, or `fold` alone; the
-/// events of a world where `world` and a number follow; a record's where `replay` and a path do.
+/// events of a world where `world` and a number follow; a record's where `replay` and a path do; a bouncer's
+/// run where `run` and a path do.
 fn asked(words: Args) -> Option<Task> {
     let mut words = words.skip(1);
     let Some(word) = words.next() else {
@@ -54,6 +64,9 @@ fn asked(words: Args) -> Option<Task> {
         "fold" => Task::Fold,
         "world" => Task::World(size_of(words.next()?.as_str())?),
         "replay" => Task::Replay(words.next()?),
+        "run" => Task::Run(words.next()?),
+        "help" => Task::Help,
+        "--version" => Task::Version,
         _ => return None,
     };
     if words.next().is_some() {
@@ -97,8 +110,27 @@ fn run_replay(rt: &HostRuntime, path: &str) -> ExitCode {
     }
 }
 
+/// Runs a bouncer until standard input ends. The exit code is 0, or 1 with the fault on standard error.
+fn run_bouncer<R: System>(rt: &R, path: &str, input: R::Reader) -> ExitCode
+where
+    R::Reader: Send + 'static,
+{
+    match run(rt, path, input) {
+        Ok(()) => ExitCode::SUCCESS,
+        Err(fault) => failed(rt, fault),
+    }
+}
+
+/// Writes a line to standard output.
+fn told(rt: &HostRuntime, line: &str) -> ExitCode {
+    match println!(rt; "{line}") {
+        Ok(()) => ExitCode::SUCCESS,
+        Err(_) => failed(rt, FoldFault::Write),
+    }
+}
+
 /// Tells a fault. Where standard error takes nothing, the exit code tells it alone.
-fn failed<F: Display + Drop>(rt: &HostRuntime, fault: F) -> ExitCode {
+fn failed<F: Display + Drop>(rt: &impl Runtime, fault: F) -> ExitCode {
     let _ = eprintln!(rt; "bouncer: {fault}");
     ExitCode::FAILURE
 }
@@ -115,6 +147,9 @@ fn main(rt: HostRuntime) -> ExitCode {
             Some(Task::Fold) => run_fold(&rt),
             Some(Task::World(size)) => run_world(&rt, size),
             Some(Task::Replay(path)) => run_replay(&rt, path.as_str()),
+            Some(Task::Run(path)) => run_bouncer(&rt, path.as_str(), rt.reader()),
+            Some(Task::Help) => told(&rt, USAGE),
+            Some(Task::Version) => told(&rt, VERSION),
             None => usage(&rt),
         },
         Err(error) => if error.kind() == ErrorKind::OutOfMemory {

@@ -1,0 +1,18 @@
+//! What leaves a node, told to the loop.
+use bouncer_tower::TowerEffect;
+use node_notes::Report;
+use node_threads::Outlet;
+use sockets::{Inlet, Word};
+use std::sync::Wait;
+
+/// Tells the loop what leaves a node.
+#[derive(Drop)]
+pub struct LoopOutlet {
+    pub inlet: Inlet,
+}
+
+impl Outlet<TowerEffect> for LoopOutlet {
+    fn report<R: Wait>(&mut self, rt: &R, report: Report<TowerEffect>) {
+        self.inlet.tell(rt, Word::Report(report));
+    }
+}

@@ -1,0 +1,114 @@
+//! The run of a bouncer.
+ghost use Rattle.std.specs.Prelude.{IfErr, IfOk};
+ghost use Rattle.run_edges.specs.Faults.{IsOrMemory};
+
+use crate::parts::parts;
+use crate::running::Running;
+use bouncer_config::Config;
+use crossbeam_channel::{Receiver, unbounded};
+use driver::Driver;
+use run_edges::{
+    Inlets, RunFault, System, Telling, address_of, journals, listen_all, read, settings_of,
+    size_of, watch_input, write_record,
+};
+use sockets::{Clockwork, Sockets, Word, run_loop};
+use std::io;
+use std::io::Read;
+use std::sync::Arc;
+
+/// How often the loop looks at the clock, in milliseconds.
+const TICK: u64 = 20;
+
+/// Runs the bouncer that the configuration in the file of this path says, until the input ends;
+/// then its record is written, if the configuration names a file. Where it does not run, or ended
+/// before it was to, the fault is the first of its kinds, in the order of `RunFault`, and want of
+/// memory where it was met.
+pub fn run<R: System, I: Read + Drop + Send + 'static>(
+    rt: &R,
+    path: &str,
+    input: I,
+) -> Result<(), RunFault> {
+    let config = read(rt, path)?;
+    let size = size_of(&config);
+    let journals = journals(rt, &config, size)?;
+    let mut edge = Edge::new(rt, &config)?;
+    let parts = parts(rt, &edge.inlets, journals)?;
+    let running = Running::start(rt, &config, size, parts)?;
+    let ran = edge.serve(rt, &config, input, &running);
+    let records = running.stop(rt);
+    ran?;
+    write_record(rt, config, size, records)
+}
+
+/// The sockets, and what the loop is told by other threads.
+#[derive(Drop)]
+struct Edge {
+    sockets: Sockets,
+    words: Receiver<Word>,
+    inlets: Inlets,
+}
+
+impl Edge {
+    /// No node listens yet, and nothing was told.
+    fn new<R: System>(rt: &R, config: &Config) -> Result<Edge, RunFault>
+        ensures { IfErr result (IsOrMemory RunFault.Socket) }
+    {
+        let alloc = rt.alloc();
+        let sockets = Sockets::new(alloc, rt, address_of(config.upstream)).map_err(socket_fault)?;
+        let waker = sockets.waker().map_err(socket_fault)?;
+        let waker = Arc::new(alloc, waker).map_err(|_| RunFault::Memory)?;
+        let (to_loop, words) = unbounded(alloc)?;
+        let inlets = Inlets {
+            words: to_loop,
+            waker,
+        };
+        Ok(Edge {
+            sockets,
+            words,
+            inlets,
+        })
+    }
+
+    /// Listens, and serves clients and the server until the input ends.
+    fn serve<R: System, I: Read + Drop + Send + 'static>(
+        &mut self,
+        rt: &R,
+        config: &Config,
+        input: I,
+        running: &Running<R>,
+    ) -> Result<(), RunFault>
+        ensures { IfErr result (IsOrMemory RunFault.Socket) }
+    {
+        let alloc = rt.alloc();
+        let now = Clockwork::start(rt)
+            .map_err(socket_fault)?
+            .now(rt)
+            .map_err(socket_fault)?;
+        let mut telling = Telling::new(*rt, config.log);
+        listen_all(rt, config, &now, &mut self.sockets, &telling)?;
+        let mut driver = Driver::new(alloc, settings_of(alloc, config)?, &now);
+        let Some(reader) = watch_input(rt, input, self.inlets.one()?) else {
+            return Err(RunFault::Memory);
+        };
+        run_loop(
+            rt,
+            alloc,
+            TICK,
+            &mut driver,
+            &mut self.sockets,
+            running,
+            &self.words,
+            &mut telling,
+        )
+        .map_err(RunFault::of_loop)?;
+        reader.join(rt);
+        Ok(())
+    }
+}
+
+/// What it is to the program that the sockets or the clock fail.
+fn socket_fault(error: io::Error) -> RunFault
+    ensures { IsOrMemory RunFault.Socket result }
+{
+    RunFault::of_error(&error, RunFault::Socket)
+}
