@@ -20,7 +20,7 @@ mod tests;
 
 use crate::fault::FoldFault;
 use crate::fold::fold;
-use bouncer_run::{System, run};
+use bouncer_run::{Hands, run};
 use records::Verdict;
 use std::env::{Args, args};
 use std::fmt::Display;
@@ -110,17 +110,6 @@ fn run_replay(rt: &HostRuntime, path: &str) -> ExitCode {
     }
 }
 
-/// Runs a bouncer until standard input ends. The exit code is 0, or 1 with the fault on standard error.
-fn run_bouncer<R: System>(rt: &R, path: &str, input: R::Reader) -> ExitCode
-where
-    R::Reader: Send + 'static,
-{
-    match run(rt, path, input) {
-        Ok(()) => ExitCode::SUCCESS,
-        Err(fault) => failed(rt, fault),
-    }
-}
-
 /// Writes a line to standard output.
 fn told(rt: &HostRuntime, line: &str) -> ExitCode {
     match println!(rt; "{line}") {
@@ -147,7 +136,10 @@ fn main(rt: HostRuntime) -> ExitCode {
             Some(Task::Fold) => run_fold(&rt),
             Some(Task::World(size)) => run_world(&rt, size),
             Some(Task::Replay(path)) => run_replay(&rt, path.as_str()),
-            Some(Task::Run(path)) => run_bouncer(&rt, path.as_str(), rt.reader()),
+            Some(Task::Run(path)) => match run(&rt, path.as_str(), rt.reader(), &Hands::new) {
+                Ok(()) => ExitCode::SUCCESS,
+                Err(fault) => failed(&rt, fault),
+            },
             Some(Task::Help) => told(&rt, USAGE),
             Some(Task::Version) => told(&rt, VERSION),
             None => usage(&rt),

@@ -9,4 +9,4 @@ mod running;
 
 pub use fault::fault_of_cluster;
 pub use program::run;
-pub use run_edges::{RunFault, System};
+pub use run_edges::{Hands, RunFault, System};

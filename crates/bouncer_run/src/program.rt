@@ -7,11 +7,14 @@ use crate::running::Running;
 use bouncer_config::Config;
 use crossbeam_channel::{Receiver, unbounded};
 use driver::Driver;
+use node_cells::Upstream;
+use raft_log::NodeId;
 use run_edges::{
     Inlets, RunFault, System, Telling, address_of, journals, listen_all, read, settings_of,
     size_of, watch_input, write_record,
 };
-use sockets::{Clockwork, Sockets, Word, run_loop};
+use sockets::{Clockwork, Inlet, Sockets, Word, run_loop};
+use std::alloc::Global;
 use std::io;
 use std::io::Read;
 use std::sync::Arc;
@@ -22,17 +25,25 @@ const TICK: u64 = 20;
 /// Runs the bouncer that the configuration in the file of this path says, until the input ends;
 /// then its record is written, if the configuration names a file. Where it does not run, or ended
 /// before it was to, the fault is the first of its kinds, in the order of `RunFault`, and want of
-/// memory where it was met.
-pub fn run<R: System, I: Read + Drop + Send + 'static>(
+/// memory where it was met. What tells the loop a node's lines for the server is made by `hands`.
+pub fn run<
+    R: System,
+    I: Read + Drop + Send + 'static,
+    U: Upstream + Send + 'static,
+    F: Fn(R, Global, NodeId, Inlet) -> U,
+>(
     rt: &R,
     path: &str,
     input: I,
-) -> Result<(), RunFault> {
+    hands: &F,
+) -> Result<(), RunFault>
+    requires { F.IsAlwaysCallable hands.now }
+{
     let config = read(rt, path)?;
     let size = size_of(&config);
     let journals = journals(rt, &config, size)?;
     let mut edge = Edge::new(rt, &config)?;
-    let parts = parts(rt, &edge.inlets, journals)?;
+    let parts = parts(rt, &edge.inlets, journals, hands)?;
     let running = Running::start(rt, &config, size, parts)?;
     let ran = edge.serve(rt, &config, input, &running);
     let records = running.stop(rt);
@@ -70,12 +81,12 @@ impl Edge {
     }
 
     /// Listens, and serves clients and the server until the input ends.
-    fn serve<R: System, I: Read + Drop + Send + 'static>(
+    fn serve<R: System, I: Read + Drop + Send + 'static, U: Upstream>(
         &mut self,
         rt: &R,
         config: &Config,
         input: I,
-        running: &Running<R>,
+        running: &Running<U>,
     ) -> Result<(), RunFault>
         ensures { IfErr result (IsOrMemory RunFault.Socket) }
     {
