@@ -33,11 +33,12 @@ pub fn parts<R: System, U: Upstream, F: Fn(R, Global, NodeId, Inlet) -> U>(
         let outlet = LoopOutlet {
             inlet: inlets.one()?,
         };
-        parts.push(Part {
+        let part = Part {
             store: journal,
             upstream,
             outlet,
-        })?;
+        };
+        parts.push(part)?;
     }
     Ok(parts)
 }

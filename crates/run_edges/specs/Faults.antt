@@ -2,12 +2,17 @@
 use Rattle.std.specs.Prelude.{◌≡◌, ◌≢◌, ◌⊎◌}
 use Rattle.std.specs.declared.io.ErrorKind.{ErrorKind}
 use Rattle.std.specs.declared.io.ErrorKind.TheVariants.{OutOfMemory}
+use Rattle.std.specs.IoError.{error_kind}
+use Rattle.file_disk.specs.declared.open_fault.OpenFault.{OpenFault}
+use Rattle.file_disk.specs.declared.open_fault.OpenFault.TheVariants as opening
+use Rattle.stable_store.specs.declared.store_fault.StoreFault.{StoreFault}
+use Rattle.stable_store.specs.declared.store_fault.StoreFault.TheVariants as store
 use Rattle.sockets.specs.declared.event_loop.LoopFault.{LoopFault}
 use Rattle.sockets.specs.declared.event_loop.LoopFault.TheVariants as ended
 use Rattle.whole_input.specs.declared.read_fault.ReadFault.{ReadFault}
 use Rattle.whole_input.specs.declared.read_fault.ReadFault.TheVariants as input
 use Rattle.run_edges.specs.declared.run_fault.RunFault.{RunFault}
-use Rattle.run_edges.specs.declared.run_fault.RunFault.TheVariants.{InputTooLong, Memory, Read, Socket}
+use Rattle.run_edges.specs.declared.run_fault.RunFault.TheVariants.{InputTooLong, Memory, Read, Socket, Store}
 
 -- this fault, or want of memory
 abbrev pub IsOrMemory : RunFault → RunFault → Type 0
@@ -26,3 +31,18 @@ fault_of_reading input.Memory = Memory
 abbrev pub fault_of_loop : LoopFault → RunFault
 fault_of_loop ended.Socket = Socket
 fault_of_loop ended.Memory = Memory
+
+-- a store that fails: for want of memory, or for what lies in it
+abbrev pub fault_of_store : StoreFault → RunFault
+fault_of_store store.Device = Store
+fault_of_store store.NotAStore = Store
+fault_of_store store.Version = Store
+fault_of_store (store.Damaged place) = Store
+fault_of_store store.Memory = Memory
+
+-- a journal that is not opened: want of memory is told as that, also where the system tells it
+abbrev pub IsFaultOfOpening : OpenFault → RunFault → Type 0
+IsFaultOfOpening opening.InUse f = f ≡ Store
+IsFaultOfOpening opening.NotAFile f = f ≡ Store
+IsFaultOfOpening (opening.System error) f = IsFaultOfError (error_kind error) Store f
+IsFaultOfOpening (opening.Store fault) f = f ≡ fault_of_store fault

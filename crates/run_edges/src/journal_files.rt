@@ -1,7 +1,7 @@
 //! The journals of a bouncer's nodes.
 ghost use Rattle.std.specs.Prelude.{◌≡◌, false, length, IfErr, IfOk, string_bytes};
 ghost use Rattle.std.specs.List.{All};
-ghost use Rattle.run_edges.specs.Faults.{IsOrMemory};
+ghost use Rattle.run_edges.specs.Faults.{IsFaultOfOpening, IsOrMemory};
 ghost use Rattle.run_edges.specs.Paths.{journal_path};
 
 use crate::run_fault::RunFault;
@@ -66,7 +66,8 @@ fn open<R: System>(rt: &R, path: &str) -> Result<FileJournal<TowerBody>, RunFaul
 
 /// What it is to the program that a journal is not opened.
 fn fault_of(fault: &OpenFault) -> RunFault
-    ensures { IsOrMemory RunFault.Store result }
+    ensures kind { IsFaultOfOpening fault.now result }
+    ensures either { IsOrMemory RunFault.Store result }
 {
     match fault {
         OpenFault::Store(StoreFault::Memory) => RunFault::Memory,
