@@ -1,1 +1,3 @@
+mod Driving
+mod Leading
 mod Ticking

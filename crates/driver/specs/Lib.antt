@@ -1,6 +1,9 @@
 pub mod Clients
 pub mod Desks
+pub mod Driving
 pub mod Gone
 pub mod Hearing
+pub mod Leading
 pub mod Links
 pub mod Rosters
+pub mod Waking

@@ -4,6 +4,8 @@ ghost use Rattle.node_notes.specs.Notes.{leads};
 ghost use Rattle.node_notes.specs.declared.note.Note.TheVariants.{Beat};
 ghost use Rattle.driver.specs.Gone.{dead_below, greatest, is_to_restart, restart_behind, restart_if};
 ghost use Rattle.driver.specs.Desks.{is_full, told};
+ghost use Rattle.driver.specs.Leading.{term_of};
+ghost use Rattle.driver.specs.Waking.{waited_longer};
 
 mod clock;
 mod hearing;
@@ -184,20 +186,27 @@ impl Desk {
         self.status
     }
 
-    /// Whether it is up and leads.
-    pub fn leads(&self) -> bool {
-        match &self.status {
-            Some(status) => status.leads(),
-            None => false,
+    /// The term in which it leads, if it is up and leads.
+    pub fn leading(&self) -> Option<Number>
+        ensures { result ≡ term_of self.now.status }
+    {
+        let Some(status) = &self.status else {
+            return None;
+        };
+        if status.leads() {
+            Some(status.term)
+        } else {
+            None
         }
     }
 
-    /// The term in which it leads, if it is up and leads.
-    pub fn leading(&self) -> Option<Number> {
-        match &self.status {
-            Some(status) if status.leads() => Some(status.term),
-            _ => None,
-        }
+    /// So much of the time that passed does not count as silence: not of the node, and not of the leader
+    /// that it heard of.
+    pub fn wait_longer(&mut self, ms: u64)
+        ensures { self.new ≡ waited_longer ms self.old }
+    {
+        self.heard = Timer::from(self.heard.since.saturating_add(ms));
+        self.led = Timer::from(self.led.since.saturating_add(ms));
     }
 
     /// The node is told this.

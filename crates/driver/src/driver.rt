@@ -5,19 +5,20 @@ ghost use Rattle.driver.specs.Rosters.{AreOthersSame, ArrivesIf, IsLost, Receive
 
 mod hearing;
 mod reading;
+mod session;
+mod ticking;
 
 use crate::client::Client;
 use crate::clients::Clients;
 use crate::desk::Desk;
 use crate::link::Link;
-use crate::news::{Ending, News};
 use crate::notices::Notices;
-use crate::order::{Now, Order, TowerNote};
+use crate::order::{Now, Order};
 use crate::settings::Settings;
 use client_gate::ClientGate;
 use irc_line::Line;
-use node_notes::{Note, Status};
-use pacing::Pace;
+use node_notes::Status;
+use pacing::{Pace, Timer};
 use raft_log::NodeId;
 use std::alloc::{AllocError, Global};
 use wire_bytes::Origin;
@@ -41,6 +42,8 @@ pub struct Driver {
     numbered: u64,
     link: Link,
     pace: Pace,
+    /// When it last heard of a node, or was told that time passed.
+    ran: Timer,
     orders: Vec<Order>,
 }
 
@@ -58,6 +61,7 @@ impl Driver {
             numbered: 0,
             link: Link::new(alloc, now),
             pace,
+            ran: Timer::from(now.ms),
             orders: Vec::new(alloc),
         }
     }
@@ -145,82 +149,6 @@ impl Driver {
     /// A line was handed out by a node, for its session.
     pub fn hand(&mut self, node: NodeId, line: &Line) -> Result<(), AllocError> {
         self.link.send(node, line, &mut self.orders)
-    }
-
-    fn tell(&mut self, node: NodeId, note: TowerNote) -> Result<(), AllocError> {
-        match self.desks.get_mut(node.value() as usize - 1) {
-            Some(desk) => desk.tell(note, &mut self.orders),
-            None => Ok(()),
-        }
-    }
-
-    /// What a node is told by the clock, and by how it stands.
-    fn tick_node(&mut self, now: &Now, node: NodeId) -> Result<(), AllocError> {
-        let Some(desk) = self.desks.get_mut(node.value() as usize - 1) else {
-            return Ok(());
-        };
-        desk.tick(now, &self.settings, &mut self.orders)?;
-        self.notices.restart_outlived(desk, &mut self.orders)?;
-        if desk.leads() {
-            desk.claim(now, &self.settings, &mut self.pace, &mut self.orders)?;
-            return self.link.connect(now, node, &mut self.orders);
-        }
-        if self.link.node() == Some(node) {
-            self.orders.push(Order::Disconnect)?;
-            self.end_session(now, Ending::LedNoMore)?;
-        }
-        Ok(())
-    }
-
-    /// The server is connected to.
-    pub fn connected(&mut self, now: &Now) -> Result<(), AllocError> {
-        self.link.connected(now, &self.settings, &mut self.orders)
-    }
-
-    /// Bytes came from the server, however they are cut.
-    pub fn receive_line(&mut self, now: &Now, bytes: &[u8]) -> Result<(), AllocError> {
-        let Some(node) = self.link.node() else {
-            return Ok(());
-        };
-        let notes = self.link.receive(now, bytes, &mut self.orders)?;
-        for note in notes {
-            if let Note::Opened = &note {
-                self.orders.push(Order::Tells(News::Opened(node)))?;
-            }
-            self.tell(node, note)?;
-        }
-        Ok(())
-    }
-
-    /// The connection to the server is gone, or could not be made.
-    pub fn close(&mut self, now: &Now) -> Result<(), AllocError> {
-        self.end_session(now, Ending::Lost)
-    }
-
-    /// There is no connection to the server, or none any more.
-    fn end_session(&mut self, now: &Now, why: Ending) -> Result<(), AllocError> {
-        let Some(node) = self.link.node() else {
-            return Ok(());
-        };
-        if self.link.lose(now, why, &mut self.orders)? {
-            self.tell(node, Note::Closed)?;
-        }
-        Ok(())
-    }
-
-    /// Time passed.
-    pub fn tick(&mut self, now: &Now) -> Result<(), AllocError> {
-        if self.link.is_silent(now) {
-            self.orders.push(Order::Disconnect)?;
-            self.end_session(now, Ending::Silent)?;
-        }
-        let timeout = self.settings.timeout_ms;
-        self.clients.tick(now, timeout, &mut self.orders)?;
-        for id in 1..MOST_NODES as u8 + 1 {
-            self.tick_node(now, NodeId::new(id))?;
-        }
-        self.notices
-            .tick(now, &self.settings, &mut self.desks, &mut self.orders)
     }
 }
 

@@ -1,7 +1,7 @@
 //! Word that earlier runs of a node are gone.
 ghost use Rattle.std.specs.Prelude.{◌≡◌, ◌++◌, ◌∷◌, [], OnOk, Some};
 ghost use Rattle.node_notes.specs.declared.note.Note.TheVariants.{Ask};
-ghost use Rattle.driver.specs.Desks.{told};
+ghost use Rattle.driver.specs.Desks.{counted, told};
 ghost use Rattle.driver.specs.Gone.{applied_floor, appended_by, asked_of, gone_body, is_due, lead_of, progress_after, standing_by};
 
 use crate::desk::Desk;
@@ -105,6 +105,7 @@ impl Notice {
             ++ told desk.old.id (Some (Ask (gone_body self.old.node self.old.floor)))) }
         ensures notice { OnOk result
             (self.new ≡ asked_of self.old now.now.ms desk.old.id desk.new.given desk.old.status) }
+        ensures desk { OnOk result (desk.new ≡ counted desk.old) }
     {
         let lead = match desk.status() {
             Some(status) => lead_of(&status),

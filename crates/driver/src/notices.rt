@@ -1,10 +1,12 @@
 //! Word of all nodes whose earlier runs are gone.
 ghost use Rattle.std.specs.Prelude.{◌≡◌, ◌++◌, OnOk};
-ghost use Rattle.driver.specs.Desks.{told};
+ghost use Rattle.driver.specs.Desks.{counted, told};
+ghost use Rattle.driver.specs.Driving.{GoesOn, tick_orders, ticked};
 ghost use Rattle.driver.specs.Gone.{applied_floor, notice_at, restart_at, restart_behind};
 
 use crate::desk::Desk;
 use crate::gone::Notice;
+use crate::leader::leader_of;
 use crate::order::{Now, Order};
 use crate::settings::Settings;
 use node_notes::Status;
@@ -38,7 +40,9 @@ impl Notices {
         desk: &mut Desk,
         boot: Number,
         orders: &mut Vec<Order>,
-    ) -> Result<(), AllocError> {
+    ) -> Result<(), AllocError>
+        ensures desk { OnOk result (desk.new ≡ counted desk.old) }
+    {
         let mut notice = Notice::new(desk.id(), boot);
         notice.ask(now, desk, orders)?;
         if let Some(place) = self.all.get_mut(desk.id().value() as usize - 1) {
@@ -66,7 +70,9 @@ impl Notices {
         settings: &Settings,
         desks: &mut [Desk; MOST_NODES],
         orders: &mut Vec<Order>,
-    ) -> Result<(), AllocError> {
+    ) -> Result<(), AllocError>
+        ensures { OnOk result (GoesOn orders.old.items orders.new.items) }
+    {
         let Some(leader) = leader_of(desks) else {
             return Ok(());
         };
@@ -78,20 +84,33 @@ impl Notices {
             if !notice.is_due(now, settings) {
                 continue;
             }
-            if let Some(desk) = desks.get_mut(leader) {
-                notice.ask(now, desk, orders)?;
-            }
+            let desk = &mut desks[leader.value() as usize - 1];
+            notice.ask(now, desk, orders)?;
         }
+        Ok(())
+    }
+
+    /// What a node is told by the clock, and by word that its run is gone.
+    pub fn tick_desk(
+        &self,
+        now: &Now,
+        settings: &Settings,
+        desk: &mut Desk,
+        orders: &mut Vec<Order>,
+    ) -> Result<(), AllocError>
+        ensures desk { OnOk result
+            (desk.new ≡ ticked self.now.all settings.now now.now.ms desk.old) }
+        ensures told { OnOk result (orders.new.items ≡ orders.old.items
+            ++ tick_orders self.now.all settings.now now.now.ms desk.old) }
+    {
+        desk.tick(now, settings, orders)?;
+        self.restart_outlived(desk, orders)?;
         Ok(())
     }
 
     /// A node that lives on in a run that is gone for all nodes is started again: what its clients ask for
     /// is refused from then on.
-    pub fn restart_outlived(
-        &self,
-        desk: &mut Desk,
-        orders: &mut Vec<Order>,
-    ) -> Result<(), AllocError>
+    fn restart_outlived(&self, desk: &mut Desk, orders: &mut Vec<Order>) -> Result<(), AllocError>
         ensures told { OnOk result (orders.new.items ≡ orders.old.items
             ++ told desk.old.id (restart_at self.now.all desk.old)) }
         ensures desk { OnOk result
@@ -135,19 +154,4 @@ fn is_news(place: &Option<Notice>, floor: Number) -> bool {
         Some(notice) => notice.floor().value() < floor.value(),
         None => true,
     }
-}
-
-/// The place of the desk whose node leads in the greatest term, from 0, where one leads.
-fn leader_of(desks: &[Desk; MOST_NODES]) -> Option<usize> {
-    let mut leader = None;
-    let mut greatest = 0u64;
-    for (index, desk) in desks.iter().enumerate() {
-        if let Some(term) = desk.leading() {
-            if leader.is_none() || greatest < term.value() {
-                leader = Some(index);
-                greatest = term.value();
-            }
-        }
-    }
-    leader
 }

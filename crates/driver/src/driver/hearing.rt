@@ -1,6 +1,7 @@
 //! What a node's worker tells, and what comes of it.
-ghost use Rattle.std.specs.Prelude.{◌≡◌, map};
-ghost use Rattle.driver.specs.Hearing.{answered_by};
+ghost use Rattle.std.specs.Prelude.{◌≡◌, ◌&&◌, is_none, map, IfOk, OnOk};
+ghost use Rattle.driver.specs.Driving.{Hears, answered_if, begun_if, changed_at, is_new_at};
+ghost use Rattle.driver.specs.Hearing.{answered_by, heard_behind};
 
 use crate::desk::Desk;
 use crate::driver::Driver;
@@ -14,7 +15,10 @@ use wire_bytes::Number;
 
 impl Driver {
     /// A node's worker told something.
-    pub fn hear(&mut self, now: &Now, report: TowerReport) -> Result<(), AllocError> {
+    pub fn hear(&mut self, now: &Now, report: TowerReport) -> Result<(), AllocError>
+        ensures { OnOk result (Hears now.now.ms report.node report.status report.led report.is_last
+            (report.led && is_none report.fault) self.old self.new) }
+    {
         let Report {
             node,
             status,
@@ -23,19 +27,15 @@ impl Driver {
             fault,
             is_last,
         } = report;
+        self.wake(now);
         let is_new = self.hear_status(now, node, &status, led, is_last)?;
-        if led && fault.is_none() {
-            self.hear_answer(&status);
-        }
-        if let Some(desk) = self.desks.get(node.value() as usize - 1) {
-            self.notices
-                .hear(node, &status, desk.done(), fault.is_some());
-        }
+        self.hear_answer(led, fault.is_none(), &status);
+        let done = self.desks[node.value() as usize - 1].done();
+        self.notices.hear(node, &status, done, fault.is_some());
         self.pass_all(now, node, effects.as_slice())?;
-        if is_new {
-            self.begin_run(now, node, status.boot)?;
-        }
-        self.tick_node(now, node)
+        self.begin_if(is_new, now, node, status.boot)?;
+        self.tick_node(now, node)?;
+        Ok(())
     }
 
     /// How a node stands was told. Whether a run of it began.
@@ -46,20 +46,27 @@ impl Driver {
         status: &Status,
         led: bool,
         is_last: bool,
-    ) -> Result<bool, AllocError> {
-        let orders = &mut self.orders;
-        match self.desks.get_mut(node.value() as usize - 1) {
-            Some(desk) => desk.hear(now, status, led, is_last, orders),
-            None => Ok(false),
-        }
+    ) -> Result<bool, AllocError>
+        ensures new { IfOk result (λ new. new ≡ is_new_at self.old.desks node status.now) }
+        ensures desks { OnOk result (self.new.desks
+            ≡ changed_at (λ desk. heard_behind desk now.now.ms status.now led is_last)
+            self.old.desks node) }
+        ensures rest { self.new ≡ record self.old
+            { desks = self.new.desks; orders = self.new.orders } }
+    {
+        let desk = &mut self.desks[node.value() as usize - 1];
+        desk.hear(now, status, led, is_last, &mut self.orders)
     }
 
-    /// A node that stands so heard of the leader of its term, which is to know where it lags behind.
-    fn hear_answer(&mut self, status: &Status)
+    /// A node that stands so heard of the leader of its term, or did not, and did what it was to do, or did
+    /// not: where it did both, that leader is to know where the node lags behind.
+    fn hear_answer(&mut self, led: bool, is_done: bool, status: &Status)
         ensures { self.new ≡ record self.old
-            { desks = map (λ desk. answered_by desk status.now) self.old.desks } }
+            { desks = answered_if (led && is_done) status.now self.old.desks } }
     {
-        answer_each(self.desks.as_mut_slice(), status);
+        if led && is_done {
+            answer_each(self.desks.as_mut_slice(), status);
+        }
     }
 
     /// Effects that left a node go to its clients, or to the server.
@@ -68,7 +75,10 @@ impl Driver {
         now: &Now,
         node: NodeId,
         effects: &[TowerEffect],
-    ) -> Result<(), AllocError> {
+    ) -> Result<(), AllocError>
+        ensures { self.new ≡ record self.old
+            { clients = self.new.clients; orders = self.new.orders } }
+    {
         for effect in effects {
             match <Tower as Hosted>::class(effect) {
                 Class::To(origin) => self.clients.hear(now, origin, effect, &mut self.orders)?,
@@ -79,15 +89,29 @@ impl Driver {
         Ok(())
     }
 
-    /// A run of a node began: word goes round that its earlier runs are gone.
-    fn begin_run(&mut self, now: &Now, node: NodeId, boot: Number) -> Result<(), AllocError> {
-        let orders = &mut self.orders;
-        self.clients
-            .leave_runs_below(now, node.value(), boot.value(), orders)?;
-        match self.desks.get_mut(node.value() as usize - 1) {
-            Some(desk) => self.notices.begin(now, desk, boot, orders),
-            None => Ok(()),
+    /// Where a run of a node began, word goes round that its earlier runs are gone.
+    fn begin_if(
+        &mut self,
+        is_new: bool,
+        now: &Now,
+        node: NodeId,
+        boot: Number,
+    ) -> Result<(), AllocError>
+        ensures desks { OnOk result (self.new.desks ≡ begun_if is_new node self.old.desks) }
+        ensures rest { self.new ≡ record self.old {
+          desks = self.new.desks;
+          notices = self.new.notices;
+          clients = self.new.clients;
+          orders = self.new.orders;
+        } }
+    {
+        if !is_new {
+            return Ok(());
         }
+        self.clients
+            .leave_runs_below(now, node.value(), boot.value(), &mut self.orders)?;
+        let desk = &mut self.desks[node.value() as usize - 1];
+        self.notices.begin(now, desk, boot, &mut self.orders)
     }
 }
 

@@ -1,0 +1,181 @@
+-- What comes of what is heard of a node, and of time.
+use Rattle.std.specs.Prelude.{◌≡◌, ◌++◌, ℕ, zero, suc, ◌+◌, ◌-◌, ◌&&◌, Bool, true, false, if◌then◌else◌, List, [], ◌∷◌, Option, Some, None, map, slice_get, slice_set}
+use Rattle.node_notes.specs.declared.note.Note.TheVariants as note
+use Rattle.node_notes.specs.declared.status.Status.{Status}
+use Rattle.driver.specs.declared.desk.Desk.{Desk}
+use Rattle.driver.specs.declared.driver.Driver.{Driver}
+use Rattle.driver.specs.declared.gone.Notice.{Notice}
+use Rattle.driver.specs.declared.news.Ending.{Ending}
+use Rattle.driver.specs.declared.news.Ending.TheVariants.{LedNoMore, Silent}
+use Rattle.driver.specs.declared.order.Order.{Order}
+use Rattle.driver.specs.declared.order.Order.TheVariants.{Connect, Disconnect}
+use Rattle.driver.specs.declared.settings.Settings.{Settings}
+use Rattle.driver.specs.declared.link.Stage.TheVariants.{Connecting}
+use Rattle.driver.specs.Desks.{claim_at, claim_due, counted, desk_behind, desk_claimed, note_at, paced, told}
+use Rattle.driver.specs.Gone.{restart_at, restart_behind}
+use Rattle.driver.specs.Hearing.{answered_by, heard_behind, heard_news, is_new_run}
+use Rattle.driver.specs.Leading.{IsLeader, is_older, is_that}
+use Rattle.driver.specs.Links.{IsLost, ending, idle_behind, is_silent, may_connect, node_of}
+use Rattle.driver.specs.Waking.{awake}
+use Rattle.pacing.specs.Pacing.{may_go}
+
+-- the desks, that of this node changed
+abbrev pub changed_if : (Desk → Desk) → List Desk → ℕ → Option Desk → List Desk
+changed_if change desks index None = desks
+changed_if change desks index (Some desk) = slice_set desks index (change desk)
+
+abbrev pub changed_at : (Desk → Desk) → List Desk → ℕ → List Desk
+changed_at change desks node = changed_if change desks (node - 1) (slice_get desks (node - 1))
+
+-- what is ordered of a desk, if there is one
+abbrev pub orders_of : (Desk → List Order) → Option Desk → List Order
+orders_of orders None = []
+orders_of orders (Some desk) = orders desk
+
+abbrev pub orders_at : (Desk → List Order) → List Desk → ℕ → List Order
+orders_at orders desks node = orders_of orders (slice_get desks (node - 1))
+
+-- a node's desk behind what the clock told it
+abbrev pub clocked : Settings → ℕ → Desk → Desk
+clocked settings now desk = desk_behind desk now desk.status (note_at desk settings now)
+
+-- and behind what word of its earlier runs told it
+abbrev pub ticked : List (Option Notice) → Settings → ℕ → Desk → Desk
+ticked notices settings now desk =
+    let behind = clocked settings now desk in
+    restart_behind behind (restart_at notices behind)
+
+-- what both told it
+abbrev pub tick_orders : List (Option Notice) → Settings → ℕ → Desk → List Order
+tick_orders notices settings now desk =
+    let behind = clocked settings now desk in
+    told desk.id (note_at desk settings now) ++ told behind.id (restart_at notices behind)
+
+-- A node was told by the clock to send, to ask for votes or to start again, and to start again where word says that it lives on
+-- in a run that is gone; where it was not told so just before.
+pub record TicksDesk (now node : ℕ) (old new : Driver) : Type 0 where
+  pub desks : new.desks ≡ changed_at (ticked old.notices.all old.settings now) old.desks node
+  pub orders : new.orders.items ≡ old.orders.items ++ orders_at (tick_orders old.notices.all old.settings now) old.desks node
+  pub rest : new ≡ record old { desks = new.desks; orders = new.orders }
+
+-- the node of a connection is told of its end, where its uplink gave the end
+abbrev pub closed_of : Option ℕ → Bool → Option ℕ
+closed_of None lost = None
+closed_of (Some node) lost = if lost then Some node else None
+
+abbrev pub desks_told_closed : Option ℕ → List Desk → List Desk
+desks_told_closed None desks = desks
+desks_told_closed (Some node) desks = changed_at counted desks node
+
+abbrev pub closed_orders : Option ℕ → List Desk → List Order
+closed_orders None desks = []
+closed_orders (Some node) desks = orders_at (λ desk. told desk.id (Some note.Closed)) desks node
+
+-- The connection to the server is gone: an operator is told why, and its node is told where it had a session.
+pub record Ends (now : ℕ) (why : Ending) (old new : Driver) : Type 0 where
+  pub lost : Bool
+  pub is_lost : IsLost old.link.stage lost
+  pub desks : new.desks ≡ desks_told_closed (closed_of (node_of old.link.stage) lost) old.desks
+  pub orders :
+      new.orders.items
+      ≡ (old.orders.items ++ ending old.link.stage why) ++ closed_orders (closed_of (node_of old.link.stage) lost) old.desks
+  pub stage : new.link.stage ≡ idle_behind old.link.stage old.link.backoff now
+  pub rest : new ≡ record old { desks = new.desks; orders = new.orders; link = new.link }
+
+-- The connection to the server is closed, and then it is gone.
+pub record Leaves (now : ℕ) (why : Ending) (old new : Driver) : Type 0 where
+  pub closed : Driver
+  pub orders : closed.orders.items ≡ old.orders.items ++ Disconnect ∷ []
+  pub rest : closed ≡ record old { orders = closed.orders }
+  pub ends : Ends now why closed new
+
+-- The connection to the server is left where this is so, and else nothing changes.
+abbrev pub LeavesIf : Bool → ℕ → Ending → Driver → Driver → Type 0
+LeavesIf false now why old new = new ≡ old
+LeavesIf true now why old new = Leaves now why old new
+
+-- The node that leads in the greatest term claims its next line, where the pace allows it.
+pub record Claims (now node : ℕ) (old new : Driver) : Type 0 where
+  pub desks :
+      new.desks
+      ≡ changed_at (λ desk. desk_claimed desk now (may_go old.pace.burst old.pace.line_ms old.pace.free_at now) (claim_due desk old.settings now)) old.desks node
+  pub orders : new.orders.items ≡ old.orders.items ++ orders_at (λ desk. told desk.id (claim_at desk old.settings now old.pace)) old.desks node
+  pub rest : new ≡ record old { desks = new.desks; orders = new.orders; pace = new.pace }
+
+-- The server is connected to for a node, where there is no connection and one may be tried.
+pub record Connects (now node : ℕ) (old new : Driver) : Type 0 where
+  pub orders : new.orders.items ≡ old.orders.items ++ (if may_connect old.link.stage now then Connect ∷ [] else [])
+  pub stage : new.link.stage ≡ (if may_connect old.link.stage now then Connecting node else old.link.stage)
+  pub rest : new ≡ record old { orders = new.orders; link = new.link }
+
+-- The node that leads in the greatest term claims, and the server is connected to for it.
+pub record Serves (now node : ℕ) (old new : Driver) : Type 0 where
+  pub claimed : Driver
+  pub claims : Claims now node old claimed
+  pub connects : Connects now node claimed new
+
+-- For any other node nothing is done.
+abbrev pub ServesIf : Bool → ℕ → ℕ → Driver → Driver → Type 0
+ServesIf false now node old new = new ≡ old
+ServesIf true now node old new = Serves now node old new
+
+-- What comes of a node by the clock and by how it stands: it is told what it is to be told; the connection to the server is left
+-- where it is of another node than the one that leads in the greatest term; and where this node is that one, it is served.
+pub record TicksNode (now node : ℕ) (old new : Driver) : Type 0 where
+  pub told : Driver
+  pub ticks : TicksDesk now node old told
+  pub leader : Option ℕ
+  pub is_leader : IsLeader told.desks leader
+  pub left : Driver
+  pub leaves : LeavesIf (is_older (node_of told.link.stage) leader) now LedNoMore told left
+  pub serves : ServesIf (is_that leader node) now node left new
+
+-- Nodes tick in turn, so many from this one on.
+unfoldable pub TickNodes : ℕ → ℕ → ℕ → Driver → Driver → Type 0
+TickNodes zero now node old new = new ≡ old
+TickNodes (suc count) now node old new =
+    (behind : Driver) × TicksNode now node old behind × TickNodes count now (node + 1) behind new
+
+-- what was ordered stays, and more may be ordered behind it
+abbrev pub GoesOn : List Order → List Order → Type 0
+GoesOn before after = (more : List Order) × (after ≡ before ++ more)
+
+-- What time brings. The driver is awake, and the connection to a server that is silent is left; then comes what clients are told,
+-- and then each node ticks; what comes last is word of earlier runs.
+pub record Ticks (now : ℕ) (old new : Driver) : Type 0 where
+  pub left : Driver
+  pub leaves : LeavesIf (is_silent old.link.stage now) now Silent (awake now old) left
+  pub served : Driver
+  pub clients : served ≡ record left { clients = served.clients; orders = served.orders }
+  pub asked : Driver
+  pub nodes : TickNodes 7 now 1 served asked
+  pub orders : GoesOn asked.orders.items new.orders.items
+  pub rest : new ≡ record asked { desks = new.desks; notices = new.notices; orders = new.orders }
+
+-- where a node that stands so heard of the leader of its term, each node is answered, which is one of these where it leads
+abbrev pub answered_if : Bool → Status → List Desk → List Desk
+answered_if false status desks = desks
+answered_if true status desks = map (λ desk. answered_by desk status) desks
+
+-- a run of this node began, as far as was known
+abbrev pub is_new_if : Option Desk → Status → Bool
+is_new_if None status = false
+is_new_if (Some desk) status = is_new_run desk.status status
+
+abbrev pub is_new_at : List Desk → ℕ → Status → Bool
+is_new_at desks node status = is_new_if (slice_get desks (node - 1)) status
+
+-- a node of which a run began is asked for word that its earlier ones are gone
+abbrev pub begun_if : Bool → ℕ → List Desk → List Desk
+begun_if false node desks = desks
+begun_if true node desks = changed_at counted desks node
+
+-- The driver was told how a node stands; whether the node heard of the leader of its term, and whether a note of it is done.
+pub record Hears (now node : ℕ) (status : Status) (led is_last answers : Bool) (old new : Driver) : Type 0 where
+  pub begun : Driver
+  pub desks :
+      let before = (awake now old).desks in
+      let stood = changed_at (λ desk. heard_behind desk now status led is_last) before node in
+      begun.desks ≡ begun_if (is_new_at before node status) node (answered_if answers status stood)
+  pub rest : begun ≡ record (awake now old) { desks = begun.desks; notices = begun.notices; clients = begun.clients; orders = begun.orders }
+  pub ticks : TicksNode now node begun new

@@ -1,0 +1,26 @@
+-- How long nodes were silent: only while their driver ran.
+use Rattle.std.specs.Prelude.{ℕ, ◌+◌, ◌-◌, ◌/◌, ◌^◌, min, map}
+use Rattle.pacing.specs.declared.timer.Timer.{Timer}
+use Rattle.driver.specs.declared.desk.Desk.{Desk}
+use Rattle.driver.specs.declared.driver.Driver.{Driver}
+use Rattle.driver.specs.Desks.{at}
+
+-- how much of the time since the driver last ran counts as no silence: what is more than half a timeout, since the process was
+-- stopped then, or had no processor
+abbrev pub slept : Timer → ℕ → ℕ → ℕ
+slept ran timeout now = (now - ran.since) - timeout / 2
+
+-- a timer that runs so much longer
+abbrev pub later : ℕ → Timer → Timer
+later ms timer = at (min (timer.since + ms) (2 ^ 64 - 1))
+
+-- a node counts as heard of so much later, and so does the leader that it heard of
+abbrev pub waited_longer : ℕ → Desk → Desk
+waited_longer ms desk = record desk { heard = later ms desk.heard; led = later ms desk.led }
+
+-- the driver once it runs at this moment
+abbrev pub awake : ℕ → Driver → Driver
+awake now driver = record driver {
+  ran = at now;
+  desks = map (waited_longer (slept driver.ran driver.settings.timeout_ms now)) driver.desks;
+}

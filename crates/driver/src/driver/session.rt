@@ -1,0 +1,117 @@
+//! The connection to the server, as the driver has it.
+ghost use Rattle.std.specs.Prelude.{◌≡◌, ◌++◌, OnOk, Some, if◌then◌else◌};
+ghost use Rattle.driver.specs.declared.news.Ending.TheVariants.{LedNoMore, Silent};
+ghost use Rattle.driver.specs.Desks.{counted, told};
+ghost use Rattle.driver.specs.Driving.{Connects, Ends, Leaves, LeavesIf, changed_at, orders_at};
+ghost use Rattle.driver.specs.Leading.{is_older, is_that};
+ghost use Rattle.driver.specs.Links.{is_silent, node_of};
+
+use crate::driver::Driver;
+use crate::news::{Ending, News};
+use crate::order::{Now, Order, TowerNote};
+use node_notes::Note;
+use raft_log::NodeId;
+use std::alloc::AllocError;
+
+impl Driver {
+    /// The server is connected to.
+    pub fn connected(&mut self, now: &Now) -> Result<(), AllocError> {
+        self.link.connected(now, &self.settings, &mut self.orders)
+    }
+
+    /// Bytes came from the server, however they are cut.
+    pub fn receive_line(&mut self, now: &Now, bytes: &[u8]) -> Result<(), AllocError> {
+        let Some(node) = self.link.node() else {
+            return Ok(());
+        };
+        let notes = self.link.receive(now, bytes, &mut self.orders)?;
+        for note in notes {
+            if let Note::Opened = &note {
+                self.orders.push(Order::Tells(News::Opened(node)))?;
+            }
+            self.tell(node, note)?;
+        }
+        Ok(())
+    }
+
+    /// The connection to the server is gone, or could not be made.
+    pub fn close(&mut self, now: &Now) -> Result<(), AllocError> {
+        self.end_session(now, Ending::Lost)
+    }
+
+    /// A node is told this.
+    fn tell(&mut self, node: NodeId, note: TowerNote) -> Result<(), AllocError>
+        ensures desks { OnOk result (self.new.desks ≡ changed_at counted self.old.desks node) }
+        ensures orders { OnOk result (self.new.orders.items ≡ self.old.orders.items
+            ++ orders_at (λ desk. told desk.id (Some note)) self.old.desks node) }
+        ensures rest { self.new ≡ record self.old
+            { desks = self.new.desks; orders = self.new.orders } }
+    {
+        self.desks[node.value() as usize - 1].tell(note, &mut self.orders)
+    }
+
+    /// There is no connection to the server, or none any more.
+    fn end_session(&mut self, now: &Now, why: Ending) -> Result<(), AllocError>
+        ensures { OnOk result (Ends now.now.ms why self.old self.new) }
+    {
+        let Some(node) = self.link.node() else {
+            return Ok(());
+        };
+        if self.link.lose(now, why, &mut self.orders)? {
+            self.tell(node, Note::Closed)?;
+        }
+        Ok(())
+    }
+
+    /// The connection to the server is closed.
+    fn leave(&mut self, now: &Now, why: Ending) -> Result<(), AllocError>
+        ensures { OnOk result (Leaves now.now.ms why self.old self.new) }
+    {
+        self.orders.push(Order::Disconnect)?;
+        self.end_session(now, why)?;
+        Ok(())
+    }
+
+    /// The connection to the server is left where it is of another node than the one that leads in the
+    /// greatest term, as far as is known: the older leader may hang, and not know of the newer one.
+    pub fn leave_older(&mut self, now: &Now, leader: &Option<NodeId>) -> Result<(), AllocError>
+        ensures { OnOk result (LeavesIf (is_older (node_of self.old.link.stage) leader.now)
+            now.now.ms LedNoMore self.old self.new) }
+    {
+        let Some(node) = self.link.node() else {
+            return Ok(());
+        };
+        if is_that(leader, node) {
+            return Ok(());
+        }
+        self.leave(now, Ending::LedNoMore)
+    }
+
+    /// The connection to a server that is silent is left.
+    pub fn leave_silent(&mut self, now: &Now) -> Result<(), AllocError>
+        ensures { OnOk result (LeavesIf (is_silent self.old.link.stage now.now.ms)
+            now.now.ms Silent self.old self.new) }
+    {
+        if !self.link.is_silent(now) {
+            return Ok(());
+        }
+        self.leave(now, Ending::Silent)
+    }
+
+    /// The server is connected to for this node, where that may be tried.
+    pub fn connect_for(&mut self, now: &Now, node: NodeId) -> Result<(), AllocError>
+        ensures { OnOk result (Connects now.now.ms node self.old self.new) }
+    {
+        self.link.connect(now, node, &mut self.orders)
+    }
+}
+
+/// Whether this is the node that leads in the greatest term.
+pub fn is_that(leader: &Option<NodeId>, node: NodeId) -> bool
+    ensures { result ≡ is_that leader.now node }
+{
+    match leader {
+        Some(other) => *other == node,
+        None => false,
+    }
+}

@@ -1,0 +1,127 @@
+//! What time brings, and how the nodes stand.
+ghost use Rattle.std.specs.Prelude.{◌≡◌, OnOk, map};
+ghost use Rattle.driver.specs.Driving.{Claims, Serves, ServesIf, Ticks, TicksDesk, TicksNode, TickNodes};
+ghost use Rattle.driver.specs.Leading.{IsLeader, is_that};
+ghost use Rattle.driver.specs.Waking.{awake, slept, waited_longer};
+
+use crate::desk::Desk;
+use crate::driver::session::is_that;
+use crate::driver::{Driver, MOST_NODES};
+use crate::leader::leader_of;
+use crate::order::Now;
+use pacing::Timer;
+use raft_log::NodeId;
+use std::alloc::AllocError;
+
+impl Driver {
+    /// Time passed.
+    pub fn tick(&mut self, now: &Now) -> Result<(), AllocError>
+        ensures { OnOk result (Ticks now.now.ms self.old self.new) }
+    {
+        self.wake(now);
+        self.leave_silent(now)?;
+        let timeout = self.settings.timeout_ms;
+        self.clients.tick(now, timeout, &mut self.orders)?;
+        self.tick_nodes(now)?;
+        self.notices
+            .tick(now, &self.settings, &mut self.desks, &mut self.orders)?;
+        Ok(())
+    }
+
+    /// The driver runs at this moment: of the time since it last did, what is more than half a timeout
+    /// does not count as silence of any node.
+    pub fn wake(&mut self, now: &Now)
+        ensures { self.new ≡ awake now.now.ms self.old }
+    {
+        let slept = self.slept(now);
+        self.ran = Timer::from(now.ms);
+        wait_longer(self.desks.as_mut_slice(), slept);
+    }
+
+    /// How much of the time since it last ran counts as no silence.
+    fn slept(&self, now: &Now) -> u64
+        ensures { result ≡ slept self.now.ran self.now.settings.timeout_ms now.now.ms }
+    {
+        let passed = now.ms.saturating_sub(self.ran.since);
+        passed.saturating_sub(self.settings.timeout_ms as u64 / 2)
+    }
+
+    /// Each node is told what it is to be told.
+    fn tick_nodes(&mut self, now: &Now) -> Result<(), AllocError>
+        ensures { OnOk result (TickNodes 7 now.now.ms 1 self.old self.new) }
+    {
+        for id in 1..MOST_NODES as u8 + 1 {
+            self.tick_node(now, NodeId::new(id))?;
+        }
+        Ok(())
+    }
+
+    /// What a node is told by the clock, and by how it and the others stand.
+    pub fn tick_node(&mut self, now: &Now, node: NodeId) -> Result<(), AllocError>
+        ensures { OnOk result (TicksNode now.now.ms node self.old self.new) }
+    {
+        self.tick_desk(now, node)?;
+        let leader = self.leader();
+        self.leave_older(now, &leader)?;
+        self.serve_if(&leader, now, node)?;
+        Ok(())
+    }
+
+    /// What a node is told by the clock, and by word that its run is gone.
+    fn tick_desk(&mut self, now: &Now, node: NodeId) -> Result<(), AllocError>
+        ensures { OnOk result (TicksDesk now.now.ms node self.old self.new) }
+    {
+        let desk = &mut self.desks[node.value() as usize - 1];
+        self.notices
+            .tick_desk(now, &self.settings, desk, &mut self.orders)
+    }
+
+    /// The node that leads in the greatest term, where one leads.
+    fn leader(&self) -> Option<NodeId>
+        ensures { IsLeader self.now.desks result }
+    {
+        leader_of(&self.desks)
+    }
+
+    /// Where this node is the one that leads in the greatest term, it is served.
+    fn serve_if(
+        &mut self,
+        leader: &Option<NodeId>,
+        now: &Now,
+        node: NodeId,
+    ) -> Result<(), AllocError>
+        ensures { OnOk result (ServesIf (is_that leader.now node) now.now.ms node self.old self.new) }
+    {
+        if !is_that(leader, node) {
+            return Ok(());
+        }
+        self.serve(now, node)
+    }
+
+    /// The node that leads in the greatest term claims, and the server is connected to for it.
+    fn serve(&mut self, now: &Now, node: NodeId) -> Result<(), AllocError>
+        ensures { OnOk result (Serves now.now.ms node self.old self.new) }
+    {
+        self.claim(now, node)?;
+        self.connect_for(now, node)?;
+        Ok(())
+    }
+
+    /// The next line of this node's session is claimed, where the pace allows it.
+    fn claim(&mut self, now: &Now, node: NodeId) -> Result<(), AllocError>
+        ensures { OnOk result (Claims now.now.ms node self.old self.new) }
+    {
+        let desk = &mut self.desks[node.value() as usize - 1];
+        desk.claim(now, &self.settings, &mut self.pace, &mut self.orders)?;
+        Ok(())
+    }
+}
+
+/// So much of the time that passed counts as no silence of any node.
+fn wait_longer(desks: &mut [Desk], ms: u64)
+    ensures { desks.new ≡ map (waited_longer ms) desks.old }
+{
+    for desk in desks.iter_mut() {
+        desk.wait_longer(ms);
+    }
+}

@@ -1,0 +1,47 @@
+//! Which node leads, as far as is known: an older leader may hang, and not know of a newer one.
+ghost use Rattle.std.specs.Prelude.{◌≡◌};
+ghost use Rattle.driver.specs.Leading.{IsLeader, better};
+
+use crate::desk::Desk;
+use raft_log::NodeId;
+use wire_bytes::Number;
+
+/// The most nodes that there may be.
+const MOST_NODES: usize = 7;
+
+/// A node that leads, and its term.
+#[derive(Clone, Copy)]
+struct Leader {
+    node: NodeId,
+    term: Number,
+}
+
+/// The node that leads in the greatest term, where one leads.
+pub fn leader_of(desks: &[Desk; MOST_NODES]) -> Option<NodeId>
+    ensures { IsLeader desks.now result }
+{
+    let mut best = None;
+    for id in 1..MOST_NODES as u8 + 1 {
+        let term = desks[id as usize - 1].leading();
+        best = better(best, NodeId::new(id), term);
+    }
+    let best = best?;
+    Some(best.node)
+}
+
+/// The best so far, or a node that leads in a greater term.
+fn better(best: Option<Leader>, node: NodeId, term: Option<Number>) -> Option<Leader>
+    ensures { result ≡ better best node term }
+{
+    let Some(term) = term else {
+        return best;
+    };
+    let Some(before) = best else {
+        return Some(Leader { node, term });
+    };
+    if before.term.value() < term.value() {
+        Some(Leader { node, term })
+    } else {
+        Some(before)
+    }
+}
