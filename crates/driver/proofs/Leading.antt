@@ -1,5 +1,5 @@
 -- Which of the nodes looked at so far leads in the greatest term.
-use Rattle.std.proofs.Common.{◌≡◌, if◌then◌else◌, ◌<◌, ◌≤◌, ℕ, suc, Bool, true, false, List, Option, Some, None, ⊎_elim, refl, sym, ap, subst, ◌∙◌, arith}
+use Rattle.std.proofs.Common.{◌≡◌, if◌then◌else◌, ◌<◌, ◌≤◌, ℕ, suc, Bool, true, false, List, Option, Some, None, ⊎_elim, refl, subst, arith}
 use Rattle.std.proofs.lemmas.Bool.{cases_lt, ltb-true, ltb-false}
 use Rattle.std.specs.Prelude.{nat_lt}
 use Rattle.driver.specs.declared.desk.Desk.{Desk}

@@ -1,5 +1,5 @@
 -- What comes of what is heard of a node, and of time.
-use Rattle.std.specs.Prelude.{◌≡◌, ◌++◌, ℕ, zero, suc, ◌+◌, ◌-◌, ◌&&◌, Bool, true, false, if◌then◌else◌, List, [], ◌∷◌, Option, Some, None, map, slice_get, slice_set}
+use Rattle.std.specs.Prelude.{◌≡◌, ◌++◌, ℕ, zero, suc, ◌+◌, ◌-◌, Bool, true, false, if◌then◌else◌, List, [], ◌∷◌, Option, Some, None, map, slice_get, slice_set}
 use Rattle.node_notes.specs.declared.note.Note.TheVariants as note
 use Rattle.node_notes.specs.declared.status.Status.{Status}
 use Rattle.driver.specs.declared.desk.Desk.{Desk}
@@ -11,9 +11,9 @@ use Rattle.driver.specs.declared.order.Order.{Order}
 use Rattle.driver.specs.declared.order.Order.TheVariants.{Connect, Disconnect}
 use Rattle.driver.specs.declared.settings.Settings.{Settings}
 use Rattle.driver.specs.declared.link.Stage.TheVariants.{Connecting}
-use Rattle.driver.specs.Desks.{claim_at, claim_due, counted, desk_behind, desk_claimed, note_at, paced, told}
+use Rattle.driver.specs.Desks.{claim_at, claim_due, counted, desk_behind, desk_claimed, note_at, told}
 use Rattle.driver.specs.Gone.{restart_at, restart_behind}
-use Rattle.driver.specs.Hearing.{answered_by, heard_behind, heard_news, is_new_run}
+use Rattle.driver.specs.Hearing.{answered_by, heard_behind, is_new_run}
 use Rattle.driver.specs.Leading.{IsLeader, is_older, is_that}
 use Rattle.driver.specs.Links.{IsLost, ending, idle_behind, is_silent, may_connect, node_of}
 use Rattle.driver.specs.Waking.{awake}

@@ -1,5 +1,5 @@
 -- Which node the connection to the server is of: the one that leads in the greatest term.
-use Rattle.std.specs.Prelude.{◌≡◌, ◌≤◌, ◌<◌, ℕ, ◌-◌, ◌+◌, Bool, false, nat_eq, nat_lt, not, if◌then◌else◌, List, Option, Some, None, slice_get}
+use Rattle.std.specs.Prelude.{◌≡◌, ◌≤◌, ◌<◌, ℕ, ◌-◌, Bool, false, nat_eq, nat_lt, not, if◌then◌else◌, List, Option, Some, None, slice_get}
 use Rattle.node_notes.specs.declared.status.Status.{Status}
 use Rattle.node_notes.specs.Notes.{leads}
 use Rattle.driver.specs.declared.desk.Desk.{Desk}

@@ -1,4 +1,4 @@
-use Rattle.std.proofs.Common.{rules, ◌≡◌, ◌∙◌, ℕ, suc, ◌+◌, ◌-◌, ◌<◌, length, Some, ap, sym, subst, slice_get, get_or, arith}
+use Rattle.std.proofs.Common.{rules, ◌≡◌, ◌∙◌, suc, ◌+◌, ◌-◌, ◌<◌, length, Some, ap, sym, subst, slice_get, get_or, arith}
 use Rattle.std.proofs.lemmas.Option.{slice_get-get_or}
 use Rattle.driver.specs.Leading.{IsBest, better, term_at, term_in}
 use Rattle.driver.proofs.Leading.{best_more}
