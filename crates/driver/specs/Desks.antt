@@ -82,7 +82,7 @@ restarted_at desk now = record (counted desk) {
 -- the desk behind what the clock told the node, if anything
 unfoldable pub desk_behind : Desk → ℕ → Option Status → Option (Note TowerBody WireLine) → Desk
 desk_behind desk now (Some status) (Some Beat) = beaten_at desk now status
-desk_behind desk now (Some status) (Some Timeout) = record (counted desk) { led = at now }
+desk_behind desk now (Some status) (Some Timeout) = record (counted desk) { led = at now; has_yielded = false }
 desk_behind desk now (Some status) (Some Restart) = restarted_at desk now
 desk_behind desk now status _ = desk
 

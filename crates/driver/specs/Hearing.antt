@@ -4,6 +4,8 @@ use Rattle.node_notes.specs.declared.status.Status.{Status}
 use Rattle.node_notes.specs.Notes.{leads}
 use Rattle.pacing.specs.declared.timer.Timer.{Timer}
 use Rattle.pacing.specs.Pacing.{doubled}
+use Rattle.raft_log.specs.declared.role.Role.{Role}
+use Rattle.raft_log.specs.declared.role.Role.TheVariants.{Follower, Candidate, Leader}
 use Rattle.raft_node.specs.declared.node_fault.Cause.{Cause}
 use Rattle.driver.specs.declared.desk.Desk.{Desk}
 use Rattle.driver.specs.declared.news.News.TheVariants.{Down, Elected, Up}
@@ -64,12 +66,33 @@ abbrev pub up_behind : Desk → ℕ → Bool → Desk
 up_behind desk now true = record desk { down = None; heard = at now }
 up_behind desk now false = record desk { down = None; heard = at now; led = at now }
 
--- it stands so, one more of the notes that it was given is done or not, and a leader was heard of, itself or another, or was not
+abbrev pub is_follower : Role → Bool
+is_follower Follower = true
+is_follower Candidate = false
+is_follower Leader = false
+
+-- a node follows, and its term rose: it may have granted its vote
+abbrev pub is_raised : Option Status → Status → Bool
+is_raised None status = false
+is_raised (Some before) status = is_follower status.role && nat_lt before.term status.term
+
+-- A node waits for a leader anew where one was heard of, itself or another, and where its term rose while it follows. For a risen
+-- term it does so once only, until it hears of a leader or asks for votes itself: a node that can't be elected may ask again and
+-- again, and is not to hold back the others.
+abbrev pub waiting_behind : Desk → ℕ → Status → Bool → Desk
+waiting_behind desk now status led =
+    let is_led = led || leads status in
+    let raised = is_raised desk.status status in
+    record desk {
+      led = (if is_led || raised && not desk.has_yielded then at now else desk.led);
+      has_yielded = not is_led && (desk.has_yielded || raised);
+    }
+
+-- it stands so, one more of the notes that it was given is done or not, and a leader was heard of or was not
 abbrev pub told_behind : Desk → ℕ → Status → Bool → Bool → Desk
-told_behind desk now status led is_last = record desk {
+told_behind desk now status led is_last = record (waiting_behind desk now status led) {
   status = Some status;
   done = (if is_last then min (desk.done + 1) desk.given else desk.done);
-  led = (if led || leads status then at now else desk.led);
 }
 
 abbrev pub stood_behind : Desk → ℕ → Bool → Option Cause → Desk

@@ -50,6 +50,8 @@ pub struct Desk {
     done: u64,
     /// When it last heard of a leader, or asked for votes.
     led: Timer,
+    /// It waited anew for a node that asks for votes, since it last heard of a leader or asked itself.
+    has_yielded: bool,
     /// When it last sent as a leader, by which of its notes, and the last and the agreed place then.
     beat: Timer,
     beat_note: u64,
@@ -79,6 +81,7 @@ impl Desk {
             given: 0,
             done: 0,
             led: Timer::from(now.ms),
+            has_yielded: false,
             beat: Timer::from(now.ms),
             beat_note: 0,
             beaten: (Number::new(0), Number::new(0)),

@@ -47,6 +47,7 @@ impl Desk {
         let wait = settings.timeout_ms as u64 + APART * self.id.value() as u64;
         if self.led.has_passed(wait, now.ms) {
             self.led = Timer::from(now.ms);
+            self.has_yielded = false;
             self.tell(Note::Timeout, orders)?;
         }
         Ok(())

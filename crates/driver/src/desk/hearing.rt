@@ -1,13 +1,15 @@
 //! What a node's worker tells of how the node stands.
 ghost use Rattle.std.specs.Prelude.{◌≡◌, ◌++◌, IfOk, OnOk, None, Some};
 ghost use Rattle.driver.specs.Hearing.{down_behind, down_news, elected_behind, elected_news, heard_behind, heard_news};
-ghost use Rattle.driver.specs.Hearing.{answered_by, is_ahead, is_new_run, led_in, up_behind, up_news, was_up};
+ghost use Rattle.driver.specs.Hearing.{answered_by, is_ahead, is_new_run, is_raised, led_in, up_behind, up_news};
+ghost use Rattle.driver.specs.Hearing.{waiting_behind, was_up};
 
 use crate::desk::Desk;
 use crate::news::News;
 use crate::order::{Now, Order};
 use node_notes::Status;
 use pacing::Timer;
+use raft_log::Role;
 use raft_node::Cause;
 use std::alloc::AllocError;
 use wire_bytes::Number;
@@ -32,12 +34,10 @@ impl Desk {
         let is_new = self.is_new_run(status);
         let was_up = self.is_up();
         self.hear_leading(status, orders)?;
+        self.hear_term(now, status, led);
         self.status = Some(*status);
         if is_last {
             self.done = self.done.saturating_add(1).min(self.given);
-        }
-        if led || status.leads() {
-            self.led = Timer::from(now.ms);
         }
         match status.down {
             Some(cause) => self.hear_down(now, cause, orders)?,
@@ -66,6 +66,32 @@ impl Desk {
         status.leads()
             && status.term.value() == other.term.value()
             && other.last.value() < status.last.value()
+    }
+
+    /// A leader was heard of, or the term of a node that follows rose, so that it may have granted its vote:
+    /// it waits anew for a leader.
+    fn hear_term(&mut self, now: &Now, status: &Status, led: bool)
+        ensures { self.new ≡ waiting_behind self.old now.now.ms status.now led }
+    {
+        let is_raised = self.is_raised(status);
+        let is_led = led || status.leads();
+        if is_led || is_raised && !self.has_yielded {
+            self.led = Timer::from(now.ms);
+        }
+        self.has_yielded = !is_led && (self.has_yielded || is_raised);
+    }
+
+    /// Whether it follows, and its term rose.
+    fn is_raised(&self, status: &Status) -> bool
+        ensures { result ≡ is_raised self.now.status status.now }
+    {
+        let Some(before) = &self.status else {
+            return false;
+        };
+        match status.role {
+            Role::Follower => before.term.value() < status.term.value(),
+            Role::Candidate | Role::Leader => false,
+        }
     }
 
     /// Whether this is of another run than what was heard before.
