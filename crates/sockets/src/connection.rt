@@ -1,4 +1,7 @@
 //! A connection, with what is still to be written to it.
+ghost use Rattle.std.specs.Prelude.{◌≡◌, false};
+ghost use Rattle.sockets.specs.Reading.{is_later};
+
 use mio::net::TcpStream;
 use std::alloc::{AllocError, Global};
 use std::io::{ErrorKind, Read, Write};
@@ -17,6 +20,8 @@ pub enum Got {
     Nothing,
     /// The connection is gone.
     End,
+    /// It was not read: the notes that it would bring have to wait.
+    Later,
 }
 
 /// A connection, with what is still to be written to it.
@@ -44,7 +49,9 @@ impl Connection {
     }
 
     /// Reads what came, as much as the buffer takes.
-    pub fn read(&mut self, buffer: &mut [u8]) -> Got {
+    pub fn read(&mut self, buffer: &mut [u8]) -> Got
+        ensures { is_later result ≡ false }
+    {
         match self.stream.read(buffer) {
             Ok(0) => Got::End,
             Ok(count) => Got::Bytes(count),

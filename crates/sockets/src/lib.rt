@@ -7,6 +7,7 @@ mod connection;
 mod event_loop;
 mod inlet;
 mod orders;
+mod pieces;
 mod putting_off;
 mod server;
 mod sockets;

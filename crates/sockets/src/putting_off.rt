@@ -18,6 +18,13 @@ impl Sockets {
         Ok(())
     }
 
+    /// The server is read once the session's node has room.
+    pub fn put_off_server(&mut self) {
+        if let Some(connection) = &mut self.server {
+            connection.is_put_off = true;
+        }
+    }
+
     /// Whether a client is still to be read.
     pub fn is_put_off(&self, number: u64) -> bool {
         match self.clients.get(&number) {

@@ -105,14 +105,7 @@ impl Sockets {
     ) -> Result<bool, LoopFault> {
         let mut piece = [0u8; PIECE];
         for _ in 0..PIECES {
-            if !driver.reads_client(number) {
-                self.put_off(number)?;
-                return Ok(true);
-            }
-            let Some(connection) = self.clients.get_mut(&number) else {
-                return Ok(false);
-            };
-            match connection.read(&mut piece) {
+            match self.next_of_client(driver, number, &mut piece) {
                 Got::Bytes(count) => {
                     if let Some(bytes) = piece.get(..count) {
                         driver.receive(now, number, bytes)?;
@@ -120,6 +113,10 @@ impl Sockets {
                 }
                 Got::Nothing => return Ok(true),
                 Got::End => return Ok(false),
+                Got::Later => {
+                    self.put_off(number)?;
+                    return Ok(true);
+                }
             }
         }
         Ok(self.watch_client(number))
@@ -170,14 +167,7 @@ impl Sockets {
     fn read_server(&mut self, now: &Now, driver: &mut Driver) -> Result<bool, LoopFault> {
         let mut piece = [0u8; PIECE];
         for _ in 0..PIECES {
-            let Some(connection) = &mut self.server else {
-                return Ok(false);
-            };
-            if !driver.reads_server() {
-                connection.is_put_off = true;
-                return Ok(true);
-            }
-            match connection.read(&mut piece) {
+            match self.next_of_server(driver, &mut piece) {
                 Got::Bytes(count) => {
                     if let Some(bytes) = piece.get(..count) {
                         driver.receive_line(now, bytes)?;
@@ -185,6 +175,10 @@ impl Sockets {
                 }
                 Got::Nothing => return Ok(true),
                 Got::End => return Ok(false),
+                Got::Later => {
+                    self.put_off_server();
+                    return Ok(true);
+                }
             }
         }
         Ok(self.watch_server())
