@@ -1,4 +1,4 @@
-"""What the tests of a running bouncer share: a room of their own, bouncers, clients that speak plain IRC, and waiting."""
+"""What the tests of a running bouncer share: checks, waiting, ports, bouncers, and the run of the cases."""
 
 import os
 import shutil
@@ -8,15 +8,15 @@ import subprocess
 import tempfile
 import time
 
+from client import Client, Late, until, LONGEST
+
 TOP = os.path.dirname(os.path.dirname(os.path.realpath(__file__)))
 PROGRAM = os.environ.get("BOUNCER", os.path.join(TOP, "crates/bouncer_app/out/bouncer_app"))
-LONGEST = 60  # seconds that anything may take
-PAUSE = 0.02  # seconds between two looks at what is waited for
 passed = failed = 0
 
 
-class Late(Exception):
-    """What was waited for did not come."""
+class TooLong(BaseException):
+    """All cases together take too long."""
 
 
 def check(name, holds, shown=""):
@@ -28,94 +28,16 @@ def check(name, holds, shown=""):
         print(f"failed: {name} {shown}", flush=True)
 
 
-def until(test, what, seconds=LONGEST):
-    """Waits until a test holds, and gives its value. What was waited for is told by a text, or by a call that makes one."""
-    end = time.monotonic() + seconds
-    while True:
-        value = test()
-        if value:
-            return value
-        if time.monotonic() > end:
-            raise Late(what() if callable(what) else what)
-        time.sleep(PAUSE)
+class Ports:
+    """Ports that nobody else gets, chosen by the system, all different. They are bound here and not listened at, so that a
+    program that asks to use an address again may listen there, and nobody else is given them, also while it is down."""
 
-
-def free_ports(count):
-    """Ports that nobody has, chosen by the system, all different."""
-    probes = [socket.socket() for _ in range(count)]
-    try:
-        for probe in probes:
-            probe.bind(("127.0.0.1", 0))
-        return [probe.getsockname()[1] for probe in probes]
-    finally:
-        for probe in probes:
-            probe.close()
-
-
-class Client:
-    """A client that speaks plain IRC, to a node or to a server. It answers PING as it reads."""
-
-    def __init__(self, port, nick, password=None):
-        self.lines = []
-        self.rest = b""
-        self.is_open = True
-        self.socket = socket.create_connection(("127.0.0.1", port), LONGEST)
-        self.socket.setblocking(False)
-        if password is not None:
-            self.say(f"PASS {password}")
-        self.say(f"NICK {nick}")
-        self.say("USER u 0 * :r")
-
-    def say(self, line):
-        """Says a line; where the other side is gone it is lost, as `is_open` tells by the next read."""
-        try:
-            self.socket.settimeout(LONGEST)
-            self.socket.sendall(line.encode() + b"\r\n")
-        except (BrokenPipeError, ConnectionResetError):
-            self.is_open = False
-        finally:
-            self.socket.setblocking(False)
-
-    def read(self):
-        """All lines so far."""
-        try:
-            while True:
-                data = self.socket.recv(65536)
-                if not data:
-                    self.is_open = False
-                    break
-                self.rest += data
-        except BlockingIOError:
-            pass
-        except (ConnectionResetError, BrokenPipeError):
-            self.is_open = False
-        *whole, self.rest = self.rest.split(b"\n")
-        for line in whole:
-            text = line.decode(errors="replace").rstrip("\r")
-            if text.startswith("PING"):
-                self.say("PONG" + text[4:])
-            self.lines.append(text)
-        return self.lines
-
-    def has(self, end):
-        return any(line.endswith(end) for line in self.read())
-
-    def wait(self, end):
-        until(lambda: self.has(end), lambda: f"a line that ends in {end!r}, in {self.lines[-5:]}")
-
-    def wait_closed(self):
-        until(lambda: self.read() is not None and not self.is_open, "the connection is closed")
-
-    def texts(self, target):
-        """The texts said to a target, in the order in which they came."""
-        marked = [line.split(f" PRIVMSG {target} :", 1) for line in self.read()]
-        return [parts[1] for parts in marked if len(parts) == 2]
-
-    def wait_texts(self, target, test, what):
-        until(lambda: test(self.texts(target)), lambda: f"{what}, of which came {self.texts(target)}")
-
-    def close(self):
-        self.socket.close()
+    def __init__(self, count):
+        self.holders = [socket.socket() for _ in range(count)]
+        for holder in self.holders:
+            holder.setsockopt(socket.SOL_SOCKET, socket.SO_REUSEADDR, 1)
+            holder.bind(("127.0.0.1", 0))
+        self.numbers = [holder.getsockname()[1] for holder in self.holders]
 
 
 class Bouncer:
@@ -123,7 +45,8 @@ class Bouncer:
 
     def __init__(self, folder, upstream_port, **more):
         self.folder = folder
-        self.ports = free_ports(3)
+        self.held = Ports(3)
+        self.ports = self.held.numbers
         self.config = os.path.join(folder, "hukbarg.toml")
         self.log_path = os.path.join(folder, "log")
         self.process = None
@@ -135,8 +58,6 @@ class Bouncer:
             "listen": "[" + ", ".join(f'"127.0.0.1:{port}"' for port in self.ports) + "]",
             "store": f'"{folder}/store"',
             "channels": '["#x"]',
-            "timeout_ms": "500",
-            "beat_ms": "50",
             "flood_burst": "100",
             "flood_ms": "0",
         }
@@ -164,6 +85,8 @@ class Bouncer:
             return log.read()
 
     def wait(self, words, times=1):
+        """Waits until the log has these words, so many times."""
+
         def came():
             if self.log().count(words) >= times:
                 return True
@@ -171,13 +94,16 @@ class Bouncer:
                 raise Late(f"{words!r} in the log of a program that ended:\n{self.log()}")
             return False
 
-        until(came, lambda: f"{words!r} in the log:\n{self.log()}")
+        until(came, lambda: f"{words!r} {times} times in the log:\n{self.log()}")
 
     def leader(self):
         """The node that led last, by its number."""
         return [int(line.split(" node ")[1][0]) for line in self.log().splitlines() if " leads in term " in line][-1]
 
     def ready(self):
+        """All nodes are up, and there is a session."""
+        for node in (1, 2, 3):
+            self.wait(f" node {node}: up, run ")
         self.wait("upstream opened")
         return self
 
@@ -192,9 +118,17 @@ class Bouncer:
         self.process.stdin.close()
 
     def attach(self, node, nick="me"):
-        client = Client(self.ports[node - 1], nick, "pw")
-        client.wait("Welcome to the bouncer")
-        return client
+        """A client that a node took. A node that is not up takes none."""
+        end = time.monotonic() + LONGEST
+        while True:
+            client = Client(self.ports[node - 1], nick, "pw")
+            try:
+                client.wait("Welcome to the bouncer")
+                return client
+            except Late:
+                if client.is_open or time.monotonic() > end:
+                    raise
+                client.close()
 
 
 def said(*words):
@@ -209,9 +143,21 @@ def program_is_there():
     return subprocess.run([script, "--version"], stdout=subprocess.DEVNULL).returncode == 0
 
 
-def run_cases(cases):
-    """Runs each of the cases in a room of its own, ends what they started, and tells how many checks passed."""
+def run_case(case, room):
+    """Runs a case in this room. What it waited for in vain is a failure."""
     global failed
+    begun = time.monotonic()
+    try:
+        case(room)
+    except (Late, OSError, subprocess.SubprocessError) as fault:
+        failed += 1
+        print(f"failed: {case.__name__}: {fault}", flush=True)
+    if "TIMES" in os.environ:
+        print(f"{case.__name__}: {time.monotonic() - begun:.1f} s", flush=True)
+
+
+def note_children():
+    """The list of all processes that are started from now on."""
     children = []
     start = subprocess.Popen.__init__
 
@@ -220,19 +166,30 @@ def run_cases(cases):
         children.append(self)
 
     subprocess.Popen.__init__ = noted
+    return children
+
+
+def run_cases(cases, seconds):
+    """Runs the cases in a room of their own, at most for so many seconds, ends what they started, and tells how many
+    checks passed."""
+    global failed
+
+    def too_long(*_):
+        raise TooLong
+
+    children = note_children()
     room = tempfile.mkdtemp(prefix="hukbarg-")
     os.chmod(room, 0o755)
+    signal.signal(signal.SIGALRM, too_long)
+    signal.alarm(seconds)
     try:
         for case in cases:
-            begun = time.monotonic()
-            try:
-                case(room)
-            except (Late, OSError, subprocess.SubprocessError) as fault:
-                failed += 1
-                print(f"failed: {case.__name__}: {fault}", flush=True)
-            if "TIMES" in os.environ:
-                print(f"{case.__name__}: {time.monotonic() - begun:.1f} s", flush=True)
+            run_case(case, room)
+    except TooLong:
+        failed += 1
+        print(f"failed: this is cut off, since it takes more than {seconds} s", flush=True)
     finally:
+        signal.alarm(0)
         for child in children:
             if child.poll() is None:
                 child.kill()

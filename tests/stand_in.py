@@ -1,0 +1,89 @@
+"""A server that the tests play: it takes every session, keeps what is said to #x, and says what it is told to say there."""
+
+import selectors
+import socket
+import threading
+
+
+class StandIn:
+    """A server in a thread of its own."""
+
+    def __init__(self):
+        self.listener = socket.create_server(("127.0.0.1", 0))
+        self.port = self.listener.getsockname()[1]
+        self.lock = threading.Lock()
+        self.joined = None  # the session that joined #x last, if it lasts
+        self.sessions = []  # what each session said to #x
+        threading.Thread(target=self.run, daemon=True).start()
+
+    def run(self):
+        room = selectors.DefaultSelector()
+        room.register(self.listener, selectors.EVENT_READ, None)
+        while True:
+            for key, _ in room.select():
+                if key.data is None:
+                    stream, _ = self.listener.accept()
+                    session = Session(stream)
+                    self.sessions.append(session.said)
+                    room.register(stream, selectors.EVENT_READ, session)
+                elif not self.read(key.data):
+                    room.unregister(key.fileobj)
+                    key.fileobj.close()
+
+    def read(self, session):
+        """Reads what came of a session. Whether it lasts."""
+        try:
+            data = session.stream.recv(65536)
+        except OSError:
+            data = b""
+        *lines, session.rest = (session.rest + data).split(b"\r\n")
+        for line in lines:
+            session.answer(line.decode())
+        with self.lock:
+            if session.is_joined:
+                self.joined = session if data else None
+                session.is_joined = False
+            elif not data and self.joined is session:
+                self.joined = None
+        return bool(data)
+
+    def is_joined(self):
+        with self.lock:
+            return self.joined is not None
+
+    def say(self, text):
+        """Says a line in #x; it is lost where there is no session."""
+        with self.lock:
+            if self.joined is not None:
+                self.joined.send(f":eve!e@h PRIVMSG #x :{text}")
+
+    def said(self):
+        """All that was said to #x, in order."""
+        return [text for session in list(self.sessions) for text in list(session)]
+
+
+class Session:
+    """A connection of a bouncer."""
+
+    def __init__(self, stream):
+        self.stream = stream
+        self.rest = b""
+        self.said = []
+        self.is_joined = False  # it joined #x just now
+
+    def send(self, line):
+        try:
+            self.stream.sendall(line.encode() + b"\r\n")
+        except OSError:
+            pass
+
+    def answer(self, line):
+        if line.startswith("USER"):
+            self.send(":irc.test 001 me :Welcome")
+        elif line.startswith("PING"):
+            self.send("PONG" + line[4:])
+        elif line.startswith("JOIN #x"):
+            self.send(":me!u@h JOIN #x")
+            self.is_joined = True
+        elif line.startswith("PRIVMSG #x :"):
+            self.said.append(line.split(" :", 1)[1])
