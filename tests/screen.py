@@ -16,10 +16,13 @@ class Screen:
     def __init__(self, room, port):
         Screen.count += 1
         self.tmux = ["tmux", "-S", os.path.join(room, f"tmux-{Screen.count}")]
-        home = os.path.join(room, "irssi")
-        command = f"irssi --home={home} -c 127.0.0.1 -p {port} -w pw -n me"
+        command = f"irssi --home={os.path.join(room, 'irssi')} -n me"
         start = ["-f", "/dev/null", "new-session", "-d", "-x", "120", "-y", "50", command]
         subprocess.run([*self.tmux, *start], check=True)
+        self.wait("[(status)]")
+        # else it waits between its commands, for the sake of servers that count them
+        self.type("/set cmd_queue_speed 10msec")
+        self.type(f"/connect 127.0.0.1 {port} pw")
 
     def text(self):
         done = subprocess.run([*self.tmux, "capture-pane", "-p"], capture_output=True, text=True)
