@@ -31,12 +31,7 @@ pub fn run<
     I: Read + Drop + Send + 'static,
     U: Upstream + Send + 'static,
     F: Fn(R, Global, NodeId, Inlet) -> U,
->(
-    rt: &R,
-    path: &str,
-    input: I,
-    hands: &F,
-) -> Result<(), RunFault>
+>(rt: &R, path: &str, input: I, hands: &F) -> Result<(), RunFault>
     requires { F.IsAlwaysCallable hands.now }
 {
     let config = read(rt, path)?;
