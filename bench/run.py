@@ -1,10 +1,10 @@
-"""Times `run` of the program named as argument: three nodes over journals in a new folder, and a server on loopback that
-is played here, which says lines to one channel.
+"""Times `run` of the program named as argument: three nodes over journals in a new folder (of TMPDIR, if that is set), and
+a server on loopback that is played here, which says lines to one channel.
 
-Prints the memory and the processor of a run at rest; for 1, 10 and 50 clients spread over the nodes how long 20,000
-lines take that are said at once, with the lines and the deliveries a second; the delay of 2,000 lines at 200 a second
-from the server to a client of the node that leads, and to clients of the others, as median and 99th percentile; and how
-long a client waits for a playback of 500 lines.
+Prints the disk's own rate of syncs; the memory and the processor of a run at rest; for 1, 10 and 50 clients spread over the
+nodes how long 20,000 lines take that are said at once, with the lines and the deliveries a second, and the delay of 2,000
+lines at 200 a second from the server to the clients of the node that leads, and to those of the others, as median and 99th
+percentile; how long a client waits for a playback of 500 lines; and the memory at the end.
 
 All is read and written by this one process, so that its own time is in every number.
 """
@@ -23,13 +23,22 @@ FLOOD = 20_000
 PACED = 2_000
 RATE = 200
 PLAYED = 500
-LIMIT = 60
+LIMIT = 200
+QUIET = 1  # seconds without a change of a journal after which all that was said is in it
 
 
 def free_port():
     with socket.socket() as chosen:
         chosen.bind(("127.0.0.1", 0))
         return chosen.getsockname()[1]
+
+
+class Closed(Exception):
+    """The program closed a connection."""
+
+
+class Late(Exception):
+    """What was waited for did not come."""
 
 
 class End:
@@ -49,9 +58,12 @@ class End:
         self.stream.setblocking(False)
 
     def read(self):
-        data = self.stream.recv(1 << 20)
+        try:
+            data = self.stream.recv(1 << 20)
+        except ConnectionResetError:
+            data = b""
         if not data:
-            sys.exit("a connection was closed")
+            raise Closed
         now = time.perf_counter()
         *lines, self.rest = (self.rest + data).split(b"\r\n")
         said = [line for line in lines if b" PRIVMSG #x :" in line]
@@ -90,16 +102,36 @@ class Run:
         self.upstream = End(self.room, stream)
         self.until(lambda: any(line.startswith(b"USER ") for line in self.upstream.lines))
         self.upstream.send(b":server 001 me :hi\r\n")
-        time.sleep(0.3)
+        self.until(lambda: "upstream opened" in self.told())
+
+    def serve(self, wait):
+        """Reads whatever came, or comes within so many seconds."""
+        for key, _ in self.room.select(wait):
+            key.data.read()
 
     def until(self, done):
         """Reads until something is so."""
         limit = time.perf_counter() + LIMIT
         while not done():
             if time.perf_counter() > limit:
-                sys.exit("this takes too long")
-            for key, _ in self.room.select(1):
-                key.data.read()
+                raise Late
+            self.serve(1)
+
+    def rest(self):
+        """Waits until the journals grow no more."""
+        before = None
+        while before != (before := self.sizes()):
+            end = time.perf_counter() + QUIET
+            while time.perf_counter() < end:
+                self.serve(max(0, end - time.perf_counter()))
+
+    def sizes(self):
+        return [os.path.getsize(f"{self.folder}/store/node-{node}") for node in (1, 2, 3)]
+
+    def told(self):
+        """The program's log, but for what it says of clients."""
+        self.log.seek(0)
+        return "".join(line for line in self.log if ": client " not in line)
 
     def leader(self):
         """The node that leads, 0 for node 1, as the log tells."""
@@ -121,9 +153,11 @@ class Run:
         time.sleep(0.2)
 
     def spread(self, count):
-        """So many clients, the first at the node that leads."""
+        """So many clients, the first at the node that leads. Each was told that it is in the channel."""
         first = self.leader()
-        return [self.client((first + place) % 3) for place in range(count)]
+        clients = [self.client((first + place) % 3) for place in range(count)]
+        self.until(lambda: all(any(b" JOIN #x" in line for line in client.lines) for client in clients))
+        return clients
 
     def memory(self):
         with open(f"/proc/{self.program.pid}/status") as status:
@@ -157,12 +191,15 @@ def flood(run, count):
     clients = run.spread(count)
     for client in clients:
         client.keeps, client.count = False, 0
-    began = time.perf_counter()
-    lines = [said(number) for number in range(FLOOD)]
-    for first in range(0, FLOOD, 500):
-        run.upstream.send(b"".join(lines[first : first + 500]))
-        for key, _ in run.room.select(0):
-            key.data.read()
+    data = b"".join(said(number) for number in range(FLOOD))
+    began, sent, stream = time.perf_counter(), 0, run.upstream.stream
+    while sent < len(data):
+        try:
+            sent += stream.send(data[sent : sent + 65536])
+            wait = 0
+        except BlockingIOError:
+            wait = 0.001
+        run.serve(wait)
     run.until(lambda: all(client.count >= FLOOD for client in clients))
     taken = time.perf_counter() - began
     print(
@@ -173,34 +210,35 @@ def flood(run, count):
         client.close()
 
 
-def delays(run):
-    clients = run.spread(3)
+def delays(run, count):
+    clients = run.spread(count)
     sent = {}
     began = time.perf_counter()
     for number in range(PACED):
         due = began + number / RATE
         while time.perf_counter() < due:
-            for key, _ in run.room.select(max(0, due - time.perf_counter())):
-                key.data.read()
+            run.serve(max(0, due - time.perf_counter()))
         sent[b"line %d" % number] = time.perf_counter()
         run.upstream.send(said(number))
     run.until(lambda: all(client.count >= PACED for client in clients))
-    for place, client in enumerate(clients):
-        late = [at - sent[line.split(b" :", 1)[1]] for at, line in client.times]
-        where = "at the node that leads" if place == 0 else "at another node"
-        late.sort()
-        print(
-            f"delay {where}: median {1000 * statistics.median(late):.2f} ms,"
-            f" 99th percentile {1000 * late[len(late) * 99 // 100]:.2f} ms"
-        )
+    leading = [client for place, client in enumerate(clients) if place % 3 == 0]
+    others = [client for place, client in enumerate(clients) if place % 3 != 0]
+    print(f"200 lines a second to {count} clients: {late(leading, sent)} at the node that leads, {late(others, sent)} at the others")
     for client in clients:
         client.close()
 
 
+def late(clients, sent):
+    """How late lines came to these clients."""
+    delays = sorted(at - sent[line.split(b" :", 1)[1]] for client in clients for at, line in client.times)
+    median, high = statistics.median(delays), delays[len(delays) * 99 // 100]
+    return f"median {1000 * median:.2f} ms, 99th percentile {1000 * high:.2f} ms"
+
+
 def playback(run):
-    time.sleep(0.5)
+    run.rest()
     run.upstream.send(b"".join(said(number) for number in range(PLAYED)))
-    time.sleep(1)
+    run.rest()
     stream = socket.create_connection(("127.0.0.1", run.ports[run.leader()]))
     client = End(run.room, stream)
     began = time.perf_counter()
@@ -211,16 +249,39 @@ def playback(run):
     print(f"playback of {PLAYED} lines, from PASS to the last: {1000 * taken:.2f} ms")
 
 
-def main():
-    run = Run(sys.argv[1])
+def syncs(folder):
+    """How many small writes the disk of a folder takes in a second, each synced."""
+    path = os.path.join(folder, "syncs")
+    with open(path, "wb", buffering=0) as file:
+        began = time.perf_counter()
+        for number in range(1000):
+            file.write(b"x" * 64)
+            os.fdatasync(file.fileno())
+        taken = time.perf_counter() - began
+    os.unlink(path)
+    print(f"the disk: {1000 / taken:,.0f} syncs a second")
+
+
+def measure(run):
+    syncs(run.folder)
     at_rest(run)
     first = run.client(run.leader())
     run.join(first)
     first.close()
+    for count in (3, 10, 50):
+        delays(run, count)
     for count in (1, 10, 50):
         flood(run, count)
-    delays(run)
     playback(run)
+    print(f"in the end: {run.memory():.1f} MB")
+
+
+def main():
+    run = Run(sys.argv[1])
+    try:
+        measure(run)
+    except (Closed, Late) as fault:
+        sys.exit(f"{type(fault).__doc__}\n{run.told()}")
     run.end()
 
 
