@@ -24,7 +24,8 @@ PACED = 2_000
 RATE = 200
 PLAYED = 500
 LIMIT = 200
-QUIET = 1  # seconds without a change of a journal after which all that was said is in it
+MARK = b" PRIVMSG #x :"
+QUIET = 2.5  # seconds without a change of a journal after which all that was said is in it
 
 
 def free_port():
@@ -64,13 +65,21 @@ class End:
             data = b""
         if not data:
             raise Closed
-        now = time.perf_counter()
-        *lines, self.rest = (self.rest + data).split(b"\r\n")
-        said = [line for line in lines if b" PRIVMSG #x :" in line]
-        self.count += len(said)
         if self.keeps:
-            self.lines += lines
-            self.times += [(now, line) for line in said]
+            self.keep(time.perf_counter(), self.rest + data)
+            return
+        # a part of a mark at the end is counted with what comes next
+        whole = self.rest + data
+        self.count += whole.count(MARK)
+        self.rest = whole[1 - len(MARK) :]
+
+    def keep(self, now, whole):
+        """Keeps the lines that came by now."""
+        *lines, self.rest = whole.split(b"\r\n")
+        said = [line for line in lines if MARK in line]
+        self.count += len(said)
+        self.lines += lines
+        self.times += [(now, line) for line in said]
 
     def close(self):
         self.room.unregister(self.stream)
@@ -153,7 +162,9 @@ class Run:
         time.sleep(0.2)
 
     def spread(self, count):
-        """So many clients, the first at the node that leads. Each was told that it is in the channel."""
+        """So many clients, the first at the node that leads. Each was told that it is in the channel, and nothing is left
+        to do for those before."""
+        self.rest()
         first = self.leader()
         clients = [self.client((first + place) % 3) for place in range(count)]
         self.until(lambda: all(any(b" JOIN #x" in line for line in client.lines) for client in clients))
@@ -190,7 +201,7 @@ def at_rest(run):
 def flood(run, count):
     clients = run.spread(count)
     for client in clients:
-        client.keeps, client.count = False, 0
+        client.keeps, client.count, client.rest = False, 0, b""
     data = b"".join(said(number) for number in range(FLOOD))
     began, sent, stream = time.perf_counter(), 0, run.upstream.stream
     while sent < len(data):
