@@ -4,31 +4,50 @@ import selectors
 import socket
 import threading
 
+from client import PAUSE
+from harness import Ports
+
 
 class StandIn:
-    """A server in a thread of its own."""
+    """A server, in a thread of its own while it is there."""
 
     def __init__(self):
-        self.listener = socket.create_server(("127.0.0.1", 0))
-        self.port = self.listener.getsockname()[1]
+        self.held = Ports(1)
+        self.port = self.held.numbers[0]
         self.lock = threading.Lock()
         self.joined = None  # the session that joined #x last, if it lasts
         self.sessions = []  # what each session said to #x
-        threading.Thread(target=self.run, daemon=True).start()
+        self.open()
 
-    def run(self):
+    def open(self):
+        """It is there."""
+        listener = socket.create_server(("127.0.0.1", self.port))
+        self.is_open = True
+        self.thread = threading.Thread(target=self.run, args=(listener,), daemon=True)
+        self.thread.start()
+
+    def close(self):
+        """It goes away: no session is taken any more, and those that there are end."""
+        self.is_open = False
+        self.thread.join()
+
+    def run(self, listener):
         room = selectors.DefaultSelector()
-        room.register(self.listener, selectors.EVENT_READ, None)
-        while True:
-            for key, _ in room.select():
+        room.register(listener, selectors.EVENT_READ, None)
+        while self.is_open:
+            for key, _ in room.select(PAUSE):
                 if key.data is None:
-                    stream, _ = self.listener.accept()
+                    stream, _ = listener.accept()
                     session = Session(stream)
                     self.sessions.append(session.said)
                     room.register(stream, selectors.EVENT_READ, session)
                 elif not self.read(key.data):
                     room.unregister(key.fileobj)
                     key.fileobj.close()
+        for key in list(room.get_map().values()):
+            key.fileobj.close()
+        with self.lock:
+            self.joined = None
 
     def read(self, session):
         """Reads what came of a session. Whether it lasts."""
