@@ -3,3 +3,4 @@ pub mod Crew
 pub mod Opened
 mod HomeMarked
 pub mod Started
+mod Going

@@ -39,6 +39,7 @@ module _ {Setup Hosted Store B L T E P U O W : Type 0} (k : Keeper Store B) (f :
           setup_is = ap (λ (z : EtherParts Setup). z.setup) is ∙ setup_is;
           recording_is = kept ∙ recording;
           many = ap (λ (l : List (CellParts Setup Hosted Store B L T E P U)). length l) cells ∙ (as_many ws ∙ (many ∙ size_is));
+          paired = paired;
           opened = subst (λ (z : EtherParts Setup × List (CellParts Setup Hosted Store B L T E P U)). AllFrom (IsOpenedOver k z.0 r parts) 0 z.1) (λ j. (sym is j, sym cells j)) (cells_opened e r 0 ws all);
         }
     has_started (Err x) ether kept cells fault = subst (λ (y : ClusterFault). IsNoStart k size setup parts y) (sym fault) paired

@@ -119,12 +119,13 @@ module _ {Setup Store B U O : Type 0} (k : Keeper Store B) (size : ℕ) (setup :
   IsNoStart Spent = ⊥
 
   module _ {Hosted L T E P : Type 0} where
-    -- a cluster that runs: each node was opened over the store of its part, and all record their turns, or none does
+    -- a cluster that runs: each node was opened over the store of its part, no part is left over, and all record their turns, or none does
     pub record AreStarted (recording : Recording) (c : ClusterParts Setup Hosted Store B L T E P U) : Type 0 where
       pub nodes : c.ether.size ≡ size
       pub setup_is : c.ether.setup ≡ setup
       pub recording_is : c.recording ≡ recording
       pub many : length c.cells ≡ size
+      pub paired : length parts ≡ size
       pub opened : AllFrom (IsOpenedOver k c.ether recording parts) 0 c.cells
 
     -- by what a start answers

@@ -10,7 +10,7 @@ use crate::job::Job;
 use crate::leaver::join_all;
 use crate::worker::Running;
 use body_marks::Marking;
-use crossbeam_channel::{Receiver, SendError, Sender, bounded};
+use crossbeam_channel::{Receiver, Sender, bounded};
 use machine_laws::{Hosted, Machine};
 use node_cells::{CellFault, Closing, NodeRecord, Upstream};
 use node_notes::{Note, Status};
@@ -95,11 +95,7 @@ impl<M: Marking, S: Stable<M::Command>, U: Upstream> Cluster<M, S, U> {
     fn tell(&self, rt: &impl Wait, node: NodeId, job: Job<M>) -> Result<(), ClusterFault>
         ensures { IsTold self.now.ether.size node result }
     {
-        match self.inbox(node)?.send(rt, job) {
-            Ok(()) => Ok(()),
-            Err(SendError::OutOfMemory(_)) => Err(ClusterFault::Memory),
-            Err(SendError::Disconnected(_)) => Err(ClusterFault::Stopped),
-        }
+        job.put(rt, self.inbox(node)?)
     }
 
     /// A playback of a target at a node, where what it applied reaches to a place.
@@ -187,9 +183,9 @@ fn end_all<M: Marking>(rt: &impl Wait, inboxes: &[Sender<Job<M>>]) {
 /// A worker is told to end. Where there is no memory for that, it is told again.
 fn end<M: Marking>(rt: &impl Wait, inbox: &Sender<Job<M>>) {
     for _ in rt.forever() {
-        match inbox.send(rt, Job::Note(Note::End)) {
-            Err(SendError::OutOfMemory(_)) => thread::yield_now(),
-            Ok(()) | Err(SendError::Disconnected(_)) => break,
+        match Job::Note(Note::End).put(rt, inbox) {
+            Err(ClusterFault::Memory) => thread::yield_now(),
+            _ => break,
         }
     }
 }

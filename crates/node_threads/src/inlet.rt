@@ -4,7 +4,7 @@ ghost use Rattle.node_threads.specs.Faults.{IsUndelivered};
 
 use crate::cluster_fault::ClusterFault;
 use crate::job::Job;
-use crossbeam_channel::{SendError, Sender};
+use crossbeam_channel::Sender;
 use machine_laws::{Hosted, Machine};
 use node_notes::Note;
 use std::sync::Wait;
@@ -26,10 +26,6 @@ impl<M: Hosted> Inlet<M> {
     ) -> Result<(), ClusterFault>
         ensures { IfErr result IsUndelivered }
     {
-        match self.inbox.send(rt, Job::Note(note)) {
-            Ok(()) => Ok(()),
-            Err(SendError::OutOfMemory(_)) => Err(ClusterFault::Memory),
-            Err(SendError::Disconnected(_)) => Err(ClusterFault::Stopped),
-        }
+        Job::Note(note).put(rt, &self.inbox)
     }
 }

@@ -1,9 +1,15 @@
 //! What a worker has to do.
-use crossbeam_channel::Sender;
+ghost use Rattle.std.specs.Prelude.{◌≡◌, IfErr};
+ghost use Rattle.node_threads.specs.Faults.{IsUndelivered};
+ghost use Rattle.node_threads.specs.Reports.{is_told, waits};
+
+use crate::cluster_fault::ClusterFault;
+use crossbeam_channel::{SendError, Sender};
 use machine_laws::{Hosted, Machine};
 use node_cells::CellFault;
 use node_notes::{Note, Status};
 use raft_node::Looked;
+use std::sync::Wait;
 
 /// What a worker has to do.
 #[derive(Drop)]
@@ -21,4 +27,37 @@ pub enum Job<M: Hosted> {
     Restart(Sender<Result<(), CellFault>>),
     /// How the node stands is asked.
     Status(Sender<Status>),
+}
+
+impl<M: Hosted> Job<M> {
+    /// Puts the job into an inbox. `Stopped` where the worker is gone whose inbox it is.
+    pub fn put(self, rt: &impl Wait, inbox: &Sender<Job<M>>) -> Result<(), ClusterFault>
+        ensures { IfErr result IsUndelivered }
+    {
+        match inbox.send(rt, self) {
+            Ok(()) => Ok(()),
+            Err(SendError::OutOfMemory(_)) => Err(ClusterFault::Memory),
+            Err(SendError::Disconnected(_)) => Err(ClusterFault::Stopped),
+        }
+    }
+
+    /// Whether the node was told this, so that it counts as done. What another worker tells, or a
+    /// caller that waits for its answer, does not.
+    pub fn is_told(&self) -> bool
+        ensures { result ≡ is_told self.now }
+    {
+        match self {
+            Job::Note(Note::Wake) => false,
+            Job::Note(_) => true,
+            Job::Look(_, _, _) | Job::Mark(_) | Job::LookAfter(_, _, _) => false,
+            Job::Restart(_) | Job::Status(_) => false,
+        }
+    }
+
+    /// Whether it is a look that may come too early: there may be many, and nothing comes of most.
+    pub fn waits(&self) -> bool
+        ensures { result ≡ waits self.now }
+    {
+        matches!(self, Job::LookAfter(_, _, _))
+    }
 }

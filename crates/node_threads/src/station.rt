@@ -1,20 +1,22 @@
 //! What a worker has beside its node's cell, and what it does with it.
-ghost use Rattle.std.specs.Prelude.{◌<◌, IfSome};
+ghost use Rattle.std.specs.Prelude.{◌≡◌, ◌<◌, [], false, None, IfSome, is_none};
 ghost use Rattle.world_views.specs.Views.{carries};
 ghost use Rattle.node_cells.specs.Cells.{HasHeard, view_in};
 ghost use Rattle.marked_cells.specs.Marking.{HasMarked};
 ghost use Rattle.node_threads.specs.Homes.{IsSameHome};
-ghost use Rattle.node_threads.specs.Work.{HasHadTurn};
+ghost use Rattle.node_threads.specs.Reports.{IsReport, is_told, waits};
+ghost use Rattle.node_threads.specs.Work.{HasDone, HasDoneNote, HasGoneOn, HasHadTurn, HasLookedIn, HasRun, HasTaken};
 
 use crate::gate::Gate;
 use crate::job::Job;
 use crate::outlet::Outlet;
+use crate::station::telling::{standing, status};
 use body_marks::Marking;
 use crossbeam_channel::{Receiver, Sender};
 use machine_laws::{Hosted, Machine};
 use marked_cells::MarkedCell;
 use node_cells::{CellFault, Upstream};
-use node_notes::{Note, Status};
+use node_notes::{Note, Report};
 use raft_log::{Kind, NodeId};
 use raft_node::Described;
 use stable_store::Stable;
@@ -51,7 +53,7 @@ impl<M: Marking, G: Gate + Drop, O: Outlet<M::Effect>> Station<M, G, O> {
     )
         ensures { IsSameHome cell.old.parts cell.new.parts }
     {
-        self.report_standing(rt, cell, false);
+        self.outlet.report(rt, standing(self.alloc, cell, false));
         for _ in rt.forever() {
             let Ok(job) = self.inbox.recv(rt) else {
                 break;
@@ -59,29 +61,33 @@ impl<M: Marking, G: Gate + Drop, O: Outlet<M::Effect>> Station<M, G, O> {
             if let Job::Note(Note::End) = &job {
                 break;
             }
-            self.run(rt, cell, job);
+            if let Some(report) = self.run(rt, cell, job) {
+                self.outlet.report(rt, report);
+            }
         }
     }
 
-    /// Does a job, takes the messages that came, applies what is agreed, and reports, but for a
-    /// look that may come too early: there may be many, and nothing comes of most.
+    /// Does a job, takes the messages that came, and applies what is agreed. What is to be told
+    /// behind it: nothing behind a look that may come too early.
     fn run<R: Wait, S: Stable<M::Command>, U: Upstream>(
         &mut self,
         rt: &R,
         cell: &mut MarkedCell<M, S, U>,
         job: Job<M>,
-    )
-        ensures { IsSameHome cell.old.parts cell.new.parts }
+    ) -> Option<Report<M::Effect>>
+        ensures run { HasRun (⟦<M as Described>⟧.machine cell.old.parts.ether.setup) U.tally
+            M.marked M.mark job cell.old.parts cell.new.parts }
+        ensures told { IfSome result (IsReport cell.new.parts [] false None (is_told job)) }
+        ensures waits { is_none result ≡ waits job }
     {
-        let waits = matches!(&job, Job::LookAfter(_, _, _));
-        // what another worker or a caller that waits tells is no note that is counted as done
-        let is_told = matches!(&job, Job::Note(note) if !matches!(note, Note::Wake));
+        let (waits, is_told) = (job.waits(), job.is_told());
         self.begin(rt, cell, job);
         self.take_all(rt, cell);
         self.apply_all(rt, cell);
-        if !waits {
-            self.report_standing(rt, cell, is_told);
+        if waits {
+            return None;
         }
+        Some(standing(self.alloc, cell, is_told))
     }
 
     /// Does what a job says.
@@ -91,17 +97,11 @@ impl<M: Marking, G: Gate + Drop, O: Outlet<M::Effect>> Station<M, G, O> {
         cell: &mut MarkedCell<M, S, U>,
         job: Job<M>,
     )
-        ensures { IsSameHome cell.old.parts cell.new.parts }
+        ensures { HasDone (⟦<M as Described>⟧.machine cell.old.parts.ether.setup) U.tally
+            M.marked M.mark job cell.old.parts cell.new.parts }
     {
         match job {
-            Job::Note(Note::Restart) => {
-                let _ = cell.restart();
-            }
-            Job::Note(note) => {
-                if let Some(input) = note.into_input() {
-                    self.turn(rt, cell, input, false);
-                }
-            }
+            Job::Note(note) => self.follow(rt, cell, note),
             Job::Look(from_place, target, reply) => {
                 let _ = reply.send(rt, cell.look(from_place, target));
             }
@@ -117,6 +117,25 @@ impl<M: Marking, G: Gate + Drop, O: Outlet<M::Effect>> Station<M, G, O> {
             Job::Status(reply) => {
                 let _ = reply.send(rt, status(cell));
             }
+        }
+    }
+
+    /// Does what a note says.
+    fn follow<R: Wait, S: Stable<M::Command>, U: Upstream>(
+        &mut self,
+        rt: &R,
+        cell: &mut MarkedCell<M, S, U>,
+        note: Note<M::Command, M::Line>,
+    )
+        ensures { HasDoneNote (⟦<M as Described>⟧.machine cell.old.parts.ether.setup) U.tally
+            note cell.old.parts cell.new.parts }
+    {
+        if let Note::Restart = &note {
+            let _ = cell.restart();
+            return;
+        }
+        if let Some(input) = note.into_input() {
+            self.turn(rt, cell, input, false);
         }
     }
 
@@ -166,7 +185,8 @@ impl<M: Marking, G: Gate + Drop, O: Outlet<M::Effect>> Station<M, G, O> {
         rt: &R,
         cell: &mut MarkedCell<M, S, U>,
     )
-        ensures { IsSameHome cell.old.parts cell.new.parts }
+        ensures { HasGoneOn (⟦<M as Described>⟧.machine cell.old.parts.ether.setup) U.tally
+            cell.old.parts cell.new.parts }
     {
         for from in 0..MOST_NODES {
             if from >= cell.size().value() {
@@ -185,7 +205,8 @@ impl<M: Marking, G: Gate + Drop, O: Outlet<M::Effect>> Station<M, G, O> {
         from: u64,
     )
         requires { from < cell.old.parts.ether.size }
-        ensures { IsSameHome cell.old.parts cell.new.parts }
+        ensures { HasLookedIn (⟦<M as Described>⟧.machine cell.old.parts.ether.setup) U.tally
+            cell.old.parts from cell.new.parts }
     {
         let Some(input) = next_from(cell, from) else {
             return;
@@ -200,7 +221,8 @@ impl<M: Marking, G: Gate + Drop, O: Outlet<M::Effect>> Station<M, G, O> {
         rt: &R,
         cell: &mut MarkedCell<M, S, U>,
     )
-        ensures { IsSameHome cell.old.parts cell.new.parts }
+        ensures { HasGoneOn (⟦<M as Described>⟧.machine cell.old.parts.ether.setup) U.tally
+            cell.old.parts cell.new.parts }
     {
         for _ in 0..u64::MAX {
             let status = status(cell);
@@ -212,11 +234,6 @@ impl<M: Marking, G: Gate + Drop, O: Outlet<M::Effect>> Station<M, G, O> {
     }
 }
 
-/// How the node of a cell stands.
-fn status<M: Marking, S: Stable<M::Command>, U: Upstream>(cell: &MarkedCell<M, S, U>) -> Status {
-    Status::of(cell.state(), cell.next_claim(), cell.down())
-}
-
 /// The delivery of what lies in the mailbox from the node at this place, from 0 on, if something
 /// does.
 fn next_from<M: Marking, S: Stable<M::Command>, U: Upstream>(
@@ -224,7 +241,8 @@ fn next_from<M: Marking, S: Stable<M::Command>, U: Upstream>(
     from: u64,
 ) -> Option<NodeInput<M::Command, M::Line>>
     requires { from < cell.old.parts.ether.size }
-    ensures same { IsSameHome cell.old.parts cell.new.parts }
+    ensures taken { HasTaken (⟦<M as Described>⟧.machine cell.old.parts.ether.setup)
+        cell.old.parts from result cell.new.parts }
     ensures heard { IfSome result (λ input. HasHeard (view_in cell.new.parts) (carries input)) }
 {
     match cell.take(from) {

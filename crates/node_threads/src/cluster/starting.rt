@@ -25,7 +25,19 @@ use std::snapshot::Snapshot;
 use std::sync::{Arc, Wait};
 use std::thread::Threads;
 
-impl<M: Marking, S: Stable<M::Command>, U: Upstream> Cluster<M, S, U> {
+impl<M, S, U> Cluster<M, S, U>
+where
+    M: Marking + Send + Sync + 'static,
+    M::Setup: Send + Sync + 'static,
+    M::Command: Send + Sync + 'static,
+    M::Effect: Send + Sync + 'static,
+    M::Line: Send + Sync + 'static,
+    M::Target: Send + Sync + 'static,
+    M::Played: Send + Sync + 'static,
+    M::Action: Send + Sync + 'static,
+    S: Stable<M::Command> + Send + 'static,
+    U: Upstream + Send + 'static,
+{
     /// Starts as many nodes as the group has, each over the store of its part, node 1's first. All
     /// are opened before the first thread begins. Where one can't be started, what was started is
     /// joined, and the parts are dropped.
@@ -42,16 +54,6 @@ impl<M: Marking, S: Stable<M::Command>, U: Upstream> Cluster<M, S, U> {
         R: Threads + Wait + Sync + Send + Copy + 'static,
         G: Gate + Drop + Send + Sync + 'static,
         O: Outlet<M::Effect> + Send + 'static,
-        M: Send + Sync + 'static,
-        M::Setup: Send + Sync + 'static,
-        M::Command: Send + Sync + 'static,
-        M::Effect: Send + Sync + 'static,
-        M::Line: Send + Sync + 'static,
-        M::Target: Send + Sync + 'static,
-        M::Played: Send + Sync + 'static,
-        M::Action: Send + Sync + 'static,
-        S: Send + 'static,
-        U: Send + 'static,
         ensures { HasStarted (keeper S.saved S.may_stand S.condition) size setup.now parts.items
             recording result }
     {
@@ -66,7 +68,59 @@ impl<M: Marking, S: Stable<M::Command>, U: Upstream> Cluster<M, S, U> {
         let closing = Closing::new(alloc, &ether, recording)?;
         let ends = make_inboxes(alloc, size)?;
         let workers = workers(alloc, &ether, passes, parts, gate, &ends, recording)?;
-        begin(rt, alloc, workers, ends.inboxes, closing)
+        Cluster::begin(rt, alloc, workers, ends.inboxes, closing)
+    }
+
+    /// The threads of all workers begin. Where one can't be had, the others are joined.
+    fn begin<R, G, O>(
+        rt: &R,
+        alloc: Global,
+        workers: Vec<Worker<M, S, U, G, O>>,
+        inboxes: Vec<Sender<Job<M>>>,
+        closing: Closing<M>,
+    ) -> Result<Self, ClusterFault>
+    where
+        R: Threads + Wait + Sync + Send + Copy + 'static,
+        G: Gate + Drop + Send + Sync + 'static,
+        O: Outlet<M::Effect> + Send + 'static,
+        requires inboxes { length inboxes.items ≡ closing.ether.size }
+        requires workers { length workers.items ≡ closing.ether.size }
+        requires closing { closing.views ≡ [] }
+        requires homes { AllFrom (λ i w. IsHome closing.ether closing.recording i
+            (home_of w.cell.parts)) 0 workers.items }
+        ensures ether { IfOk result (λ c. c.ether ≡ closing.ether) }
+        ensures recording { IfOk result (λ c. c.recording ≡ closing.recording) }
+        ensures cells { IfOk result (λ c. c.cells ≡ map (λ w. w.cell.parts) workers.items) }
+        ensures fault { IfErr result (λ e. e ≡ Memory) }
+    {
+        let mut threads: Vec<Running<M, S, U>> = Vec::with_capacity(alloc, workers.len())?;
+        for worker in workers {
+            let Some(thread) = Cluster::spawn_worker(rt, worker) else {
+                call_off(rt, inboxes.as_slice(), threads);
+                return Err(ClusterFault::Memory);
+            };
+            threads.push_reserved(thread);
+        }
+        Ok(Cluster {
+            alloc,
+            inboxes,
+            threads,
+            closing,
+        })
+    }
+
+    /// The thread of a worker, if one can be had.
+    fn spawn_worker<R, G, O>(rt: &R, worker: Worker<M, S, U, G, O>) -> Option<Running<M, S, U>>
+    where
+        R: Threads + Wait + Sync + Send + Copy + 'static,
+        G: Gate + Drop + Send + Sync + 'static,
+        O: Outlet<M::Effect> + Send + 'static,
+        ensures { IfSome result (λ t. t.promise.cell.value ≡ worker.cell) }
+    {
+        let promise = Homecoming {
+            cell: Snapshot::of(&worker.cell),
+        };
+        spawn_task(rt, promise, worker)
     }
 }
 
@@ -85,54 +139,6 @@ fn unpaired(size: GroupSize, parts: usize) -> Result<(), ClusterFault>
     Ok(())
 }
 
-/// The threads of all workers begin. Where one can't be had, the others are joined.
-fn begin<R, M, S, U, G, O>(
-    rt: &R,
-    alloc: Global,
-    workers: Vec<Worker<M, S, U, G, O>>,
-    inboxes: Vec<Sender<Job<M>>>,
-    closing: Closing<M>,
-) -> Result<Cluster<M, S, U>, ClusterFault>
-where
-    R: Threads + Wait + Sync + Send + Copy + 'static,
-    M: Marking + Send + Sync + 'static,
-    M::Setup: Send + Sync + 'static,
-    M::Command: Send + Sync + 'static,
-    M::Effect: Send + Sync + 'static,
-    M::Line: Send + Sync + 'static,
-    M::Target: Send + Sync + 'static,
-    M::Played: Send + Sync + 'static,
-    M::Action: Send + Sync + 'static,
-    S: Stable<M::Command> + Send + 'static,
-    U: Upstream + Send + 'static,
-    G: Gate + Drop + Send + Sync + 'static,
-    O: Outlet<M::Effect> + Send + 'static,
-    requires inboxes { length inboxes.items ≡ closing.ether.size }
-    requires workers { length workers.items ≡ closing.ether.size }
-    requires closing { closing.views ≡ [] }
-    requires homes { AllFrom (λ i w. IsHome closing.ether closing.recording i
-        (home_of w.cell.parts)) 0 workers.items }
-    ensures ether { IfOk result (λ c. c.ether ≡ closing.ether) }
-    ensures recording { IfOk result (λ c. c.recording ≡ closing.recording) }
-    ensures cells { IfOk result (λ c. c.cells ≡ map (λ w. w.cell.parts) workers.items) }
-    ensures fault { IfErr result (λ e. e ≡ Memory) }
-{
-    let mut threads: Vec<Running<M, S, U>> = Vec::with_capacity(alloc, workers.len())?;
-    for worker in workers {
-        let Some(thread) = spawn_worker(rt, worker) else {
-            call_off(rt, inboxes.as_slice(), threads);
-            return Err(ClusterFault::Memory);
-        };
-        threads.push_reserved(thread);
-    }
-    Ok(Cluster {
-        alloc,
-        inboxes,
-        threads,
-        closing,
-    })
-}
-
 /// All workers end, and are joined.
 fn call_off<R: Threads + Wait, M: Marking, S: Stable<M::Command>, U: Upstream>(
     rt: &R,
@@ -143,28 +149,4 @@ fn call_off<R: Threads + Wait, M: Marking, S: Stable<M::Command>, U: Upstream>(
     for thread in threads {
         thread.join(rt);
     }
-}
-
-/// The thread of a worker, if one can be had.
-fn spawn_worker<R, M, S, U, G, O>(rt: &R, worker: Worker<M, S, U, G, O>) -> Option<Running<M, S, U>>
-where
-    R: Threads + Wait + Sync + Send + Copy + 'static,
-    M: Marking + Send + Sync + 'static,
-    M::Setup: Send + Sync + 'static,
-    M::Command: Send + Sync + 'static,
-    M::Effect: Send + Sync + 'static,
-    M::Line: Send + Sync + 'static,
-    M::Target: Send + Sync + 'static,
-    M::Played: Send + Sync + 'static,
-    M::Action: Send + Sync + 'static,
-    S: Stable<M::Command> + Send + 'static,
-    U: Upstream + Send + 'static,
-    G: Gate + Drop + Send + Sync + 'static,
-    O: Outlet<M::Effect> + Send + 'static,
-    ensures { IfSome result (λ t. t.promise.cell.value ≡ worker.cell) }
-{
-    let promise = Homecoming {
-        cell: Snapshot::of(&worker.cell),
-    };
-    spawn_task(rt, promise, worker)
 }

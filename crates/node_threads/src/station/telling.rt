@@ -1,8 +1,11 @@
 //! What a worker tells: the workers whose nodes it posted to, and its outlet.
+ghost use Rattle.std.specs.Prelude.{◌≡◌, [], false, None};
+ghost use Rattle.node_threads.specs.Reports.{IsReport, IsStatusOf, TellsTurn, told_fault};
+
 use crate::gate::Gate;
 use crate::job::Job;
 use crate::outlet::Outlet;
-use crate::station::{Station, status};
+use crate::station::Station;
 use body_marks::Marking;
 use machine_laws::{Hosted, Machine};
 use marked_cells::MarkedCell;
@@ -10,10 +13,11 @@ use node_cells::{CellFault, TurnOutput, Upstream};
 use node_notes::{Note, Report, Status};
 use raft_node::{Cause, NodeFault};
 use stable_store::Stable;
+use std::alloc::Global;
 use std::sync::Wait;
 
 impl<M: Marking, G: Gate + Drop, O: Outlet<M::Effect>> Station<M, G, O> {
-    /// Passes on what came of a turn.
+    /// Passes on what came of a turn: whoever was posted to is woken.
     pub fn pass_on<R: Wait, S: Stable<M::Command>, U: Upstream>(
         &mut self,
         rt: &R,
@@ -21,22 +25,13 @@ impl<M: Marking, G: Gate + Drop, O: Outlet<M::Effect>> Station<M, G, O> {
         turned: Result<TurnOutput<M::Effect>, CellFault>,
         led: bool,
     ) {
-        match turned {
-            Ok(output) => {
-                for to in &output.posted_to {
-                    self.wake(rt, *to);
-                }
-                if led || !output.effects.is_empty() {
-                    self.report(rt, status(cell), output.effects, led, None);
-                }
+        if let Ok(output) = &turned {
+            for to in &output.posted_to {
+                self.wake(rt, *to);
             }
-            Err(fault) => {
-                let fault = match fault {
-                    CellFault::Node(fault) => fault,
-                    CellFault::Memory | CellFault::Spent => NodeFault::Down(Cause::Memory),
-                };
-                self.report(rt, status(cell), Vec::new(self.alloc), led, Some(fault));
-            }
+        }
+        if let Some(report) = report_of_turn(self.alloc, cell, turned, led) {
+            self.outlet.report(rt, report);
         }
     }
 
@@ -56,41 +51,66 @@ impl<M: Marking, G: Gate + Drop, O: Outlet<M::Effect>> Station<M, G, O> {
             let _ = inbox.send(rt, Job::Note(Note::Wake));
         }
     }
+}
 
-    /// Tells how the node stands.
-    pub fn report_standing<R: Wait, S: Stable<M::Command>, U: Upstream>(
-        &mut self,
-        rt: &R,
-        cell: &MarkedCell<M, S, U>,
-        is_last: bool,
-    ) {
-        let report = Report {
-            node: self.id,
-            status: status(cell),
-            effects: Vec::new(self.alloc),
-            led: false,
-            fault: None,
-            is_last,
-        };
-        self.outlet.report(rt, report);
+/// How the node of a cell stands.
+pub fn status<M: Marking, S: Stable<M::Command>, U: Upstream>(cell: &MarkedCell<M, S, U>) -> Status
+    ensures { IsStatusOf cell.now.parts result }
+{
+    Status::of(cell.state(), cell.next_claim(), cell.down())
+}
+
+/// How the node of a cell stands, as it is told behind a job: `is_last` where the job is done that
+/// the node was told.
+pub fn standing<M: Marking, S: Stable<M::Command>, U: Upstream>(
+    alloc: Global,
+    cell: &MarkedCell<M, S, U>,
+    is_last: bool,
+) -> Report<M::Effect>
+    ensures { IsReport cell.now.parts [] false None is_last result }
+{
+    Report {
+        node: cell.id(),
+        status: status(cell),
+        effects: Vec::new(alloc),
+        led: false,
+        fault: None,
+        is_last,
     }
+}
 
-    fn report<R: Wait>(
-        &mut self,
-        rt: &R,
-        status: Status,
-        effects: Vec<M::Effect>,
-        led: bool,
-        fault: Option<NodeFault>,
-    ) {
-        let report = Report {
-            node: self.id,
-            status,
-            effects,
-            led,
-            fault,
-            is_last: false,
-        };
-        self.outlet.report(rt, report);
+/// What is told of a turn, if something is.
+fn report_of_turn<M: Marking, S: Stable<M::Command>, U: Upstream>(
+    alloc: Global,
+    cell: &MarkedCell<M, S, U>,
+    turned: Result<TurnOutput<M::Effect>, CellFault>,
+    led: bool,
+) -> Option<Report<M::Effect>>
+    ensures { TellsTurn cell.now.parts led turned result }
+{
+    let (effects, fault) = match turned {
+        Ok(output) => (output.effects, None),
+        Err(fault) => (Vec::new(alloc), Some(told_fault(fault))),
+    };
+    if !led && effects.is_empty() && fault.is_none() {
+        return None;
+    }
+    Some(Report {
+        node: cell.id(),
+        status: status(cell),
+        effects,
+        led,
+        fault,
+        is_last: false,
+    })
+}
+
+/// A cell's fault, as it is told of the node.
+fn told_fault(fault: CellFault) -> NodeFault
+    ensures { result ≡ told_fault fault }
+{
+    match fault {
+        CellFault::Node(fault) => fault,
+        CellFault::Memory | CellFault::Spent => NodeFault::Down(Cause::Memory),
     }
 }

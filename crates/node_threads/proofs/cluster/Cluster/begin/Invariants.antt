@@ -1,7 +1,7 @@
 use Rattle.std.specs.Prelude.{◌≡◌, ◌≤◌, length, vec_capacity}
 use Rattle.std.specs.Vec.Iter.{into_iter_items, into_iter_len}
 use Rattle.node_threads.proofs.Crew.{HaveBegun}
-use Rattle.node_threads.proofs.cluster.starting.begin.Given as goal
+use Rattle.node_threads.proofs.cluster.Cluster.begin.Given as goal
 
 abbrev pub invariant-loop-worker : goal.invariant-loop-worker
 invariant-loop-worker g l =

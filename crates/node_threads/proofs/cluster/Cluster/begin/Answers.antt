@@ -2,7 +2,7 @@ use Rattle.std.proofs.Common.{rules, ◌≡◌, ◌≤◌, ◌<◌, [], length, 
 use Rattle.std.specs.Prelude.{vec_capacity}
 use Rattle.std.specs.Vec.Iter.{into_iter_items}
 use Rattle.node_threads.proofs.Crew.{all_begun, few_begun, none_begun, none_left, next_begun}
-use Rattle.node_threads.proofs.cluster.starting.begin.Goals as goal
+use Rattle.node_threads.proofs.cluster.Cluster.begin.Goals as goal
 
 pub loop-worker-init : goal.loop-worker-init
 loop-worker-init g c =
