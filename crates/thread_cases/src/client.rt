@@ -1,4 +1,6 @@
 //! Clients that ask over and over until they are answered.
+ghost use Rattle.std.specs.Prelude.{◌<◌};
+
 use crate::clusters::{Counter, Crew, MOST_POLLS, rest};
 use crate::inputs::Inputs;
 use crate::request::Request;
@@ -16,8 +18,8 @@ use wire_bytes::Wire;
 /// How often a request is polled for before it is asked again.
 const POLLS_A_REQUEST: u64 = 100;
 
-/// How often it is polled for before node 1 is told to beat again.
-const POLLS_A_BEAT: u64 = 10;
+/// How many polls behind a request node 1 is told to beat.
+const POLLS_BEHIND: u64 = 5;
 
 /// The client 1 of the first run of a node.
 #[derive(Drop)]
@@ -59,16 +61,38 @@ impl Client {
     }
 }
 
+/// How often node 1 is told to beat while clients ask.
+#[derive(Clone, Copy, Debug, PartialEq, Eq)]
+pub enum Pace {
+    /// Every ten polls, so that all nodes soon know what is agreed.
+    Fast,
+    /// Once a request, so that no other node knows that the last one is agreed.
+    Slow,
+}
+
+impl Pace {
+    /// How many polls there are from one beat to the next.
+    fn polls(self) -> u64
+        ensures { 0 < result }
+    {
+        match self {
+            Pace::Fast => POLLS_A_REQUEST / 10,
+            Pace::Slow => POLLS_A_REQUEST,
+        }
+    }
+}
+
 /// Each client asks for its requests in turn. Gives how often node 1 was told to beat.
 pub fn ask_all<M: Marking, R: Wait + Clock>(
     rt: &R,
     alloc: Global,
     crew: &Crew<M>,
     clients: &mut [Client],
+    pace: Pace,
 ) -> Result<u64, Fail> {
     let mut beats = 0u64;
     for request in [Request::Attach, Request::Detach, Request::Say] {
-        beats = beats.saturating_add(ask_each(rt, alloc, crew, clients, request)?);
+        beats = beats.saturating_add(ask_each(rt, alloc, crew, clients, request, pace)?);
     }
     Ok(beats)
 }
@@ -81,6 +105,7 @@ fn ask_each<M: Marking, R: Wait + Clock>(
     crew: &Crew<M>,
     clients: &mut [Client],
     request: Request,
+    pace: Pace,
 ) -> Result<u64, Fail> {
     let mut beats = 0u64;
     for poll in 0..MOST_POLLS {
@@ -90,7 +115,7 @@ fn ask_each<M: Marking, R: Wait + Clock>(
         if poll % POLLS_A_REQUEST == 0 {
             submit_again(rt, alloc, crew, clients, request)?;
         }
-        if poll % POLLS_A_BEAT == POLLS_A_BEAT / 2 {
+        if poll % pace.polls() == POLLS_BEHIND {
             crew.submit(rt, NodeId::new(1), Note::Beat)?;
             beats = beats.saturating_add(1);
         }

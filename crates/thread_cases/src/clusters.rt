@@ -52,19 +52,28 @@ pub fn counters(alloc: Global, size: GroupSize) -> Result<Vec<Counter>, AllocErr
     Ok(all)
 }
 
-/// The parts of nodes over new stores, which count there what takes effect.
-pub fn parts<M: Machine>(
-    alloc: Global,
-    counters: &[Counter],
-) -> Result<Vec<Plain<M, Watch>>, AllocError> {
+/// What counts there what takes effect.
+pub fn watches(alloc: Global, counters: &[Counter]) -> Result<Vec<Watch>, AllocError> {
     let mut all = Vec::new(alloc);
     for counter in counters {
+        all.push(Watch {
+            done: Arc::try_clone(counter)?,
+        })?;
+    }
+    Ok(all)
+}
+
+/// The parts of nodes over new stores.
+pub fn parts<M: Machine, O: Drop>(
+    alloc: Global,
+    outlets: Vec<O>,
+) -> Result<Vec<Plain<M, O>>, AllocError> {
+    let mut all = Vec::new(alloc);
+    for outlet in outlets {
         all.push(Part {
             store: MemoryStore::new(alloc),
             upstream: NoUpstream::new(),
-            outlet: Watch {
-                done: Arc::try_clone(counter)?,
-            },
+            outlet,
         })?;
     }
     Ok(all)

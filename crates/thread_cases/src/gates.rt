@@ -1,9 +1,9 @@
 //! Gates that hold workers.
 ghost use Rattle.std.specs.Prelude.{◌<◌};
 
-use crate::clusters::{Flag, MOST_POLLS, rest};
+use crate::clusters::{Flag, MOST_POLLS, flag, rest};
 use node_threads::Gate;
-use std::alloc::AllocError;
+use std::alloc::{AllocError, Global};
 use std::rt::Clock;
 use std::sync::atomic::{AtomicBool, Ordering};
 use std::sync::{Arc, Wait};
@@ -56,28 +56,50 @@ impl<C: Clock + Drop> Gate for Meeting<C> {
     }
 }
 
+/// How node 3 is let go, and whether it passed.
+#[derive(Drop)]
+pub struct Hold {
+    pub is_let_go: Flag,
+    pub has_passed: Flag,
+}
+
+impl Hold {
+    /// Node 3 is held.
+    pub fn new(alloc: Global) -> Result<Hold, AllocError> {
+        Ok(Hold {
+            is_let_go: flag(alloc)?,
+            has_passed: flag(alloc)?,
+        })
+    }
+
+    /// The same.
+    fn twin(&self) -> Result<Hold, AllocError> {
+        Ok(Hold {
+            is_let_go: Arc::try_clone(&self.is_let_go)?,
+            has_passed: Arc::try_clone(&self.has_passed)?,
+        })
+    }
+}
+
 /// Holds the worker of node 3 until it is let go, and then for 1,000,000 polls more.
 #[derive(Drop)]
 pub struct Holding<C: Clock + Drop> {
     clock: C,
-    is_let_go: Flag,
-    /// Whether node 3 passes at once.
-    is_open: AtomicBool,
+    hold: Hold,
 }
 
 impl<C: Clock + Drop> Holding<C> {
-    pub fn new(clock: C, is_let_go: &Flag) -> Result<Holding<C>, AllocError> {
+    pub fn new(clock: C, hold: &Hold) -> Result<Holding<C>, AllocError> {
         Ok(Holding {
             clock,
-            is_let_go: Arc::try_clone(is_let_go)?,
-            is_open: AtomicBool::new(false),
+            hold: hold.twin()?,
         })
     }
 
     /// Waits until node 3 is let go, for so many milliseconds at most.
     fn wait(&self) {
         for _ in 0..MOST_POLLS {
-            if self.is_let_go.load(Ordering::SeqCst) {
+            if self.hold.is_let_go.load(Ordering::SeqCst) {
                 return;
             }
             rest(&self.clock);
@@ -87,13 +109,13 @@ impl<C: Clock + Drop> Holding<C> {
 
 impl<C: Clock + Drop> Gate for Holding<C> {
     fn pass<R: Wait>(&self, _rt: &R, node: u8, _turn: u64) {
-        if node != 3 || self.is_open.load(Ordering::SeqCst) {
+        if node != 3 || self.hold.has_passed.load(Ordering::SeqCst) {
             return;
         }
         self.wait();
         for _ in 0..MORE_POLLS {
-            let _ = self.is_let_go.load(Ordering::SeqCst);
+            let _ = self.hold.is_let_go.load(Ordering::SeqCst);
         }
-        self.is_open.store(true, Ordering::SeqCst);
+        self.hold.has_passed.store(true, Ordering::SeqCst);
     }
 }

@@ -18,6 +18,8 @@ mod request;
 #[cfg(test)]
 mod runs;
 #[cfg(test)]
+mod story;
+#[cfg(test)]
 mod tests;
 #[cfg(test)]
 mod upstream;

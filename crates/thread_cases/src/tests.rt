@@ -1,11 +1,10 @@
 use crate::client::Client;
-use crate::clusters::{counters, flag, parts};
-use crate::confirming::confirmed_line;
-use crate::gates::{Holding, Meeting};
-use crate::meeting::two_turns;
-use crate::runs::recorded_run;
+use crate::clusters::{Counter, counters, flag, watches};
+use crate::gates::{Hold, Holding, Meeting};
+use crate::story::{Story, play};
 use bouncer_tower::Tower;
 use buffer_commands::Setup;
+use node_threads::{Gate, OpenGate};
 use raft_log::{GroupSize, NodeId};
 use records::Verdict;
 use setup_spelling::WireSetup;
@@ -20,6 +19,24 @@ use world_app::replay;
 /// The line that node 1's client said, as it is played.
 const LINE: &[u8] = b":me!bouncer@local PRIVMSG #x :[22:13:20] hi";
 
+/// What comes of a story of as many bouncers as there are counters.
+fn told<R, G>(
+    rt: &R,
+    alloc: Global,
+    size: GroupSize,
+    counters: &[Counter],
+    gate: G,
+    story: Story,
+) -> Result<Vec<u8>, Fail>
+where
+    R: Threads + Wait + Clock + Sync + Send + Copy + 'static,
+    G: Gate + Drop + Send + Sync + 'static,
+{
+    let setup = WireSetup::new(Setup::plain(alloc)?);
+    let outlets = watches(alloc, counters)?;
+    play::<Tower, _, _, _>(rt, alloc, size, &setup, outlets, gate, story)
+}
+
 /// What a replay of the record of a run of so many nodes comes to.
 fn replayed<R>(rt: &R, alloc: Global, size: u8) -> Result<Verdict, Fail>
 where
@@ -30,13 +47,11 @@ where
     let [first, second, ..] = counters.as_slice() else {
         return Err(Fail::from("no such nodes"));
     };
-    let mut clients = [
+    let story = Story::Record([
         Client::new(NodeId::new(1), first)?,
         Client::new(NodeId::new(2), second)?,
-    ];
-    let setup = WireSetup::new(Setup::plain(alloc)?);
-    let parts = parts::<Tower>(alloc, counters.as_slice())?;
-    let text = recorded_run::<Tower, _, _>(rt, alloc, size, &setup, parts, &mut clients)?;
+    ]);
+    let text = told(rt, alloc, size, counters.as_slice(), OpenGate, story)?;
     Ok(replay(alloc, text.as_slice())?)
 }
 
@@ -56,11 +71,10 @@ fn what_seven_threads_record_replays_as_the_same(rt: HostRuntime) -> Result<(), 
 fn gate_holds_node_1(rt: HostRuntime) -> Result<(), Fail> {
     let alloc = rt.alloc();
     let size = GroupSize::new(3).ok_or("size")?;
-    let setup = Setup::plain(alloc)?;
-    let parts = parts::<Tower>(alloc, counters(alloc, size)?.as_slice())?;
+    let counters = counters(alloc, size)?;
     let has_failed = flag(alloc)?;
     let gate = Meeting::new(rt, &has_failed)?;
-    assert!(rt; two_turns::<Tower, _, _, _>(&rt, alloc, size, &setup, parts, gate)?);
+    told(&rt, alloc, size, counters.as_slice(), gate, Story::Meet)?;
     assert!(rt; !has_failed.load(Ordering::SeqCst));
     Ok(())
 }
@@ -68,16 +82,18 @@ fn gate_holds_node_1(rt: HostRuntime) -> Result<(), Fail> {
 #[test]
 fn confirmed_waits(rt: HostRuntime) -> Result<(), Fail> {
     let alloc = rt.alloc();
-    let setup = Setup::plain(alloc)?;
-    let counters = counters(alloc, GroupSize::new(3).ok_or("size")?)?;
-    let parts = parts::<Tower>(alloc, counters.as_slice())?;
+    let size = GroupSize::new(3).ok_or("size")?;
+    let counters = counters(alloc, size)?;
     let client = Client::new(NodeId::new(1), counters.first().ok_or("node")?)?;
-    let is_let_go = flag(alloc)?;
-    let gate = Holding::new(rt, &is_let_go)?;
-    let looked = confirmed_line::<Tower, _, _, _>(
-        &rt, alloc, &setup, parts, gate, client, &is_let_go,
-    )?;
-    assert_eq!(rt; looked.lines.len(), 3);
-    assert_eq!(rt; looked.lines[1].spelling(), LINE);
+    let hold = Hold::new(alloc)?;
+    let gate = Holding::new(rt, &hold)?;
+    let story = Story::Confirm(client, hold);
+    let lines = told(&rt, alloc, size, counters.as_slice(), gate, story)?;
+    let mut lines = lines.as_slice().split(|byte| *byte == b'\n');
+    lines.next();
+    assert_eq!(rt; lines.next(), Some(LINE));
+    lines.next();
+    assert_eq!(rt; lines.next(), Some(b"".as_slice()));
+    assert_eq!(rt; lines.next(), None);
     Ok(())
 }
