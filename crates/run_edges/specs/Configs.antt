@@ -2,7 +2,6 @@
 use Rattle.std.specs.Prelude.{◌≡◌, ℕ, List, Option, IfSome}
 use Rattle.bouncer_config.specs.Reads.{IsFault, Says}
 use Rattle.bouncer_config.specs.declared.config.Config.{Config}
-use Rattle.bouncer_config.specs.declared.config_fault.ConfigFault.{ConfigFault}
 use Rattle.bouncer_config.specs.declared.problem.Problem.{Problem}
 use Rattle.bouncer_config.specs.declared.problem.Problem.TheVariants as problem
 use Rattle.whole_input.specs.Reads.{IsTooLong}

@@ -1,4 +1,4 @@
-use Rattle.std.proofs.Common.{◌≡◌, false, length, vec_len}
+use Rattle.std.proofs.Common.{◌≡◌, false, length}
 use Rattle.std.specs.List.{All}
 use Rattle.run_edges.proofs.journal_files.journals.Given as goal
 
