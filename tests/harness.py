@@ -12,6 +12,7 @@ from client import Client, Late, until, LONGEST
 
 TOP = os.path.dirname(os.path.dirname(os.path.realpath(__file__)))
 PROGRAM = os.environ.get("BOUNCER", os.path.join(TOP, "crates/bouncer_app/out/bouncer_app"))
+STAYS = 0.5  # seconds after which a leader is taken to stay
 passed = failed = 0
 
 
@@ -100,12 +101,26 @@ class Bouncer:
         """The node that led last, by its number."""
         return [int(line.split(" node ")[1][0]) for line in self.log().splitlines() if " leads in term " in line][-1]
 
-    def ready(self):
-        """All nodes are up, and there is a session."""
+    def up(self):
+        """All nodes are up, and there was a session."""
         for node in (1, 2, 3):
             self.wait(f" node {node}: up, run ")
         self.wait("upstream opened")
         return self
+
+    def ready(self):
+        """All nodes are up, and there is a session, of a leader that stays: soon after a start another one may be chosen."""
+        self.up()
+        until(self.stays, lambda: f"a leader that stays:\n{self.log()}")
+        return self
+
+    def stays(self):
+        """Whether there is a session, and no node came to lead for a while."""
+        before = self.log()
+        time.sleep(STAYS)
+        log = self.log()
+        is_open = log.rfind("upstream opened") > log.rfind("upstream closed")
+        return is_open and log.count(" leads in term ") == before.count(" leads in term ")
 
     def end(self):
         """Ends standard input. The exit code."""
