@@ -1,5 +1,5 @@
 //! The run of a bouncer.
-ghost use Rattle.std.specs.Prelude.{IfErr, IfOk};
+ghost use Rattle.std.specs.Prelude.{◌≡◌, ◌⊎◌, IfErr, IfOk};
 ghost use Rattle.run_edges.specs.Faults.{IsOrMemory};
 
 use crate::parts::parts;
@@ -11,7 +11,7 @@ use node_cells::Upstream;
 use raft_log::NodeId;
 use run_edges::{
     Inlets, RunFault, System, Telling, address_of, journals, listen_all, read, settings_of,
-    size_of, watch_input, write_record,
+    size_of, try_record, watch_input, write_record,
 };
 use sockets::{Clockwork, Inlet, Sockets, Word, run_loop};
 use std::alloc::Global;
@@ -75,7 +75,8 @@ impl Edge {
         })
     }
 
-    /// Listens, and serves clients and the server until the input ends.
+    /// Listens, and serves clients and the server until the input ends. `Write` is told at once, of a
+    /// record that could not be written at the end.
     fn serve<R: System, I: Read + Drop + Send + 'static, U: Upstream>(
         &mut self,
         rt: &R,
@@ -83,7 +84,7 @@ impl Edge {
         input: I,
         running: &Running<U>,
     ) -> Result<(), RunFault>
-        ensures { IfErr result (IsOrMemory RunFault.Socket) }
+        ensures { IfErr result (λ f. IsOrMemory RunFault.Socket f ⊎ (f ≡ RunFault.Write)) }
     {
         let alloc = rt.alloc();
         let now = Clockwork::start(rt)
@@ -92,6 +93,7 @@ impl Edge {
             .map_err(socket_fault)?;
         let mut telling = Telling::new(*rt, config.log);
         listen_all(rt, config, &now, &mut self.sockets, &telling)?;
+        try_record(rt, config)?;
         let mut driver = Driver::new(alloc, settings_of(alloc, config)?, &now);
         let Some(reader) = watch_input(rt, input, self.inlets.one()?) else {
             return Err(RunFault::Memory);

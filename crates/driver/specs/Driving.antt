@@ -15,7 +15,7 @@ use Rattle.driver.specs.Desks.{claim_at, claim_due, counted, desk_behind, desk_c
 use Rattle.driver.specs.Gone.{restart_at, restart_behind}
 use Rattle.driver.specs.Hearing.{answered_by, heard_behind, is_new_run}
 use Rattle.driver.specs.Leading.{IsLeader, is_older, is_that}
-use Rattle.driver.specs.Links.{IsLost, ending, idle_behind, is_silent, may_connect, node_of}
+use Rattle.driver.specs.Links.{IsLost, backoff_behind, ending, idle_behind, is_silent, may_connect, node_of}
 use Rattle.driver.specs.Waking.{awake}
 use Rattle.pacing.specs.Pacing.{may_go}
 
@@ -78,8 +78,9 @@ pub record Ends (now : ℕ) (why : Ending) (old new : Driver) : Type 0 where
   pub desks : new.desks ≡ desks_told_closed (closed_of (node_of old.link.stage) lost) old.desks
   pub orders :
       new.orders.items
-      ≡ (old.orders.items ++ ending old.link.stage why) ++ closed_orders (closed_of (node_of old.link.stage) lost) old.desks
+      ≡ (old.orders.items ++ ending old.link.stage lost why) ++ closed_orders (closed_of (node_of old.link.stage) lost) old.desks
   pub stage : new.link.stage ≡ idle_behind old.link.stage old.link.backoff now
+  pub backoff : new.link.backoff ≡ backoff_behind old.link.stage old.link.backoff now
   pub rest : new ≡ record old { desks = new.desks; orders = new.orders; link = new.link }
 
 -- The connection to the server is closed, and then it is gone.

@@ -6,4 +6,5 @@ pub mod Hearing
 pub mod Leading
 pub mod Links
 pub mod Rosters
+pub mod Sessions
 pub mod Waking

@@ -16,11 +16,13 @@ use Rattle.uplink.specs.Sending.{first_bytes}
 use Rattle.node_notes.specs.declared.status.Status.{Status}
 use Rattle.raft_node.specs.declared.node_fault.Cause.{Cause}
 use Rattle.pacing.specs.declared.backoff.Backoff.{Backoff}
+use Rattle.pacing.specs.Pacing.{doubled}
 use Rattle.driver.specs.declared.desk.Desk.{Desk}
 use Rattle.driver.specs.declared.link.Session.{Session}
 use Rattle.driver.specs.declared.link.Stage.{Stage}
 use Rattle.driver.specs.declared.link.Stage.TheVariants.{Idle, Connecting, Open}
 use Rattle.driver.specs.declared.news.Ending.{Ending}
+use Rattle.driver.specs.declared.news.News.{News}
 use Rattle.driver.specs.declared.news.News.TheVariants.{Closed, Unopened}
 use Rattle.driver.specs.declared.order.Order.{Order}
 use Rattle.driver.specs.declared.order.Order.TheVariants.{Send, Tells}
@@ -45,11 +47,15 @@ is_silent (Idle since wait) now = false
 is_silent (Connecting node) now = false
 is_silent (Open session) now = is_over session.heard 300_000 now
 
--- the end of a session, or that none was given, is told to an operator
-abbrev pub ending : Stage → Ending → List Order
-ending (Idle since wait) why = []
-ending (Connecting node) why = Tells (Unopened node why) ∷ []
-ending (Open session) why = Tells (Closed session.node why) ∷ []
+-- what an operator is told of a connection that stood: the end of its session, or that none was given
+abbrev pub end_of : Bool → ℕ → Ending → News
+end_of was_given node why = if was_given then Closed node why else Unopened node why
+
+-- what an operator is told of a connection that is gone; it had a session where its node has to be told
+abbrev pub ending : Stage → Bool → Ending → List Order
+ending (Idle since wait) lost why = []
+ending (Connecting node) lost why = Tells (Unopened node why) ∷ []
+ending (Open session) lost why = Tells (end_of lost session.node why) ∷ []
 
 -- how long is waited behind a connection that is gone: the first wait again behind a session of a minute
 abbrev pub wait_behind : Stage → Backoff → ℕ → ℕ
@@ -62,6 +68,12 @@ abbrev pub idle_behind : Stage → Backoff → ℕ → Stage
 idle_behind (Idle since wait) backoff now = Idle since wait
 idle_behind (Connecting node) backoff now = Idle (at now) backoff.next
 idle_behind (Open session) backoff now = Idle (at now) (wait_behind (Open session) backoff now)
+
+-- how long is waited behind the next one that is gone: twice as long as behind this one, up to a limit
+abbrev pub backoff_behind : Stage → Backoff → ℕ → Backoff
+backoff_behind (Idle since wait) backoff now = backoff
+backoff_behind (Connecting node) backoff now = record backoff { next = doubled backoff.most backoff.next }
+backoff_behind (Open session) backoff now = record backoff { next = doubled backoff.most (wait_behind (Open session) backoff now) }
 
 -- there is a session
 abbrev pub is_open : Stage → Bool

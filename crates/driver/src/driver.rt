@@ -1,6 +1,6 @@
 //! The driver: what happened is told to it, and it gives orders.
 ghost use Rattle.std.specs.Prelude.{◌≡◌, [], IfOk, IfSome, None, OnErr, OnOk, Some};
-ghost use Rattle.driver.specs.Links.{last_number, next_number, status_at};
+ghost use Rattle.driver.specs.Links.{Sends, last_number, next_number, status_at};
 ghost use Rattle.driver.specs.Rosters.{AreOthersSame, ArrivesIf, IsLost, Receives, Serves, client_at};
 
 mod hearing;
@@ -147,7 +147,11 @@ impl Driver {
     }
 
     /// A line was handed out by a node, for its session.
-    pub fn hand(&mut self, node: NodeId, line: &Line) -> Result<(), AllocError> {
+    pub fn hand(&mut self, node: NodeId, line: &Line) -> Result<(), AllocError>
+        ensures sent { OnOk result (Sends self.old.link.stage node line.now self.old.orders.items
+            self.new.orders.items) }
+        ensures rest { self.new ≡ record self.old { orders = self.new.orders } }
+    {
         self.link.send(node, line, &mut self.orders)
     }
 }

@@ -4,19 +4,20 @@ ghost use Rattle.std.specs.Option.{is_some, option_to_list};
 ghost use Rattle.uplink.specs.declared.input.UplinkInput.{UplinkInput};
 ghost use Rattle.uplink.specs.Calls.{Ended, GoesOn};
 ghost use Rattle.driver.specs.Links.{Connects, HasBegun, HasReceived, IsLost, Receives, Sends};
-ghost use Rattle.driver.specs.Links.{ending, idle_behind, is_session_of, is_silent, may_connect, node_of};
-ghost use Rattle.driver.specs.Links.{note_of, notes_of, send_some};
+ghost use Rattle.driver.specs.Links.{backoff_behind, ending, idle_behind, is_session_of, is_silent, may_connect, node_of};
+ghost use Rattle.driver.specs.Links.{notes_of, send_some};
 
+mod notes;
+
+use crate::link::notes::notes_of;
 use crate::news::{Ending, News};
 use crate::order::{Now, Order, TowerNote};
 use crate::settings::Settings;
-use buffer_commands::WireLine;
 use irc_line::Line;
-use node_notes::Note;
 use pacing::{Backoff, Timer};
 use raft_log::NodeId;
 use std::alloc::{AllocError, Global};
-use uplink::{Passed, Uplink, UplinkInput};
+use uplink::{Passed, Uplink};
 
 /// The first and the longest wait before the server is tried again, in milliseconds.
 const FIRST_WAIT: u32 = 1000;
@@ -88,6 +89,7 @@ impl Link {
             ++ (if may_connect self.old.stage now.now.ms then Order.Connect ∷ [] else [])) }
         ensures stage { OnOk result (self.new.stage ≡ (if may_connect self.old.stage now.now.ms
             then Stage.Connecting node else self.old.stage)) }
+        ensures rest { self.new ≡ record self.old { stage = self.new.stage } }
     {
         match &self.stage {
             Stage::Idle(since, wait) => {
@@ -109,8 +111,9 @@ impl Link {
         settings: &Settings,
         orders: &mut Vec<Order>,
     ) -> Result<(), AllocError>
-        ensures { OnOk result (Connects self.old.stage settings.now now.now.ms
+        ensures stands { OnOk result (Connects self.old.stage settings.now now.now.ms
             orders.old.items self.new.stage orders.new.items) }
+        ensures rest { self.new ≡ record self.old { stage = self.new.stage } }
     {
         if let Stage::Connecting(node) = &self.stage {
             let session = begin(self.alloc, *node, now, settings, orders)?;
@@ -126,8 +129,9 @@ impl Link {
         bytes: &[u8],
         orders: &mut Vec<Order>,
     ) -> Result<Vec<TowerNote>, AllocError>
-        ensures { IfOk result (λ notes. Receives self.old.stage now.now.ms now.now.at bytes.now
-            orders.old.items self.new.stage notes.items orders.new.items) }
+        ensures received { IfOk result (λ notes. Receives self.old.stage now.now.ms now.now.at
+            bytes.now orders.old.items self.new.stage notes.items orders.new.items) }
+        ensures rest { self.new ≡ record self.old { stage = self.new.stage } }
     {
         match &mut self.stage {
             Stage::Open(session) => {
@@ -145,11 +149,13 @@ impl Link {
         why: Ending,
         orders: &mut Vec<Order>,
     ) -> Result<bool, AllocError>
-        ensures told { OnOk result
-            (orders.new.items ≡ orders.old.items ++ ending self.old.stage why) }
+        ensures told { IfOk result (λ lost.
+            orders.new.items ≡ orders.old.items ++ ending self.old.stage lost why) }
         ensures stage { OnOk result
             (self.new.stage ≡ idle_behind self.old.stage self.old.backoff now.now.ms) }
         ensures lost { IfOk result (λ lost. IsLost self.old.stage lost) }
+        ensures backoff { OnOk result
+            (self.new.backoff ≡ backoff_behind self.old.stage self.old.backoff now.now.ms) }
     {
         let lost = match &mut self.stage {
             Stage::Idle(_, _) => return Ok(false),
@@ -161,8 +167,9 @@ impl Link {
                 if session.since.has_passed(GOOD_SESSION, now.ms) {
                     self.backoff.reset();
                 }
-                orders.push(Order::Tells(News::Closed(session.node, why)))?;
-                end(&mut session.uplink)
+                let lost = end(&mut session.uplink);
+                orders.push(Order::Tells(News::of_end(lost, session.node, why)))?;
+                lost
             }
         };
         self.stage = Stage::Idle(Timer::from(now.ms), self.backoff.fail());
@@ -261,36 +268,4 @@ fn end(uplink: &mut Uplink) -> bool
         (option_to_list given) [] × (result ≡ is_some given) }
 {
     uplink.end().is_some()
-}
-
-/// What an uplink gave, as notes to its node.
-#[tactic(auto, unfolding(crate::specs::Links::notes_of))]
-fn notes_of(
-    alloc: Global,
-    now: &Now,
-    inputs: Vec<UplinkInput>,
-) -> Result<Vec<TowerNote>, AllocError>
-    ensures { IfOk result (λ notes. notes.items ≡ notes_of now.now.at inputs.items) }
-{
-    let mut notes = Vec::new(alloc);
-    for input in inputs {
-        if let Some(note) = note_of(now, input) {
-            notes.push(note)?;
-        }
-    }
-    Ok(notes)
-}
-
-/// What an uplink gave, as a note to its node; a line that has no spelling is none.
-fn note_of(now: &Now, input: UplinkInput) -> Option<TowerNote>
-    ensures { option_to_list result ≡ note_of now.now.at input }
-{
-    match input {
-        UplinkInput::Opened => Some(Note::Opened),
-        UplinkInput::Heard(line) => {
-            let line = WireLine::from_line(line)?;
-            Some(Note::Heard(now.at, line))
-        }
-        UplinkInput::Closed => Some(Note::Closed),
-    }
 }

@@ -1,13 +1,22 @@
 //! What an operator is told.
+ghost use Rattle.std.specs.Prelude.{◌≡◌};
+ghost use Rattle.driver.specs.Links.{end_of};
+
 use raft_log::NodeId;
 use raft_node::Cause;
 use std::fmt;
 use wire_bytes::{Number, Origin};
 
-/// Why a connection to the server ended.
+/// Why a connection to the server ended, or was not made.
 #[derive(Clone, Copy)]
 pub enum Ending {
-    /// It is gone, or could not be made.
+    /// Nobody takes connections at the server's address.
+    Refused,
+    /// There is no way to the server's machine.
+    Unreachable,
+    /// The server closed it.
+    ByServer,
+    /// It broke, or could not be made, for another reason.
     Lost,
     /// The server was silent for too long.
     Silent,
@@ -18,6 +27,9 @@ pub enum Ending {
 impl fmt::Display for Ending {
     fn fmt<W: fmt::Write>(&self, f: &mut fmt::Formatter<W>) -> fmt::Result {
         f.write_str(match self {
+            Ending::Refused => "the connection was refused",
+            Ending::Unreachable => "there is no way to the server",
+            Ending::ByServer => "the server closed the connection",
             Ending::Lost => "no connection",
             Ending::Silent => "the server is silent",
             Ending::LedNoMore => "the node leads no more",
@@ -47,6 +59,17 @@ pub enum News {
 }
 
 impl News {
+    /// What an operator is told of a connection that stood: the end of its session, or that none was given.
+    pub fn of_end(was_given: bool, node: NodeId, why: Ending) -> News
+        ensures { result ≡ end_of was_given node why }
+    {
+        if was_given {
+            News::Closed(node, why)
+        } else {
+            News::Unopened(node, why)
+        }
+    }
+
     /// The node that it is of.
     pub fn node(&self) -> u8 {
         match self {

@@ -1,5 +1,6 @@
 //! What a driver orders, by stories.
 use crate::telling::{applied, at, begun, check, claiming, report, run, standing};
+use driver::Ending;
 use raft_log::{NodeId, Role};
 use std::test::Fail;
 
@@ -123,12 +124,12 @@ fn the_server_opens_a_session_with_its_welcome(rt: HostRuntime) -> Result<(), Fa
         &mut driver,
         "send PONG t\r\nnews@1 [upstream opened] opened@1 heard@1 ",
     )?;
-    driver.close(&at(10))?;
+    driver.close(&at(10), Ending::ByServer)?;
     check(
         &rt,
         alloc,
         &mut driver,
-        "news@1 [upstream closed: no connection] closed@1 ",
+        "news@1 [upstream closed: the server closed the connection] closed@1 ",
     )?;
     driver.tick(&at(1009))?;
     check(&rt, alloc, &mut driver, "beat@1 ")?;

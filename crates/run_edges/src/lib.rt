@@ -25,7 +25,7 @@ pub use journal_files::journals;
 pub use listening::listen_all;
 pub use past::Past;
 pub use reading::{Unread, read, read_config};
-pub use record_file::{TowerRecord, write_record};
+pub use record_file::{TowerRecord, try_record, write_record};
 pub use run_fault::RunFault;
 pub use system::System;
 pub use telling::Telling;

@@ -1,6 +1,7 @@
 //! The record of a run, written to its file.
 ghost use Rattle.std.specs.Prelude.{◌≡◌, IfErr, IsOk, None};
-ghost use Rattle.run_edges.specs.Faults.{IsOrMemory};
+ghost use Rattle.std.specs.IoError.{error_kind};
+ghost use Rattle.run_edges.specs.Faults.{IsFaultOfError, IsOrMemory};
 
 use crate::run_fault::RunFault;
 use crate::system::System;
@@ -13,7 +14,8 @@ use node_cells::NodeRecord;
 use raft_log::GroupSize;
 use run_records::{TextFault, run_text};
 use setup_spelling::WireSetup;
-use std::fs;
+use std::fs::{self, OpenOptions};
+use std::io;
 
 /// What a node of a bouncer did.
 pub type TowerRecord = NodeRecord<TowerBody, WireLine, Name, TowerEffect, Shown>;
@@ -33,6 +35,23 @@ pub fn write_record<R: System>(
     match record {
         Some(path) => write_to(rt, path.as_str(), setup, size, records),
         None => Ok(()),
+    }
+}
+
+/// The file that the configuration names for the record, if it names one, is made where it is not there, and
+/// stays as it is where it is: so what could never be written is told at the start. Where that can't be, a
+/// line was written to standard error that says why.
+pub fn try_record<R: System>(rt: &R, config: &Config) -> Result<(), RunFault>
+    ensures unnamed { config.now.record ≡ None → IsOk result }
+    ensures fault { IfErr result (IsOrMemory RunFault.Write) }
+{
+    let Some(path) = &config.record else {
+        return Ok(());
+    };
+    let path = path.as_str();
+    match OpenOptions::new().append(true).create(true).open(rt, path) {
+        Ok(_) => Ok(()),
+        Err(error) => Err(unwritten(rt, path, &error)),
     }
 }
 
@@ -60,9 +79,15 @@ fn write_to<R: System>(
     };
     match fs::write(rt, path, text.as_slice()) {
         Ok(()) => Ok(()),
-        Err(error) => {
-            let _ = eprintln!(rt; "{path}: {error}");
-            Err(RunFault::of_error(&error, RunFault::Write))
-        }
+        Err(error) => Err(unwritten(rt, path, &error)),
     }
+}
+
+/// A file can't be written, which is said on standard error.
+fn unwritten<R: System>(rt: &R, path: &str, error: &io::Error) -> RunFault
+    ensures kind { IsFaultOfError (error_kind error.now) RunFault.Write result }
+    ensures either { IsOrMemory RunFault.Write result }
+{
+    let _ = eprintln!(rt; "{path}: {error}");
+    RunFault::of_error(error, RunFault::Write)
 }

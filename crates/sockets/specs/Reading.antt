@@ -7,5 +7,5 @@ use Rattle.sockets.specs.declared.connection.Got.TheVariants.{Bytes, Nothing, En
 abbrev pub is_later : Got → Bool
 is_later (Bytes count) = false
 is_later Nothing = false
-is_later End = false
+is_later (End why) = false
 is_later Later = true

@@ -2,6 +2,7 @@
 ghost use Rattle.std.specs.Prelude.{◌≡◌, false};
 ghost use Rattle.sockets.specs.Reading.{is_later};
 
+use driver::Ending;
 use mio::net::TcpStream;
 use std::alloc::{AllocError, Global};
 use std::io::{ErrorKind, Read, Write};
@@ -18,8 +19,8 @@ pub enum Got {
     Bytes(usize),
     /// Nothing yet.
     Nothing,
-    /// The connection is gone.
-    End,
+    /// The connection is gone, and why.
+    End(Ending),
     /// It was not read: the notes that it would bring have to wait.
     Later,
 }
@@ -53,11 +54,11 @@ impl Connection {
         ensures { is_later result ≡ false }
     {
         match self.stream.read(buffer) {
-            Ok(0) => Got::End,
+            Ok(0) => Got::End(Ending::ByServer),
             Ok(count) => Got::Bytes(count),
             Err(error) => match error.kind() {
                 ErrorKind::WouldBlock | ErrorKind::Interrupted => Got::Nothing,
-                _ => Got::End,
+                kind => Got::End(ending_of(kind)),
             },
         }
     }
@@ -116,5 +117,15 @@ impl Connection {
     /// Whether it is to be closed, and all is written.
     pub fn is_over(&self) -> bool {
         self.is_ending && self.unsent.is_empty()
+    }
+}
+
+/// Why a connection is gone, or was not made, of which the system tells this.
+pub fn ending_of(kind: ErrorKind) -> Ending {
+    match kind {
+        ErrorKind::ConnectionRefused => Ending::Refused,
+        ErrorKind::HostUnreachable | ErrorKind::NetworkUnreachable => Ending::Unreachable,
+        ErrorKind::ConnectionReset => Ending::ByServer,
+        _ => Ending::Lost,
     }
 }

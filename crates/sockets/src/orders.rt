@@ -1,7 +1,8 @@
 //! What the driver orders at the sockets.
+use crate::connection::ending_of;
 use crate::event_loop::LoopFault;
 use crate::sockets::Sockets;
-use driver::{Driver, Now, Order};
+use driver::{Driver, Ending, Now, Order};
 use std::net::Net;
 
 /// What the server is told at the end.
@@ -22,12 +23,10 @@ impl Sockets {
                 self.close(number);
                 Ok(())
             }
-            Order::Connect => {
-                if self.connect(net).is_err() {
-                    self.drop_server(now, driver)?;
-                }
-                Ok(())
-            }
+            Order::Connect => match self.connect(net) {
+                Ok(()) => Ok(()),
+                Err(error) => self.drop_server(now, driver, ending_of(error.kind())),
+            },
             Order::Send(bytes) => self.send(now, driver, bytes.as_slice()),
             Order::Disconnect => {
                 self.server = None;
@@ -73,7 +72,7 @@ impl Sockets {
         if connection.write(bytes)? {
             return Ok(());
         }
-        self.drop_server(now, driver)
+        self.drop_server(now, driver, Ending::Lost)
     }
 
     /// The bouncer ends: the server is told, as far as it takes that at once.

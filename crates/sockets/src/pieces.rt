@@ -6,7 +6,7 @@ ghost use Rattle.sockets.specs.Reading.{is_later};
 
 use crate::connection::Got;
 use crate::sockets::Sockets;
-use driver::Driver;
+use driver::{Driver, Ending};
 
 impl Sockets {
     /// The next piece of what a client sent. It is read where the driver reads the client, and nowhere else.
@@ -21,7 +21,7 @@ impl Sockets {
         }
         match self.clients.get_mut(&number) {
             Some(connection) => connection.read(piece),
-            None => Got::End,
+            None => Got::End(Ending::Lost),
         }
     }
 
@@ -37,7 +37,7 @@ impl Sockets {
         }
         match &mut self.server {
             Some(connection) => connection.read(piece),
-            None => Got::End,
+            None => Got::End(Ending::Lost),
         }
     }
 }

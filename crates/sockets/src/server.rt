@@ -2,7 +2,7 @@
 use crate::connection::Got;
 use crate::event_loop::LoopFault;
 use crate::sockets::{CLIENTS, MOST_CLIENTS, SERVER, Sockets};
-use driver::{Driver, Now};
+use driver::{Driver, Ending, Now};
 use mio::{Events, Interest, Token};
 use raft_log::NodeId;
 
@@ -112,7 +112,7 @@ impl Sockets {
                     }
                 }
                 Got::Nothing => return Ok(true),
-                Got::End => return Ok(false),
+                Got::End(_) => return Ok(false),
                 Got::Later => {
                     self.put_off(number)?;
                     return Ok(true);
@@ -156,15 +156,21 @@ impl Sockets {
             driver.connected(now)?;
         }
         let flushed = connection.flush();
-        let stands = self.read_server(now, driver)?;
-        if stands && (flushed || self.is_server_put_off()) {
+        if let Some(why) = self.read_server(now, driver)? {
+            return self.drop_server(now, driver, why);
+        }
+        if flushed || self.is_server_put_off() {
             return Ok(());
         }
-        self.drop_server(now, driver)
+        self.drop_server(now, driver, Ending::Lost)
     }
 
-    /// Reads what the server sent, as far as it is to be read. Whether its connection still stands.
-    fn read_server(&mut self, now: &Now, driver: &mut Driver) -> Result<bool, LoopFault> {
+    /// Reads what the server sent, as far as it is to be read. Why its connection stands no more, if so.
+    fn read_server(
+        &mut self,
+        now: &Now,
+        driver: &mut Driver,
+    ) -> Result<Option<Ending>, LoopFault> {
         let mut piece = [0u8; PIECE];
         for _ in 0..PIECES {
             match self.next_of_server(driver, &mut piece) {
@@ -173,15 +179,18 @@ impl Sockets {
                         driver.receive_line(now, bytes)?;
                     }
                 }
-                Got::Nothing => return Ok(true),
-                Got::End => return Ok(false),
+                Got::Nothing => return Ok(None),
+                Got::End(why) => return Ok(Some(why)),
                 Got::Later => {
                     self.put_off_server();
-                    return Ok(true);
+                    return Ok(None);
                 }
             }
         }
-        Ok(self.watch_server())
+        if self.watch_server() {
+            return Ok(None);
+        }
+        Ok(Some(Ending::Lost))
     }
 
     /// More may wait at the server's connection than was read, so that it is told of again. Whether it is.
@@ -197,9 +206,14 @@ impl Sockets {
     }
 
     /// The server's connection is gone.
-    pub fn drop_server(&mut self, now: &Now, driver: &mut Driver) -> Result<(), LoopFault> {
+    pub fn drop_server(
+        &mut self,
+        now: &Now,
+        driver: &mut Driver,
+        why: Ending,
+    ) -> Result<(), LoopFault> {
         self.server = None;
-        driver.close(now)?;
+        driver.close(now, why)?;
         Ok(())
     }
 }

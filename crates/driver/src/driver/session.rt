@@ -4,7 +4,8 @@ ghost use Rattle.driver.specs.declared.news.Ending.TheVariants.{LedNoMore, Silen
 ghost use Rattle.driver.specs.Desks.{counted, told};
 ghost use Rattle.driver.specs.Driving.{Connects, Ends, Leaves, LeavesIf, changed_at, orders_at};
 ghost use Rattle.driver.specs.Leading.{is_older, is_that};
-ghost use Rattle.driver.specs.Links.{is_silent, node_of};
+ghost use Rattle.driver.specs.Links.{Connects as IsConnected, is_silent, node_of};
+ghost use Rattle.driver.specs.Sessions.{TakesIf, TellsAllOf, TellsOf};
 
 use crate::driver::Driver;
 use crate::news::{Ending, News};
@@ -15,28 +16,54 @@ use std::alloc::AllocError;
 
 impl Driver {
     /// The server is connected to.
-    pub fn connected(&mut self, now: &Now) -> Result<(), AllocError> {
+    pub fn connected(&mut self, now: &Now) -> Result<(), AllocError>
+        ensures stands { OnOk result (IsConnected self.old.link.stage self.old.settings now.now.ms
+            self.old.orders.items self.new.link.stage self.new.orders.items) }
+        ensures link { self.new.link ≡ record self.old.link { stage = self.new.link.stage } }
+        ensures rest { self.new ≡ record self.old
+            { link = self.new.link; orders = self.new.orders } }
+    {
         self.link.connected(now, &self.settings, &mut self.orders)
     }
 
     /// Bytes came from the server, however they are cut.
-    pub fn receive_line(&mut self, now: &Now, bytes: &[u8]) -> Result<(), AllocError> {
+    pub fn receive_line(&mut self, now: &Now, bytes: &[u8]) -> Result<(), AllocError>
+        ensures { OnOk result (TakesIf (node_of self.old.link.stage) now.now.ms now.now.at bytes.now
+            self.old self.new) }
+    {
         let Some(node) = self.link.node() else {
             return Ok(());
         };
         let notes = self.link.receive(now, bytes, &mut self.orders)?;
+        self.tell_all(node, notes)?;
+        Ok(())
+    }
+
+    /// The node of a session is told what came, in turn.
+    fn tell_all(&mut self, node: NodeId, notes: Vec<TowerNote>) -> Result<(), AllocError>
+        ensures { OnOk result (TellsAllOf node notes.items self.old self.new) }
+    {
         for note in notes {
-            if let Note::Opened = &note {
-                self.orders.push(Order::Tells(News::Opened(node)))?;
-            }
-            self.tell(node, note)?;
+            self.tell_of(node, note)?;
         }
         Ok(())
     }
 
+    /// The node of a session is told what came, and an operator where it is that the session opened.
+    fn tell_of(&mut self, node: NodeId, note: TowerNote) -> Result<(), AllocError>
+        ensures { OnOk result (TellsOf node note self.old self.new) }
+    {
+        if let Note::Opened = &note {
+            self.orders.push(Order::Tells(News::Opened(node)))?;
+        }
+        self.tell(node, note)
+    }
+
     /// The connection to the server is gone, or could not be made.
-    pub fn close(&mut self, now: &Now) -> Result<(), AllocError> {
-        self.end_session(now, Ending::Lost)
+    pub fn close(&mut self, now: &Now, why: Ending) -> Result<(), AllocError>
+        ensures { OnOk result (Ends now.now.ms why self.old self.new) }
+    {
+        self.end_session(now, why)
     }
 
     /// A node is told this.

@@ -1,7 +1,7 @@
 use Rattle.std.proofs.Common.{◌≡◌, ◌++◌}
 use Rattle.std.specs.Vec.Iter.{into_iter_items}
 use Rattle.driver.specs.Links.{notes_of}
-use Rattle.driver.proofs.link.notes_of.Given as goal
+use Rattle.driver.proofs.link.notes.notes_of.Given as goal
 
 -- the notes so far, and those of what is left, are all
 abbrev pub invariant-loop-input : goal.invariant-loop-input

@@ -1,0 +1,45 @@
+-- What comes of the connection to the server, at the driver.
+use Rattle.std.specs.Prelude.{◌≡◌, ◌++◌, ℕ, List, [], ◌∷◌, Option, Some, None}
+use Rattle.wire_bytes.specs.declared.moment.Moment.{Moment}
+use Rattle.buffer_commands.specs.declared.wire_line.WireLine.{WireLine}
+use Rattle.bouncer_tower.specs.Bodies.{TowerBody}
+use Rattle.node_notes.specs.declared.note.Note.{Note}
+use Rattle.node_notes.specs.declared.note.Note.TheVariants as note
+use Rattle.driver.specs.declared.driver.Driver.{Driver}
+use Rattle.driver.specs.declared.news.News.TheVariants.{Opened}
+use Rattle.driver.specs.declared.order.Order.{Order}
+use Rattle.driver.specs.declared.order.Order.TheVariants.{Tells}
+use Rattle.driver.specs.Desks.{counted, told}
+use Rattle.driver.specs.Driving.{changed_at, orders_at}
+use Rattle.driver.specs.Links.{Receives}
+
+-- an operator is told that the server gave a session, where a note says so
+abbrev pub opened_of : ℕ → Note TowerBody WireLine → List Order
+opened_of node note.Opened = Tells (Opened node) ∷ []
+opened_of node other = []
+
+-- The node of a session is told what came, and an operator where it is that the session opened.
+pub record TellsOf (node : ℕ) (came : Note TowerBody WireLine) (old new : Driver) : Type 0 where
+  pub desks : new.desks ≡ changed_at counted old.desks node
+  pub orders :
+      new.orders.items
+      ≡ (old.orders.items ++ opened_of node came) ++ orders_at (λ desk. told desk.id (Some came)) old.desks node
+  pub rest : new ≡ record old { desks = new.desks; orders = new.orders }
+
+-- It is told all that came, in turn.
+unfoldable pub TellsAllOf : ℕ → List (Note TowerBody WireLine) → Driver → Driver → Type 0
+TellsAllOf node [] old new = new ≡ old
+TellsAllOf node (came ∷ more) old new = (behind : Driver) × TellsOf node came old behind × TellsAllOf node more behind new
+
+-- Bytes came from the server: its session takes them, and the session's node is told what they bring.
+pub record Takes (now : ℕ) (moment : Moment) (bytes : List ℕ) (node : ℕ) (old new : Driver) : Type 0 where
+  pub taken : Driver
+  pub notes : List (Note TowerBody WireLine)
+  pub receives : Receives old.link.stage now moment bytes old.orders.items taken.link.stage notes taken.orders.items
+  pub rest : taken ≡ record old { link = record old.link { stage = taken.link.stage }; orders = taken.orders }
+  pub tells : TellsAllOf node notes taken new
+
+-- and they are dropped where there is no connection
+abbrev pub TakesIf : Option ℕ → ℕ → Moment → List ℕ → Driver → Driver → Type 0
+TakesIf None now moment bytes old new = new ≡ old
+TakesIf (Some node) now moment bytes old new = Takes now moment bytes node old new
