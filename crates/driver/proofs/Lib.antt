@@ -1,3 +1,4 @@
 mod Driving
 mod Leading
+mod Sessions
 mod Ticking

@@ -166,11 +166,7 @@ impl Sockets {
     }
 
     /// Reads what the server sent, as far as it is to be read. Why its connection stands no more, if so.
-    fn read_server(
-        &mut self,
-        now: &Now,
-        driver: &mut Driver,
-    ) -> Result<Option<Ending>, LoopFault> {
+    fn read_server(&mut self, now: &Now, driver: &mut Driver) -> Result<Option<Ending>, LoopFault> {
         let mut piece = [0u8; PIECE];
         for _ in 0..PIECES {
             match self.next_of_server(driver, &mut piece) {
