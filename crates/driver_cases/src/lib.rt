@@ -7,4 +7,6 @@ mod node_stories;
 #[cfg(test)]
 mod stories;
 #[cfg(test)]
+mod story;
+#[cfg(test)]
 mod telling;

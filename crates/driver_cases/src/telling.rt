@@ -1,10 +1,9 @@
-//! What happens, told by hand, and orders as text.
+//! Drivers, how nodes stand, and orders as text.
 use driver::{Driver, News, Now, Order, Settings, TowerReport};
 use irc_line::Name;
 use node_notes::{Note, Report, Status};
 use raft_log::{NodeId, Role};
 use std::alloc::Global;
-use std::process::Abort;
 use std::test::Fail;
 use wire_bytes::{Moment, Number, SessionId};
 
@@ -104,17 +103,6 @@ pub fn answer(alloc: Global, node: NodeId, status: Status) -> TowerReport {
     }
 }
 
-/// The driver runs from this moment on, for so many half seconds: it ticks behind each of them, and what it
-/// orders is not looked at.
-pub fn run(alloc: Global, driver: &mut Driver, from: u64, halves: u8) -> Result<(), Fail> {
-    for half in 0..halves {
-        let passed = 500 * (half as u64 + 1);
-        driver.tick(&at(from.saturating_add(passed)))?;
-    }
-    told(alloc, driver)?;
-    Ok(())
-}
-
 /// The orders given since last, each as a word, with a blank behind it.
 pub fn told(alloc: Global, driver: &mut Driver) -> Result<Vec<u8>, Fail> {
     let mut out = Vec::new(alloc);
@@ -165,23 +153,4 @@ fn word_of<B: wire_bytes::Wire, L>(note: &Note<B, L>) -> &'static str {
         Note::Restart => "restart",
         Note::End => "end",
     }
-}
-
-/// The orders given since last are these, as text.
-pub fn check(
-    rt: &impl Abort,
-    alloc: Global,
-    driver: &mut Driver,
-    wanted: &str,
-) -> Result<(), Fail> {
-    let orders = told(alloc, driver)?;
-    assert_eq!(rt; orders.as_slice(), wanted.as_bytes());
-    Ok(())
-}
-
-/// A driver that heard at 0 ms that this node runs, and stands in this role.
-pub fn begun(alloc: Global, node: NodeId, role: Role) -> Result<Driver, Fail> {
-    let mut driver = new_driver(alloc)?;
-    driver.hear(&at(0), report(alloc, node, standing(role, 0), false))?;
-    Ok(driver)
 }
