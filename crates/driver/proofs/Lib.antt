@@ -1,4 +1,5 @@
 mod Driving
 mod Leading
+mod Rounds
 mod Sessions
 mod Ticking

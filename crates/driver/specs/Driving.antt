@@ -1,5 +1,5 @@
 -- What comes of what is heard of a node, and of time.
-use Rattle.std.specs.Prelude.{◌≡◌, ◌++◌, ℕ, zero, suc, ◌+◌, ◌-◌, Bool, true, false, if◌then◌else◌, List, [], ◌∷◌, Option, Some, None, map, slice_get, slice_set}
+use Rattle.std.specs.Prelude.{◌≡◌, ◌++◌, ℕ, zero, suc, ◌+◌, ◌-◌, Bool, true, false, not, ◌&&◌, if◌then◌else◌, List, [], ◌∷◌, Option, Some, None, map, slice_get, slice_set}
 use Rattle.node_notes.specs.declared.note.Note.TheVariants as note
 use Rattle.node_notes.specs.declared.status.Status.{Status}
 use Rattle.driver.specs.declared.desk.Desk.{Desk}
@@ -12,10 +12,11 @@ use Rattle.driver.specs.declared.order.Order.TheVariants.{Connect, Disconnect}
 use Rattle.driver.specs.declared.settings.Settings.{Settings}
 use Rattle.driver.specs.declared.link.Stage.TheVariants.{Connecting}
 use Rattle.driver.specs.Desks.{claim_at, claim_due, counted, desk_behind, desk_claimed, note_at, told}
-use Rattle.driver.specs.Gone.{restart_at, restart_behind}
+use Rattle.driver.specs.Gone.{heard_in, restart_at, restart_behind}
 use Rattle.driver.specs.Hearing.{answered_by, heard_behind, is_new_run}
 use Rattle.driver.specs.Leading.{IsLeader, is_older, is_that}
 use Rattle.driver.specs.Links.{IsLost, backoff_behind, ending, idle_behind, is_silent, may_connect, node_of}
+use Rattle.driver.specs.Rounds.{GoesRound, Round, begun_all, round}
 use Rattle.driver.specs.Waking.{awake}
 use Rattle.pacing.specs.Pacing.{may_go}
 
@@ -137,9 +138,9 @@ TickNodes zero now node old new = new ≡ old
 TickNodes (suc count) now node old new =
     (behind : Driver) × TicksNode now node old behind × TickNodes count now (node + 1) behind new
 
--- what was ordered stays, and more may be ordered behind it
-abbrev pub GoesOn : List Order → List Order → Type 0
-GoesOn before after = (more : List Order) × (after ≡ before ++ more)
+-- the word that goes round of all nodes, their desks and the orders, as a driver has them
+abbrev pub round_of : Driver → Round
+round_of driver = round driver.notices.all driver.desks driver.orders.items
 
 -- What time brings. The driver is awake, and the connection to a server that is silent is left; then comes what clients are told,
 -- and then each node ticks; what comes last is word of earlier runs.
@@ -150,7 +151,7 @@ pub record Ticks (now : ℕ) (old new : Driver) : Type 0 where
   pub clients : served ≡ record left { clients = served.clients; orders = served.orders }
   pub asked : Driver
   pub nodes : TickNodes 7 now 1 served asked
-  pub orders : GoesOn asked.orders.items new.orders.items
+  pub word : GoesRound asked.settings now (round_of asked) (round_of new)
   pub rest : new ≡ record asked { desks = new.desks; notices = new.notices; orders = new.orders }
 
 -- where a node that stands so heard of the leader of its term, each node is answered, which is one of these where it leads
@@ -171,12 +172,34 @@ abbrev pub begun_if : Bool → ℕ → List Desk → List Desk
 begun_if false node desks = desks
 begun_if true node desks = changed_at counted desks node
 
--- The driver was told how a node stands; whether the node heard of the leader of its term, and whether a note of it is done.
-pub record Hears (now node : ℕ) (status : Status) (led is_last answers : Bool) (old new : Driver) : Type 0 where
+-- how many notes of this node are done
+abbrev pub done_in : Option Desk → ℕ
+done_in None = 0
+done_in (Some desk) = desk.done
+
+abbrev pub done_at : List Desk → ℕ → ℕ
+done_at desks node = done_in (slice_get desks (node - 1))
+
+-- the word that goes round behind the start of a run with this boot at a desk
+abbrev pub word_begun_in : ℕ → ℕ → Option Desk → List (Option Notice) → List (Option Notice)
+word_begun_in now boot None all = all
+word_begun_in now boot (Some desk) all = begun_all all now boot desk
+
+abbrev pub word_begun_if : Bool → ℕ → ℕ → ℕ → List Desk → List (Option Notice) → List (Option Notice)
+word_begun_if false now node boot desks all = all
+word_begun_if true now node boot desks all = word_begun_in now boot (slice_get desks (node - 1)) all
+
+-- The driver was told how a node stands; whether the node heard of the leader of its term, and whether a note of it is done, and
+-- whether it was refused.
+pub record Hears (now node : ℕ) (status : Status) (led is_last refused : Bool) (old new : Driver) : Type 0 where
+  pub answered : List Desk
+  pub is_answered :
+      let stood = changed_at (λ desk. heard_behind desk now status led is_last) (awake now old).desks node in
+      answered ≡ answered_if (led && not refused) status stood
   pub begun : Driver
-  pub desks :
-      let before = (awake now old).desks in
-      let stood = changed_at (λ desk. heard_behind desk now status led is_last) before node in
-      begun.desks ≡ begun_if (is_new_at before node status) node (answered_if answers status stood)
+  pub desks : begun.desks ≡ begun_if (is_new_at (awake now old).desks node status) node answered
+  pub word :
+      let heard = map (heard_in node status (done_at answered node) refused) old.notices.all in
+      begun.notices.all ≡ word_begun_if (is_new_at (awake now old).desks node status) now node status.boot answered heard
   pub rest : begun ≡ record (awake now old) { desks = begun.desks; notices = begun.notices; clients = begun.clients; orders = begun.orders }
   pub ticks : TicksNode now node begun new

@@ -64,6 +64,25 @@ is_due notice wait now = is_lost notice.progress && is_over notice.asked wait no
 abbrev pub asked_of : Notice → ℕ → ℕ → ℕ → Option Status → Notice
 asked_of notice now via note status = record notice { asked = at now; via = via; progress = Told note (lead_in status) }
 
+-- word that is to be asked for now
+abbrev pub fresh : ℕ → ℕ → Notice
+fresh node floor = record { node = node; floor = floor; asked = at 0; via = node; progress = Lost }
+
+-- the notice behind an ask at this desk
+abbrev pub asked_at : Notice → ℕ → Desk → Notice
+asked_at notice now desk = asked_of notice now desk.id (counted desk).given desk.status
+
+-- word of which more was heard of this node, which says something of it where it was asked for there last
+abbrev pub heard_of : ℕ → Status → ℕ → Bool → Notice → Notice
+heard_of node status done refused notice =
+    if nat_eq notice.via node
+    then record notice { progress = progress_after notice.progress status done refused }
+    else notice
+
+abbrev pub heard_in : ℕ → Status → ℕ → Bool → Option Notice → Option Notice
+heard_in node status done refused None = None
+heard_in node status done refused (Some notice) = Some (heard_of node status done refused notice)
+
 -- the greater of two boots
 abbrev pub greatest : Option ℕ → ℕ → Option ℕ
 greatest None boot = Some boot

@@ -6,5 +6,6 @@ pub mod Hearing
 pub mod Leading
 pub mod Links
 pub mod Rosters
+pub mod Rounds
 pub mod Sessions
 pub mod Waking

@@ -1,8 +1,8 @@
 //! Word that earlier runs of a node are gone.
-ghost use Rattle.std.specs.Prelude.{◌≡◌, ◌++◌, ◌∷◌, [], OnOk, Some};
+ghost use Rattle.std.specs.Prelude.{◌≡◌, ◌++◌, ◌∷◌, [], OnOk, Some, nat_eq};
 ghost use Rattle.node_notes.specs.declared.note.Note.TheVariants.{Ask};
 ghost use Rattle.driver.specs.Desks.{counted, told};
-ghost use Rattle.driver.specs.Gone.{applied_floor, appended_by, asked_of, gone_body, is_due, lead_of, progress_after, standing_by};
+ghost use Rattle.driver.specs.Gone.{applied_floor, appended_by, asked_of, fresh, gone_body, is_due, lead_of, progress_after, standing_by};
 
 use crate::desk::Desk;
 use crate::order::{Now, Order};
@@ -49,9 +49,7 @@ pub struct Notice {
 impl Notice {
     /// Word that is to be asked for now.
     pub fn new(node: NodeId, floor: Number) -> Notice
-        ensures node { result.node ≡ node }
-        ensures floor { result.floor ≡ floor }
-        ensures progress { result.progress ≡ Progress.Lost }
+        ensures { result ≡ fresh node floor }
     {
         Notice {
             node,
@@ -80,7 +78,9 @@ impl Notice {
     }
 
     /// Whether it was asked last at this node.
-    pub fn is_via(&self, node: NodeId) -> bool {
+    pub fn is_via(&self, node: NodeId) -> bool
+        ensures { result ≡ nat_eq self.now.via node }
+    {
         self.via == node
     }
 

@@ -1,8 +1,10 @@
 //! Word of all nodes whose earlier runs are gone.
-ghost use Rattle.std.specs.Prelude.{◌≡◌, ◌++◌, OnOk};
+ghost use Rattle.std.specs.Prelude.{◌≡◌, ◌++◌, OnOk, map};
 ghost use Rattle.driver.specs.Desks.{counted, told};
-ghost use Rattle.driver.specs.Driving.{GoesOn, tick_orders, ticked};
-ghost use Rattle.driver.specs.Gone.{applied_floor, notice_at, restart_at, restart_behind};
+ghost use Rattle.driver.specs.Driving.{tick_orders, ticked};
+ghost use Rattle.driver.specs.Gone.{applied_floor, fresh, heard_in, is_news, notice_at, restart_at, restart_behind};
+ghost use Rattle.driver.specs.Rounds.{GoesRound, Spreads, SpreadsAll, round, word_told};
+ghost use Rattle.driver.specs.Rounds.{ask_orders, begun_all, buried, desk_asked, place_asked, word_due};
 
 use crate::desk::Desk;
 use crate::gone::Notice;
@@ -41,25 +43,24 @@ impl Notices {
         boot: Number,
         orders: &mut Vec<Order>,
     ) -> Result<(), AllocError>
+        ensures notices { OnOk result
+            (self.new.all ≡ begun_all self.old.all now.now.ms boot desk.old) }
         ensures desk { OnOk result (desk.new ≡ counted desk.old) }
+        ensures told { OnOk result (orders.new.items ≡ orders.old.items
+            ++ word_told (fresh desk.old.id boot) desk.old) }
     {
         let mut notice = Notice::new(desk.id(), boot);
         notice.ask(now, desk, orders)?;
-        if let Some(place) = self.all.get_mut(desk.id().value() as usize - 1) {
-            *place = Some(notice);
-        }
+        self.all[desk.id().value() as usize - 1] = Some(notice);
         Ok(())
     }
 
     /// A node stands so, and that many of its notes are done; whether a turn of it did nothing.
-    pub fn hear(&mut self, node: NodeId, status: &Status, done: u64, is_refused: bool) {
-        for place in self.all.iter_mut() {
-            if let Some(notice) = place {
-                if notice.is_via(node) {
-                    notice.hear(status, done, is_refused);
-                }
-            }
-        }
+    pub fn hear(&mut self, node: NodeId, status: &Status, done: u64, is_refused: bool)
+        ensures { self.new ≡ record self.old
+            { all = map (heard_in node status.now done is_refused) self.old.all } }
+    {
+        hear_each(self.all.as_mut_slice(), node, status, done, is_refused);
     }
 
     /// Time passed: what may be lost is asked for again, at the node that leads; so is word of a node
@@ -71,22 +72,55 @@ impl Notices {
         desks: &mut [Desk; MOST_NODES],
         orders: &mut Vec<Order>,
     ) -> Result<(), AllocError>
-        ensures { OnOk result (GoesOn orders.old.items orders.new.items) }
+        ensures { OnOk result (GoesRound settings.now now.now.ms
+            (round self.old.all desks.old orders.old.items)
+            (round self.new.all desks.new orders.new.items)) }
     {
         let Some(leader) = leader_of(desks) else {
             return Ok(());
         };
-        for index in 0..MOST_NODES {
-            self.bury(now, settings, desks, index);
-            let Some(Some(notice)) = self.all.get_mut(index) else {
-                continue;
-            };
-            if !notice.is_due(now, settings) {
-                continue;
-            }
-            let desk = &mut desks[leader.value() as usize - 1];
-            notice.ask(now, desk, orders)?;
+        self.spread_all(now, settings, leader, desks, orders)?;
+        Ok(())
+    }
+
+    /// Each node has its turn, while this one leads.
+    fn spread_all(
+        &mut self,
+        now: &Now,
+        settings: &Settings,
+        leader: NodeId,
+        desks: &mut [Desk; MOST_NODES],
+        orders: &mut Vec<Order>,
+    ) -> Result<(), AllocError>
+        ensures { OnOk result (SpreadsAll 7 settings.now now.now.ms leader 1
+            (round self.old.all desks.old orders.old.items)
+            (round self.new.all desks.new orders.new.items)) }
+    {
+        for id in 1..MOST_NODES as u8 + 1 {
+            self.spread(now, settings, leader, NodeId::new(id), desks, orders)?;
         }
+        Ok(())
+    }
+
+    /// A node's turn: where it answered nothing for ten timeouts, word goes round of its run; and word of
+    /// it that is due is asked for at the node that leads.
+    fn spread(
+        &mut self,
+        now: &Now,
+        settings: &Settings,
+        leader: NodeId,
+        node: NodeId,
+        desks: &mut [Desk; MOST_NODES],
+        orders: &mut Vec<Order>,
+    ) -> Result<(), AllocError>
+        ensures { OnOk result (Spreads settings.now now.now.ms leader node
+            (round self.old.all desks.old orders.old.items)
+            (round self.new.all desks.new orders.new.items)) }
+    {
+        let place = &mut self.all[node.value() as usize - 1];
+        bury(place, now, settings, &desks[node.value() as usize - 1]);
+        let desk = &mut desks[leader.value() as usize - 1];
+        ask_if_due(place, now, settings, desk, orders)?;
         Ok(())
     }
 
@@ -131,25 +165,75 @@ impl Notices {
             _ => None,
         }
     }
+}
 
-    /// Where a node answered nothing for ten timeouts, word goes round of its run.
-    fn bury(&mut self, now: &Now, settings: &Settings, desks: &[Desk; MOST_NODES], index: usize) {
-        let Some(desk) = desks.get(index) else {
-            return;
-        };
-        let Some(floor) = desk.dead_below(now, settings) else {
-            return;
-        };
-        if let Some(place) = self.all.get_mut(index) {
-            if is_news(place, floor) {
-                *place = Some(Notice::new(desk.id(), floor));
-            }
+/// More was heard of a node: each notice that went by it knows it.
+fn hear_each(
+    places: &mut [Option<Notice>],
+    node: NodeId,
+    status: &Status,
+    done: u64,
+    is_refused: bool,
+)
+    ensures { places.new ≡ map (heard_in node status.now done is_refused) places.old }
+{
+    for place in places.iter_mut() {
+        hear_at(place, node, status, done, is_refused);
+    }
+}
+
+/// A notice that went by this node knows what more was heard of it.
+fn hear_at(place: &mut Option<Notice>, node: NodeId, status: &Status, done: u64, is_refused: bool)
+    ensures { place.new ≡ heard_in node status.now done is_refused place.old }
+{
+    if let Some(notice) = place {
+        if notice.is_via(node) {
+            notice.hear(status, done, is_refused);
         }
     }
 }
 
+/// Where a node answered nothing for ten timeouts, word goes round of its run.
+fn bury(place: &mut Option<Notice>, now: &Now, settings: &Settings, desk: &Desk)
+    ensures { place.new ≡ buried settings.now now.now.ms desk.now place.old }
+{
+    let Some(floor) = desk.dead_below(now, settings) else {
+        return;
+    };
+    if is_news(place, floor) {
+        *place = Some(Notice::new(desk.id(), floor));
+    }
+}
+
+/// Word that is due is asked for at this desk.
+fn ask_if_due(
+    place: &mut Option<Notice>,
+    now: &Now,
+    settings: &Settings,
+    desk: &mut Desk,
+    orders: &mut Vec<Order>,
+) -> Result<(), AllocError>
+    ensures place { OnOk result (place.new ≡ place_asked
+        (word_due settings.now now.now.ms place.old) now.now.ms desk.old place.old) }
+    ensures desk { OnOk result (desk.new
+        ≡ desk_asked (word_due settings.now now.now.ms place.old) desk.old) }
+    ensures told { OnOk result (orders.new.items ≡ orders.old.items
+        ++ ask_orders (word_due settings.now now.now.ms place.old) desk.old) }
+{
+    let Some(notice) = place else {
+        return Ok(());
+    };
+    if !notice.is_due(now, settings) {
+        return Ok(());
+    }
+    notice.ask(now, desk, orders)?;
+    Ok(())
+}
+
 /// Whether this says more than what went round before.
-fn is_news(place: &Option<Notice>, floor: Number) -> bool {
+fn is_news(place: &Option<Notice>, floor: Number) -> bool
+    ensures { result ≡ is_news place.now floor }
+{
     match place {
         Some(notice) => notice.floor().value() < floor.value(),
         None => true,

@@ -1,6 +1,6 @@
 //! What a node's worker tells, and what comes of it.
-ghost use Rattle.std.specs.Prelude.{◌≡◌, ◌&&◌, is_none, map, IfOk, OnOk};
-ghost use Rattle.driver.specs.Driving.{Hears, answered_if, begun_if, changed_at, is_new_at};
+ghost use Rattle.std.specs.Prelude.{◌≡◌, ◌&&◌, is_some, map, IfOk, OnOk};
+ghost use Rattle.driver.specs.Driving.{Hears, answered_if, begun_if, changed_at, is_new_at, word_begun_if};
 ghost use Rattle.driver.specs.Hearing.{answered_by, heard_behind};
 
 use crate::desk::Desk;
@@ -17,7 +17,7 @@ impl Driver {
     /// A node's worker told something.
     pub fn hear(&mut self, now: &Now, report: TowerReport) -> Result<(), AllocError>
         ensures { OnOk result (Hears now.now.ms report.node report.status report.led report.is_last
-            (report.led && is_none report.fault) self.old self.new) }
+            (is_some report.fault) self.old self.new) }
     {
         let Report {
             node,
@@ -98,6 +98,8 @@ impl Driver {
         boot: Number,
     ) -> Result<(), AllocError>
         ensures desks { OnOk result (self.new.desks ≡ begun_if is_new node self.old.desks) }
+        ensures word { OnOk result (self.new.notices.all ≡ word_begun_if is_new now.now.ms node boot
+            self.old.desks self.old.notices.all) }
         ensures rest { self.new ≡ record self.old {
           desks = self.new.desks;
           notices = self.new.notices;

@@ -16,6 +16,6 @@ returns c =
       clients = refl;
       asked = c.tick_nodes.new.self;
       nodes = c.in_ok-tick_nodes.ensures;
-      orders = c.in_ok-tick-2.ensures;
+      word = c.in_ok-tick-2.ensures;
       rest = refl;
     }

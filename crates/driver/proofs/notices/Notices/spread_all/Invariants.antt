@@ -1,0 +1,10 @@
+use Rattle.std.proofs.Common.{◌-◌}
+use Rattle.driver.specs.Rounds.{Round, SpreadsAll, round}
+use Rattle.driver.proofs.notices.Notices.spread_all.Given as goal
+
+-- once the nodes from this one on have had their turns, all have
+abbrev pub invariant-loop-id : goal.invariant-loop-id
+invariant-loop-id l =
+    (new : Round)
+    → SpreadsAll (8 - l.id) l.settings l.now.ms l.leader l.id (round l.self.all l.desks l.orders.items) new
+    → SpreadsAll 7 l.settings l.now.ms l.leader 1 (round l.initial.self.all l.initial.desks l.initial.orders.items) new
