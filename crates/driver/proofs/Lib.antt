@@ -1,3 +1,4 @@
+mod Crowds
 mod Driving
 mod Leading
 mod Rounds

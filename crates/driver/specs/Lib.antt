@@ -1,4 +1,5 @@
 pub mod Clients
+pub mod Crowds
 pub mod Desks
 pub mod Driving
 pub mod Gone

@@ -1,6 +1,12 @@
 //! All clients.
-ghost use Rattle.std.specs.Prelude.{◌≡◌, Option, None, Some, OnOk, OnErr};
+ghost use Rattle.std.specs.Prelude.{◌≡◌, ◌++◌, List, true, false, Option, None, Some, IfOk, OnOk, OnErr};
+ghost use Rattle.std.specs.BTreeMap.{keys};
+ghost use Rattle.client_gate.specs.Calls.{Call, Stands, gate};
+ghost use Rattle.client_gate.specs.Gates.{last_request};
+ghost use Rattle.client_gate.specs.declared.settings.Settings.{Settings};
+ghost use Rattle.driver.specs.Clients.{parting_unless};
 ghost use Rattle.driver.specs.Rosters.{AreOthersSame, Hears, IsKept, IsLost, Receives, Serves, client_at, node_in};
+ghost use Rattle.driver.specs.Crowds.{LeaveEach, TickEach, Ticks, is_below, is_one_below, told};
 
 use crate::client::Client;
 use crate::order::{Now, Order};
@@ -132,23 +138,43 @@ impl Clients {
         }
     }
 
-    /// Time passed.
+    /// Time passed: each client ticks, and is forgotten where nothing is left to do for it.
     pub fn tick(
         &mut self,
         now: &Now,
         timeout_ms: u16,
         orders: &mut Vec<Order>,
-    ) -> Result<(), AllocError> {
-        let mut over = Vec::new(self.alloc);
-        for client in self.all.values_mut() {
-            client.tick(now, timeout_ms, orders)?;
-            if client.is_over()? {
-                over.push(client.origin().client())?;
-            }
+    ) -> Result<(), AllocError>
+        ensures { OnOk result (TickEach now.now.at timeout_ms now.now.ms (keys self.old.all)
+            (told self.old orders.old.items) (told self.new orders.new.items)) }
+    {
+        let numbers = self.numbers()?;
+        for number in numbers {
+            self.tick_client(now, timeout_ms, number, orders)?;
         }
-        for number in &over {
-            self.all.remove(number);
-        }
+        Ok(())
+    }
+
+    /// Time passed for the client of this number.
+    fn tick_client(
+        &mut self,
+        now: &Now,
+        timeout_ms: u16,
+        number: u64,
+        orders: &mut Vec<Order>,
+    ) -> Result<(), AllocError>
+        ensures others { AreOthersSame number self.old self.new }
+        ensures nobody { client_at self.old number ≡ None →
+            (self.new ≡ self.old) × (orders.new.items ≡ orders.old.items) }
+        ensures served { OnOk result (Serves (λ c. client_at self.old number ≡ Some c)
+            (λ s calls c new. Ticks s calls now.now.at timeout_ms now.now.ms c
+            orders.old.items new orders.new.items) number self.new) }
+    {
+        let Some(client) = self.all.get_mut(&number) else {
+            return Ok(());
+        };
+        client.tick(now, timeout_ms, orders)?;
+        self.forget_if_over(number)?;
         Ok(())
     }
 
@@ -160,18 +186,68 @@ impl Clients {
         node: u8,
         boot: u64,
         orders: &mut Vec<Order>,
-    ) -> Result<(), AllocError> {
-        let mut gone = Vec::new(self.alloc);
-        for client in self.all.values_mut() {
-            let origin = client.origin();
-            if origin.node() == node && origin.boot() < boot {
-                client.hang_up(now, orders)?;
-                gone.push(origin.client())?;
-            }
-        }
-        for number in &gone {
-            self.all.remove(number);
+    ) -> Result<(), AllocError>
+        ensures { OnOk result (LeaveEach now.now.at node boot (keys self.old.all)
+            (told self.old orders.old.items) (told self.new orders.new.items)) }
+    {
+        let numbers = self.numbers()?;
+        for number in numbers {
+            self.leave_if_below(now, node, boot, number, orders)?;
         }
         Ok(())
+    }
+
+    /// The client of this number is left where it is of a run of this node below this boot.
+    fn leave_if_below(
+        &mut self,
+        now: &Now,
+        node: u8,
+        boot: u64,
+        number: u64,
+        orders: &mut Vec<Order>,
+    ) -> Result<(), AllocError>
+        ensures others { AreOthersSame number self.old self.new }
+        ensures nobody { client_at self.old number ≡ None →
+            (self.new ≡ self.old) × (orders.new.items ≡ orders.old.items) }
+        ensures stays { (c : Client) → client_at self.old number ≡ Some c →
+            is_below c.origin node boot ≡ false →
+            (self.new ≡ self.old) × (orders.new.items ≡ orders.old.items) }
+        ensures leaves { (c : Client) → client_at self.old number ≡ Some c →
+            is_below c.origin node boot ≡ true → OnOk result (client_at self.new number ≡ None) }
+        ensures told { (s : Settings) (calls : List Call) (c : Client) →
+            client_at self.old number ≡ Some c → is_below c.origin node boot ≡ true →
+            Stands s calls c.gate → OnOk result (orders.new.items ≡ orders.old.items
+            ++ parting_unless c.is_gone c.origin now.now.at (last_request (gate s calls))) }
+    {
+        if !self.is_below(node, boot, number) {
+            return Ok(());
+        }
+        let Some(client) = self.all.get_mut(&number) else {
+            return Ok(());
+        };
+        client.hang_up(now, orders)?;
+        self.all.remove(&number);
+        Ok(())
+    }
+
+    /// Whether the client of this number is of a run of this node below this boot.
+    fn is_below(&self, node: u8, boot: u64, number: u64) -> bool
+        ensures { result ≡ is_one_below (client_at self.now number) node boot }
+    {
+        match self.all.get(&number) {
+            Some(client) => client.origin().node() == node && client.origin().boot() < boot,
+            None => false,
+        }
+    }
+
+    /// The numbers of the clients, in order.
+    fn numbers(&self) -> Result<Vec<u64>, AllocError>
+        ensures { IfOk result (λ numbers. numbers.items ≡ keys self.now.all) }
+    {
+        let mut numbers = Vec::new(self.alloc);
+        for number in self.all.keys() {
+            numbers.push(*number)?;
+        }
+        Ok(numbers)
     }
 }

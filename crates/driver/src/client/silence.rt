@@ -2,7 +2,7 @@
 ghost use Rattle.std.specs.Prelude.{◌≡◌, ◌||◌, List, OnOk};
 ghost use Rattle.client_gate.specs.Calls.{Call, Stands};
 ghost use Rattle.client_gate.specs.declared.settings.Settings.{Settings};
-ghost use Rattle.driver.specs.Clients.{HasTicked, IsAsked, is_too_slow};
+ghost use Rattle.driver.specs.Clients.{HasTicked, IsAsked, StandsSo, ended_if, is_too_slow};
 
 use crate::client::Client;
 use crate::order::{Now, Order};
@@ -33,6 +33,10 @@ impl Client {
         ensures gone { OnOk result
             (self.new.is_gone ≡ (self.old.is_gone || is_too_slow self.old now.now.ms)) }
         ensures origin { self.new.origin ≡ self.old.origin }
+        ensures stands { (s : Settings) (calls : List Call) → Stands s calls self.old.gate →
+            OnOk result (StandsSo s
+            (ended_if (is_too_slow self.old now.now.ms) self.old.is_gone calls)
+            (self.old.is_gone || is_too_slow self.old now.now.ms) self.old self.new) }
     {
         if self.is_too_slow(now) {
             self.hang_up(now, orders)?;

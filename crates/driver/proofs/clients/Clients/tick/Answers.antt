@@ -1,0 +1,23 @@
+use Rattle.std.proofs.Common.{◌≡◌, ◌∙◌, sym, []}
+use Rattle.std.proofs.lemmas.List.{nil_from_length}
+use Rattle.std.specs.Vec.Iter.{into_iter_items}
+use Rattle.driver.specs.Crowds.{TicksClient, told}
+use Rattle.driver.proofs.Crowds.{tick_more, tick_none}
+use Rattle.driver.proofs.clients.Clients.tick.Goals as goal
+
+pub loop-number-preserved : goal.loop-number-preserved
+loop-number-preserved c new more =
+    let old = told c.loop-number.self c.loop-number.orders.items in
+    let behind = told c.tick_client.new.self c.tick_client.new.orders.items in
+    let always = c.tick_client.ensures in
+    let does : TicksClient c.args.now.now.at c.args.timeout_ms c.args.now.now.ms c.in-Some.number old behind =
+    record { others = always.others; nobody = always.nobody; served = c.in_ok-tick_client.ensures.served } in
+    c.loop-number.invariant new
+    (tick_more c.args.now.now.at c.args.timeout_ms c.args.now.now.ms c.in-Some.number (into_iter_items c.loop-number.number-iterator) (into_iter_items c.next.new.self) old behind new c.in-Some.ensures.steps.0 does more)
+
+pub returns : goal.returns
+returns c =
+    let left = into_iter_items c.loop-number.number-iterator in
+    let last = told c.loop-number.self c.loop-number.orders.items in
+    let none : left ≡ [] = nil_from_length left (sym c.loop-number.number-iterator.rest.ok.0 ∙ c.in-None.ensures.steps.0) in
+    c.loop-number.invariant last (tick_none c.args.now.now.at c.args.timeout_ms c.args.now.now.ms left last none)
