@@ -1,5 +1,7 @@
 -- What comes of what is heard of a node, and of time.
 use Rattle.std.specs.Prelude.{◌≡◌, ◌++◌, ℕ, zero, suc, ◌+◌, ◌-◌, Bool, true, false, not, ◌&&◌, if◌then◌else◌, List, [], ◌∷◌, Option, Some, None, map, slice_get, slice_set}
+use Rattle.std.specs.BTreeMap.{keys}
+use Rattle.wire_bytes.specs.declared.moment.Moment.{Moment}
 use Rattle.node_notes.specs.declared.note.Note.TheVariants as note
 use Rattle.node_notes.specs.declared.status.Status.{Status}
 use Rattle.driver.specs.declared.desk.Desk.{Desk}
@@ -11,12 +13,13 @@ use Rattle.driver.specs.declared.order.Order.{Order}
 use Rattle.driver.specs.declared.order.Order.TheVariants.{Connect, Disconnect}
 use Rattle.driver.specs.declared.settings.Settings.{Settings}
 use Rattle.driver.specs.declared.link.Stage.TheVariants.{Connecting}
+use Rattle.driver.specs.Crowds.{LeaveEach, TickEach, Told, told as crowd}
 use Rattle.driver.specs.Desks.{claim_at, claim_due, counted, desk_behind, desk_claimed, note_at, told}
-use Rattle.driver.specs.Gone.{heard_in, restart_at, restart_behind}
-use Rattle.driver.specs.Hearing.{answered_by, heard_behind, is_new_run}
+use Rattle.driver.specs.Gone.{fresh, heard_in, restart_at, restart_behind}
+use Rattle.driver.specs.Hearing.{answered_by, heard_behind, heard_news, is_new_run}
 use Rattle.driver.specs.Leading.{IsLeader, is_older, is_that}
 use Rattle.driver.specs.Links.{IsLost, backoff_behind, ending, idle_behind, is_silent, may_connect, node_of}
-use Rattle.driver.specs.Rounds.{GoesRound, Round, begun_all, round}
+use Rattle.driver.specs.Rounds.{GoesRound, Round, begun_all, round, word_told}
 use Rattle.driver.specs.Waking.{awake}
 use Rattle.pacing.specs.Pacing.{may_go}
 
@@ -142,13 +145,18 @@ TickNodes (suc count) now node old new =
 abbrev pub round_of : Driver → Round
 round_of driver = round driver.notices.all driver.desks driver.orders.items
 
--- What time brings. The driver is awake, and the connection to a server that is silent is left; then comes what clients are told,
--- and then each node ticks; what comes last is word of earlier runs.
-pub record Ticks (now : ℕ) (old new : Driver) : Type 0 where
+-- the clients, and what was ordered, as a driver has them
+abbrev pub told_of : Driver → Told
+told_of driver = crowd driver.clients driver.orders.items
+
+-- What time brings. The driver is awake, and the connection to a server that is silent is left; then each client ticks,
+-- in the order of their numbers, and then each node; what comes last is word of earlier runs.
+pub record Ticks (now : ℕ) (at : Moment) (old new : Driver) : Type 0 where
   pub left : Driver
   pub leaves : LeavesIf (is_silent old.link.stage now) now Silent (awake now old) left
   pub served : Driver
-  pub clients : served ≡ record left { clients = served.clients; orders = served.orders }
+  pub clients : TickEach at left.settings.timeout_ms now (keys left.clients.all) (told_of left) (told_of served)
+  pub is_served : served ≡ record left { clients = served.clients; orders = served.orders }
   pub asked : Driver
   pub nodes : TickNodes 7 now 1 served asked
   pub word : GoesRound asked.settings now (round_of asked) (round_of new)
@@ -167,11 +175,6 @@ is_new_if (Some desk) status = is_new_run desk.status status
 abbrev pub is_new_at : List Desk → ℕ → Status → Bool
 is_new_at desks node status = is_new_if (slice_get desks (node - 1)) status
 
--- a node of which a run began is asked for word that its earlier ones are gone
-abbrev pub begun_if : Bool → ℕ → List Desk → List Desk
-begun_if false node desks = desks
-begun_if true node desks = changed_at counted desks node
-
 -- how many notes of this node are done
 abbrev pub done_in : Option Desk → ℕ
 done_in None = 0
@@ -181,25 +184,42 @@ abbrev pub done_at : List Desk → ℕ → ℕ
 done_at desks node = done_in (slice_get desks (node - 1))
 
 -- the word that goes round behind the start of a run with this boot at a desk
-abbrev pub word_begun_in : ℕ → ℕ → Option Desk → List (Option Notice) → List (Option Notice)
-word_begun_in now boot None all = all
-word_begun_in now boot (Some desk) all = begun_all all now boot desk
+abbrev pub word_begun : ℕ → ℕ → Option Desk → List (Option Notice) → List (Option Notice)
+word_begun now boot None all = all
+word_begun now boot (Some desk) all = begun_all all now boot desk
 
-abbrev pub word_begun_if : Bool → ℕ → ℕ → ℕ → List Desk → List (Option Notice) → List (Option Notice)
-word_begun_if false now node boot desks all = all
-word_begun_if true now node boot desks all = word_begun_in now boot (slice_get desks (node - 1)) all
+-- A run of a node began, with this boot: the clients of its earlier runs are left, and it is asked for word that these are gone.
+pub record Begins (now : ℕ) (at : Moment) (node boot : ℕ) (old new : Driver) : Type 0 where
+  pub left : Told
+  pub leaves : LeaveEach at node boot (keys old.clients.all) (told_of old) left
+  pub clients : new.clients ≡ left.clients
+  pub orders : new.orders.items ≡ left.orders ++ orders_at (λ desk. word_told (fresh desk.id boot) desk) old.desks node
+  pub desks : new.desks ≡ changed_at counted old.desks node
+  pub word : new.notices.all ≡ word_begun now boot (slice_get old.desks (node - 1)) old.notices.all
+  pub rest : new ≡ record old { desks = new.desks; notices = new.notices; clients = new.clients; orders = new.orders }
 
--- The driver was told how a node stands; whether the node heard of the leader of its term, and whether a note of it is done, and
--- whether it was refused.
-pub record Hears (now node : ℕ) (status : Status) (led is_last refused : Bool) (old new : Driver) : Type 0 where
-  pub answered : List Desk
-  pub is_answered :
-      let stood = changed_at (λ desk. heard_behind desk now status led is_last) (awake now old).desks node in
-      answered ≡ answered_if (led && not refused) status stood
+-- where none began nothing changes
+abbrev pub BeginsIf : Bool → ℕ → Moment → ℕ → ℕ → Driver → Driver → Type 0
+BeginsIf false now at node boot old new = new ≡ old
+BeginsIf true now at node boot old new = Begins now at node boot old new
+
+-- How a node stands was told, whether it heard of the leader of its term, whether a note of it is done, and whether it was refused:
+-- the desks know it, and the word that was asked for at the node; an operator is told what is new.
+pub record Stands (now node : ℕ) (status : Status) (led is_last refused : Bool) (old new : Driver) : Type 0 where
+  pub desks :
+      let stood = changed_at (λ desk. heard_behind desk now status led is_last) old.desks node in
+      new.desks ≡ answered_if (led && not refused) status stood
+  pub word : new.notices.all ≡ map (heard_in node status (done_at new.desks node) refused) old.notices.all
+  pub orders : new.orders.items ≡ old.orders.items ++ orders_at (λ desk. heard_news desk status) old.desks node
+  pub rest : new ≡ record old { desks = new.desks; notices = new.notices; orders = new.orders }
+
+-- A node's worker told how the node stands, and gave effects, which go on. The driver is awake; where a run of the node began, its
+-- earlier ones are left; and the node ticks.
+pub record Hears (now : ℕ) (at : Moment) (node : ℕ) (status : Status) (led is_last refused : Bool) (old new : Driver) : Type 0 where
+  pub stood : Driver
+  pub stands : Stands now node status led is_last refused (awake now old) stood
+  pub passed : Driver
+  pub passes : passed ≡ record stood { clients = passed.clients; orders = passed.orders }
   pub begun : Driver
-  pub desks : begun.desks ≡ begun_if (is_new_at (awake now old).desks node status) node answered
-  pub word :
-      let heard = map (heard_in node status (done_at answered node) refused) old.notices.all in
-      begun.notices.all ≡ word_begun_if (is_new_at (awake now old).desks node status) now node status.boot answered heard
-  pub rest : begun ≡ record (awake now old) { desks = begun.desks; notices = begun.notices; clients = begun.clients; orders = begun.orders }
+  pub begins : BeginsIf (is_new_at (awake now old).desks node status) now at node status.boot passed begun
   pub ticks : TicksNode now node begun new

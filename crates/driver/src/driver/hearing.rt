@@ -1,7 +1,10 @@
 //! What a node's worker tells, and what comes of it.
-ghost use Rattle.std.specs.Prelude.{◌≡◌, ◌&&◌, is_some, map, IfOk, OnOk};
-ghost use Rattle.driver.specs.Driving.{Hears, answered_if, begun_if, changed_at, is_new_at, word_begun_if};
-ghost use Rattle.driver.specs.Hearing.{answered_by, heard_behind};
+ghost use Rattle.std.specs.Prelude.{◌≡◌, ◌&&◌, ◌++◌, ◌-◌, is_some, slice_get, map, IfOk, OnOk};
+ghost use Rattle.driver.specs.Driving.{Begins, BeginsIf, Hears, Stands, answered_if, changed_at, is_new_at, orders_at, word_begun};
+ghost use Rattle.driver.specs.Desks.{counted};
+ghost use Rattle.driver.specs.Gone.{fresh};
+ghost use Rattle.driver.specs.Rounds.{word_told};
+ghost use Rattle.driver.specs.Hearing.{answered_by, heard_behind, heard_news};
 
 use crate::desk::Desk;
 use crate::driver::Driver;
@@ -16,8 +19,8 @@ use wire_bytes::Number;
 impl Driver {
     /// A node's worker told something.
     pub fn hear(&mut self, now: &Now, report: TowerReport) -> Result<(), AllocError>
-        ensures { OnOk result (Hears now.now.ms report.node report.status report.led report.is_last
-            (is_some report.fault) self.old self.new) }
+        ensures { OnOk result (Hears now.now.ms now.now.at report.node report.status report.led
+            report.is_last (is_some report.fault) self.old self.new) }
     {
         let Report {
             node,
@@ -28,14 +31,33 @@ impl Driver {
             is_last,
         } = report;
         self.wake(now);
-        let is_new = self.hear_status(now, node, &status, led, is_last)?;
-        self.hear_answer(led, fault.is_none(), &status);
-        let done = self.desks[node.value() as usize - 1].done();
-        self.notices.hear(node, &status, done, fault.is_some());
+        let is_new = self.hear_node(now, node, &status, led, is_last, fault.is_some())?;
         self.pass_all(now, node, effects.as_slice())?;
         self.begin_if(is_new, now, node, status.boot)?;
         self.tick_node(now, node)?;
         Ok(())
+    }
+
+    /// How a node stands was told, whether it heard of the leader of its term, whether a note of it is
+    /// done, and whether it was refused. Whether a run of it began.
+    fn hear_node(
+        &mut self,
+        now: &Now,
+        node: NodeId,
+        status: &Status,
+        led: bool,
+        is_last: bool,
+        is_refused: bool,
+    ) -> Result<bool, AllocError>
+        ensures new { IfOk result (λ new. new ≡ is_new_at self.old.desks node status.now) }
+        ensures stands { OnOk result (Stands now.now.ms node status.now led is_last is_refused
+            self.old self.new) }
+    {
+        let is_new = self.hear_status(now, node, status, led, is_last)?;
+        self.hear_answer(led, !is_refused, status);
+        let done = self.desks[node.value() as usize - 1].done();
+        self.notices.hear(node, status, done, is_refused);
+        Ok(is_new)
     }
 
     /// How a node stands was told. Whether a run of it began.
@@ -51,6 +73,8 @@ impl Driver {
         ensures desks { OnOk result (self.new.desks
             ≡ changed_at (λ desk. heard_behind desk now.now.ms status.now led is_last)
             self.old.desks node) }
+        ensures told { OnOk result (self.new.orders.items ≡ self.old.orders.items
+            ++ orders_at (λ desk. heard_news desk status.now) self.old.desks node) }
         ensures rest { self.new ≡ record self.old
             { desks = self.new.desks; orders = self.new.orders } }
     {
@@ -97,21 +121,37 @@ impl Driver {
         node: NodeId,
         boot: Number,
     ) -> Result<(), AllocError>
-        ensures desks { OnOk result (self.new.desks ≡ begun_if is_new node self.old.desks) }
-        ensures word { OnOk result (self.new.notices.all ≡ word_begun_if is_new now.now.ms node boot
-            self.old.desks self.old.notices.all) }
-        ensures rest { self.new ≡ record self.old {
-          desks = self.new.desks;
-          notices = self.new.notices;
-          clients = self.new.clients;
-          orders = self.new.orders;
-        } }
+        ensures { OnOk result (BeginsIf is_new now.now.ms now.now.at node boot self.old self.new) }
     {
         if !is_new {
             return Ok(());
         }
+        self.begin(now, node, boot)
+    }
+
+    /// A run of a node began: its earlier runs' clients are left, and word goes round that these are gone.
+    fn begin(&mut self, now: &Now, node: NodeId, boot: Number) -> Result<(), AllocError>
+        ensures { OnOk result (Begins now.now.ms now.now.at node boot self.old self.new) }
+    {
         self.clients
             .leave_runs_below(now, node.value(), boot.value(), &mut self.orders)?;
+        self.spread_word(now, node, boot)?;
+        Ok(())
+    }
+
+    /// A node is asked for word that its runs below this boot are gone.
+    fn spread_word(&mut self, now: &Now, node: NodeId, boot: Number) -> Result<(), AllocError>
+        ensures desks { OnOk result (self.new.desks ≡ changed_at counted self.old.desks node) }
+        ensures word { OnOk result (self.new.notices.all ≡ word_begun now.now.ms boot
+            (slice_get self.old.desks (node - 1)) self.old.notices.all) }
+        ensures told { OnOk result (self.new.orders.items ≡ self.old.orders.items
+            ++ orders_at (λ desk. word_told (fresh desk.id boot) desk) self.old.desks node) }
+        ensures rest { self.new ≡ record self.old {
+          desks = self.new.desks;
+          notices = self.new.notices;
+          orders = self.new.orders;
+        } }
+    {
         let desk = &mut self.desks[node.value() as usize - 1];
         self.notices.begin(now, desk, boot, &mut self.orders)
     }

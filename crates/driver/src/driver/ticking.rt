@@ -16,7 +16,7 @@ use std::alloc::AllocError;
 impl Driver {
     /// Time passed.
     pub fn tick(&mut self, now: &Now) -> Result<(), AllocError>
-        ensures { OnOk result (Ticks now.now.ms self.old self.new) }
+        ensures { OnOk result (Ticks now.now.ms now.now.at self.old self.new) }
     {
         self.wake(now);
         self.leave_silent(now)?;

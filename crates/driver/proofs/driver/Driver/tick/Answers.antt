@@ -1,4 +1,4 @@
-use Rattle.std.proofs.Common.{refl, subst}
+use Rattle.std.proofs.Common.{rules, refl, subst}
 use Rattle.driver.specs.declared.driver.Driver.{Driver}
 use Rattle.driver.specs.declared.news.Ending.TheVariants.{Silent}
 use Rattle.driver.specs.Driving.{LeavesIf}
@@ -13,7 +13,8 @@ returns c =
       left = left;
       leaves = subst (λ (woken : Driver). LeavesIf (is_silent woken.link.stage now) now Silent woken left) c.wake.ensures c.in_ok-leave_silent.ensures;
       served = record left { clients = c.tick.new.self; orders = c.tick.new.orders };
-      clients = refl;
+      clients = search rules;
+      is_served = refl;
       asked = c.tick_nodes.new.self;
       nodes = c.in_ok-tick_nodes.ensures;
       word = c.in_ok-tick-2.ensures;
