@@ -2,6 +2,7 @@
 use Rattle.std.specs.Prelude.{◌≡◌, ◌++◌, ℕ, zero, suc, ◌+◌, ◌-◌, Bool, true, false, not, ◌&&◌, if◌then◌else◌, List, [], ◌∷◌, Option, Some, None, map, slice_get, slice_set}
 use Rattle.std.specs.BTreeMap.{keys}
 use Rattle.wire_bytes.specs.declared.moment.Moment.{Moment}
+use Rattle.client_gate.specs.Gates.{GateEffect}
 use Rattle.node_notes.specs.declared.note.Note.TheVariants as note
 use Rattle.node_notes.specs.declared.status.Status.{Status}
 use Rattle.driver.specs.declared.desk.Desk.{Desk}
@@ -19,6 +20,7 @@ use Rattle.driver.specs.Gone.{fresh, heard_in, restart_at, restart_behind}
 use Rattle.driver.specs.Hearing.{answered_by, heard_behind, heard_news, is_new_run}
 use Rattle.driver.specs.Leading.{IsLeader, is_older, is_that}
 use Rattle.driver.specs.Links.{IsLost, backoff_behind, ending, idle_behind, is_silent, may_connect, node_of}
+use Rattle.driver.specs.Passing.{PassEach}
 use Rattle.driver.specs.Rounds.{GoesRound, Round, begun_all, round, word_told}
 use Rattle.driver.specs.Waking.{awake}
 use Rattle.pacing.specs.Pacing.{may_go}
@@ -213,13 +215,14 @@ pub record Stands (now node : ℕ) (status : Status) (led is_last refused : Bool
   pub orders : new.orders.items ≡ old.orders.items ++ orders_at (λ desk. heard_news desk status) old.desks node
   pub rest : new ≡ record old { desks = new.desks; notices = new.notices; orders = new.orders }
 
--- A node's worker told how the node stands, and gave effects, which go on. The driver is awake; where a run of the node began, its
+-- A node's worker told how the node stands, and gave effects, which pass in turn. The driver is awake; where a run of the node began, its
 -- earlier ones are left; and the node ticks.
-pub record Hears (now : ℕ) (at : Moment) (node : ℕ) (status : Status) (led is_last refused : Bool) (old new : Driver) : Type 0 where
+pub record Hears (now : ℕ) (at : Moment) (node : ℕ) (status : Status) (effects : List GateEffect) (led is_last refused : Bool) (old new : Driver) : Type 0 where
   pub stood : Driver
   pub stands : Stands now node status led is_last refused (awake now old) stood
   pub passed : Driver
-  pub passes : passed ≡ record stood { clients = passed.clients; orders = passed.orders }
+  pub passes : PassEach at stood.link.stage node effects (told_of stood) (told_of passed)
+  pub is_passed : passed ≡ record stood { clients = passed.clients; orders = passed.orders }
   pub begun : Driver
   pub begins : BeginsIf (is_new_at (awake now old).desks node status) now at node status.boot passed begun
   pub ticks : TicksNode now node begun new

@@ -6,6 +6,7 @@ pub mod Gone
 pub mod Hearing
 pub mod Leading
 pub mod Links
+pub mod Passing
 pub mod Rosters
 pub mod Rounds
 pub mod Sessions

@@ -1,6 +1,8 @@
 //! What a node's worker tells, and what comes of it.
 ghost use Rattle.std.specs.Prelude.{◌≡◌, ◌&&◌, ◌++◌, ◌-◌, is_some, slice_get, map, IfOk, OnOk};
-ghost use Rattle.driver.specs.Driving.{Begins, BeginsIf, Hears, Stands, answered_if, changed_at, is_new_at, orders_at, word_begun};
+ghost use Rattle.bouncer_tower.specs.Hosting.{class_of};
+ghost use Rattle.driver.specs.Passing.{PassEach, PassesBy};
+ghost use Rattle.driver.specs.Driving.{Begins, BeginsIf, Hears, Stands, answered_if, changed_at, is_new_at, orders_at, told_of, word_begun};
 ghost use Rattle.driver.specs.Desks.{counted};
 ghost use Rattle.driver.specs.Gone.{fresh};
 ghost use Rattle.driver.specs.Rounds.{word_told};
@@ -19,8 +21,9 @@ use wire_bytes::Number;
 impl Driver {
     /// A node's worker told something.
     pub fn hear(&mut self, now: &Now, report: TowerReport) -> Result<(), AllocError>
-        ensures { OnOk result (Hears now.now.ms now.now.at report.node report.status report.led
-            report.is_last (is_some report.fault) self.old self.new) }
+        ensures { OnOk result (Hears now.now.ms now.now.at report.node report.status
+            report.effects.items report.led report.is_last (is_some report.fault)
+            self.old self.new) }
     {
         let Report {
             node,
@@ -100,15 +103,28 @@ impl Driver {
         node: NodeId,
         effects: &[TowerEffect],
     ) -> Result<(), AllocError>
-        ensures { self.new ≡ record self.old
+        ensures passes { OnOk result (PassEach now.now.at self.old.link.stage node effects.now
+            (told_of self.old) (told_of self.new)) }
+        ensures rest { self.new ≡ record self.old
             { clients = self.new.clients; orders = self.new.orders } }
     {
         for effect in effects {
-            match <Tower as Hosted>::class(effect) {
-                Class::To(origin) => self.clients.hear(now, origin, effect, &mut self.orders)?,
-                Class::Rejoin(_, line) => self.link.send(node, line, &mut self.orders)?,
-                Class::Hand(_, _, _) | Class::Nowhere => {}
-            }
+            self.pass(now, node, effect)?;
+        }
+        Ok(())
+    }
+
+    /// An effect that left a node goes to its client, or to the server.
+    fn pass(&mut self, now: &Now, node: NodeId, effect: &TowerEffect) -> Result<(), AllocError>
+        ensures passes { OnOk result (PassesBy (class_of effect.now) now.now.at
+            self.old.link.stage node effect.now (told_of self.old) (told_of self.new)) }
+        ensures rest { self.new ≡ record self.old
+            { clients = self.new.clients; orders = self.new.orders } }
+    {
+        match <Tower as Hosted>::class(effect) {
+            Class::To(origin) => self.clients.hear(now, origin, effect, &mut self.orders)?,
+            Class::Rejoin(_, line) => self.link.send(node, line, &mut self.orders)?,
+            Class::Hand(_, _, _) | Class::Nowhere => {}
         }
         Ok(())
     }

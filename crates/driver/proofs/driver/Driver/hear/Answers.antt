@@ -8,6 +8,7 @@ returns c =
       stands = search rules;
       passed = c.pass_all.new.self;
       passes = search rules;
+      is_passed = search rules;
       begun = c.begin_if.new.self;
       begins = search rules;
       ticks = c.in_ok-tick_node.ensures;

@@ -1,0 +1,20 @@
+-- Effects that pass in turn.
+use Rattle.std.proofs.Common.{◌≡◌, ◌∷◌, ℕ, List, [], refl, subst, sym}
+use Rattle.bouncer_tower.specs.Hosting.{class_of}
+use Rattle.client_gate.specs.Gates.{GateEffect}
+use Rattle.wire_bytes.specs.declared.moment.Moment.{Moment}
+use Rattle.driver.specs.declared.link.Stage.{Stage}
+use Rattle.driver.specs.Crowds.{Told}
+use Rattle.driver.specs.Passing.{PassEach, PassesBy}
+
+-- one passes, and then those behind it
+pub pass_more : (at : Moment) (stage : Stage) (node : ℕ) (effect : GateEffect) (left more : List GateEffect) (old behind new : Told) → left ≡ effect ∷ more → PassesBy (class_of effect) at stage node effect old behind → PassEach at stage node more behind new → PassEach at stage node left old new
+unfolding PassEach
+pass_more at stage node effect left more old behind new is passes all =
+    subst (λ (left : List GateEffect). PassEach at stage node left old new) (sym is) (behind, passes, all)
+
+-- where none is left none passes
+pub pass_none : (at : Moment) (stage : Stage) (node : ℕ) (left : List GateEffect) (last : Told) → left ≡ [] → PassEach at stage node left last last
+unfolding PassEach
+pass_none at stage node left last none =
+    subst (λ (left : List GateEffect). PassEach at stage node left last last) (sym none) refl
