@@ -84,7 +84,7 @@ pub record Ends (now : ℕ) (why : Ending) (old new : Driver) : Type 0 where
   pub desks : new.desks ≡ desks_told_closed (closed_of (node_of old.link.stage) lost) old.desks
   pub orders :
       new.orders.items
-      ≡ (old.orders.items ++ ending old.link.stage lost why) ++ closed_orders (closed_of (node_of old.link.stage) lost) old.desks
+      ≡ (old.orders.items ++ ending old.link.stage why) ++ closed_orders (closed_of (node_of old.link.stage) lost) old.desks
   pub stage : new.link.stage ≡ idle_behind old.link.stage old.link.backoff now
   pub backoff : new.link.backoff ≡ backoff_behind old.link.stage old.link.backoff now
   pub rest : new ≡ record old { desks = new.desks; orders = new.orders; link = new.link }

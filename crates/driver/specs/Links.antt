@@ -51,11 +51,17 @@ is_silent (Open session) now = is_over session.heard 300_000 now
 abbrev pub end_of : Bool → ℕ → Ending → News
 end_of was_given node why = if was_given then Closed node why else Unopened node why
 
--- what an operator is told of a connection that is gone; it had a session where its node has to be told
-abbrev pub ending : Stage → Bool → Ending → List Order
-ending (Idle since wait) lost why = []
-ending (Connecting node) lost why = Tells (Unopened node why) ∷ []
-ending (Open session) lost why = Tells (end_of lost session.node why) ∷ []
+-- what an operator is told of a connection that is gone
+abbrev pub ending : Stage → Ending → List Order
+ending (Idle since wait) why = []
+ending (Connecting node) why = Tells (Unopened node why) ∷ []
+ending (Open session) why = Tells (end_of session.is_opened session.node why) ∷ []
+
+-- a connection that stands, of which the server gave the session
+abbrev pub opened : Stage → Stage
+opened (Idle since wait) = Idle since wait
+opened (Connecting node) = Connecting node
+opened (Open session) = Open (record session { is_opened = true })
 
 -- how long is waited behind a connection that is gone: the first wait again behind a session of a minute
 abbrev pub wait_behind : Stage → Backoff → ℕ → ℕ
@@ -116,6 +122,7 @@ pub record HasBegun (settings : Settings) (now node : ℕ) (before : List Order)
   pub node_is : session.node ≡ node
   pub since : session.since ≡ at now
   pub heard : session.heard ≡ at now
+  pub is_unopened : session.is_opened ≡ false
   pub uplink_is : IsAfter session.uplink settings.nick []
 
 -- what a connection that stands comes to: nothing where none was asked for
@@ -149,6 +156,7 @@ pub record HasReceived (now : ℕ) (moment : Moment) (bytes : List ℕ) (old : S
   pub are_notes : notes ≡ notes_of moment given
   pub node_is : new.node ≡ old.node
   pub since : new.since ≡ old.since
+  pub is_opened : new.is_opened ≡ old.is_opened
   pub heard : new.heard ≡ at now
 
 -- what bytes come to: nothing where there is no session

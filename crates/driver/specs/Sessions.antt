@@ -11,12 +11,18 @@ use Rattle.driver.specs.declared.order.Order.{Order}
 use Rattle.driver.specs.declared.order.Order.TheVariants.{Tells}
 use Rattle.driver.specs.Desks.{counted, told}
 use Rattle.driver.specs.Driving.{changed_at, orders_at}
-use Rattle.driver.specs.Links.{Receives}
+use Rattle.driver.specs.declared.link.Link.{Link}
+use Rattle.driver.specs.Links.{Receives, opened}
 
 -- an operator is told that the server gave a session, where a note says so
 abbrev pub opened_of : ℕ → Note TowerBody WireLine → List Order
 opened_of node note.Opened = Tells (Opened node) ∷ []
 opened_of node other = []
+
+-- the connection behind what came: the server gave its session where a note says so
+abbrev pub link_behind : Note TowerBody WireLine → Link → Link
+link_behind note.Opened link = record link { stage = opened link.stage }
+link_behind other link = link
 
 -- The node of a session is told what came, and an operator where it is that the session opened.
 pub record TellsOf (node : ℕ) (came : Note TowerBody WireLine) (old new : Driver) : Type 0 where
@@ -24,7 +30,7 @@ pub record TellsOf (node : ℕ) (came : Note TowerBody WireLine) (old new : Driv
   pub orders :
       new.orders.items
       ≡ (old.orders.items ++ opened_of node came) ++ orders_at (λ desk. told desk.id (Some came)) old.desks node
-  pub rest : new ≡ record old { desks = new.desks; orders = new.orders }
+  pub rest : new ≡ record old { desks = new.desks; orders = new.orders; link = link_behind came old.link }
 
 -- It is told all that came, in turn.
 unfoldable pub TellsAllOf : ℕ → List (Note TowerBody WireLine) → Driver → Driver → Type 0

@@ -4,7 +4,7 @@ ghost use Rattle.std.specs.Option.{is_some, option_to_list};
 ghost use Rattle.uplink.specs.declared.input.UplinkInput.{UplinkInput};
 ghost use Rattle.uplink.specs.Calls.{Ended, GoesOn};
 ghost use Rattle.driver.specs.Links.{Connects, HasBegun, HasReceived, IsLost, Receives, Sends};
-ghost use Rattle.driver.specs.Links.{backoff_behind, ending, idle_behind, is_session_of, is_silent, may_connect, node_of};
+ghost use Rattle.driver.specs.Links.{backoff_behind, ending, idle_behind, is_session_of, is_silent, may_connect, node_of, opened};
 ghost use Rattle.driver.specs.Links.{notes_of, send_some};
 
 mod notes;
@@ -48,6 +48,8 @@ struct Session {
     uplink: Uplink,
     since: Timer,
     heard: Timer,
+    /// The server gave it.
+    is_opened: bool,
 }
 
 /// The connection to the server, which is of the node that leads.
@@ -142,6 +144,15 @@ impl Link {
         }
     }
 
+    /// The server gave the session that was asked for.
+    pub fn open(&mut self)
+        ensures { self.new ≡ record self.old { stage = opened self.old.stage } }
+    {
+        if let Stage::Open(session) = &mut self.stage {
+            session.is_opened = true;
+        }
+    }
+
     /// The connection is gone, or could not be made. Whether its node has to be told.
     pub fn lose(
         &mut self,
@@ -149,8 +160,8 @@ impl Link {
         why: Ending,
         orders: &mut Vec<Order>,
     ) -> Result<bool, AllocError>
-        ensures told { IfOk result (λ lost.
-            orders.new.items ≡ orders.old.items ++ ending self.old.stage lost why) }
+        ensures told { OnOk result
+            (orders.new.items ≡ orders.old.items ++ ending self.old.stage why) }
         ensures stage { OnOk result
             (self.new.stage ≡ idle_behind self.old.stage self.old.backoff now.now.ms) }
         ensures lost { IfOk result (λ lost. IsLost self.old.stage lost) }
@@ -167,9 +178,9 @@ impl Link {
                 if session.since.has_passed(GOOD_SESSION, now.ms) {
                     self.backoff.reset();
                 }
-                let lost = end(&mut session.uplink);
-                orders.push(Order::Tells(News::of_end(lost, session.node, why)))?;
-                lost
+                let news = News::of_end(session.is_opened, session.node, why);
+                orders.push(Order::Tells(news))?;
+                end(&mut session.uplink)
             }
         };
         self.stage = Stage::Idle(Timer::from(now.ms), self.backoff.fail());
@@ -230,6 +241,7 @@ fn begin(
         uplink,
         since: Timer::from(now.ms),
         heard: Timer::from(now.ms),
+        is_opened: false,
     })
 }
 

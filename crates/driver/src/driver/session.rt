@@ -54,6 +54,7 @@ impl Driver {
         ensures { OnOk result (TellsOf node note self.old self.new) }
     {
         if let Note::Opened = &note {
+            self.link.open();
             self.orders.push(Order::Tells(News::Opened(node)))?;
         }
         self.tell(node, note)

@@ -10,5 +10,6 @@ returns c =
       node_is = refl;
       since = search rules;
       heard = search rules;
+      is_unopened = refl;
       uplink_is = search rules;
     }

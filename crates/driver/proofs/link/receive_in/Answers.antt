@@ -11,5 +11,6 @@ returns c =
       are_notes = search rules;
       node_is = refl;
       since = refl;
+      is_opened = refl;
       heard = search rules;
     }
