@@ -122,9 +122,10 @@ fn a_server_that_ends_before_its_welcome_gave_no_session(rt: HostRuntime) -> Res
         Step::Server(1007, b"ERROR :wrong password\r\n", 1),
         Step::Ordered,
         Step::Closes(1010, Ending::ByServer),
-        Step::Orders("news@1 [upstream not opened: the server closed the connection] "),
+        Step::Orders("news@1 [upstream not opened: the server closed the connection] closed@1 "),
+        // the beat of 1005 ms waits
         Step::Ticks(3009),
-        Step::Orders("beat@1 "),
+        Step::Orders(""),
         Step::Ticks(3010),
         Step::Orders("connect "),
     ];
