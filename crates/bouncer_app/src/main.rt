@@ -2,25 +2,8 @@
 //! its nodes, again too where they were recorded.
 #![tactic(auto)]
 
-mod fault;
-mod fold;
-#[cfg(test)]
-mod folded;
-#[cfg(test)]
-mod kept_tests;
-mod lines;
-#[cfg(test)]
-mod mark_tests;
-#[cfg(test)]
-mod said;
-#[cfg(test)]
-mod setup_tests;
-#[cfg(test)]
-mod tests;
-
-use crate::fault::FoldFault;
-use crate::fold::fold;
 use bouncer_run::{Hands, run};
+use fold_app::{FoldFault, fold};
 use records::Verdict;
 use std::env::{Args, args};
 use std::fmt::Display;

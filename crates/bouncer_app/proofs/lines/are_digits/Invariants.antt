@@ -1,7 +1,0 @@
-use Rattle.std.proofs.Common.{◌≡◌, take}
-use Rattle.std.specs.List.{list_all}
-use Rattle.bouncer_app.specs.Digits.{is_digit}
-use Rattle.bouncer_app.proofs.lines.are_digits.Given as goal
-
-abbrev pub invariant-loop-b : goal.invariant-loop-b
-invariant-loop-b l = l.all ≡ list_all is_digit (take l.b-index l.line)
