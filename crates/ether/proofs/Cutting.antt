@@ -12,13 +12,16 @@ use Rattle.raft_node.specs.Machine.{Machine}
 use Rattle.world_views.specs.Own.{ViewOf}
 use Rattle.world_views.specs.Rule.{IsRule, IsRun}
 use Rattle.world_views.specs.Views.{Drew, RisesFrom, View, total}
-use Rattle.ether.specs.Rule.{Spare, Known, Look, Owner, Holds, IsKept, IsStowed, blank, blanks, dealer, known, spent}
+use Rattle.ether.specs.Rule.{Spare, Known, Look, Owner, Holds, IsKept, IsMarked, IsStowed, MayLie, blank, blanks, dealer, known, slot_of, spent}
 use Rattle.ether.specs.Rule.Spare.{Bank, Home, Gone}
 use Rattle.ether.specs.Rule.Owner.{mailbox, seat}
 use Rattle.ether.specs.Plays.{both, bank_after, dealt, first_part, rest_part}
 use Rattle.ether.proofs.Changing.{below_length}
 use Rattle.ether.proofs.Knowing.{at_end, knows_cut, knows_join}
-use Rattle.ether.proofs.Stowing.{SeatOf, SlotOf, StateOf, holds_same, mailbox-ne-seat, seat-injective}
+use Rattle.ether.proofs.Stowing.{SeatOf, SlotOf, StateOf, few_slots, holds_same, mailbox-ne-seat, seat-injective, slot_unmarked}
+
+pub few_of : (n : ℕ) → IsGroupSize n → n < 8
+few_of n h = ⊎_elim (λ (e : n ≡ 3). omega arith) (λ more. ⊎_elim (λ (e : n ≡ 5). omega arith) (λ (e : n ≡ 7). omega arith) more) h
 
 vacant : {A : Type 0} (a : A) (n i : ℕ) → i < n → get_elem? (map some (replicate n a)) i ≡ some (some a)
 vacant a zero i near = absurd (omega arith)
@@ -103,7 +106,9 @@ module _ (M : Machine) where
               let is = boxes a k pos h in
               let low = below_length ws a k h in
               let lt : k < n * n = omega arith in
-              (ap (λ (b : Bool). cond b (mailbox (k + 1)) (seat 0)) (lt-ltb k (n * n) lt) ∙ ap mailbox (sym is), (None, vacant None (n * n + n) k (omega arith), tt));
+              let room = few_slots n few in
+              subst (λ (j : ℕ). (owner j ≡ mailbox a) × ((y : SlotOf M) × (get_elem? homes j ≡ some (some y)) × MayLie M n (blanks n 0 n) (get_or ws 0 0) a y × IsMarked k y)) (slot_unmarked k (omega arith))
+              (ap (λ (b : Bool). cond b (mailbox (k + 1)) (seat 0)) (lt-ltb k (n * n) lt) ∙ ap mailbox (sym is), (None, vacant None (n * n + n) k (omega arith), tt, λ _. refl));
           spares = λ id s at_s.
               let o = only_seat (dealer n) s id at_s in
               subst (λ (x : Spare). Holds owner homes id x) (ap (λ (x : SeatOf M). x.spare) o.1)
@@ -166,7 +171,7 @@ module _ (M : Machine) where
           owner = owner';
           boxes = λ a k pos h.
               let lay = o.boxes a k pos h in
-              (not_mine k (below_length s.homes k (some lay.1.0) lay.1.1) (λ e. mailbox-ne-seat a id (sym lay.0 ∙ e)) ∙ lay.0, lay.1);
+              (not_mine (slot_of k) (below_length s.homes (slot_of k) (some lay.1.0) lay.1.1) (λ e. mailbox-ne-seat a id (sym lay.0 ∙ e)) ∙ lay.0, lay.1);
           spares = λ j u h. ⊎_elim
               (λ old. ⊎_elim
               (λ (here : (j ≡ id) × (l ≡ u)). subst (λ (i : ℕ). Holds owner' s.homes i u.spare) (sym here.0) (subst (λ (x : SeatOf M). Holds owner' s.homes id x.spare) here.1
@@ -198,9 +203,6 @@ module _ (M : Machine) where
               (at_set (set s.views id (both v w)) other j spent u h);
         };
       }
-
-  few_of : (n : ℕ) → IsGroupSize n → n < 8
-  few_of n h = ⊎_elim (λ (e : n ≡ 3). omega arith) (λ more. ⊎_elim (λ (e : n ≡ 5). omega arith) (λ (e : n ≡ 7). omega arith) more) h
 
   -- the same of a table that is made for so many nodes, as its maker counts them
   pub begins_as : (n count : ℕ) (ws words : List ℕ) → count ≡ n → IsGroupSize n → words ≡ ws → length ws ≡ count * count + 1 → get_or ws 0 0 ≡ 0

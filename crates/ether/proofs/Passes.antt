@@ -37,8 +37,8 @@ module _ {B L T : Type 0} where
   me_is p out ls v is = is ∙ (λ d. holding out p.spare (sym (looks_are p out ls v is) d) (sym (view_is p out ls v is) d))
 
   pub is_pass : (t : TableId) (n : ℕ) (p : Pass B L T) (out : Bool) (ls : List (Look B)) (v : View B L T) → p.seat.me ≡ holding out p.spare ls v → p.seat.table_id ≡ t → v.node ≡ p.node
-      → p.node < n → v.size ≡ n → p.ticks ≡ length v.turns → p.ticks ≤ 1152921504606846976 → IsPassAt t n p
-  is_pass t n p out ls v is table node near size ticks few =
+      → p.node < n → p.spare < 64 → v.size ≡ n → p.ticks ≡ length v.turns → p.ticks ≤ 1152921504606846976 → IsPassAt t n p
+  is_pass t n p out ls v is table node near slot size ticks few =
       let same = view_is p out ls v is in
       record {
         of_table = table;
@@ -46,6 +46,7 @@ module _ {B L T : Type 0} where
         me = me_is p out ls v is;
         node = ap (λ (x : View B L T). x.node) same ∙ node;
         near = near;
+        slot = slot;
         many = ap (λ (x : View B L T). x.size) same ∙ size;
         ticks = ticks ∙ ap (λ (x : View B L T). length x.turns) (sym same);
         few = few;
@@ -69,6 +70,7 @@ module _ {B L T : Type 0} where
           me = held is.out is.me;
           node = ap (λ (x : View B L T). x.node) view ∙ is.node ∙ sym node;
           near = subst (λ (i : ℕ). i < n) (sym node) is.near;
+          slot = subst (λ (k : ℕ). k < 64) (sym spare) is.slot;
           many = ap (λ (x : View B L T). x.size) view ∙ is.many;
           ticks = ticks ∙ is.ticks ∙ ap (λ (x : View B L T). length x.turns) (sym view);
           few = omega arith;
@@ -76,10 +78,10 @@ module _ {B L T : Type 0} where
         (view, looks, node, λ o. ((o.0.0, ap (λ (x : View B L T). x.opened) view ∙ o.0.1), held true o.1)),
       )
 
-  pub new_pass : (t : TableId) (n : ℕ) (p : Pass B L T) (i : ℕ) → p.seat.me ≡ holding false p.spare [] (blank n i) → p.seat.table_id ≡ t → i ≡ p.node → p.node < n → p.ticks ≡ 0
+  pub new_pass : (t : TableId) (n : ℕ) (p : Pass B L T) (i : ℕ) → p.seat.me ≡ holding false p.spare [] (blank n i) → p.seat.table_id ≡ t → i ≡ p.node → p.node < n → p.spare < 64 → p.ticks ≡ 0
       → IsPassAt t n p × (p.node ≡ i) × (view_of p ≡ blank n i) × (looks_of p ≡ [])
-  new_pass t n p i is table node near ticks =
-      (is_pass t n p false [] (blank n i) is table node near refl ticks (omega arith), sym node, view_is p false [] (blank n i) is, looks_are p false [] (blank n i) is)
+  new_pass t n p i is table node near slot ticks =
+      (is_pass t n p false [] (blank n i) is table node near slot refl ticks (omega arith), sym node, view_is p false [] (blank n i) is, looks_are p false [] (blank n i) is)
 
   pub one_more : (t : TableId) (n : ℕ) (ps : List (Pass B L T)) (p : Pass B L T) → AreNewAt t n ps → IsPassAt t n p × (p.node ≡ length ps) × (view_of p ≡ blank n (length ps)) × (looks_of p ≡ [])
       → AreNewAt t n (ps ++ p ∷ [])
@@ -144,17 +146,37 @@ module _ {B L T : Type 0} where
       let same : y ≡ out = ap slot_in (sym (ap (λ (x : Me (Option (Envelope B)) (Known B L T)). x.1) is) ∙ had) in
       ap (λ (x : Me (Option (Envelope B)) (Known B L T)). x.0.looks) is' ∙ ap (λ (x : Me (Option (Envelope B)) (Known B L T)). x.0.looks) is ∙ adds ∙ (λ d. old ++ look_at (box d) (same d) ∷ [])
 
-  -- a pass after a take
-  pub took_pass : (t : TableId) (n : ℕ) (p q : Pass B L T) (w : ℕ) (y out : Option (Envelope B)) (m : Me (Option (Envelope B)) (Known B L T)) → IsPassAt t n p
-      → m ≡ (known (Out q.spare) (p.seat.me.0.looks ++ look_at w y ∷ []) (on_first (λ x. after_take x y) p.seat.me.0.views), (q.spare, y) ∷ []) → m.1 ≡ (q.spare, out) ∷ rest m.1
-      → q.seat.me ≡ (m.0, (q.spare, None) ∷ rest m.1) → q.seat.table_id ≡ t → q.node ≡ p.node → q.ticks ≡ p.ticks → IsPassAt t n q
-  took_pass t n p q w y out m is took had is' table node ticks =
+  -- a pass after a take that found a message
+  pub took_pass : (t : TableId) (n : ℕ) (p q : Pass B L T) (w : ℕ) (y out : Option (Envelope B)) (m m' : Me (Option (Envelope B)) (Known B L T)) → IsPassAt t n p → m ≡ p.seat.me
+      → m' ≡ (known (Out q.spare) (m.0.looks ++ look_at w y ∷ []) (on_first (λ x. after_take x y) m.0.views), (q.spare, y) ∷ []) → m'.1 ≡ (q.spare, out) ∷ rest m'.1
+      → q.seat.me ≡ (m'.0, (q.spare, None) ∷ rest m'.1) → q.seat.table_id ≡ t → q.node ≡ p.node → q.spare < 64 → q.ticks ≡ p.ticks → IsPassAt t n q × (IsOpen p → IsOpen q)
+  took_pass t n p q w y out m m' is kept took had is' table node slot ticks =
       let ls : List (Look B) = looks_of p ++ look_at w y ∷ [] in
       let v : View B L T = after_take (view_of p) y in
-      let empty = emptied q.spare y out ls v m q.seat.me (took_by is.out p.spare q.spare w (looks_of p) (view_of p) y p.seat.me m is.me took) had is' in
+      let empty = emptied q.spare y out ls v m' q.seat.me (took_by is.out p.spare q.spare w (looks_of p) (view_of p) y m m' (kept ∙ is.me) took) had is' in
       let same = take_keeps (view_of p) y in
-      let few = is.few in
-      is_pass t n q true ls v empty.0 table (same.0 ∙ is.node ∙ sym node) (subst (λ (i : ℕ). i < n) (sym node) is.near) (same.1 ∙ is.many) (ticks ∙ is.ticks ∙ ap length (sym same.2)) (omega arith)
+      let few = is.few in (
+        is_pass t n q true ls v empty.0 table (same.0 ∙ is.node ∙ sym node) (subst (λ (i : ℕ). i < n) (sym node) is.near) slot (same.1 ∙ is.many) (ticks ∙ is.ticks ∙ ap length (sym same.2)) (omega arith),
+        λ o. is_open q ls v o.0.0 empty.0 (same.3 ∙ o.0.1),
+      )
+
+  -- a pass after a post for which an empty slot came back
+  pub posted_pass : (t : TableId) (n : ℕ) (p q : Pass B L T) (w : ℕ) (e : Envelope B) (y : Option (Envelope B)) (m : Me (Option (Envelope B)) (Known B L T)) → IsPassAt t n p → IsOpen p
+      → m ≡ carrying p.spare (Some e) (looks_of p) (view_of p)
+      → q.seat.me ≡ (known (Out q.spare) (m.0.looks ++ look_at w y ∷ []) (on_first (λ x. after_post x (number_in m.1)) m.0.views), (q.spare, y) ∷ []) → y ≡ None
+      → q.seat.table_id ≡ t → q.node ≡ p.node → q.spare < 64 → q.ticks ≡ p.ticks → IsPassAt t n q × IsOpen q
+  posted_pass t n p q w e y m is was carried posts none table node slot ticks =
+      let ls : List (Look B) = looks_of p ++ look_at w None ∷ [] in
+      let v : View B L T = after_post (view_of p) e.number in
+      let held : q.seat.me ≡ holding true q.spare ls v =
+      posts
+      ∙ ap (λ (x : Me (Option (Envelope B)) (Known B L T)). (known (Out q.spare) (x.0.looks ++ look_at w y ∷ []) (on_first (λ z. after_post z (number_in x.1)) x.0.views), (q.spare, y) ∷ [])) carried
+      ∙ ap (λ (x : Option (Envelope B)). carrying q.spare x (looks_of p ++ look_at w x ∷ []) v) none
+      in
+      let few = is.few in (
+        is_pass t n q true ls v held table (is.node ∙ sym node) (subst (λ (i : ℕ). i < n) (sym node) is.near) slot is.many (ticks ∙ is.ticks) (omega arith),
+        is_open q ls v was.0.0 held was.0.1,
+      )
 
 -- each further word is the number of its slot
 pub words_more : (ws : List ℕ) (n : ℕ) → length ws ≡ n + 1 → ((a k : ℕ) → 0 < a → get_elem? ws a ≡ some k → a ≡ k + 1) → (a k : ℕ) → 0 < a → get_elem? (ws ++ n ∷ []) a ≡ some k → a ≡ k + 1

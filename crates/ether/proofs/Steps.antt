@@ -3,7 +3,9 @@ use Rattle.std.proofs.Common.{◌≡◌, ◌≢◌, ℕ, zero, suc, pred, ◌+�
 use mathlib.Core.Option.{some, some-injective, some-ne-none}
 use mathlib.Core.Option as maybe
 use lib.ListN.{get_elem?}
-use Rattle.std.proofs.lemmas.List.{get_or-set_same, get_or-set_other}
+use mathlib.Core.Logic.{dite}
+use native.Mathlib.Decide.{dec_lt}
+use Rattle.std.proofs.lemmas.List.{get_or-set_same, get_or-set_other, set-get_or}
 use Rattle.atomic_table.specs.Table.{Me, Step, keeps, takes, gives, chain, Allows}
 use Rattle.atomic_table.proofs.Lists.{set_here, set_else}
 use Rattle.raft_log.specs.Lists.{item}
@@ -13,14 +15,14 @@ use Rattle.world_views.specs.declared.envelope.Envelope.{Envelope}
 use Rattle.world_views.specs.Own.{EventOf, ViewOf}
 use Rattle.world_views.specs.Rule.{Stands, IsRule}
 use Rattle.world_views.specs.Views.{View, addressee, brings, opening_count, sender, total, upto}
-use Rattle.ether.specs.Rule.{Spare, Known, Look, MayLie, IsStowed, IsKept, known, look_at, mailbox_of}
+use Rattle.ether.specs.Rule.{Spare, Known, Look, MayLie, IsStowed, IsKept, known, look_at, mailbox_of, slot_of}
 use Rattle.ether.specs.Rule.Spare.{Home, Out}
-use Rattle.ether.specs.Plays.{IsFrom, IsOlder, after_event, after_opening, after_post, after_take, carried_out, carrying, counted, holding, on_view, opened, opens_seat, out_of, posted, taken, ticked}
-use Rattle.ether.proofs.Changing.{Changes, changed, still_stands}
+use Rattle.ether.specs.Plays.{IsFrom, IsOlder, after_event, after_opening, after_post, after_take, carried_out, carrying, counted, glanced, holding, on_view, opened, opens_seat, out_of, posted, taken, ticked}
+use Rattle.ether.proofs.Changing.{Changes, below_length, changed, still_stands}
 use Rattle.ether.proofs.Changes.{event_changes, opening_changes, take_changes, nothing_changes, post_changes, own_stands, own_sent}
 use Rattle.ether.proofs.Knowing.{knows_change}
 use Rattle.world_views.proofs.Tickets.{upto_all}
-use Rattle.ether.proofs.Stowing.{SeatOf, SlotOf, HomesOf, StateOf, stays, takes_out, swaps, mailbox-ne-seat}
+use Rattle.ether.proofs.Stowing.{SeatOf, SlotOf, HomesOf, StateOf, few_slots, stays, takes_out, slot_marked, slot_unmarked, swaps, mailbox-ne-seat}
 
 at_word : (l : List ℕ) (i : ℕ) → i < length l → get_elem? l i ≡ some (get_or l i 0)
 at_word [] i h = absurd (omega arith)
@@ -75,6 +77,12 @@ module _ (M : Machine) (n : ℕ) (s : StateOf M) (r : IsKept M n s) where
 
   word_0 : (x : ℕ) → slice_index (set s.words 0 x) 0 ≡ x
   word_0 x = let w = r.wide in get_or-set_same s.words 0 x 0 (omega arith)
+
+  slots_few : (k : ℕ) → k < length s.homes → k < 64
+  slots_few k low =
+      let few = few_slots n r.few in
+      let l = r.shelf in
+      omega arith
 
   whole : (v : ViewOf M) → get_elem? r.views v.node ≡ some v → upto (slice_index s.words 0) v.turns ≡ v.turns
   whole v at = upto_all (slice_index s.words 0) v.turns (λ j t x h. (r.rule.tickets.once v.node t v at (inr (j, x, h))).0)
@@ -211,17 +219,18 @@ module _ (M : Machine) where
   pub posts_by : (n slots id a : ℕ) (me : Me (SlotOf M) (SeatOf M)) (st : Step (SlotOf M)) (k : ℕ) (ls : List (Look M.Body)) (v : ViewOf M) (e : Envelope M.Body)
       → me ≡ carrying k (Some e) ls v → a ≡ mailbox_of n v.node (addressee e) → v.node < n → e.message.to ≡ suc (addressee e) → addressee e < n
       → e.message.from ≡ suc v.node → (v.honest ≡ true → item v.state.sent e.number ≡ Some e.message) → a < n * n + 1
-      → Allows (IsKept M n) slots id me a (λ _. k) (posted st me)
+      → Allows (IsKept M n) slots id me a (λ _. k + 64) (posted st me)
   posts_by n slots id a me st k ls v e is box_is near to near' from sent low =
-      subst (λ (m : Me (SlotOf M) (SeatOf M)). Allows (IsKept M n) slots id m a (λ _. k) (posted st m)) (sym is)
+      subst (λ (m : Me (SlotOf M) (SeatOf M)). Allows (IsKept M n) slots id m a (λ _. k + 64) (posted st m)) (sym is)
       (λ s r wide at _.
       let next : ℕ = slice_index s.words 0 in
       let w : ViewOf M = after_post v e.number in
-      let f : ℕ = slice_index s.words a in
+      let word : ℕ = slice_index s.words a in
+      let f : ℕ = slot_of word in
       let pos : 0 < a = omega arith in
       let wd = r.wide in
-      let there : get_elem? s.words a ≡ some f = at_word s.words a (omega arith) in
-      let lay = r.stowed.boxes a f pos there in
+      let there : get_elem? s.words a ≡ some word = at_word s.words a (omega arith) in
+      let lay = r.stowed.boxes a word pos there in
       let mine = r.stowed.spares id (known (Out k) ls (v ∷ [])) at in
       let at_v = known_at M n s r id (Out k) ls v at in
       let apart : f ≢ k = (λ d. mailbox-ne-seat a id (sym lay.0 ∙ ap r.stowed.owner d ∙ mine.0)) in
@@ -232,14 +241,16 @@ module _ (M : Machine) where
         known (Out f) ls' (w ∷ []),
         chain gives (takes f lay.1.0),
         (tt, set_else s.homes k f (some (Some e)) apart ∙ lay.1.1),
-        changed_kept M n s r id (Out k) ls v at (Out f) ls' w (set s.words a k) (set homes f maybe.none) next (get_or-set_other s.words a 0 k 0 (omega arith)) (length-set s.words a k)
+        changed_kept M n s r id (Out k) ls v at (Out f) ls' w (set s.words a (k + 64)) (set homes f maybe.none) next (get_or-set_other s.words a 0 (k + 64) 0 (omega arith)) (length-set s.words a (k + 64))
             (length-set homes f maybe.none ∙ length-set s.homes k _) c
-            (swaps M n next next r.views (set r.views v.node w) s r.stowed (still M n s r id (Out k) ls v at w next c) id a k f (Some e) homes (known (Out k) ls (v ∷ [])) (known (Out f) ls' (w ∷ [])) pos there at mine.0 refl
+            (swaps M n next next r.views (set r.views v.node w) s r.stowed (still M n s r id (Out k) ls v at w next c) id a k (k + 64) word (Some e) homes (known (Out k) ls (v ∷ [])) (known (Out f) ls' (w ∷ [])) pos there at mine.0 refl
             (set_here s.homes k (some (Some e)) mine.1) (λ i ne. set_else s.homes k i (some (Some e)) ne) (length-set s.homes k (some (Some e)))
-            (still M n s r id (Out k) ls v at w next c e stands, box_is ∙ ap (λ (z : ℕ). mailbox_of n z (addressee e)) (sym (ap pred from)), to, near')),
+            (still M n s r id (Out k) ls v at w next c e stands, box_is ∙ ap (λ (z : ℕ). mailbox_of n z (addressee e)) (sym (ap pred from)), to, near')
+            (slot_marked k (slots_few M n s r k mine.1)) (λ lt. absurd (omega arith))),
         (
           lay.1.0,
           refl,
+          lay.1.3,
           λ k' e' looks v' h.
               let same = carried_is k k' e e' ls looks v v' h in
               subst (λ (z : Envelope M.Body × ViewOf M). IsOlder z.1 z.0 lay.1.0) (λ d. (same.0 d, same.1 d)) (older_by n s r v e a at_v near near' box_is to lay.1.0 lay.1.2),
@@ -263,11 +274,12 @@ module _ (M : Machine) where
       → Allows (IsKept M n) slots id (holding true k ls v) a (λ _. k) (taken from st (holding true k ls v))
   takes_true n slots id a from st k ls v is near low s r wide at _ =
       let next : ℕ = slice_index s.words 0 in
-      let f : ℕ = slice_index s.words a in
+      let word : ℕ = slice_index s.words a in
+      let f : ℕ = slot_of word in
       let pos : 0 < a = omega arith in
       let wd = r.wide in
-      let there : get_elem? s.words a ≡ some f = at_word s.words a (omega arith) in
-      let lay = r.stowed.boxes a f pos there in
+      let there : get_elem? s.words a ≡ some word = at_word s.words a (omega arith) in
+      let lay = r.stowed.boxes a word pos there in
       let mine = r.stowed.spares id (known (Out k) ls (v ∷ [])) at in
       let y : SlotOf M = lay.1.0 in
       let ls' : List (Look M.Body) = ls ++ look_at st.word y ∷ [] in
@@ -281,8 +293,9 @@ module _ (M : Machine) where
         (tt, set_else s.homes k f (some None) apart ∙ lay.1.1),
         changed_kept M n s r id (Out k) ls v at (Out f) ls' w (set s.words a k) (set homes f maybe.none) next (get_or-set_other s.words a 0 k 0 (omega arith)) (length-set s.words a k)
             (length-set homes f maybe.none ∙ length-set s.homes k _) c
-            (swaps M n next next r.views (set r.views v.node w) s r.stowed (still M n s r id (Out k) ls v at w next c) id a k f None homes (known (Out k) ls (v ∷ [])) (known (Out f) ls' (w ∷ [])) pos there at mine.0 refl
-            (set_here s.homes k (some None) mine.1) (λ i ne. set_else s.homes k i (some None) ne) (length-set s.homes k (some None)) tt),
+            (swaps M n next next r.views (set r.views v.node w) s r.stowed (still M n s r id (Out k) ls v at w next c) id a k k word None homes (known (Out k) ls (v ∷ [])) (known (Out f) ls' (w ∷ [])) pos there at mine.0 refl
+            (set_here s.homes k (some None) mine.1) (λ i ne. set_else s.homes k i (some None) ne) (length-set s.homes k (some None)) tt
+            (slot_unmarked k (slots_few M n s r k mine.1)) (λ _. refl)),
         (y, refl, is_from n r.views next a from v.node near is y lay.1.2),
       )
 
@@ -290,11 +303,12 @@ module _ (M : Machine) where
       → Allows (IsKept M n) slots id (holding false k ls v) a (λ _. k) (taken from st (holding false k ls v))
   takes_false n slots id a from st k ls v is near low s r wide at _ =
       let next : ℕ = slice_index s.words 0 in
-      let f : ℕ = slice_index s.words a in
+      let word : ℕ = slice_index s.words a in
+      let f : ℕ = slot_of word in
       let pos : 0 < a = omega arith in
       let wd = r.wide in
-      let there : get_elem? s.words a ≡ some f = at_word s.words a (omega arith) in
-      let lay = r.stowed.boxes a f pos there in
+      let there : get_elem? s.words a ≡ some word = at_word s.words a (omega arith) in
+      let lay = r.stowed.boxes a word pos there in
       let mine = r.stowed.spares id (known (Home k) ls (v ∷ [])) at in
       let y : SlotOf M = lay.1.0 in
       let ls' : List (Look M.Body) = ls ++ look_at st.word y ∷ [] in
@@ -305,10 +319,40 @@ module _ (M : Machine) where
         takes f y,
         lay.1.1,
         changed_kept M n s r id (Home k) ls v at (Out f) ls' w (set s.words a k) (set s.homes f maybe.none) next (get_or-set_other s.words a 0 k 0 (omega arith)) (length-set s.words a k) (length-set s.homes f maybe.none) c
-            (swaps M n next next r.views (set r.views v.node w) s r.stowed (still M n s r id (Home k) ls v at w next c) id a k f None s.homes (known (Home k) ls (v ∷ [])) (known (Out f) ls' (w ∷ [])) pos there at mine.0 refl
-            mine.1 (λ i ne. refl) refl tt),
+            (swaps M n next next r.views (set r.views v.node w) s r.stowed (still M n s r id (Home k) ls v at w next c) id a k k word None s.homes (known (Home k) ls (v ∷ [])) (known (Out f) ls' (w ∷ [])) pos there at mine.0 refl
+            mine.1 (λ i ne. refl) refl tt
+            (slot_unmarked k (slots_few M n s r k (below_length s.homes k (some None) mine.1))) (λ _. refl)),
         (y, refl, is_from n r.views next a from v.node near is y lay.1.2),
       )
+
+  -- a seat that keeps one more look
+  keeps_look : (n id a : ℕ) (x : Spare) (ls ls' : List (Look M.Body)) (v : ViewOf M) (s : StateOf M) → IsKept M n s → get_elem? s.views id ≡ some (known x ls (v ∷ []))
+      → IsKept M n record { words = set s.words a (slice_index s.words a); homes = s.homes; views = set s.views id (known x ls' (v ∷ [])) }
+  keeps_look n id a x ls ls' v s r at =
+      let next : ℕ = slice_index s.words 0 in
+      let w : SeatOf M = known x ls' (v ∷ []) in
+      let same : set s.words 0 next ≡ set s.words a (slice_index s.words a) = set-get_or s.words 0 0 ∙ sym (set-get_or s.words a 0) in
+      let c : Changes M r.views next next v.node v v = nothing_changes M n r.views next v.node v (known_at M n s r id x ls v at) r.rule in
+      subst (λ (ws : List ℕ). IsKept M n record { words = ws; homes = s.homes; views = set s.views id w }) same
+      (changed_kept M n s r id x ls v at x ls' v (set s.words 0 next) s.homes next (word_0 M n s r next) (length-set s.words 0 next) refl c
+      (stays M n next next r.views (set r.views v.node v) s r.stowed (still M n s r id x ls v at v next c) id next (known x ls (v ∷ [])) w at refl))
+
+  -- a load of a mailbox's word
+  glances : (n slots id a : ℕ) (c : List (ℕ × SlotOf M)) (st : Step (SlotOf M)) (x : Spare) (ls : List (Look M.Body)) (v : ViewOf M)
+      → Allows (IsKept M n) slots id (known x ls (v ∷ []), c) a (λ w. w) (glanced st (known x ls (v ∷ []), c))
+  glances n slots id a c st x ls v s r wide at _ =
+      let f : ℕ = slice_index s.words a in
+      let ls' : List (Look M.Body) = ls ++ look_at st.word None ∷ [] in
+      dite (dec_lt f 64)
+      (λ (low : f < 64). (known x ls' (v ∷ []), keeps, tt, keeps_look n id a x ls ls' v s r at, ((λ _. refl), (λ (high : 64 ≤ f). absurd (omega arith)))))
+      (λ high. (known x ls (v ∷ []), keeps, tt, keeps_look n id a x ls ls v s r at, ((λ (low : f < 64). absurd (high low)), (λ _. refl))))
+
+  pub glances_by : (n slots id a : ℕ) (me : Me (SlotOf M) (SeatOf M)) (st : Step (SlotOf M)) (out : Bool) (k : ℕ) (ls : List (Look M.Body)) (v : ViewOf M) → me ≡ holding out k ls v
+      → Allows (IsKept M n) slots id me a (λ w. w) (glanced st me)
+  glances_by n slots id a me st true k ls v is =
+      subst (λ (m : Me (SlotOf M) (SeatOf M)). Allows (IsKept M n) slots id m a (λ w. w) (glanced st m)) (sym is) (glances n slots id a ((k, None) ∷ []) st (Out k) ls v)
+  glances_by n slots id a me st false k ls v is =
+      subst (λ (m : Me (SlotOf M) (SeatOf M)). Allows (IsKept M n) slots id m a (λ w. w) (glanced st m)) (sym is) (glances n slots id a [] st (Home k) ls v)
 
   -- a take, with the spare out or at home
   pub takes_by : (n slots id a from : ℕ) (me : Me (SlotOf M) (SeatOf M)) (st : Step (SlotOf M)) (out : Bool) (k : ℕ) (ls : List (Look M.Body)) (v : ViewOf M)

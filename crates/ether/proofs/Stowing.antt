@@ -1,5 +1,5 @@
 -- The slots: who has which, after each kind of step.
-use Rattle.std.proofs.Common.{◌≡◌, ◌≢◌, ℕ, ◌<◌, ⊎_elim, Bool, cond, eqb, List, length, set, Option, Some, None, refl, sym, ap, ◌∙◌, subst, arith, eq-eqb, ne_eqb, length-set}
+use Rattle.std.proofs.Common.{◌≡◌, ◌≢◌, ℕ, ◌+◌, ◌*◌, ◌<◌, ◌≤◌, ⊎_elim, Bool, cond, eqb, List, length, set, Option, Some, None, refl, sym, ap, ◌∙◌, subst, arith, eq-eqb, ne_eqb, length-set, mul-le-mul_right}
 use mathlib.Core.Option.{some, some-injective, some-ne-none}
 use mathlib.Core.Option as maybe
 use lib.ListN.{get_elem?}
@@ -9,7 +9,7 @@ use Rattle.raft_node.specs.Machine.{Machine}
 use Rattle.world_views.specs.declared.envelope.Envelope.{Envelope}
 use Rattle.world_views.specs.Own.{ViewOf}
 use Rattle.world_views.specs.Rule.{Stands}
-use Rattle.ether.specs.Rule.{Spare, Known, Owner, Holds, MayLie, IsStowed}
+use Rattle.ether.specs.Rule.{Spare, Known, Owner, Holds, IsMarked, MayLie, IsStowed, slot_of}
 use Rattle.ether.specs.Rule.Spare.{Bank, Home, Out, Gone}
 use Rattle.ether.specs.Rule.Owner.{mailbox, seat}
 use Rattle.ether.proofs.Changing.{below_length}
@@ -22,6 +22,20 @@ seat-injective a b e = cc
 
 pub mailbox-injective : (a b : ℕ) → mailbox a ≡ mailbox b → a ≡ b
 mailbox-injective a b e = cc
+
+-- there are fewer slots than the mark
+pub few_slots : (n : ℕ) → n < 8 → n * n + n < 64
+few_slots n few =
+    let le : n ≤ 7 = omega arith in
+    let m : n * n ≤ 7 * n = mul-le-mul_right n le in
+    omega arith
+
+-- so a slot's number as a word, with the mark or with none, is of this slot
+pub slot_unmarked : (k : ℕ) → k < 64 → k ≡ slot_of k
+slot_unmarked k low = omega arith
+
+pub slot_marked : (k : ℕ) → k < 64 → k ≡ slot_of (k + 64)
+slot_marked k low = omega arith
 
 -- a seat's slots are as they were
 pub holds_same : {B : Type 0} (owner owner' : ℕ → Owner) (homes homes' : List (maybe.Option (Option (Envelope B)))) (id : ℕ) → length homes' ≡ length homes
@@ -68,7 +82,7 @@ module _ (M : Machine) (n next next' : ℕ) (vs vs' : List (ViewOf M)) (s : Stat
         owner = r.owner;
         boxes = λ a k pos h.
             let o = r.boxes a k pos (sym (set_else s.words 0 a x (λ z. omega arith)) ∙ h) in
-            (o.0, (o.1.0, o.1.1, lies_still M n vs vs' next next' a still o.1.0 o.1.2));
+            (o.0, (o.1.0, o.1.1, lies_still M n vs vs' next next' a still o.1.0 o.1.2, o.1.3));
         spares = λ j u h. ⊎_elim
             (λ (here : (j ≡ id) × (w ≡ u)). subst (λ (i : ℕ). Holds r.owner s.homes i u.spare) (sym here.0) (subst (Holds r.owner s.homes id) (sym same ∙ ap (λ (z : SeatOf M). z.spare) here.1) (r.spares id v at)))
             (λ (there : (j ≢ id) × (get_elem? s.views j ≡ some u)). r.spares j u there.1) (at_set s.views id j w u h);
@@ -85,7 +99,7 @@ module _ (M : Machine) (n next next' : ℕ) (vs vs' : List (ViewOf M)) (s : Stat
         owner = r.owner;
         boxes = λ a i pos h.
             let o = r.boxes a i pos (sym (set_else s.words 0 a x (λ z. omega arith)) ∙ h) in
-            (o.0, (o.1.0, set_else s.homes k i maybe.none (λ e. mailbox-ne-seat a id (sym o.0 ∙ ap r.owner e ∙ mine.0)) ∙ o.1.1, lies_still M n vs vs' next next' a still o.1.0 o.1.2));
+            (o.0, (o.1.0, set_else s.homes k (slot_of i) maybe.none (λ e. mailbox-ne-seat a id (sym o.0 ∙ ap r.owner e ∙ mine.0)) ∙ o.1.1, lies_still M n vs vs' next next' a still o.1.0 o.1.2, o.1.3));
         spares = λ j u h. ⊎_elim
             (λ (here : (j ≡ id) × (w ≡ u)). subst (λ (i : ℕ). Holds r.owner (set s.homes k maybe.none) i u.spare) (sym here.0)
             (subst (Holds r.owner (set s.homes k maybe.none) id) (sym is ∙ ap (λ (z : SeatOf M). z.spare) here.1) (mine.0, omega arith)))
@@ -94,12 +108,13 @@ module _ (M : Machine) (n next next' : ℕ) (vs vs' : List (ViewOf M)) (s : Stat
             (at_set s.views id j w u h);
       }
 
-  -- the seat's slot k, with y in it, is swapped for the slot f that lies in mailbox a
-  pub swaps : (id a k f : ℕ) (y : SlotOf M) (homes : HomesOf M) (v w : SeatOf M) → 0 < a → get_elem? s.words a ≡ some f → get_elem? s.views id ≡ some v → r.owner k ≡ seat id → w.spare ≡ Out f
+  -- the seat's slot k, with y in it, is swapped by the word x for the slot of the word that mailbox a has
+  pub swaps : (id a k x word : ℕ) (y : SlotOf M) (homes : HomesOf M) (v w : SeatOf M) → 0 < a → get_elem? s.words a ≡ some word → get_elem? s.views id ≡ some v → r.owner k ≡ seat id → w.spare ≡ Out (slot_of word)
       → get_elem? homes k ≡ some (some y) → ((i : ℕ) → i ≢ k → get_elem? homes i ≡ get_elem? s.homes i) → length homes ≡ length s.homes → MayLie M n vs' next' a y
-      → IsStowed M n next' vs' record { words = set s.words a k; homes = set homes f maybe.none; views = set s.views id w }
-  swaps id a k f y homes v w pos there at mine is here others long lies =
-      let lay = r.boxes a f pos there in
+      → k ≡ slot_of x → IsMarked x y → IsStowed M n next' vs' record { words = set s.words a x; homes = set homes (slot_of word) maybe.none; views = set s.views id w }
+  swaps id a k x word y homes v w pos there at mine is here others long lies of mark =
+      let f : ℕ = slot_of word in
+      let lay = r.boxes a word pos there in
       let apart : k ≢ f = (λ e. mailbox-ne-seat a id (sym lay.0 ∙ ap r.owner (sym e) ∙ mine)) in
       let owner' : ℕ → Owner = λ i. cond (eqb i f) (seat id) (cond (eqb i k) (mailbox a) (r.owner i)) in
       let at_f : owner' f ≡ seat id = ap (λ (b : Bool). cond b (seat id) (cond (eqb f k) (mailbox a) (r.owner f))) (eq-eqb f f refl) in
@@ -112,14 +127,16 @@ module _ (M : Machine) (n next next' : ℕ) (vs vs' : List (ViewOf M)) (s : Stat
       record {
         owner = owner';
         boxes = λ b i up h. ⊎_elim
-            (λ (same : (b ≡ a) × (k ≡ i)). subst (λ (z : ℕ × ℕ). (owner' z.1 ≡ mailbox z.0) × ((x : SlotOf M) × (get_elem? (set homes f maybe.none) z.1 ≡ some (some x)) × MayLie M n vs' next' z.0 x)) (λ d. (sym same.0 d, same.1 d))
-            (at_k, (y, set_else homes f k maybe.none apart ∙ here, lies)))
+            (λ (same : (b ≡ a) × (x ≡ i)). subst (λ (z : ℕ × ℕ). (owner' (slot_of z.1) ≡ mailbox z.0) × ((u : SlotOf M) × (get_elem? (set homes f maybe.none) (slot_of z.1) ≡ some (some u)) × MayLie M n vs' next' z.0 u × IsMarked z.1 u)) (λ d. (sym same.0 d, same.1 d))
+            (subst (λ (j : ℕ). (owner' j ≡ mailbox a) × ((u : SlotOf M) × (get_elem? (set homes f maybe.none) j ≡ some (some u)) × MayLie M n vs' next' a u × IsMarked x u)) of
+            (at_k, (y, set_else homes f k maybe.none apart ∙ here, lies, mark))))
             (λ (other : (b ≢ a) × (get_elem? s.words b ≡ some i)).
             let o = r.boxes b i up other.1 in
-            let nf : i ≢ f = (λ e. other.0 (mailbox-injective b a (sym o.0 ∙ ap r.owner e ∙ lay.0))) in
-            let nk : i ≢ k = (λ e. mailbox-ne-seat b id (sym o.0 ∙ ap r.owner e ∙ mine)) in
-            (at_other i nf nk ∙ o.0, (o.1.0, set_else homes f i maybe.none nf ∙ others i nk ∙ o.1.1, lies_still M n vs vs' next next' b still o.1.0 o.1.2)))
-            (at_set s.words a b k i h);
+            let j : ℕ = slot_of i in
+            let nf : j ≢ f = (λ e. other.0 (mailbox-injective b a (sym o.0 ∙ ap r.owner e ∙ lay.0))) in
+            let nk : j ≢ k = (λ e. mailbox-ne-seat b id (sym o.0 ∙ ap r.owner e ∙ mine)) in
+            (at_other j nf nk ∙ o.0, (o.1.0, set_else homes f j maybe.none nf ∙ others j nk ∙ o.1.1, lies_still M n vs vs' next next' b still o.1.0 o.1.2, o.1.3)))
+            (at_set s.words a b x i h);
         spares = λ j u h. ⊎_elim
             (λ (same : (j ≡ id) × (w ≡ u)). subst (λ (i : ℕ). Holds owner' (set homes f maybe.none) i u.spare) (sym same.0)
             (subst (Holds owner' (set homes f maybe.none) id) (sym is ∙ ap (λ (z : SeatOf M). z.spare) same.1) (at_f, omega arith)))

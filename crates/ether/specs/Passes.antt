@@ -11,7 +11,7 @@ use Rattle.world_views.specs.Rule.{IsRule}
 use Rattle.world_views.specs.Views.{IsAt, View, IsOpened, brings}
 use Rattle.ether.specs.declared.pass.Pass.{Pass}
 use Rattle.ether.specs.Plays.{holding}
-use Rattle.ether.specs.Rule.{Look, blank}
+use Rattle.ether.specs.Rule.{Look, blank, full}
 
 -- an ether: its table, how many nodes it is for, and the setup of the machine that each hosts
 pub record EtherParts (Setup : Type 0) : Type 0 where
@@ -32,13 +32,14 @@ module _ {B L T : Type 0} where
   abbrev pub looks_of : Pass B L T → List (Look B)
   looks_of p = p.seat.me.0.looks
 
-  -- A pass of the ether with this table, for so many nodes. Its spare slot is at home until the opening, or a take before it.
+  -- A pass of the ether with this table, for so many nodes. Its spare slot is at home until the opening, or a take before it that finds a message.
   pub record IsPassAt (table : TableId) (size : ℕ) (p : Pass B L T) : Type 0 where
     pub of_table : p.seat.table_id ≡ table
     pub out : Bool
     pub me : p.seat.me ≡ holding out p.spare (looks_of p) (view_of p)
     pub node : (view_of p).node ≡ p.node
     pub near : p.node < size
+    pub slot : p.spare < full
     pub many : (view_of p).size ≡ size
     pub ticks : p.ticks ≡ length (view_of p).turns
     pub few : p.ticks ≤ 2 ^ 60

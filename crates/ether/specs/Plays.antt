@@ -1,5 +1,5 @@
 -- What each kind of step tells: of the step, the seat before, the number found and the seat after.
-use Rattle.std.specs.Prelude.{◌≡◌, ℕ, suc, ◌+◌, Bool, true, false, List, [], ◌∷◌, ◌++◌, take, drop, Option, Some, None}
+use Rattle.std.specs.Prelude.{◌≡◌, ℕ, suc, ◌+◌, ◌<◌, ◌≤◌, Bool, true, false, List, [], ◌∷◌, ◌++◌, take, drop, Option, Some, None}
 use Rattle.atomic_table.specs.Table.{Me, Step}
 use Rattle.raft_log.specs.Lists.{item}
 use Rattle.raft_log.specs.Node.{Node}
@@ -8,7 +8,7 @@ use Rattle.world_views.specs.declared.envelope.Envelope.{Envelope}
 use Rattle.world_views.specs.Own.{EventOf, ViewOf, own_state}
 use Rattle.world_views.specs.Rule.{IsRule}
 use Rattle.world_views.specs.Views.{IsAt, View}
-use Rattle.ether.specs.Rule.{Spare, Known, Look, known, look_at}
+use Rattle.ether.specs.Rule.{Spare, Known, Look, IsMarked, full, known, look_at, slot_of}
 use Rattle.ether.specs.Rule.Spare.{Bank, Home, Out, Gone}
 
 module _ {B L T : Type 0} where
@@ -113,18 +113,23 @@ module _ {B L T : Type 0} where
   abbrev pub counted : (ℕ → Known B L T → Known B L T) → Tells B L T
   counted f st m r n = n ≡ (f r m.0, m.1)
 
-  -- The slot that was found is the new spare. What lies in it is older than what was posted; the look is kept, and with it what was found.
+  -- The slot of the word that was found is the new spare, empty where the word has no mark. What lies in it is older than what was posted; the look is kept, and with it what was found.
   abbrev pub posted : Tells B L T
   posted st m r n =
       (y : Option (Envelope B))
-      × (n ≡ (known (Out r) (m.0.looks ++ look_at st.word y ∷ []) (on_first (λ v. after_post v (number_in m.1)) m.0.views), (r, y) ∷ []))
+      × (n ≡ (known (Out (slot_of r)) (m.0.looks ++ look_at st.word y ∷ []) (on_first (λ v. after_post v (number_in m.1)) m.0.views), (slot_of r, y) ∷ []))
+      × IsMarked r y
       × ((k : ℕ) (e : Envelope B) (looks : List (Look B)) (v : View B L T) → m ≡ carrying k (Some e) looks v → IsOlder v e y)
 
   -- what lay in the mailbox is heard, and is from this node; the look is kept, and with it what was found
   abbrev pub taken : ℕ → Tells B L T
   taken from st m r n =
       (y : Option (Envelope B))
-      × (n ≡ (known (Out r) (m.0.looks ++ look_at st.word y ∷ []) (on_first (λ v. after_take v y) m.0.views), (r, y) ∷ [])) × IsFrom from y
+      × (n ≡ (known (Out (slot_of r)) (m.0.looks ++ look_at st.word y ∷ []) (on_first (λ v. after_take v y) m.0.views), (slot_of r, y) ∷ [])) × IsFrom from y
+
+  -- where the word that was found has no mark, nothing lay in the mailbox, and this look is kept; else nothing changes
+  abbrev pub glanced : Tells B L T
+  glanced st m r n = (r < full → n ≡ (known m.0.spare (m.0.looks ++ look_at st.word None ∷ []) m.0.views, m.1)) × (full ≤ r → n ≡ m)
 
   -- nothing changes, and this is learnt of what the seat knows
   abbrev pub met : (Known B L T → Type 0) → Tells B L T

@@ -1,6 +1,6 @@
--- The rule of an ether's table. Word 0 is the next ticket. Every other word is a mailbox: the number of the slot that lies in it.
+-- The rule of an ether's table. Word 0 is the next ticket. Every other word is a mailbox: the number of the slot that lies in it, with a mark where a message is in that slot.
 -- Each node's seat has one slot that lies in no mailbox, its spare, which a post or a take swaps for the one that lies there.
-use Rattle.std.specs.Prelude.{◌≡◌, ℕ, suc, ◌+◌, ◌*◌, ◌<◌, ◌≤◌, true, List, [], ◌∷◌, length, slice_index, Option, Some, None}
+use Rattle.std.specs.Prelude.{◌≡◌, ℕ, suc, ◌+◌, ◌*◌, ◌%◌, ◌<◌, ◌≤◌, true, List, [], ◌∷◌, length, slice_index, Option, Some, None}
 use mathlib.Core.Option.{some}
 use mathlib.Core.Option as maybe
 use lib.ListN.{get_elem?}
@@ -12,7 +12,7 @@ use Rattle.world_views.specs.Own.{ViewOf}
 use Rattle.world_views.specs.Rule.{Stands, IsRule}
 use Rattle.world_views.specs.Views.{View, sender, addressee}
 
--- a bank has all the slots from this one on, to deal; a spare is at home until the first swap or the opening takes it out
+-- a bank has all the slots from this one on, to deal; a spare is at home until the opening or the first swap takes it out
 pub data Spare : Type 0 where
   Bank : ℕ → Spare
   Home : ℕ → Spare
@@ -38,6 +38,18 @@ pub data Owner : Type 0 where
 -- the word of the mailbox from one node to another, of n nodes
 abbrev pub mailbox_of : ℕ → ℕ → ℕ → ℕ
 mailbox_of n from to = from * n + to + 1
+
+-- what a mailbox's word is over its slot's number, where a message is in the slot; there are fewer slots
+abbrev pub full : ℕ
+full = 64
+
+-- the slot that lies in the mailbox with this word
+abbrev pub slot_of : ℕ → ℕ
+slot_of w = w % full
+
+-- a word with no mark tells that the slot is empty
+abbrev pub IsMarked : {B : Type 0} → ℕ → Option (Envelope B) → Type 0
+IsMarked w y = w < full → y ≡ None
 
 abbrev pub look_at : {B : Type 0} → ℕ → Option (Envelope B) → Look B
 look_at word found = record { word = word; found = found }
@@ -88,8 +100,9 @@ module _ (M : Machine) where
   -- the slots: each has one owner, and what lies in a mailbox may lie there
   pub record IsStowed (n next : ℕ) (vs : List (ViewOf M)) (s : State (Option (Envelope M.Body)) (Known M.Body M.Line M.Target)) : Type 0 where
     pub owner : ℕ → Owner
-    pub boxes : (a k : ℕ) → 0 < a → get_elem? s.words a ≡ some k
-        → (owner k ≡ mailbox a) × ((y : Option (Envelope M.Body)) × (get_elem? s.homes k ≡ some (some y)) × MayLie n vs next a y)
+    pub boxes : (a w : ℕ) → 0 < a → get_elem? s.words a ≡ some w
+        → (owner (slot_of w) ≡ mailbox a)
+        × ((y : Option (Envelope M.Body)) × (get_elem? s.homes (slot_of w) ≡ some (some y)) × MayLie n vs next a y × IsMarked w y)
     pub spares : (id : ℕ) (v : Known M.Body M.Line M.Target) → get_elem? s.views id ≡ some v → Holds owner s.homes id v.spare
 
   -- the rule: the views of all nodes meet the three clauses, each seat's views are of these, and the slots are stowed

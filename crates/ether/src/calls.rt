@@ -13,8 +13,8 @@ ghost use Rattle.world_views.specs.Views.{addressee};
 use crate::ether::Ether;
 use crate::fault::EtherFault;
 use crate::known::Known;
-use crate::pass::{MOST_TICKS, Pass};
-use crate::plays::{Opens, Posts, Step, Takes, Ticks};
+use crate::pass::{FULL, MOST_TICKS, Pass};
+use crate::plays::{Glances, Opens, Posts, Step, Takes, Ticks};
 use machine_laws::Hosted;
 use raft_node::{Described, Node};
 use stable_store::Stable;
@@ -121,13 +121,17 @@ impl<M: Hosted> Ether<M> {
         let to = envelope.message.to as u64 - 1;
         let word = (pass.node * self.group.size.value() as u64 + to + 1) as usize;
         let _none = shared.exchange(&mut pass.seat, pass.spare as usize, Some(envelope));
-        let older = shared.swap::<Posts>(&mut pass.seat, word, pass.spare);
+        let found = shared.swap::<Posts>(&mut pass.seat, word, pass.spare + FULL);
+        let older = found % FULL;
         pass.spare = older;
+        if found < FULL {
+            return None;
+        }
         shared.exchange(&mut pass.seat, older as usize, None)
     }
 
     /// Takes what lies in the mailbox from the node at this place, from 0 on; nothing where nothing
-    /// lies there. It looks once.
+    /// lies there. It looks once: by one load, and where a message lies there by one swap.
     pub fn take(
         &self,
         pass: &mut Pass<M::Command, M::Line, M::Target>,
@@ -162,8 +166,11 @@ impl<M: Hosted> Ether<M> {
     {
         let shared = &self.table.shared;
         let word = (from * self.group.size.value() as u64 + pass.node + 1) as usize;
+        if shared.load::<Glances>(&mut pass.seat, word) < FULL {
+            return None;
+        }
         let found = shared.swap::<Takes<W>>(&mut pass.seat, word, pass.spare);
-        pass.spare = found;
-        shared.exchange(&mut pass.seat, found as usize, None)
+        pass.spare = found % FULL;
+        shared.exchange(&mut pass.seat, pass.spare as usize, None)
     }
 }

@@ -19,8 +19,8 @@ use wire_bytes::Copied;
 use world_views::Envelope;
 
 /// What carries messages between the nodes of one process, and gives each event its ticket. It has no
-/// lock: a message is put or taken by one swap of one word, a ticket is drawn by one addition to one
-/// word.
+/// lock: a message is put by one swap of one word, and taken by a load and a swap of one word, a ticket
+/// is drawn by one addition to one word. A take that finds nothing is one load, and changes no word.
 #[derive(Drop)]
 pub struct Ether<M: Hosted> {
     pub(crate) table: Table<

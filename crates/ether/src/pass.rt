@@ -9,6 +9,10 @@ use world_views::Envelope;
 /// At most so many ticks a pass.
 pub(crate) const MOST_TICKS: u64 = 1 << 60;
 
+/// A mailbox's word is over its slot's number by this, where a message is in the slot. There are fewer
+/// slots.
+pub(crate) const FULL: u64 = 64;
+
 /// One node's right to step at an ether. It holds nothing of the node but its place.
 #[derive(Drop)]
 pub struct Pass<B: Wire, L, T> {

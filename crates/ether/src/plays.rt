@@ -1,5 +1,5 @@
 //! What each kind of step tells. These types are for the proofs alone.
-ghost use Rattle.ether.specs.Plays.{both, bank_after, counted, dealt, first_part, met, opens_seat, posted, rest_part, taken};
+ghost use Rattle.ether.specs.Plays.{both, bank_after, counted, dealt, first_part, glanced, met, opens_seat, posted, rest_part, taken};
 ghost use Rattle.ether.specs.Rule.{spent};
 
 use crate::known::Known;
@@ -52,6 +52,13 @@ pub(crate) struct Posts;
 
 impl<B: Wire, L, T> Play<Option<Envelope<B>>, Known<B, L, T>> for Posts {
     ghost then = { posted };
+}
+
+/// A load that tells whether a message lies in a mailbox.
+pub(crate) struct Glances;
+
+impl<B: Wire, L, T> Play<Option<Envelope<B>>, Known<B, L, T>> for Glances {
+    ghost then = { glanced };
 }
 
 pub(crate) struct Takes<W> {

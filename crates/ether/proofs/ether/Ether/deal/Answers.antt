@@ -1,11 +1,12 @@
-use Rattle.std.proofs.Common.{rules, ◌≡◌, ℕ, ◌+◌, ◌-◌, ◌*◌, false, [], length, refl, sym, ap, ◌∙◌, subst, arith}
+use Rattle.std.proofs.Common.{rules, ◌≡◌, ℕ, ◌+◌, ◌-◌, ◌*◌, ◌<◌, false, [], length, refl, sym, ap, ◌∙◌, subst, arith}
 use Rattle.ether.specs.declared.pass.Pass.{Pass}
 use Rattle.ether.specs.declared.rule.Group.{Group}
 use Rattle.ether.specs.Passes.{AreNewAt, EtherParts}
 use Rattle.ether.specs.Plays.{holding}
 use Rattle.ether.specs.Rule.{blank, blanks}
-use Rattle.ether.proofs.Cutting.{deals_as}
+use Rattle.ether.proofs.Cutting.{deals_as, few_of}
 use Rattle.ether.proofs.Passes.{new_pass, one_more, dealt_seat, dealt_rest}
+use Rattle.ether.proofs.Stowing.{few_slots}
 use Rattle.ether.proofs.ether.Ether.deal.Goals as goal
 
 pub split_seat-rest-requires : goal.split_seat-rest-requires
@@ -24,13 +25,14 @@ loop-node-preserved g c =
     let inv = c.loop-node.invariant in
     let lt = c.loop-node-test.true in
     let t = c.args.self.now.table in
+    let few = few_slots n (subst (λ (m : ℕ). m < 8) (sym c.value-count.ensures.value) (few_of _ c.value-count.ensures.limits)) in
     let new : Pass g.row.M-Command.Denot g.row.M-Line.Denot g.row.M-Target.Denot = record { seat = c.split_seat-rest.new.seat; node = i; spare = n * n + i; ticks = 0 } in (
       search rules,
       dealt_rest n i c.loop-node.dealer.me c.split_seat-rest.result.me lt inv.1 c.split_seat-rest.ensures.4,
       search rules,
       subst (AreNewAt t n) (sym c.in_ok-push.ensures.items) (one_more t n c.loop-node.passes.items new inv.3
           (new_pass t n new (length c.loop-node.passes.items)
-          (dealt_seat n i c.loop-node.dealer.me c.split_seat-rest.new.seat.me lt inv.1 c.split_seat-rest.ensures.2 ∙ ap (λ (x : ℕ). holding false (n * n + i) [] (blank n x)) (sym inv.2)) (search rules) inv.2 lt refl)),
+          (dealt_seat n i c.loop-node.dealer.me c.split_seat-rest.new.seat.me lt inv.1 c.split_seat-rest.ensures.2 ∙ ap (λ (x : ℕ). holding false (n * n + i) [] (blank n x)) (sym inv.2)) (search rules) inv.2 lt (omega arith) refl)),
     )
 
 pub returns : goal.returns

@@ -29,7 +29,7 @@ returns-clause-open g c =
     let now = record c.args.pass.now { seat = c.fetch_add.new.seat } in
     let v = after_opening (view_of c.args.pass.now) c.fetch_add.result (g.S.Stable.condition c.args.node.now.store).honest (seen c.args.node.now.state []) in (
       (
-        is_pass _ _ now true (looks_of c.args.pass.now) v (held g c) (search rules) is.node is.near is.many is.ticks is.few,
+        is_pass _ _ now true (looks_of c.args.pass.now) v (held g c) (search rules) is.node is.near is.slot is.many is.ticks is.few,
         is_open now (looks_of c.args.pass.now) v (c.fetch_add.result, seen c.args.node.now.state []) (held g c) refl,
       ),
       refl,

@@ -1,14 +1,14 @@
-use Rattle.std.proofs.Common.{rules, ◌≡◌, ◌≤◌, ◌-◌, suc, arith, ℕ, ◌+◌, ◌*◌, ◌<◌, sym, ap, ◌∙◌, subst}
+use Rattle.std.proofs.Common.{rules, ◌≡◌, ◌≤◌, ◌-◌, suc, arith, ℕ, ◌+◌, ◌*◌, ◌%◌, ◌<◌, refl, sym, ap, ◌∙◌, subst}
 use Rattle.ether.specs.declared.rule.Group.{Group}
 use Rattle.ether.specs.Passes.{EtherParts, looks_of, view_of}
 use Rattle.ether.specs.Rule.{mailbox_of}
 use Rattle.world_views.specs.Views.{addressee}
-use Rattle.ether.proofs.Passes.{looked, one_behind, posted_older, slot_first}
+use Rattle.ether.proofs.Passes.{looked, one_behind, posted_older, posted_pass, slot_first}
 use Rattle.ether.proofs.Steps.{at_step, mailbox_low, posts_by}
 use Rattle.ether.proofs.ether.Ether.post.Goals as goal
 
-pub swap-older-requires : goal.swap-older-requires
-swap-older-requires g c =
+pub swap-found-requires : goal.swap-found-requires
+swap-found-requires g c =
     let is = c.requires.pass.0 in
     let pass = c.args.pass.now in
     let e = c.args.envelope in
@@ -34,13 +34,13 @@ swap-older-requires g c =
     )
 
 pub exchange-requires : goal.exchange-requires
-exchange-requires g c = (search rules, (c.swap-older.ensures.2.0, slot_first _ _ _ c.swap-older.new.seat.me c.swap-older.ensures.2.1))
+exchange-requires g c = (search rules, (c.swap-found.ensures.2.0, slot_first _ _ _ c.swap-found.new.seat.me c.swap-found.ensures.2.1))
 
 pub returns-clause-older : goal.returns-clause-older
 returns-clause-older g c =
     let pass = c.args.pass.now in
-    posted_older pass.spare (looks_of pass) _ (view_of pass) c.args.envelope c.swap-older.result c.swap-older.ensures.2.0 c.exchange.result c.exchange-none.new.seat.me c.swap-older.new.seat.me
-    (search rules) c.swap-older.ensures.2.1 c.swap-older.ensures.2.2 c.exchange.ensures.2
+    posted_older pass.spare (looks_of pass) _ (view_of pass) c.args.envelope (c.swap-found.result % 64) c.swap-found.ensures.2.0 c.exchange.result c.exchange-none.new.seat.me c.swap-found.new.seat.me
+    (search rules) c.swap-found.ensures.2.1 c.swap-found.ensures.2.3 c.exchange.ensures.2
 
 pub returns-clause-looks : goal.returns-clause-looks
 returns-clause-looks g c =
@@ -53,5 +53,13 @@ returns-clause-looks g c =
     let box : pass.node * n + (to - 1) + 1 ≡ mailbox_of c.args.self.now.size pass.node (addressee c.args.envelope) =
     (λ i. pass.node * size_is i + place i + 1)
     in
-    looked (record pass { seat = c.exchange.new.seat; spare = c.swap-older.result }) (looks_of pass) c.swap-older.result (pass.node * n + (to - 1) + 1) _ c.swap-older.ensures.2.0 c.exchange.result _ c.swap-older.new.seat.me _
-    c.swap-older.ensures.2.1 (search rules) box c.exchange.ensures.2 c.exchange.ensures.3
+    looked (record pass { seat = c.exchange.new.seat; spare = c.swap-found.result % 64 }) (looks_of pass) (c.swap-found.result % 64) (pass.node * n + (to - 1) + 1) _ c.swap-found.ensures.2.0 c.exchange.result _ c.swap-found.new.seat.me _
+    c.swap-found.ensures.2.1 (search rules) box c.exchange.ensures.2 c.exchange.ensures.3
+
+pub returns-then-found-lt-FULL-clause-open : goal.returns-then-found-lt-FULL-clause-open
+returns-then-found-lt-FULL-clause-open g c =
+    let pass = c.args.pass.now in
+    let none = c.swap-found.ensures.2.2 c.if-found-lt-FULL.true in
+    let now = record pass { seat = c.swap-found.new.seat; spare = c.swap-found.result % 64 } in
+    let posts = posted_pass _ _ pass now _ c.args.envelope c.swap-found.ensures.2.0 c.exchange-none.new.seat.me c.requires.pass.0 c.requires.pass.1 (search rules) c.swap-found.ensures.2.1 none (search rules) refl (omega arith) refl in
+    ((posts.0, posts.1), refl)
