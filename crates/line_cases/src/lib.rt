@@ -5,6 +5,10 @@
 #[cfg(test)]
 mod lines;
 #[cfg(test)]
+mod made;
+#[cfg(test)]
+mod names;
+#[cfg(test)]
 mod session_calls;
 #[cfg(test)]
 mod sessions;

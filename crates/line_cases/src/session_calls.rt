@@ -1,8 +1,9 @@
 //! Sessions call by call.
-use crate::sessions::{Told, new_uplink, tell_inputs};
+use crate::sessions::{Told, feed, new_uplink, tell_inputs};
 use std::alloc::Global;
 use std::process::Abort;
 use std::test::Fail;
+use uplink::Uplink;
 
 /// A call, with what it gives as words and what is written.
 #[derive(Clone, Copy)]
@@ -11,27 +12,54 @@ enum Call {
     End(&'static str),
 }
 
-/// Makes the calls, and compares what each brings.
-fn compare(rt: &impl Abort, alloc: Global, nick: &str, calls: &[Call]) -> Result<(), Fail> {
-    let mut uplink = new_uplink(alloc, nick)?;
-    for call in calls {
-        let mut told = Told::nothing(alloc);
-        let (inputs, reply) = match call {
-            Call::Feed(bytes, inputs, reply) => {
-                told.add(&uplink.feed(bytes.as_bytes())?)?;
-                (inputs, reply)
-            }
-            Call::End(inputs) => {
-                if let Some(input) = uplink.end() {
-                    tell_inputs(&mut told.inputs, &[input])?;
-                }
-                (inputs, &"")
-            }
-        };
-        assert_eq!(rt; told.inputs.as_slice(), inputs.as_bytes());
-        assert_eq!(rt; told.reply.as_slice(), reply.as_bytes());
+/// What bytes bring.
+fn fed(alloc: Global, uplink: &mut Uplink, bytes: &str) -> Result<Told, Fail> {
+    let mut told = Told::nothing(alloc);
+    feed(uplink, &mut told, bytes.as_bytes())?;
+    Ok(told)
+}
+
+/// What the end brings.
+fn ended(alloc: Global, uplink: &mut Uplink) -> Result<Told, Fail> {
+    let mut told = Told::nothing(alloc);
+    if let Some(input) = uplink.end() {
+        tell_inputs(&mut told.inputs, &[input])?;
+    }
+    Ok(told)
+}
+
+/// Makes a call, and compares what it brings.
+fn compare_one(
+    rt: &impl Abort,
+    alloc: Global,
+    uplink: &mut Uplink,
+    call: &Call,
+) -> Result<(), Fail> {
+    match call {
+        Call::Feed(bytes, inputs, reply) => {
+            assert!(rt; fed(alloc, uplink, bytes)?.is(inputs, reply))
+        }
+        Call::End(inputs) => assert!(rt; ended(alloc, uplink)?.is(inputs, "")),
     }
     Ok(())
+}
+
+fn compare_all(
+    rt: &impl Abort,
+    alloc: Global,
+    uplink: &mut Uplink,
+    calls: &[Call],
+) -> Result<(), Fail> {
+    for call in calls {
+        compare_one(rt, alloc, uplink, call)?;
+    }
+    Ok(())
+}
+
+/// Makes the calls at a new uplink, and compares what each brings.
+fn compare(rt: &impl Abort, alloc: Global, nick: &str, calls: &[Call]) -> Result<(), Fail> {
+    let mut uplink = new_uplink(alloc, nick)?;
+    compare_all(rt, alloc, &mut uplink, calls)
 }
 
 const NICK_IN_USE: &[Call] = &[
@@ -110,4 +138,29 @@ const CUT_ANYWHERE: &[Call] = &[
 #[test]
 fn lines_are_cut_at_any_byte(rt: HostRuntime) -> Result<(), Fail> {
     compare(&rt, rt.alloc(), "me", CUT_ANYWHERE)
+}
+
+/// The end of a session, and behind it what would have opened it.
+const ENDED: &[Call] = &[
+    Call::End("closed\n"),
+    Call::Feed("1 me :Hello\nPING :k\n433\n", "", ""),
+    Call::End(""),
+];
+
+/// What is fed before the end: nothing, half a welcome, and a welcome and half of another.
+const BEFORE: &[&str] = &["", ":s NOTICE * :hi\n:s 00", ":s 001 me :Hello\n:s 00"];
+
+/// Feeds these bytes to a new uplink, and compares what the end brings and what comes behind it.
+fn compare_end(rt: &impl Abort, alloc: Global, before: &str) -> Result<(), Fail> {
+    let mut uplink = new_uplink(alloc, "me")?;
+    let _told = fed(alloc, &mut uplink, before)?;
+    compare_all(rt, alloc, &mut uplink, ENDED)
+}
+
+#[test]
+fn the_end_is_told_once_and_nothing_comes_behind_it(rt: HostRuntime) -> Result<(), Fail> {
+    for before in BEFORE {
+        compare_end(&rt, rt.alloc(), before)?;
+    }
+    Ok(())
 }

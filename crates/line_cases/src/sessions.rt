@@ -1,13 +1,8 @@
 //! Sessions by examples.
-use irc_line::{Name, Text};
+use crate::made::{name, text};
 use std::alloc::Global;
 use std::test::Fail;
-use uplink::{Passed, Uplink, UplinkInput};
-
-fn name(alloc: Global, bytes: &str) -> Result<Name, Fail> {
-    let bytes = Vec::from_slice(alloc, bytes.as_bytes())?;
-    Ok(Name::from_bytes(bytes).ok_or("a name")?)
-}
+use uplink::{Uplink, UplinkInput};
 
 /// An uplink without a password that was just made.
 pub fn new_uplink(alloc: Global, nick: &str) -> Result<Uplink, Fail> {
@@ -46,24 +41,50 @@ impl Told {
         }
     }
 
-    pub fn add(&mut self, passed: &Passed) -> Result<(), Fail> {
-        tell_inputs(&mut self.inputs, passed.inputs.as_slice())?;
-        self.reply.extend_from_slice(passed.reply.as_slice())?;
-        Ok(())
+    /// Whether these are the inputs and the bytes.
+    pub fn is(&self, inputs: &str, reply: &str) -> bool {
+        self.inputs.as_slice() == inputs.as_bytes() && self.reply.as_slice() == reply.as_bytes()
     }
+}
+
+/// Adds what bytes bring that an uplink is fed.
+pub fn feed(uplink: &mut Uplink, told: &mut Told, bytes: &[u8]) -> Result<(), Fail> {
+    let passed = uplink.feed(bytes)?;
+    tell_inputs(&mut told.inputs, passed.inputs.as_slice())?;
+    told.reply.extend_from_slice(passed.reply.as_slice())?;
+    Ok(())
+}
+
+/// Adds what bytes bring that an uplink is fed in pieces of this length.
+fn feed_pieces(uplink: &mut Uplink, told: &mut Told, bytes: &[u8], len: usize) -> Result<(), Fail> {
+    let mut rest = bytes;
+    for _ in 0..bytes.len() {
+        let (piece, behind) = rest.split_at(rest.len().min(len));
+        feed(uplink, told, piece)?;
+        rest = behind;
+    }
+    Ok(())
 }
 
 /// What is told of bytes that a new uplink is fed in pieces of this length.
 fn told_in_pieces(alloc: Global, nick: &str, bytes: &str, len: usize) -> Result<Told, Fail> {
     let mut uplink = new_uplink(alloc, nick)?;
     let mut told = Told::nothing(alloc);
-    let mut rest = bytes.as_bytes();
-    for _ in 0..bytes.len() {
-        let (piece, behind) = rest.split_at(rest.len().min(len));
-        told.add(&uplink.feed(piece)?)?;
-        rest = behind;
-    }
+    feed_pieces(&mut uplink, &mut told, bytes.as_bytes(), len)?;
     Ok(told)
+}
+
+/// The bytes that an uplink of nick `me` writes first.
+fn first_bytes(alloc: Global) -> Result<Vec<u8>, Fail> {
+    let (_uplink, first) = Uplink::new(alloc, name(alloc, "me")?, None)?;
+    Ok(first)
+}
+
+/// The bytes that an uplink of nick `me` with a password writes first.
+fn first_bytes_with(alloc: Global, password: &str) -> Result<Vec<u8>, Fail> {
+    let password = text(alloc, password)?;
+    let (_uplink, first) = Uplink::new(alloc, name(alloc, "me")?, Some(&password))?;
+    Ok(first)
 }
 
 #[test]
@@ -71,50 +92,60 @@ fn a_session_is_registered_and_opened_however_its_bytes_are_cut(
     rt: HostRuntime,
 ) -> Result<(), Fail> {
     let alloc = rt.alloc();
-    let (_uplink, first) = Uplink::new(alloc, name(alloc, "me")?, None)?;
-    assert_eq!(rt;
-        first.as_slice(),
-        b"NICK me\r\nUSER me 0 * me\r\n".as_slice()
-    );
     let bytes = ":s NOTICE * :hi\r\nPING :k\r\n:s 001 me :Hello\r\n:a!b@c PRIVMSG #x :hi\r\n";
-    let inputs = b"opened\nheard :s 001 me Hello\nheard :a!b@c PRIVMSG #x :hi\n";
+    let inputs = "opened\nheard :s 001 me Hello\nheard :a!b@c PRIVMSG #x :hi\n";
     for len in 1..bytes.len() + 1 {
         let told = told_in_pieces(alloc, "me", bytes, len)?;
-        assert_eq!(rt; told.inputs.as_slice(), inputs.as_slice(), "{len}");
-        assert_eq!(rt; told.reply.as_slice(), b"PONG k\r\n".as_slice(), "{len}");
+        assert!(rt; told.is(inputs, "PONG k\r\n"), "{len}");
     }
     Ok(())
 }
+
+#[test]
+fn a_nick_and_a_user_come_first(rt: HostRuntime) -> Result<(), Fail> {
+    assert_eq!(rt;
+        first_bytes(rt.alloc())?.as_slice(),
+        b"NICK me\r\nUSER me 0 * me\r\n".as_slice()
+    );
+    Ok(())
+}
+
+/// Passwords, and the bytes that are written first.
+const PASSWORDS: &[(&str, &str)] = &[
+    ("secret", "PASS secret\r\nNICK me\r\nUSER me 0 * me\r\n"),
+    (
+        "two words",
+        "PASS :two words\r\nNICK me\r\nUSER me 0 * me\r\n",
+    ),
+];
 
 #[test]
 fn a_password_comes_first(rt: HostRuntime) -> Result<(), Fail> {
-    let alloc = rt.alloc();
-    for (password, want) in [
-        ("secret", "PASS secret\r\nNICK me\r\nUSER me 0 * me\r\n"),
-        (
-            "two words",
-            "PASS :two words\r\nNICK me\r\nUSER me 0 * me\r\n",
-        ),
-    ] {
-        let password = Vec::from_slice(alloc, password.as_bytes())?;
-        let password = Text::from_bytes(password).ok_or("a text")?;
-        let (_uplink, first) = Uplink::new(alloc, name(alloc, "me")?, Some(&password))?;
-        assert_eq!(rt; first.as_slice(), want.as_bytes());
+    for (password, want) in PASSWORDS {
+        assert_eq!(rt;
+            first_bytes_with(rt.alloc(), password)?.as_slice(),
+            want.as_bytes()
+        );
     }
     Ok(())
 }
 
+/// A server that says so of each nick until it welcomes.
+const IN_USE: &str =
+    ":s 433 * me :In use\r\n:s 433 * me_ :In use\n433\r\n:s 001 me :Hello\r\n433\n";
+
 #[test]
 fn a_nick_in_use_is_asked_for_with_one_more_underscore(rt: HostRuntime) -> Result<(), Fail> {
-    let alloc = rt.alloc();
-    let in_use = ":s 433 * me :In use\r\n:s 433 * me_ :In use\n433\r\n:s 001 me :Hello\r\n433\n";
-    let told = told_in_pieces(alloc, "me", in_use, 7)?;
-    let want = b"NICK me_\r\nNICK me__\r\nNICK me___\r\n";
-    assert_eq!(rt; told.reply.as_slice(), want.as_slice());
-    let want = b"opened\nheard :s 001 me Hello\nheard 433\n";
-    assert_eq!(rt; told.inputs.as_slice(), want.as_slice());
+    let told = told_in_pieces(rt.alloc(), "me", IN_USE, 7)?;
+    let inputs = "opened\nheard :s 001 me Hello\nheard 433\n";
+    assert!(rt; told.is(inputs, "NICK me_\r\nNICK me__\r\nNICK me___\r\n"));
+    Ok(())
+}
+
+#[test]
+fn a_nick_has_at_most_64_bytes(rt: HostRuntime) -> Result<(), Fail> {
     let nick = "n234567890123456789012345678901234567890123456789012345678901_";
-    let told = told_in_pieces(alloc, nick, in_use, 1000)?;
+    let told = told_in_pieces(rt.alloc(), nick, IN_USE, 1000)?;
     let want = "NICK n234567890123456789012345678901234567890123456789012345678901__\r\n\
         NICK n234567890123456789012345678901234567890123456789012345678901___\r\n";
     assert_eq!(rt; told.reply.as_slice(), want.as_bytes());
@@ -151,34 +182,21 @@ const LINES: &[(&str, &str, &str)] = &[
 fn told_when_open(alloc: Global, line: &str) -> Result<Told, Fail> {
     let mut uplink = new_uplink(alloc, "me")?;
     let mut told = Told::nothing(alloc);
-    for piece in ["001\n", line, "\r\n"] {
-        told.add(&uplink.feed(piece.as_bytes())?)?;
-    }
+    feed_line(&mut uplink, &mut told, line)?;
     Ok(told)
+}
+
+/// Opens the session and feeds the line.
+fn feed_line(uplink: &mut Uplink, told: &mut Told, line: &str) -> Result<(), Fail> {
+    feed(uplink, told, b"001\n")?;
+    feed(uplink, told, line.as_bytes())?;
+    feed(uplink, told, b"\r\n")
 }
 
 #[test]
 fn an_open_session_hears_all_but_pings_and_what_is_no_line(rt: HostRuntime) -> Result<(), Fail> {
     for (line, heard, reply) in LINES {
-        let told = told_when_open(rt.alloc(), line)?;
-        assert_eq!(rt; told.inputs.as_slice(), heard.as_bytes());
-        assert_eq!(rt; told.reply.as_slice(), reply.as_bytes());
-    }
-    Ok(())
-}
-
-#[test]
-fn the_end_is_told_once_and_nothing_comes_behind_it(rt: HostRuntime) -> Result<(), Fail> {
-    let alloc = rt.alloc();
-    for before in ["", ":s NOTICE * :hi\n:s 00", ":s 001 me :Hello\n:s 00"] {
-        let mut uplink = new_uplink(alloc, "me")?;
-        let _passed = uplink.feed(before.as_bytes())?;
-        assert!(rt; matches!(uplink.end(), Some(UplinkInput::Closed)));
-        let mut told = Told::nothing(alloc);
-        told.add(&uplink.feed(b"1 me :Hello\nPING :k\n433\n")?)?;
-        assert!(rt; uplink.end().is_none());
-        assert!(rt; told.inputs.is_empty());
-        assert!(rt; told.reply.is_empty());
+        assert!(rt; told_when_open(rt.alloc(), line)?.is(heard, reply));
     }
     Ok(())
 }

@@ -1,6 +1,7 @@
 //! How streams are split, by examples.
 use irc_line::{Item, LineFault, Splitter};
 use std::alloc::Global;
+use std::process::Abort;
 use std::test::Fail;
 
 /// Adds the front of a content, `a` up to this length, and an end.
@@ -37,43 +38,67 @@ fn told_in_pieces(alloc: Global, pieces: &[&[u8]]) -> Result<Vec<u8>, Fail> {
     Ok(told)
 }
 
-#[test]
-fn a_stream_is_split_however_it_is_cut(rt: HostRuntime) -> Result<(), Fail> {
-    let alloc = rt.alloc();
-    let mut bytes = Vec::new(alloc);
-    let mut want = Vec::new(alloc);
-    fed_content(&mut bytes, b"PRIVMSG #x :", 510, b"\r\n")?;
-    fed_content(&mut want, b"PRIVMSG #x :", 510, b"\n")?;
-    fed_content(&mut bytes, b"PRIVMSG #x :", 511, b"\r\n")?;
-    bytes.extend_from_slice(b"PING  b\n")?;
-    want.extend_from_slice(b"L\nPING b\n")?;
-    let whole = told_in_pieces(alloc, &[bytes.as_slice()])?;
-    assert_eq!(rt; whole.as_slice(), want.as_slice());
-    for cut in 0..bytes.len() {
-        let (front, rest) = bytes.as_slice().split_at(cut);
-        let told = told_in_pieces(alloc, &[front, rest])?;
-        assert_eq!(rt; told.as_slice(), want.as_slice(), "{cut}");
-    }
+/// What is told of the items of bytes that are fed byte by byte.
+fn told_by_byte(alloc: Global, bytes: &[u8]) -> Result<Vec<u8>, Fail> {
     let mut splitter = Splitter::new(alloc);
     let mut told = Vec::new(alloc);
-    for byte in &bytes {
+    for byte in bytes {
         tell_items(&mut told, &splitter.feed(&[*byte])?)?;
     }
-    assert_eq!(rt; told.as_slice(), want.as_slice());
+    Ok(told)
+}
+
+/// The longest content, one that is too long, and a short one.
+fn stream(alloc: Global) -> Result<Vec<u8>, Fail> {
+    let mut bytes = Vec::new(alloc);
+    fed_content(&mut bytes, b"PRIVMSG #x :", 510, b"\r\n")?;
+    fed_content(&mut bytes, b"PRIVMSG #x :", 511, b"\r\n")?;
+    bytes.extend_from_slice(b"PING  b\n")?;
+    Ok(bytes)
+}
+
+/// What is told of it.
+fn wanted(alloc: Global) -> Result<Vec<u8>, Fail> {
+    let mut want = Vec::new(alloc);
+    fed_content(&mut want, b"PRIVMSG #x :", 510, b"\n")?;
+    want.extend_from_slice(b"L\nPING b\n")?;
+    Ok(want)
+}
+
+/// This is told of bytes that are fed whole, in two pieces, and byte by byte.
+fn check_cuts(rt: &impl Abort, alloc: Global, bytes: &[u8], want: &[u8]) -> Result<(), Fail> {
+    assert_eq!(rt; told_in_pieces(alloc, &[bytes])?.as_slice(), want);
+    for cut in 0..bytes.len() {
+        let (front, rest) = bytes.split_at(cut);
+        assert_eq!(rt;
+            told_in_pieces(alloc, &[front, rest])?.as_slice(),
+            want,
+            "{cut}"
+        );
+    }
+    assert_eq!(rt; told_by_byte(alloc, bytes)?.as_slice(), want);
     Ok(())
 }
 
 #[test]
-fn a_stream_has_empty_contents_and_faults(rt: HostRuntime) -> Result<(), Fail> {
+fn a_stream_is_split_however_it_is_cut(rt: HostRuntime) -> Result<(), Fail> {
     let alloc = rt.alloc();
-    for (bytes, want) in [
-        ("\n\r\n\n", ""),
-        ("PING a\rb\r\n", "B\n"),
-        ("PING a\r\r\n", "B\n"),
-        ("   \r\n12\nPING b\r\n", "N\nN\nPING b\n"),
-        ("PING b", ""),
-    ] {
-        let told = told_in_pieces(alloc, &[bytes.as_bytes()])?;
+    check_cuts(&rt, alloc, &stream(alloc)?, &wanted(alloc)?)
+}
+
+/// Streams, and what is told of the items of each.
+const STREAMS: &[(&str, &str)] = &[
+    ("\n\r\n\n", ""),
+    ("PING a\rb\r\n", "B\n"),
+    ("PING a\r\r\n", "B\n"),
+    ("   \r\n12\nPING b\r\n", "N\nN\nPING b\n"),
+    ("PING b", ""),
+];
+
+#[test]
+fn a_stream_has_empty_contents_and_faults(rt: HostRuntime) -> Result<(), Fail> {
+    for (bytes, want) in STREAMS {
+        let told = told_in_pieces(rt.alloc(), &[bytes.as_bytes()])?;
         assert_eq!(rt; told.as_slice(), want.as_bytes());
     }
     Ok(())
