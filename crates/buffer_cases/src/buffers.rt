@@ -7,6 +7,7 @@ use buffer_machine::{
 use irc_line::Name;
 use machine_laws::Machine;
 use std::alloc::Global;
+use std::process::Abort;
 use std::test::Fail;
 use wire_bytes::{Wire, WireFault};
 
@@ -18,16 +19,37 @@ fn command(alloc: Global, bytes: &[u8]) -> Result<Command, WireFault> {
     Ok(command)
 }
 
+/// The machine of the plain setup after a command.
+fn machine_after(alloc: Global, bytes: &[u8]) -> Result<BufferMachine, Fail> {
+    let mut machine = BufferMachine::start(alloc, &Setup::plain(alloc)?)?;
+    apply(alloc, &mut machine, bytes)?;
+    Ok(machine)
+}
+
+fn apply(alloc: Global, machine: &mut BufferMachine, bytes: &[u8]) -> Result<(), Fail> {
+    let command = command(alloc, bytes)?;
+    machine.apply(1, &command)?;
+    Ok(())
+}
+
+/// How many lines a machine plays of a target.
+fn count(alloc: Global, machine: &BufferMachine, target: &[u8]) -> Result<usize, Fail> {
+    let target = Name::from_bytes(Vec::from_slice(alloc, target)?).ok_or("no name")?;
+    Ok(machine.playback(&target)?.len())
+}
+
+/// Its nick is `me`, and it plays three lines of a channel, as often as it is asked.
+fn check(rt: &impl Abort, alloc: Global, machine: &BufferMachine) -> Result<(), Fail> {
+    assert_eq!(rt; machine.nick().as_bytes(), b"me".as_slice());
+    assert_eq!(rt; count(alloc, machine, b"#X")?, 3);
+    assert_eq!(rt; count(alloc, machine, b"#X")?, 3);
+    Ok(())
+}
+
 #[test]
 fn shows_what_is_kept_and_who_it_is(rt: HostRuntime) -> Result<(), Fail> {
-    let mut machine = BufferMachine::start(rt.alloc(), &Setup::plain(rt.alloc())?)?;
-    machine.apply(1, &command(rt.alloc(), MESSAGE)?)?;
-    assert_eq!(rt; machine.nick().as_bytes(), b"me".as_slice());
-    if let Some(target) = Name::from_bytes(Vec::from_slice(rt.alloc(), b"#X")?) {
-        assert_eq!(rt; machine.playback(&target)?.len(), 3);
-        assert_eq!(rt; machine.playback(&target)?.len(), 3);
-    }
-    Ok(())
+    let machine = machine_after(rt.alloc(), MESSAGE)?;
+    check(&rt, rt.alloc(), &machine)
 }
 
 #[test]

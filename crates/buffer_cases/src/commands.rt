@@ -4,7 +4,7 @@ use buffer_commands::{
 };
 use buffer_lines::Offset;
 use irc_line::{Line, Name, Text};
-use std::alloc::Global;
+use std::alloc::{AllocError, Global};
 use std::process::Abort;
 use std::test::Fail;
 use wire_bytes::{Copied, Moment, Number, Origin, Wire, WireFault};
@@ -27,20 +27,35 @@ fn line(alloc: Global, bytes: &[u8]) -> Result<WireLine, Fail> {
 
 /// The action is spelled so, and so are its copy and what is read of these bytes.
 fn check_action(rt: &impl Abort, alloc: Global, action: &Action, bytes: &[u8]) -> Result<(), Fail> {
-    let copy = action.copy(alloc)?;
-    let (again, len) = Action::take(alloc, bytes)?;
-    assert_eq!(rt; len, bytes.len());
-    check_put(rt, alloc, action, bytes)?;
-    check_put(rt, alloc, &copy, bytes)?;
-    check_put(rt, alloc, &again, bytes)
+    check_bytes(rt, &spelled(alloc, action)?, bytes);
+    check_bytes(rt, &spelled_copy(alloc, action)?, bytes);
+    check_bytes(rt, &spelled_again(alloc, bytes)?, bytes);
+    Ok(())
 }
 
-fn check_put(rt: &impl Abort, alloc: Global, action: &Action, bytes: &[u8]) -> Result<(), Fail> {
+fn check_bytes(rt: &impl Abort, told: &[u8], wanted: &[u8]) {
+    assert_eq!(rt; told, wanted);
+}
+
+fn spelled(alloc: Global, action: &Action) -> Result<Vec<u8>, AllocError> {
     action.fits();
     let mut out = Vec::new(alloc);
     action.put(&mut out)?;
-    assert_eq!(rt; out.as_slice(), bytes);
-    Ok(())
+    Ok(out)
+}
+
+fn spelled_copy(alloc: Global, action: &Action) -> Result<Vec<u8>, AllocError> {
+    let copy = action.copy(alloc)?;
+    spelled(alloc, &copy)
+}
+
+/// The spelling of the action that these bytes are.
+fn spelled_again(alloc: Global, bytes: &[u8]) -> Result<Vec<u8>, Fail> {
+    let (action, len) = Action::take(alloc, bytes)?;
+    if len != bytes.len() {
+        return Err(Fail::from("bytes follow"));
+    }
+    Ok(spelled(alloc, &action)?)
 }
 
 /// The command is spelled so, and so are its copy and what is read of these bytes.
@@ -50,25 +65,31 @@ fn check_command(
     command: &Command,
     bytes: &[u8],
 ) -> Result<(), Fail> {
-    let copy = command.copy(alloc)?;
-    let (again, len) = Command::take(alloc, bytes)?;
-    assert_eq!(rt; len, bytes.len());
-    check_command_put(rt, alloc, command, bytes)?;
-    check_command_put(rt, alloc, &copy, bytes)?;
-    check_command_put(rt, alloc, &again, bytes)
+    check_bytes(rt, &spelled_command(alloc, command)?, bytes);
+    check_bytes(rt, &spelled_copy_of_command(alloc, command)?, bytes);
+    check_bytes(rt, &command_spelled_again(alloc, bytes)?, bytes);
+    Ok(())
 }
 
-fn check_command_put(
-    rt: &impl Abort,
-    alloc: Global,
-    command: &Command,
-    bytes: &[u8],
-) -> Result<(), Fail> {
+fn spelled_command(alloc: Global, command: &Command) -> Result<Vec<u8>, AllocError> {
     command.fits();
     let mut out = Vec::new(alloc);
     command.put(&mut out)?;
-    assert_eq!(rt; out.as_slice(), bytes);
-    Ok(())
+    Ok(out)
+}
+
+fn spelled_copy_of_command(alloc: Global, command: &Command) -> Result<Vec<u8>, AllocError> {
+    let copy = command.copy(alloc)?;
+    spelled_command(alloc, &copy)
+}
+
+/// The spelling of the command that these bytes are.
+fn command_spelled_again(alloc: Global, bytes: &[u8]) -> Result<Vec<u8>, Fail> {
+    let (command, len) = Command::take(alloc, bytes)?;
+    if len != bytes.len() {
+        return Err(Fail::from("bytes follow"));
+    }
+    Ok(spelled_command(alloc, &command)?)
 }
 
 fn kind(action: &Action) -> &'static str {
@@ -101,6 +122,13 @@ fn command_kind(command: &Command) -> &'static str {
     }
 }
 
+/// These bytes are an action of this kind, which is spelled so.
+fn check_kind(rt: &impl Abort, alloc: Global, bytes: &[u8], wanted: &str) -> Result<(), Fail> {
+    let (action, _) = Action::take(alloc, bytes)?;
+    assert_eq!(rt; kind(&action), wanted);
+    check_action(rt, alloc, &action, bytes)
+}
+
 #[test]
 fn actions_are_spelled(rt: HostRuntime) -> Result<(), Fail> {
     let alloc = rt.alloc();
@@ -121,29 +149,41 @@ fn actions_are_spelled(rt: HostRuntime) -> Result<(), Fail> {
         (b"\x0d\0\x02#x\x01\xf4", "set buffer"),
         (b"\x0e\0\x06WHO #x", "pass"),
     ] {
-        let (action, _) = Action::take(alloc, bytes)?;
-        assert_eq!(rt; kind(&action), want);
-        check_action(&rt, alloc, &action, bytes)?;
+        check_kind(&rt, alloc, bytes, want)?;
     }
     Ok(())
+}
+
+/// An action that was made is spelled so.
+fn check_made(rt: &impl Abort, alloc: Global, action: Action, bytes: &[u8]) -> Result<(), Fail> {
+    check_action(rt, alloc, &action, bytes)
 }
 
 #[test]
 fn actions_without_a_target_are_one_byte(rt: HostRuntime) -> Result<(), Fail> {
     let alloc = rt.alloc();
-    check_action(&rt, alloc, &Action::Attach, b"\x01")?;
-    check_action(&rt, alloc, &Action::Leave, b"\x02")?;
-    check_action(&rt, alloc, &Action::ClearChannels, b"\x0a")?;
-    check_action(&rt, alloc, &Action::ClearQueries, b"\x0b")?;
-    check_action(&rt, alloc, &Action::ClearAll, b"\x0c")
+    check_made(&rt, alloc, Action::Attach, b"\x01")?;
+    check_made(&rt, alloc, Action::Leave, b"\x02")?;
+    check_made(&rt, alloc, Action::ClearChannels, b"\x0a")?;
+    check_made(&rt, alloc, Action::ClearQueries, b"\x0b")?;
+    check_made(&rt, alloc, Action::ClearAll, b"\x0c")
+}
+
+fn is_channel(alloc: Global, bytes: &[u8]) -> Result<bool, Fail> {
+    let name = name(alloc, bytes)?;
+    Ok(ChannelName::from_name(name).is_some())
+}
+
+/// The name of a copy of a channel's name.
+fn copied(alloc: Global, bytes: &[u8]) -> Result<Vec<u8>, Fail> {
+    let copy = channel(alloc, bytes)?.copy(alloc)?;
+    Ok(copy.name().as_bytes().to_vec(alloc)?)
 }
 
 #[test]
 fn a_nick_is_no_channel(rt: HostRuntime) -> Result<(), Fail> {
-    let alloc = rt.alloc();
-    assert!(rt; ChannelName::from_name(name(alloc, b"bob")?).is_none());
-    let channel = channel(alloc, b"#x")?.copy(alloc)?;
-    assert_eq!(rt; channel.name().as_bytes(), b"#x".as_slice());
+    assert!(rt; !is_channel(rt.alloc(), b"bob")?);
+    check_bytes(&rt, &copied(rt.alloc(), b"#x")?, b"#x");
     assert_eq!(rt; BufferSize::new(65535).lines(), 65535);
     Ok(())
 }
@@ -191,6 +231,18 @@ fn an_action_that_is_not_whole_is_short(rt: HostRuntime) {
     }
 }
 
+/// These bytes are a command of this kind, which is spelled so.
+fn check_command_kind(
+    rt: &impl Abort,
+    alloc: Global,
+    bytes: &[u8],
+    wanted: &str,
+) -> Result<(), Fail> {
+    let (command, _) = Command::take(alloc, bytes)?;
+    assert_eq!(rt; command_kind(&command), wanted);
+    check_command(rt, alloc, &command, bytes)
+}
+
 #[test]
 fn commands_are_spelled(rt: HostRuntime) -> Result<(), Fail> {
     let alloc = rt.alloc();
@@ -207,9 +259,7 @@ fn commands_are_spelled(rt: HostRuntime) -> Result<(), Fail> {
         (b"\x04", "up"),
         (b"\x05", "down"),
     ] {
-        let (command, _) = Command::take(alloc, bytes)?;
-        assert_eq!(rt; command_kind(&command), want);
-        check_command(&rt, alloc, &command, bytes)?;
+        check_command_kind(&rt, alloc, bytes, want)?;
     }
     Ok(())
 }
@@ -231,6 +281,15 @@ fn fields_of_a_command_are_refused_at_their_place(rt: HostRuntime) {
     }
 }
 
+/// What is wrong with a setup of the nick `me`.
+fn fault_of(
+    alloc: Global,
+    channels: Vec<Name>,
+    options: Options,
+) -> Result<Option<SetupFault>, Fail> {
+    Ok(Setup::new(name(alloc, b"me")?, channels, options).err())
+}
+
 #[test]
 fn channels_of_a_setup_are_channels_that_rise(rt: HostRuntime) -> Result<(), Fail> {
     let alloc = rt.alloc();
@@ -242,8 +301,7 @@ fn channels_of_a_setup_are_channels_that_rise(rt: HostRuntime) -> Result<(), Fai
         ([b"#A".as_slice(), b"#a"], Some(SetupFault::NotRising(1))),
     ] {
         let channels = names(alloc, &all)?;
-        let setup = Setup::new(name(alloc, b"me")?, channels, Options::default());
-        assert!(rt; setup.err() == want);
+        assert!(rt; fault_of(alloc, channels, Options::default())? == want);
     }
     Ok(())
 }
@@ -264,31 +322,61 @@ fn sizes_of_a_setup_have_limits(rt: HostRuntime) -> Result<(), Fail> {
             most_queries,
             ..Options::default()
         };
-        let setup = Setup::new(name(alloc, b"me")?, Vec::new(alloc), options);
-        assert!(rt; setup.err() == want);
+        assert!(rt; fault_of(alloc, Vec::new(alloc), options)? == want);
     }
     Ok(())
 }
 
+/// The nick of a setup and its channels, with a blank behind each.
+fn told_names(alloc: Global, setup: &Setup) -> Result<Vec<u8>, AllocError> {
+    let mut out = Vec::from_slice(alloc, setup.nick().as_bytes())?;
+    out.push(b' ')?;
+    for channel in setup.channels() {
+        out.extend_from_slice(channel.as_bytes())?;
+        out.push(b' ')?;
+    }
+    Ok(out)
+}
+
+fn has_options(setup: &Setup, options: &Options) -> bool {
+    setup.channel_size() == options.channel_size as usize
+        && setup.query_size() == options.query_size as usize
+        && setup.most_queries() == options.most_queries as usize
+        && setup.clears_channels() == options.clears_channels
+        && setup.clears_queries() == options.clears_queries
+        && setup.many_clients() == options.many_clients
+        && setup.offset().above_least() == options.offset.above_least()
+}
+
+fn plain_copy(alloc: Global) -> Result<Setup, AllocError> {
+    Setup::plain(alloc)?.copy(alloc)
+}
+
 #[test]
 fn the_plain_setup_is_of_a_nick_and_a_channel(rt: HostRuntime) -> Result<(), Fail> {
-    let setup = Setup::plain(rt.alloc())?.copy(rt.alloc())?;
-    assert_eq!(rt; setup.nick().as_bytes(), b"me".as_slice());
-    assert_eq!(rt; setup.channels().len(), 1);
-    for channel in setup.channels() {
-        assert_eq!(rt; channel.as_bytes(), b"#x".as_slice());
-    }
-    assert_eq!(rt; setup.channel_size(), 50);
-    assert_eq!(rt; setup.query_size(), 50);
-    assert_eq!(rt; setup.most_queries(), 50);
-    assert!(rt; setup.clears_channels() && setup.clears_queries() && setup.many_clients());
-    assert_eq!(rt; setup.offset().above_least(), 1439);
+    let setup = plain_copy(rt.alloc())?;
+    check_bytes(&rt, &told_names(rt.alloc(), &setup)?, b"me #x ");
+    let options = Options {
+        channel_size: 50,
+        query_size: 50,
+        most_queries: 50,
+        clears_channels: true,
+        clears_queries: true,
+        many_clients: true,
+        offset: Offset::new(1439),
+    };
+    assert!(rt; has_options(&setup, &options));
+    Ok(())
+}
+
+fn check_options(rt: &impl Abort, alloc: Global, options: Options) -> Result<(), Fail> {
+    let setup = Setup::new(name(alloc, b"me")?, Vec::new(alloc), options)?;
+    assert!(rt; has_options(&setup, &options));
     Ok(())
 }
 
 #[test]
 fn a_setup_has_its_options(rt: HostRuntime) -> Result<(), Fail> {
-    let alloc = rt.alloc();
     for (clears_channels, clears_queries, many_clients, above_least) in [
         (true, false, false, 0),
         (false, true, false, 1500),
@@ -303,25 +391,22 @@ fn a_setup_has_its_options(rt: HostRuntime) -> Result<(), Fail> {
             many_clients,
             offset: Offset::new(above_least),
         };
-        let setup = Setup::new(name(alloc, b"me")?, Vec::new(alloc), options)?;
-        assert_eq!(rt; setup.channel_size(), 500);
-        assert_eq!(rt; setup.query_size(), 0);
-        assert_eq!(rt; setup.most_queries(), 1);
-        assert!(rt; setup.clears_channels() == clears_channels);
-        assert!(rt; setup.clears_queries() == clears_queries);
-        assert!(rt; setup.many_clients() == many_clients);
-        assert_eq!(rt; setup.offset().above_least(), above_least);
+        check_options(&rt, rt.alloc(), options)?;
     }
     Ok(())
 }
 
+/// The nick and the channels of a setup of these.
+fn told_setup(alloc: Global, nick: &[u8], channels: &[&[u8]]) -> Result<Vec<u8>, Fail> {
+    let channels = names(alloc, channels)?;
+    let setup = Setup::new(name(alloc, nick)?, channels, Options::default())?;
+    Ok(told_names(alloc, &setup)?)
+}
+
 #[test]
 fn a_setup_has_its_nick_and_channels(rt: HostRuntime) -> Result<(), Fail> {
-    let alloc = rt.alloc();
-    let channels = names(alloc, &[b"#A", b"#b", b"&A"])?;
-    let setup = Setup::new(name(alloc, b"Bob")?, channels, Options::default())?;
-    assert_eq!(rt; setup.nick().as_bytes(), b"Bob".as_slice());
-    assert_eq!(rt; setup.channels().len(), 3);
+    let text = told_setup(rt.alloc(), b"Bob", &[b"#A", b"#b", b"&A"])?;
+    assert_eq!(rt; text.as_slice(), b"Bob #A #b &A ".as_slice());
     Ok(())
 }
 
@@ -343,8 +428,7 @@ fn a_setup_has_at_most_100_channels(rt: HostRuntime) -> Result<(), Fail> {
         (101, Some(SetupFault::TooManyChannels)),
     ] {
         let channels = channels_of(alloc, count)?;
-        let setup = Setup::new(name(alloc, b"me")?, channels, Options::default());
-        assert!(rt; setup.err() == want);
+        assert!(rt; fault_of(alloc, channels, Options::default())? == want);
     }
     Ok(())
 }
@@ -358,35 +442,60 @@ fn line_of(alloc: Global, len: usize) -> Result<Line, Fail> {
     Ok(Line::parse(alloc, bytes.as_slice())?)
 }
 
-#[test]
-fn a_line_past_511_bytes_is_no_wire_line(rt: HostRuntime) -> Result<(), Fail> {
-    let alloc = rt.alloc();
+/// A message of more than 511 bytes.
+fn long_message(alloc: Global) -> Result<Line, Fail> {
     let letters = vec![in alloc; b'a'; 510]?;
     let letters = text(alloc, letters.as_slice())?;
-    let long = Line::message(alloc, None, b"PRIVMSG", &name(alloc, b"#x")?, &letters)?;
-    assert!(rt; WireLine::from_line(long).is_none());
-    assert!(rt; WireLine::from_line(line_of(alloc, 511)?).is_some());
+    Ok(Line::message(alloc, None, b"PRIVMSG", &name(alloc, b"#x")?, &letters)?)
+}
+
+fn is_wire_line(line: Line) -> bool {
+    WireLine::from_line(line).is_some()
+}
+
+#[test]
+fn a_line_past_511_bytes_is_no_wire_line(rt: HostRuntime) -> Result<(), Fail> {
+    assert!(rt; !is_wire_line(long_message(rt.alloc())?));
+    assert!(rt; is_wire_line(line_of(rt.alloc(), 511)?));
     Ok(())
+}
+
+fn notice(alloc: Global) -> Result<Action, Fail> {
+    Ok(Action::Say(Verb::Notice, name(alloc, b"bob")?, text(alloc, b"hi")?))
+}
+
+fn set_buffer(alloc: Global) -> Result<Action, Fail> {
+    Ok(Action::SetBuffer(name(alloc, b"#x")?, BufferSize::new(500)))
+}
+
+fn join(alloc: Global) -> Result<Action, Fail> {
+    Ok(Action::Join(channel(alloc, b"#x")?))
 }
 
 #[test]
 fn made_actions_are_spelled(rt: HostRuntime) -> Result<(), Fail> {
     let alloc = rt.alloc();
-    let said = Action::Say(Verb::Notice, name(alloc, b"bob")?, text(alloc, b"hi")?);
-    check_action(&rt, alloc, &said, b"\x03\x01\0\x03bob\0\x02hi")?;
-    let set = Action::SetBuffer(name(alloc, b"#x")?, BufferSize::new(500));
-    check_action(&rt, alloc, &set, b"\x0d\0\x02#x\x01\xf4")?;
-    let join = Action::Join(channel(alloc, b"#x")?);
-    check_action(&rt, alloc, &join, b"\x04\0\x02#x")
+    check_made(&rt, alloc, notice(alloc)?, b"\x03\x01\0\x03bob\0\x02hi")?;
+    check_made(&rt, alloc, set_buffer(alloc)?, b"\x0d\0\x02#x\x01\xf4")?;
+    check_made(&rt, alloc, join(alloc)?, b"\x04\0\x02#x")
+}
+
+/// A command that was made is spelled so.
+fn check_made_command(
+    rt: &impl Abort,
+    alloc: Global,
+    command: Command,
+    bytes: &[u8],
+) -> Result<(), Fail> {
+    check_command(rt, alloc, &command, bytes)
 }
 
 #[test]
 fn made_commands_are_spelled(rt: HostRuntime) -> Result<(), Fail> {
-    let alloc = rt.alloc();
     let at = Moment::new(1_700_000_000);
     let asked = Command::Client(Origin::new(1, 2, 3), at, Action::Leave);
     let asked_bytes = b"\x01\x01\0\0\0\0\0\0\0\x02\0\0\0\0\0\0\0\x03\0\0\0\0\x65\x53\xf1\0\x02";
-    check_command(&rt, alloc, &asked, asked_bytes)?;
+    check_made_command(&rt, rt.alloc(), asked, asked_bytes)?;
     let gone = Command::NodeGone(2, Number::new(5));
-    check_command(&rt, alloc, &gone, b"\x03\x02\0\0\0\0\0\0\0\x05")
+    check_made_command(&rt, rt.alloc(), gone, b"\x03\x02\0\0\0\0\0\0\0\x05")
 }

@@ -11,6 +11,62 @@ use std::test::Fail;
 use upstream_claim::ClaimsEffect;
 use wire_bytes::{Origin, Wire};
 
+/// What a gate is given, and what it has to answer.
+#[derive(Clone, Copy)]
+enum Step<'a> {
+    /// These bytes come, whole.
+    Feed(&'a [u8]),
+    /// These bytes come, one by one.
+    FeedBytes(&'a [u8]),
+    Hear(Heard<'a>),
+    /// So far there was a line for each request, with its number and the bytes of its action; the bytes
+    /// that were written; and whether a call closed. From then on that is forgotten.
+    Told(&'a [u8], &'a [u8], bool),
+    /// The requests so far.
+    Requests(&'a [u8]),
+    /// Whether a call closed so far.
+    IsClosed(bool),
+    /// So many requests wait for their answers.
+    Waiting(usize),
+    /// What is requested where the connection is gone.
+    End(&'a [u8]),
+}
+
+/// What a gate hears.
+#[derive(Clone, Copy)]
+enum Heard<'a> {
+    /// This line is shown to a client.
+    Show(Origin, &'a [u8]),
+    Close(Origin),
+    Busy(Origin),
+    Done(Origin, u64),
+    Repeat(Origin, u64),
+    Gap(Origin, u64),
+}
+
+impl<'a> Heard<'a> {
+    fn effect(&self, alloc: Global) -> Result<GateEffect, Fail> {
+        Ok(match self {
+            Heard::Show(origin, line) => of_buffers(Effect::Show(*origin, shown(alloc, line)?)),
+            Heard::Close(origin) => of_buffers(Effect::Close(*origin)),
+            Heard::Busy(origin) => Answer::Effect(ClaimsEffect::Busy(*origin)),
+            Heard::Done(origin, number) => Answer::Done(*origin, *number),
+            Heard::Repeat(origin, number) => Answer::Repeat(*origin, *number),
+            Heard::Gap(origin, number) => Answer::Gap(*origin, *number),
+        })
+    }
+}
+
+/// An effect of the buffers.
+fn of_buffers(effect: Effect) -> GateEffect {
+    Answer::Effect(ClaimsEffect::Inner(FenceEffect::Inner(effect)))
+}
+
+fn shown(alloc: Global, line: &[u8]) -> Result<Shown, Fail> {
+    let line = Line::parse(alloc, line)?;
+    Ok(Shown::of_line(alloc, &line)?)
+}
+
 /// What calls answered: a line for each request with its number and the bytes of its action, all
 /// bytes that were written, and whether a call closed.
 #[derive(Drop)]
@@ -30,192 +86,214 @@ impl Told {
     }
 
     fn add(&mut self, alloc: Global, fed: &Fed) -> Result<(), Fail> {
-        for request in &fed.requests {
-            tell_request(alloc, &mut self.requests, request)?;
-        }
+        tell_requests(alloc, &mut self.requests, &fed.requests)?;
         self.reply.extend_from_slice(fed.reply.as_slice())?;
         self.close = self.close || fed.close;
         Ok(())
     }
+
+    fn forget(&mut self) {
+        self.requests.clear();
+        self.reply.clear();
+        self.close = false;
+    }
 }
 
-pub fn tell_request(alloc: Global, out: &mut Vec<u8>, request: &Request) -> Result<(), Fail> {
-    let number = request.number.value();
-    out.extend_from_slice(format!(in alloc; "{number} ")?.as_bytes())?;
-    let mut bytes = Vec::new(alloc);
-    request.action.fits();
-    request.action.put(&mut bytes)?;
-    for byte in &bytes {
-        let byte = *byte;
-        out.extend_from_slice(format!(in alloc; "{byte:02x}")?.as_bytes())?;
+fn tell_requests(alloc: Global, out: &mut Vec<u8>, requests: &[Request]) -> Result<(), Fail> {
+    for request in requests {
+        tell_request(alloc, out, request)?;
     }
-    out.push(b'\n')?;
     Ok(())
 }
 
+fn tell_request(alloc: Global, out: &mut Vec<u8>, request: &Request) -> Result<(), Fail> {
+    let number = request.number.value();
+    out.extend_from_slice(format!(in alloc; "{number} ")?.as_bytes())?;
+    request.action.fits();
+    request.action.put(out)?;
+    Ok(out.push(b'\n')?)
+}
+
 /// The gate of the client 1.1.1, whose password is `pw` and whose nick is `me`.
-pub fn new_gate(alloc: Global) -> Result<ClientGate, Fail> {
+fn new_gate(alloc: Global) -> Result<ClientGate, Fail> {
     let password = Vec::from_slice(alloc, b"pw")?;
     let nick = Name::from_bytes(Vec::from_slice(alloc, b"me")?).ok_or("no name")?;
     Ok(ClientGate::new(alloc, Origin::new(1, 1, 1), password, nick)?)
 }
 
-/// Feeds bytes whole.
-fn feed(alloc: Global, told: &mut Told, gate: &mut ClientGate, bytes: &[u8]) -> Result<(), Fail> {
-    told.add(alloc, &gate.feed(bytes)?)
-}
-
-/// Feeds bytes one by one.
-fn feed_bytes(
-    alloc: Global,
-    told: &mut Told,
-    gate: &mut ClientGate,
-    bytes: &[u8],
-) -> Result<(), Fail> {
-    for byte in bytes {
-        told.add(alloc, &gate.feed(&[*byte])?)?;
+/// All of this happens to a new gate.
+fn follow(rt: &impl Abort, alloc: Global, story: &[Step<'_>]) -> Result<(), Fail> {
+    let mut gate = new_gate(alloc)?;
+    let mut told = Told::new(alloc);
+    for step in story {
+        follow_one(rt, alloc, &mut gate, &mut told, step)?;
     }
     Ok(())
 }
 
-fn check_told(rt: &impl Abort, told: &Told, requests: &str, reply: &str, close: bool) {
-    assert_eq!(rt; told.requests.as_slice(), requests.as_bytes());
-    assert_eq!(rt; told.reply.as_slice(), reply.as_bytes());
+fn follow_one(
+    rt: &impl Abort,
+    alloc: Global,
+    gate: &mut ClientGate,
+    told: &mut Told,
+    step: &Step<'_>,
+) -> Result<(), Fail> {
+    match step {
+        Step::Feed(bytes) => feed(alloc, gate, told, bytes)?,
+        Step::FeedBytes(bytes) => feed_bytes(alloc, gate, told, bytes)?,
+        Step::Hear(heard) => hear(alloc, gate, told, heard)?,
+        Step::Told(requests, reply, close) => {
+            check_told(rt, told, requests, reply, *close);
+            told.forget();
+        }
+        Step::Requests(wanted) => check_bytes(rt, &told.requests, wanted),
+        Step::IsClosed(wanted) => assert_eq!(rt; told.close, *wanted),
+        Step::Waiting(wanted) => check_waiting(rt, gate, *wanted)?,
+        Step::End(wanted) => check_end(rt, alloc, gate, wanted)?,
+    }
+    Ok(())
+}
+
+fn feed(alloc: Global, gate: &mut ClientGate, told: &mut Told, bytes: &[u8]) -> Result<(), Fail> {
+    told.add(alloc, &gate.feed(bytes)?)
+}
+
+fn feed_bytes(
+    alloc: Global,
+    gate: &mut ClientGate,
+    told: &mut Told,
+    bytes: &[u8],
+) -> Result<(), Fail> {
+    for byte in bytes {
+        feed(alloc, gate, told, &[*byte])?;
+    }
+    Ok(())
+}
+
+fn hear(
+    alloc: Global,
+    gate: &mut ClientGate,
+    told: &mut Told,
+    heard: &Heard<'_>,
+) -> Result<(), Fail> {
+    let effect = heard.effect(alloc)?;
+    told.add(alloc, &gate.on_effect(&effect)?)
+}
+
+fn check_bytes(rt: &impl Abort, told: &[u8], wanted: &[u8]) {
+    assert_eq!(rt; told, wanted);
+}
+
+fn check_told(rt: &impl Abort, told: &Told, requests: &[u8], reply: &[u8], close: bool) {
+    check_bytes(rt, &told.requests, requests);
+    check_bytes(rt, &told.reply, reply);
     assert_eq!(rt; told.close, close);
+}
+
+fn check_waiting(rt: &impl Abort, gate: &ClientGate, wanted: usize) -> Result<(), Fail> {
+    assert_eq!(rt; gate.again()?.len(), wanted);
+    Ok(())
+}
+
+fn check_end(
+    rt: &impl Abort,
+    alloc: Global,
+    gate: &mut ClientGate,
+    wanted: &[u8],
+) -> Result<(), Fail> {
+    let end = told_end(alloc, gate)?;
+    check_bytes(rt, &end, wanted);
+    Ok(())
 }
 
 /// What `end` answers, as a line.
 fn told_end(alloc: Global, gate: &mut ClientGate) -> Result<Vec<u8>, Fail> {
     let mut out = Vec::new(alloc);
-    if let Some(request) = gate.end() {
-        tell_request(alloc, &mut out, &request)?;
+    if let Some(request) = &gate.end() {
+        tell_request(alloc, &mut out, request)?;
     }
     Ok(out)
 }
 
-const REGISTERED: &str = ":bouncer.local 001 me :Welcome to the bouncer\r\n";
+const REGISTERED: &[u8] = b":bouncer.local 001 me :Welcome to the bouncer\r\n";
 
 const REGISTER: &[u8] = b"PASS pw\r\nNICK n\r\nUSER u 0 * :r\r\n";
 
-fn check_first(
-    rt: &impl Abort,
-    alloc: Global,
-    told: &Told,
-    gate: &mut ClientGate,
-) -> Result<(), Fail> {
-    check_told(
-        rt,
-        told,
-        "1 01\n2 0400022378\n3 0600022378\n",
-        ":bouncer.local 001 me :Welcome to the bouncer\r\n:bouncer.local 403 me y :No such channel\r\n:bouncer.local PONG bouncer.local t\r\n",
-        false,
-    );
-    assert_eq!(rt; told_end(alloc, gate)?.as_slice(), b"4 02\n".as_slice());
-    assert_eq!(rt; told_end(alloc, gate)?.as_slice(), b"".as_slice());
-    Ok(())
-}
+/// A client attaches, joins `#x` and what is no channel, detaches `#x` and pings.
+const ASKS: &[u8] =
+    b"PASS pw\r\nNICK n\r\nUSER u 0 * :r\r\nJOIN #x,y\r\nPRIVMSG *status :detach #x\r\nPING t\r\n";
+
+const ASKED: Step<'static> = Step::Told(
+    b"1 \x01\n2 \x04\0\x02#x\n3 \x06\0\x02#x\n",
+    b":bouncer.local 001 me :Welcome to the bouncer\r\n:bouncer.local 403 me y :No such channel\r\n:bouncer.local PONG bouncer.local t\r\n",
+    false,
+);
 
 #[test]
 fn a_client_attaches_asks_and_leaves(rt: HostRuntime) -> Result<(), Fail> {
-    let alloc = rt.alloc();
-    let bytes =
-        b"PASS pw\r\nNICK n\r\nUSER u 0 * :r\r\nJOIN #x,y\r\nPRIVMSG *status :detach #x\r\nPING t\r\n";
-    let mut gate = new_gate(alloc)?;
-    let mut told = Told::new(alloc);
-    feed(alloc, &mut told, &mut gate, bytes)?;
-    check_first(&rt, alloc, &told, &mut gate)?;
-    let mut gate = new_gate(alloc)?;
-    let mut told = Told::new(alloc);
-    feed_bytes(alloc, &mut told, &mut gate, bytes)?;
-    check_first(&rt, alloc, &told, &mut gate)
+    let whole = [
+        Step::Feed(ASKS),
+        ASKED,
+        Step::End(b"4 \x02\n"),
+        Step::End(b""),
+    ];
+    follow(&rt, rt.alloc(), &whole)?;
+    let byte_by_byte = [
+        Step::FeedBytes(ASKS),
+        ASKED,
+        Step::End(b"4 \x02\n"),
+        Step::End(b""),
+    ];
+    follow(&rt, rt.alloc(), &byte_by_byte)
 }
 
-fn check_refused(
-    rt: &impl Abort,
-    alloc: Global,
-    told: &Told,
-    gate: &mut ClientGate,
-) -> Result<(), Fail> {
-    check_told(
-        rt,
-        told,
-        "",
-        ":bouncer.local 451 * :You have not registered\r\n:bouncer.local 464 * :Password incorrect\r\n",
-        true,
-    );
-    assert_eq!(rt; told_end(alloc, gate)?.as_slice(), b"".as_slice());
-    Ok(())
-}
+const LACKS_PASSWORD: &[u8] = b"JOIN #x\r\nNICK n\r\nUSER u 0 * r\r\n";
+
+const REFUSED: Step<'static> = Step::Told(
+    b"",
+    b":bouncer.local 451 * :You have not registered\r\n:bouncer.local 464 * :Password incorrect\r\n",
+    true,
+);
 
 #[test]
 fn a_client_without_the_password_is_refused(rt: HostRuntime) -> Result<(), Fail> {
-    let alloc = rt.alloc();
-    let bytes = b"JOIN #x\r\nNICK n\r\nUSER u 0 * r\r\n";
-    let mut gate = new_gate(alloc)?;
-    let mut told = Told::new(alloc);
-    feed(alloc, &mut told, &mut gate, bytes)?;
-    check_refused(&rt, alloc, &told, &mut gate)?;
-    let mut gate = new_gate(alloc)?;
-    let mut told = Told::new(alloc);
-    feed_bytes(alloc, &mut told, &mut gate, bytes)?;
-    check_refused(&rt, alloc, &told, &mut gate)
-}
-
-/// An effect of the buffers.
-pub fn of_buffers(effect: Effect) -> GateEffect {
-    Answer::Effect(ClaimsEffect::Inner(FenceEffect::Inner(effect)))
+    let whole = [Step::Feed(LACKS_PASSWORD), REFUSED, Step::End(b"")];
+    follow(&rt, rt.alloc(), &whole)?;
+    let byte_by_byte = [Step::FeedBytes(LACKS_PASSWORD), REFUSED, Step::End(b"")];
+    follow(&rt, rt.alloc(), &byte_by_byte)
 }
 
 #[test]
 fn effects_are_told_to_their_client_alone(rt: HostRuntime) -> Result<(), Fail> {
-    let alloc = rt.alloc();
     let own = Origin::new(1, 1, 1);
     let other = Origin::new(2, 1, 1);
-    let mut gate = new_gate(alloc)?;
-    let mut told = Told::new(alloc);
-    feed(alloc, &mut told, &mut gate, REGISTER)?;
-    feed(alloc, &mut told, &mut gate, b"WHO #x\r\n")?;
-    check_told(
-        &rt,
-        &told,
-        "1 01\n2 0e000657484f202378\n",
-        REGISTERED,
-        false,
-    );
-    let mut told = Told::new(alloc);
-    let line = Line::parse(alloc, b":a!b@c PRIVMSG #x :hi")?;
-    for origin in [other, own] {
-        let shown = Shown::of_line(alloc, &line)?;
-        told.add(
-            alloc,
-            &gate.on_effect(&of_buffers(Effect::Show(origin, shown)))?,
-        )?;
-        told.add(
-            alloc,
-            &gate.on_effect(&Answer::Effect(ClaimsEffect::Busy(origin)))?,
-        )?;
-        told.add(alloc, &gate.on_effect(&Answer::Gap(origin, 1))?)?;
-    }
-    check_told(
-        &rt,
-        &told,
-        "",
-        ":a!b@c PRIVMSG #x :hi\r\n:*status!bouncer@local PRIVMSG me :Busy, not sent.\r\n",
-        false,
-    );
-    told.add(alloc, &gate.on_effect(&Answer::Done(other, 2))?)?;
-    assert_eq!(rt; gate.again()?.len(), 2);
-    told.add(alloc, &gate.on_effect(&Answer::Repeat(own, 1))?)?;
-    assert_eq!(rt; gate.again()?.len(), 1);
-    told.add(alloc, &gate.on_effect(&of_buffers(Effect::Close(other)))?)?;
-    assert!(rt; !told.close);
-    told.add(alloc, &gate.on_effect(&of_buffers(Effect::Close(own)))?)?;
-    assert!(rt; told.close);
-    feed(alloc, &mut told, &mut gate, b"WHO #x\r\n")?;
-    assert_eq!(rt; told.requests.as_slice(), b"".as_slice());
-    assert_eq!(rt;
-        told_end(alloc, &mut gate)?.as_slice(),
-        b"3 02\n".as_slice()
-    );
-    Ok(())
+    let line = b":a!b@c PRIVMSG #x :hi";
+    let story = [
+        Step::Feed(REGISTER),
+        Step::Feed(b"WHO #x\r\n"),
+        Step::Told(b"1 \x01\n2 \x0e\0\x06WHO #x\n", REGISTERED, false),
+        Step::Hear(Heard::Show(other, line)),
+        Step::Hear(Heard::Busy(other)),
+        Step::Hear(Heard::Gap(other, 1)),
+        Step::Hear(Heard::Show(own, line)),
+        Step::Hear(Heard::Busy(own)),
+        Step::Hear(Heard::Gap(own, 1)),
+        Step::Told(
+            b"",
+            b":a!b@c PRIVMSG #x :hi\r\n:*status!bouncer@local PRIVMSG me :Busy, not sent.\r\n",
+            false,
+        ),
+        Step::Hear(Heard::Done(other, 2)),
+        Step::Waiting(2),
+        Step::Hear(Heard::Repeat(own, 1)),
+        Step::Waiting(1),
+        Step::Hear(Heard::Close(other)),
+        Step::IsClosed(false),
+        Step::Hear(Heard::Close(own)),
+        Step::IsClosed(true),
+        Step::Feed(b"WHO #x\r\n"),
+        Step::Requests(b""),
+        Step::End(b"3 \x02\n"),
+    ];
+    follow(&rt, rt.alloc(), &story)
 }
