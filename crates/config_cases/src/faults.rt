@@ -27,137 +27,147 @@ fn told_listening(alloc: Global, listen: &str) -> Result<String, Fail> {
     told(alloc, text.as_bytes())
 }
 
+/// Texts that are no TOML, and what is told of each.
+const NO_TOML: &[(&[u8], &str)] = &[
+    (b"nick = \"me\"\npassword = \n", "2: is no TOML"),
+    (b"nick\n", "1: is no TOML"),
+    (b"nick = \"me\"\nnick = \"you\"\n", "2: is no TOML"),
+    (b"nick = \"me\"\n\xff\n", "2: is no TOML"),
+];
+
 #[test]
 fn a_text_that_is_no_toml_is_refused_with_its_line(rt: HostRuntime) -> Result<(), Fail> {
-    let alloc = rt.alloc();
-    for (text, want) in [
-        (&b"nick = \"me\"\npassword = \n"[..], "2: is no TOML"),
-        (&b"nick\n"[..], "1: is no TOML"),
-        (&b"nick = \"me\"\nnick = \"you\"\n"[..], "2: is no TOML"),
-        (&b"nick = \"me\"\n\xff\n"[..], "2: is no TOML"),
-    ] {
-        assert_eq!(rt; told(alloc, text)?.as_str(), want);
+    for (text, want) in NO_TOML {
+        assert_eq!(rt; told(rt.alloc(), text)?.as_str(), *want);
     }
     Ok(())
 }
+
+/// Texts without a key that is needed or with a bad one, and what is told of each.
+const NEEDED: &[(&str, &str)] = &[
+    ("", " nick: is missing"),
+    ("nick = 3", "1: nick: needs a text"),
+    (
+        "nick = \"a b\"",
+        "1: nick: needs a name: 1 to 64 bytes without space or comma, the first no colon",
+    ),
+    ("nick = \"me\"", " password: is missing"),
+    (
+        "nick = \"me\"\npassword = \"\"",
+        "2: password: needs 1 to 64 bytes without space",
+    ),
+    (
+        "nick = \"me\"\npassword = \"pass\"\nupstream = \"127.0.0.1:0\"",
+        "3: upstream: needs an address 127.0.0.1:PORT",
+    ),
+    (
+        "nick = \"me\"\npassword = \"pass\"\nupstream = \"127.0.0.1:65536\"",
+        "3: upstream: needs an address 127.0.0.1:PORT",
+    ),
+    (
+        "colour = \"red\"",
+        "1: colour: is no key of a configuration",
+    ),
+];
 
 #[test]
 fn needed_keys_are_asked_for_and_judged(rt: HostRuntime) -> Result<(), Fail> {
-    let alloc = rt.alloc();
-    for (text, want) in [
-        ("", " nick: is missing"),
-        ("nick = 3", "1: nick: needs a text"),
-        (
-            "nick = \"a b\"",
-            "1: nick: needs a name: 1 to 64 bytes without space or comma, the first no colon",
-        ),
-        ("nick = \"me\"", " password: is missing"),
-        (
-            "nick = \"me\"\npassword = \"\"",
-            "2: password: needs 1 to 64 bytes without space",
-        ),
-        (
-            "nick = \"me\"\npassword = \"pass\"\nupstream = \"127.0.0.1:0\"",
-            "3: upstream: needs an address 127.0.0.1:PORT",
-        ),
-        (
-            "nick = \"me\"\npassword = \"pass\"\nupstream = \"127.0.0.1:65536\"",
-            "3: upstream: needs an address 127.0.0.1:PORT",
-        ),
-        (
-            "colour = \"red\"",
-            "1: colour: is no key of a configuration",
-        ),
-    ] {
-        assert_eq!(rt; told(alloc, text.as_bytes())?.as_str(), want);
+    for (text, want) in NEEDED {
+        assert_eq!(rt; told(rt.alloc(), text.as_bytes())?.as_str(), *want);
     }
     Ok(())
 }
+
+/// Addresses to listen at, and what is told of each.
+const LISTEN: &[(&str, &str)] = &[
+    (
+        "[\"127.0.0.1:1\", \"127.0.0.1:2\"]",
+        "5: listen: needs three, five or seven addresses",
+    ),
+    ("\"127.0.0.1:1\"", "5: listen: needs a list of texts"),
+    (
+        "[\"127.0.0.1:1\", \"127.0.0.1:2\", \"localhost:3\"]",
+        "5: listen: needs addresses 127.0.0.1:PORT",
+    ),
+    (
+        "[\"127.0.0.1:1\", \"127.0.0.1:2\", \"127.0.0.1:1\"]",
+        "5: listen: needs addresses that differ, and none of upstream's",
+    ),
+    (
+        "[\"127.0.0.1:1\", \"127.0.0.1:2\", \"127.0.0.1:6667\"]",
+        "5: listen: needs addresses that differ, and none of upstream's",
+    ),
+];
 
 #[test]
 fn addresses_to_listen_at_are_as_many_as_a_group_has(rt: HostRuntime) -> Result<(), Fail> {
-    let alloc = rt.alloc();
-    for (listen, want) in [
-        (
-            "[\"127.0.0.1:1\", \"127.0.0.1:2\"]",
-            "5: listen: needs three, five or seven addresses",
-        ),
-        ("\"127.0.0.1:1\"", "5: listen: needs a list of texts"),
-        (
-            "[\"127.0.0.1:1\", \"127.0.0.1:2\", \"localhost:3\"]",
-            "5: listen: needs addresses 127.0.0.1:PORT",
-        ),
-        (
-            "[\"127.0.0.1:1\", \"127.0.0.1:2\", \"127.0.0.1:1\"]",
-            "5: listen: needs addresses that differ, and none of upstream's",
-        ),
-        (
-            "[\"127.0.0.1:1\", \"127.0.0.1:2\", \"127.0.0.1:6667\"]",
-            "5: listen: needs addresses that differ, and none of upstream's",
-        ),
-    ] {
-        assert_eq!(rt; told_listening(alloc, listen)?.as_str(), want);
+    for (listen, want) in LISTEN {
+        assert_eq!(rt; told_listening(rt.alloc(), listen)?.as_str(), *want);
     }
     Ok(())
 }
+
+/// Further lines with values, and what is told of each.
+const RANGES: &[(&str, &str)] = &[
+    ("", "good"),
+    (
+        "chan_buffer_size = 501",
+        "6: chan_buffer_size: needs 0 to 500",
+    ),
+    (
+        "query_buffer_size = -1",
+        "6: query_buffer_size: needs 0 to 500",
+    ),
+    (
+        "max_query_buffers = 0",
+        "6: max_query_buffers: needs 1 to 50",
+    ),
+    (
+        "offset_minutes = 1440",
+        "6: offset_minutes: needs -1439 to 1439",
+    ),
+    (
+        "offset_minutes = -1440",
+        "6: offset_minutes: needs -1439 to 1439",
+    ),
+    ("multi_clients = 1", "6: multi_clients: needs true or false"),
+    ("\nbeat_ms = 9", "7: beat_ms: needs 10 to 10000"),
+    ("timeout_ms = 60001", "6: timeout_ms: needs 50 to 60000"),
+    ("flood_burst = 0", "6: flood_burst: needs 1 to 100"),
+    ("flood_ms = 60001", "6: flood_ms: needs 0 to 60000"),
+    ("beat_ms = \"100\"", "6: beat_ms: needs a whole number"),
+];
 
 #[test]
 fn values_out_of_range_are_refused(rt: HostRuntime) -> Result<(), Fail> {
-    let alloc = rt.alloc();
-    for (lines, want) in [
-        ("", "good"),
-        (
-            "chan_buffer_size = 501",
-            "6: chan_buffer_size: needs 0 to 500",
-        ),
-        (
-            "query_buffer_size = -1",
-            "6: query_buffer_size: needs 0 to 500",
-        ),
-        (
-            "max_query_buffers = 0",
-            "6: max_query_buffers: needs 1 to 50",
-        ),
-        (
-            "offset_minutes = 1440",
-            "6: offset_minutes: needs -1439 to 1439",
-        ),
-        (
-            "offset_minutes = -1440",
-            "6: offset_minutes: needs -1439 to 1439",
-        ),
-        ("multi_clients = 1", "6: multi_clients: needs true or false"),
-        ("\nbeat_ms = 9", "7: beat_ms: needs 10 to 10000"),
-        ("timeout_ms = 60001", "6: timeout_ms: needs 50 to 60000"),
-        ("flood_burst = 0", "6: flood_burst: needs 1 to 100"),
-        ("flood_ms = 60001", "6: flood_ms: needs 0 to 60000"),
-        ("beat_ms = \"100\"", "6: beat_ms: needs a whole number"),
-    ] {
-        assert_eq!(rt; told_with(alloc, lines)?.as_str(), want);
+    for (lines, want) in RANGES {
+        assert_eq!(rt; told_with(rt.alloc(), lines)?.as_str(), *want);
     }
     Ok(())
 }
 
+/// Further lines with texts and channels, and what is told of each.
+const OPTIONAL: &[(&str, &str)] = &[
+    (
+        "upstream_password = \"a b\"",
+        "6: upstream_password: needs 1 to 64 bytes without space",
+    ),
+    ("record = \"\"", "6: record: needs a path"),
+    ("log = \"loud\"", "6: log: needs quiet, info or debug"),
+    (
+        "channels = [\"#x\", \"y\"]",
+        "6: channels: needs names of channels",
+    ),
+    (
+        "channels = [\"#x\", \"#y\", \"#X\"]",
+        "6: channels: names a channel twice",
+    ),
+];
+
 #[test]
 fn optional_texts_and_channels_are_judged(rt: HostRuntime) -> Result<(), Fail> {
-    let alloc = rt.alloc();
-    for (lines, want) in [
-        (
-            "upstream_password = \"a b\"",
-            "6: upstream_password: needs 1 to 64 bytes without space",
-        ),
-        ("record = \"\"", "6: record: needs a path"),
-        ("log = \"loud\"", "6: log: needs quiet, info or debug"),
-        (
-            "channels = [\"#x\", \"y\"]",
-            "6: channels: needs names of channels",
-        ),
-        (
-            "channels = [\"#x\", \"#y\", \"#X\"]",
-            "6: channels: names a channel twice",
-        ),
-    ] {
-        assert_eq!(rt; told_with(alloc, lines)?.as_str(), want);
+    for (lines, want) in OPTIONAL {
+        assert_eq!(rt; told_with(rt.alloc(), lines)?.as_str(), *want);
     }
     Ok(())
 }

@@ -1,6 +1,8 @@
 //! Configurations that are taken.
 use bouncer_config::{Config, LogLevel, parse_config};
+use buffer_commands::Setup;
 use std::alloc::Global;
+use std::process::Abort;
 use std::test::Fail;
 
 const EVERY: &[u8] = b"
@@ -41,9 +43,8 @@ fn read(alloc: Global, text: &[u8]) -> Result<Config, Fail> {
     }
 }
 
-#[test]
-fn every_key_is_read(rt: HostRuntime) -> Result<(), Fail> {
-    let config = read(rt.alloc(), EVERY)?;
+/// The plain values of the configuration with every key.
+fn check_values(rt: &impl Abort, config: &Config) {
     assert_eq!(rt; config.password.as_bytes(), &b"pass"[..]);
     assert_eq!(rt; config.upstream.port(), 6667);
     assert_eq!(rt; config.store.as_str(), "/tmp/store");
@@ -52,12 +53,16 @@ fn every_key_is_read(rt: HostRuntime) -> Result<(), Fail> {
     assert_eq!(rt; config.flood_burst, 100);
     assert_eq!(rt; config.flood_ms, 0);
     assert!(rt; config.log == LogLevel::Debug);
-    Ok(())
 }
 
 #[test]
-fn optional_texts_are_read(rt: HostRuntime) -> Result<(), Fail> {
-    let config = read(rt.alloc(), EVERY)?;
+fn every_key_is_read(rt: HostRuntime) -> Result<(), Fail> {
+    check_values(&rt, &read(rt.alloc(), EVERY)?);
+    Ok(())
+}
+
+/// The texts that may be left out, of the configuration with every key.
+fn check_texts(rt: &impl Abort, config: &Config) {
     match &config.upstream_password {
         Some(password) => assert_eq!(rt; password.as_bytes(), &b"secret"[..]),
         None => assert!(rt; false),
@@ -67,35 +72,48 @@ fn optional_texts_are_read(rt: HostRuntime) -> Result<(), Fail> {
         None => assert!(rt; false),
     }
     assert_eq!(rt; config.listen.len(), 3);
-    Ok(())
 }
 
 #[test]
-fn the_setup_is_read(rt: HostRuntime) -> Result<(), Fail> {
-    let setup = read(rt.alloc(), EVERY)?.setup;
+fn optional_texts_are_read(rt: HostRuntime) -> Result<(), Fail> {
+    check_texts(&rt, &read(rt.alloc(), EVERY)?);
+    Ok(())
+}
+
+/// The setup of the configuration with every key.
+fn check_setup(rt: &impl Abort, setup: &Setup) {
     assert_eq!(rt; setup.nick().as_bytes(), &b"me"[..]);
     assert_eq!(rt; setup.channel_size(), 500);
     assert_eq!(rt; setup.query_size(), 0);
     assert_eq!(rt; setup.most_queries(), 1);
     assert!(rt; !setup.clears_channels() && !setup.clears_queries() && !setup.many_clients());
     assert_eq!(rt; setup.offset().above_least(), 1379);
+}
+
+#[test]
+fn the_setup_is_read(rt: HostRuntime) -> Result<(), Fail> {
+    check_setup(&rt, &read(rt.alloc(), EVERY)?.setup);
     Ok(())
+}
+
+/// The channels of the configuration with every key, in order.
+const CHANNELS: &[&[u8]] = &[b"#X", b"#y", b"&A"];
+
+fn check_channels(rt: &impl Abort, setup: &Setup) {
+    assert_eq!(rt; setup.channels().len(), CHANNELS.len());
+    for (channel, wanted) in setup.channels().iter().zip(CHANNELS.iter()) {
+        assert_eq!(rt; channel.as_bytes(), *wanted);
+    }
 }
 
 #[test]
 fn channels_stand_by_their_folded_names(rt: HostRuntime) -> Result<(), Fail> {
-    let setup = read(rt.alloc(), EVERY)?.setup;
-    let wanted = [&b"#X"[..], &b"#y"[..], &b"&A"[..]];
-    assert_eq!(rt; setup.channels().len(), wanted.len());
-    for (channel, wanted) in setup.channels().iter().zip(wanted.iter()) {
-        assert_eq!(rt; channel.as_bytes(), *wanted);
-    }
+    check_channels(&rt, &read(rt.alloc(), EVERY)?.setup);
     Ok(())
 }
 
-#[test]
-fn what_is_left_out_is_as_usual(rt: HostRuntime) -> Result<(), Fail> {
-    let config = read(rt.alloc(), LEAST)?;
+/// What the least configuration leaves out.
+fn check_usual(rt: &impl Abort, config: &Config) {
     assert!(rt; config.upstream_password.is_none() && config.record.is_none());
     assert_eq!(rt; config.beat_ms, 100);
     assert_eq!(rt; config.timeout_ms, 1_000);
@@ -104,5 +122,10 @@ fn what_is_left_out_is_as_usual(rt: HostRuntime) -> Result<(), Fail> {
     assert!(rt; config.log == LogLevel::Info);
     assert!(rt; config.setup.channels().is_empty());
     assert_eq!(rt; config.setup.offset().above_least(), 1439);
+}
+
+#[test]
+fn what_is_left_out_is_as_usual(rt: HostRuntime) -> Result<(), Fail> {
+    check_usual(&rt, &read(rt.alloc(), LEAST)?);
     Ok(())
 }
