@@ -5,6 +5,7 @@ use fault_disks::{Call, Called, Fails, FaultDisk, Unsynced};
 use journal_store::{Disk, DiskFault, JournalStore, MemoryDisk, may_follow};
 use stable_store::{Change, Stable, StoreFault};
 use std::alloc::{AllocError, Global};
+use std::process::Abort;
 use std::test::Fail;
 use wire_bytes::Number;
 
@@ -80,25 +81,36 @@ fn letters(alloc: Global, calls: &[Called]) -> Result<Vec<u8>, AllocError> {
     Ok(letters)
 }
 
-#[test]
-fn a_save_is_four_calls(rt: HostRuntime) -> Result<(), Fail> {
-    let alloc = rt.alloc();
-    let mut store = empty(alloc, Fails::Never)?;
-    save(alloc, &mut store, 1)?;
-    save(alloc, &mut store, 2)?;
-    store.again()?;
-    let calls = store.disk().calls();
-    assert_eq!(rt;
-        letters(alloc, calls)?.as_slice(),
-        b"slrwswswswsslr".as_slice()
-    );
-    // a record and the gate behind it, then its gate, however long the file is
+fn check_bytes(rt: &impl Abort, told: &[u8], wanted: &[u8]) {
+    assert_eq!(rt; told, wanted);
+}
+
+/// The calls were these.
+fn check_calls(
+    rt: &impl Abort,
+    alloc: Global,
+    calls: &[Called],
+    wanted: &[u8],
+) -> Result<(), AllocError> {
+    let letters = letters(alloc, calls)?;
+    check_bytes(rt, &letters, wanted);
+    Ok(())
+}
+
+/// The place and the size of each write.
+fn writes(alloc: Global, calls: &[Called]) -> Result<Vec<(usize, usize)>, AllocError> {
     let mut writes = Vec::new(alloc);
     for called in calls {
         if let Call::Write(place, bytes) = &called.call {
             writes.push((*place, bytes.len()))?;
         }
     }
+    Ok(writes)
+}
+
+/// A record and the gate behind it were written, then its gate, however long the file was.
+fn check_writes(rt: &impl Abort, alloc: Global, calls: &[Called]) -> Result<(), AllocError> {
+    let writes = writes(alloc, calls)?;
     assert_eq!(rt;
         writes.as_slice(),
         [(9, 32), (8, 1), (41, 32), (40, 1)].as_slice()
@@ -106,30 +118,75 @@ fn a_save_is_four_calls(rt: HostRuntime) -> Result<(), Fail> {
     Ok(())
 }
 
-#[test]
-fn a_store_that_met_an_error_asks_nothing_until_it_serves_again(
-    rt: HostRuntime,
-) -> Result<(), Fail> {
-    let alloc = rt.alloc();
-    let mut store = empty(alloc, Fails::Once(4))?;
-    assert!(rt; save(alloc, &mut store, 1) == Err(StoreFault::Device));
-    assert_eq!(rt; store.failures(), 1);
-    assert!(rt; store.read().err() == Some(StoreFault::Device));
-    assert!(rt; save(alloc, &mut store, 1) == Err(StoreFault::Device));
-    assert_eq!(rt;
-        letters(alloc, store.disk().calls())?.as_slice(),
-        b"slrwS".as_slice()
-    );
-    store.again()?;
-    assert_eq!(rt; store.read()?.boot.value(), 0);
+/// A journal in which the boots 1 and 2 were saved, and which was adopted again.
+fn saved_twice(alloc: Global) -> Result<JournalStore<u8, FaultDisk>, StoreFault> {
+    let mut store = empty(alloc, Fails::Never)?;
     save(alloc, &mut store, 1)?;
-    assert_eq!(rt; store.read()?.boot.value(), 1);
+    save(alloc, &mut store, 2)?;
+    store.again()?;
+    Ok(store)
+}
+
+#[test]
+fn a_save_is_four_calls(rt: HostRuntime) -> Result<(), Fail> {
+    let disk = saved_twice(rt.alloc())?.into_disk();
+    check_calls(&rt, rt.alloc(), disk.calls(), b"slrwswswswsslr")?;
+    Ok(check_writes(&rt, rt.alloc(), disk.calls())?)
+}
+
+/// The boot that a store reads.
+fn boot(store: &JournalStore<u8, FaultDisk>) -> Result<u64, StoreFault> {
+    Ok(store.read()?.boot.value())
+}
+
+/// A store on a disk of which the fifth call fails meets that error as it saves, and asks nothing from
+/// then on.
+fn check_broken(
+    rt: &impl Abort,
+    alloc: Global,
+    store: &mut JournalStore<u8, FaultDisk>,
+) -> Result<(), AllocError> {
+    assert!(rt; save(alloc, store, 1) == Err(StoreFault::Device));
+    assert_eq!(rt; store.failures(), 1);
+    assert!(rt; boot(store) == Err(StoreFault::Device));
+    assert!(rt; save(alloc, store, 1) == Err(StoreFault::Device));
+    check_calls(rt, alloc, store.disk().calls(), b"slrwS")
+}
+
+/// It serves again, and saves.
+fn check_mended(
+    rt: &impl Abort,
+    alloc: Global,
+    store: &mut JournalStore<u8, FaultDisk>,
+) -> Result<(), StoreFault> {
+    store.again()?;
+    assert_eq!(rt; boot(store)?, 0);
+    save(alloc, store, 1)?;
+    assert_eq!(rt; boot(store)?, 1);
     Ok(())
 }
 
 #[test]
+fn a_store_that_met_an_error_asks_nothing_until_it_serves_again(
+    rt: HostRuntime,
+) -> Result<(), Fail> {
+    let mut store = empty(rt.alloc(), Fails::Once(4))?;
+    check_broken(&rt, rt.alloc(), &mut store)?;
+    Ok(check_mended(&rt, rt.alloc(), &mut store)?)
+}
+
+/// Whether boot 1 is saved where so many calls of the save pass, and which boot a crash then leaves.
+fn stopped(alloc: Global, passed: usize, unsynced: Unsynced) -> Result<(bool, u64), StoreFault>
+    requires { passed ≤ 4 }
+{
+    let mut store = empty(alloc, Fails::From(3 + passed))?;
+    let saved = save(alloc, &mut store, 1).is_ok();
+    let file = store.into_disk().crashed(unsynced)?;
+    Ok((saved, found(alloc, &file)?))
+}
+
+#[test]
 fn a_save_that_stops_leaves_what_was_before_or_after(rt: HostRuntime) -> Result<(), Fail> {
-    let alloc = rt.alloc();
     // the boot that each kind of image stands for, by how many of the four calls passed
     let left = [
         [0, 0, 0, 0],
@@ -140,10 +197,8 @@ fn a_save_that_stops_leaves_what_was_before_or_after(rt: HostRuntime) -> Result<
     ];
     for passed in 0..5 {
         for image in 0..4 {
-            let mut store = empty(alloc, Fails::From(3 + passed))?;
-            assert_eq!(rt; save(alloc, &mut store, 1).is_ok(), passed == 4);
-            let file = store.into_disk().crashed(IMAGES[image])?;
-            assert_eq!(rt; found(alloc, &file)?, left[passed][image]);
+            let outcome = stopped(rt.alloc(), passed, IMAGES[image])?;
+            assert!(rt; outcome == (passed == 4, left[passed][image]));
         }
     }
     Ok(())
@@ -180,31 +235,38 @@ fn a_journal_that_stops_while_it_is_made_is_made_again(rt: HostRuntime) -> Resul
     Ok(())
 }
 
-#[test]
-fn what_is_not_synced_is_kept_or_overwritten(rt: HostRuntime) -> Result<(), Fail> {
-    let alloc = rt.alloc();
-    let mut disk = FaultDisk::new(alloc, b"abc".to_vec(alloc)?, Fails::Once(2));
-    disk.write_at(1, b"XY")?;
-    assert_eq!(rt; disk.crashed(Unsynced::Kept)?.as_slice(), b"aXY".as_slice());
-    assert_eq!(rt;
-        disk.crashed(Unsynced::Overwritten(7))?.as_slice(),
-        b"a\x07\x07".as_slice()
-    );
-    disk.sync()?;
-    assert_eq!(rt;
-        disk.crashed(Unsynced::Overwritten(7))?.as_slice(),
-        b"aXY".as_slice()
-    );
-    assert!(rt; disk.write_at(2, b"de") == Err(DiskFault::Device));
+/// A crash leaves this of a disk.
+fn check_left(
+    rt: &impl Abort,
+    disk: &FaultDisk,
+    unsynced: Unsynced,
+    wanted: &[u8],
+) -> Result<(), DiskFault> {
+    let file = disk.crashed(unsynced)?;
+    check_bytes(rt, &file, wanted);
+    Ok(())
+}
+
+/// A write that failed counts, changes nothing that is read, and may be torn by a crash.
+fn check_failed(rt: &impl Abort, alloc: Global, disk: &mut FaultDisk) -> Result<(), DiskFault> {
     assert_eq!(rt; disk.failures(), 1);
     assert_eq!(rt; disk.len()?, 3);
-    assert_eq!(rt; disk.read(alloc, 1, 9)?.as_slice(), b"XY".as_slice());
-    assert_eq!(rt; disk.crashed(Unsynced::Kept)?.as_slice(), b"aXY".as_slice());
-    assert_eq!(rt;
-        disk.crashed(Unsynced::Overwritten(7))?.as_slice(),
-        b"aX\x07\x07".as_slice()
-    );
-    Ok(())
+    check_bytes(rt, &disk.read(alloc, 1, 9)?, b"XY");
+    check_left(rt, disk, Unsynced::Kept, b"aXY")?;
+    check_left(rt, disk, Unsynced::Overwritten(7), b"aX\x07\x07")
+}
+
+#[test]
+fn what_is_not_synced_is_kept_or_overwritten(rt: HostRuntime) -> Result<(), Fail> {
+    let file = b"abc".to_vec(rt.alloc())?;
+    let mut disk = FaultDisk::new(rt.alloc(), file, Fails::Once(2));
+    disk.write_at(1, b"XY")?;
+    check_left(&rt, &disk, Unsynced::Kept, b"aXY")?;
+    check_left(&rt, &disk, Unsynced::Overwritten(7), b"a\x07\x07")?;
+    disk.sync()?;
+    check_left(&rt, &disk, Unsynced::Overwritten(7), b"aXY")?;
+    assert!(rt; disk.write_at(2, b"de") == Err(DiskFault::Device));
+    Ok(check_failed(&rt, rt.alloc(), &mut disk)?)
 }
 
 #[test]

@@ -4,8 +4,9 @@ ghost use Rattle.journal_store.specs.Disks.{now};
 
 use journal_store::{Disk, JournalStore, MemoryDisk, begin, may_follow};
 use raft_log::{Entry, LoggedBody};
-use stable_store::{Change, Stable, StoreFault};
+use stable_store::{Change, Saved, Stable, StoreFault};
 use std::alloc::{AllocError, Global};
+use std::process::Abort;
 use std::test::Fail;
 use wire_bytes::Number;
 
@@ -54,19 +55,41 @@ fn change(
 }
 
 /// Saves a change where it may follow.
-fn save<D: Disk>(store: &mut JournalStore<u8, D>, change: &Change<u8>) -> Result<(), StoreFault> {
+fn save(
+    alloc: Global,
+    store: &mut JournalStore<u8, MemoryDisk>,
+    numbers: (u64, u64),
+    vote: Option<u8>,
+    keep: u64,
+    body: Option<u8>,
+) -> Result<(), StoreFault>
+    requires small { (numbers.0 ≤ 9) × (numbers.1 ≤ 9) × (keep ≤ 9) }
+    requires vote { vote ≢ Some 0 }
+{
+    let change = change(alloc, numbers, vote, keep, body)?;
     let stands = store.read()?;
-    if may_follow(&stands, change) {
-        store.save(change)?;
+    if may_follow(&stands, &change) {
+        store.save(&change)?;
     }
     Ok(())
 }
 
+/// A new store.
+fn made(alloc: Global) -> Result<JournalStore<u8, MemoryDisk>, StoreFault> {
+    JournalStore::make(alloc, disk(alloc, &[])?)
+}
+
+/// A store in which boot 1 is saved.
+fn booted(alloc: Global) -> Result<JournalStore<u8, MemoryDisk>, StoreFault> {
+    let mut store = made(alloc)?;
+    save(alloc, &mut store, (1, 0), None, 0, None)?;
+    Ok(store)
+}
+
 /// A store in which boot 1 is saved, and then a vote for node 2 in term 1.
 fn voted(alloc: Global) -> Result<JournalStore<u8, MemoryDisk>, StoreFault> {
-    let mut store = JournalStore::make(alloc, disk(alloc, &[])?)?;
-    save(&mut store, &change(alloc, (1, 0), None, 0, None)?)?;
-    save(&mut store, &change(alloc, (1, 1), Some(2), 0, None)?)?;
+    let mut store = booted(alloc)?;
+    save(alloc, &mut store, (1, 1), Some(2), 0, None)?;
     Ok(store)
 }
 
@@ -86,27 +109,39 @@ fn found(alloc: Global, file: &[u8]) -> Result<(u64, u64, u8, u64), StoreFault> 
     ))
 }
 
+fn check_bytes(rt: &impl Abort, told: &[u8], wanted: &[u8]) {
+    assert_eq!(rt; told, wanted);
+}
+
+/// A disk that held the beginning of a header, on which a journal was begun.
+fn begun(alloc: Global) -> Result<MemoryDisk, Fail> {
+    let mut begun = disk(alloc, b"RBSTOR")?;
+    begin::<u8, MemoryDisk>(&mut begun)?;
+    Ok(begun)
+}
+
+/// The bytes are a header and a closed gate, and stand for nothing.
+fn check_new(rt: &impl Abort, alloc: Global, bytes: &[u8]) {
+    check_bytes(rt, bytes, b"RBSTOR01\0");
+    assert!(rt; found(alloc, bytes) == Ok((0, 0, 0, 0)));
+}
+
 #[test]
 fn a_new_journal_is_a_header_and_a_closed_gate(rt: HostRuntime) -> Result<(), Fail> {
-    let alloc = rt.alloc();
-    let store: JournalStore<u8, MemoryDisk> = JournalStore::make(alloc, disk(alloc, &[])?)?;
-    assert_eq!(rt; store.disk().bytes(), b"RBSTOR01\0".as_slice());
+    let store = made(rt.alloc())?;
     assert_eq!(rt; store.failures(), 0);
-    let mut other = disk(alloc, b"RBSTOR")?;
-    begin::<u8, MemoryDisk>(&mut other)?;
-    assert_eq!(rt; other.bytes(), b"RBSTOR01\0".as_slice());
-    assert!(rt; found(alloc, other.bytes()) == Ok((0, 0, 0, 0)));
+    check_new(&rt, rt.alloc(), store.disk().bytes());
+    let begun = begun(rt.alloc())?;
+    check_new(&rt, rt.alloc(), begun.bytes());
     Ok(())
 }
 
 #[test]
 fn a_change_is_a_record_behind_an_open_gate(rt: HostRuntime) -> Result<(), Fail> {
-    let alloc = rt.alloc();
-    let mut store: JournalStore<u8, MemoryDisk> = JournalStore::make(alloc, disk(alloc, &[])?)?;
-    save(&mut store, &change(alloc, (1, 0), None, 0, None)?)?;
-    assert_eq!(rt; store.disk().bytes(), BOOT.as_slice());
-    let disk = voted(alloc)?.into_disk();
-    assert_eq!(rt; disk.bytes(), VOTE.as_slice());
+    let store = booted(rt.alloc())?;
+    check_bytes(&rt, store.disk().bytes(), &BOOT);
+    let disk = voted(rt.alloc())?.into_disk();
+    check_bytes(&rt, disk.bytes(), &VOTE);
     Ok(())
 }
 
@@ -170,22 +205,38 @@ fn another_file_is_no_store_or_of_another_version(rt: HostRuntime) {
     assert!(rt; found(alloc, b"RBSTOR01\x01") == Err(StoreFault::Damaged(8)));
 }
 
+/// A store in which entries of the bodies 5 and 6 follow, of which 7 takes the place of the last.
+fn with_entries(alloc: Global) -> Result<JournalStore<u8, MemoryDisk>, StoreFault> {
+    let mut store = voted(alloc)?;
+    save(alloc, &mut store, (1, 1), Some(2), 0, Some(5))?;
+    save(alloc, &mut store, (1, 1), Some(2), 1, Some(6))?;
+    save(alloc, &mut store, (1, 2), None, 1, Some(7))?;
+    Ok(store)
+}
+
+/// The same, adopted again, in which boot 2 is saved.
+fn booted_again(alloc: Global) -> Result<JournalStore<u8, MemoryDisk>, StoreFault> {
+    let mut store = with_entries(alloc)?;
+    store.again()?;
+    let mut store = JournalStore::adopt(alloc, store.into_disk())?;
+    save(alloc, &mut store, (2, 2), None, 2, None)?;
+    Ok(store)
+}
+
+/// The term and the body of each entry.
+fn entries(alloc: Global, saved: &Saved<u8>) -> Result<Vec<(u64, u8)>, AllocError> {
+    let mut entries = Vec::new(alloc);
+    for entry in saved.log.entries() {
+        entries.push((entry.term.value(), *entry.body.get()))?;
+    }
+    Ok(entries)
+}
+
 #[test]
 fn entries_are_kept_and_replaced(rt: HostRuntime) -> Result<(), Fail> {
-    let alloc = rt.alloc();
-    let mut store = voted(alloc)?;
-    save(&mut store, &change(alloc, (1, 1), Some(2), 0, Some(5))?)?;
-    save(&mut store, &change(alloc, (1, 1), Some(2), 1, Some(6))?)?;
-    save(&mut store, &change(alloc, (1, 2), None, 1, Some(7))?)?;
-    store.again()?;
-    let mut store: JournalStore<u8, MemoryDisk> = JournalStore::adopt(alloc, store.into_disk())?;
-    save(&mut store, &change(alloc, (2, 2), None, 2, None)?)?;
-    let saved = store.read()?;
+    let saved = booted_again(rt.alloc())?.read()?;
     assert_eq!(rt; (saved.boot.value(), saved.term.value()), (2, 2));
-    let mut bodies = Vec::new(alloc);
-    for entry in saved.log.entries() {
-        bodies.push((entry.term.value(), *entry.body.get()))?;
-    }
-    assert_eq!(rt; bodies.as_slice(), [(1, 5), (2, 7)].as_slice());
+    let entries = entries(rt.alloc(), &saved)?;
+    assert_eq!(rt; entries.as_slice(), [(1, 5), (2, 7)].as_slice());
     Ok(())
 }
