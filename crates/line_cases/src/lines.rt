@@ -2,6 +2,7 @@
 use crate::made::{filled, name, text};
 use irc_line::{Line, LineFault, write_parts};
 use std::alloc::Global;
+use std::process::Abort;
 use std::test::Fail;
 
 fn spelled(alloc: Global, content: &str) -> Result<Vec<u8>, Fail> {
@@ -29,10 +30,16 @@ const SPELLED: &[(&str, &str)] = &[
     ("MODE #Finnish +o Kilroy", "MODE #Finnish +o Kilroy"),
 ];
 
+fn check_spelled(rt: &impl Abort, alloc: Global, content: &str, want: &str) -> Result<(), Fail> {
+    let out = spelled(alloc, content)?;
+    assert_eq!(rt; out.as_slice(), want.as_bytes());
+    Ok(())
+}
+
 #[test]
 fn a_line_is_spelled_in_one_way(rt: HostRuntime) -> Result<(), Fail> {
     for (content, want) in SPELLED {
-        assert_eq!(rt; spelled(rt.alloc(), content)?.as_slice(), want.as_bytes());
+        check_spelled(&rt, rt.alloc(), content, want)?;
     }
     Ok(())
 }
@@ -64,15 +71,23 @@ const SPELLINGS: &[(&str, bool)] = &[
     ("", false),
 ];
 
+/// These bytes are the spelling of a line, which is spelled so, or of none.
+fn check_spelling(
+    rt: &impl Abort,
+    alloc: Global,
+    bytes: &str,
+    is_spelling: bool,
+) -> Result<(), Fail> {
+    let out = spelled_again(alloc, bytes)?;
+    let want = if is_spelling { bytes } else { "" };
+    assert_eq!(rt; out.as_slice(), want.as_bytes());
+    Ok(())
+}
+
 #[test]
 fn a_line_comes_from_its_spelling_alone(rt: HostRuntime) -> Result<(), Fail> {
     for (bytes, is_spelling) in SPELLINGS {
-        let want = if *is_spelling { *bytes } else { "" };
-        assert_eq!(rt;
-            spelled_again(rt.alloc(), bytes)?.as_slice(),
-            want.as_bytes(),
-            "{bytes}"
-        );
+        check_spelling(&rt, rt.alloc(), bytes, *is_spelling)?;
     }
     Ok(())
 }

@@ -1,5 +1,5 @@
 //! Sessions call by call.
-use crate::sessions::{Told, feed, new_uplink, tell_inputs};
+use crate::sessions::{Told, feed, new_uplink, tell_input};
 use std::alloc::Global;
 use std::process::Abort;
 use std::test::Fail;
@@ -23,7 +23,7 @@ fn fed(alloc: Global, uplink: &mut Uplink, bytes: &str) -> Result<Told, Fail> {
 fn ended(alloc: Global, uplink: &mut Uplink) -> Result<Told, Fail> {
     let mut told = Told::nothing(alloc);
     if let Some(input) = uplink.end() {
-        tell_inputs(&mut told.inputs, &[input])?;
+        tell_input(&mut told.inputs, &input)?;
     }
     Ok(told)
 }

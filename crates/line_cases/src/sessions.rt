@@ -1,6 +1,7 @@
 //! Sessions by examples.
 use crate::made::{name, text};
 use std::alloc::Global;
+use std::process::Abort;
 use std::test::Fail;
 use uplink::{Uplink, UplinkInput};
 
@@ -10,18 +11,24 @@ pub fn new_uplink(alloc: Global, nick: &str) -> Result<Uplink, Fail> {
     Ok(uplink)
 }
 
-/// Adds each input as words, and a LF.
-pub fn tell_inputs(out: &mut Vec<u8>, inputs: &[UplinkInput]) -> Result<(), Fail> {
-    for input in inputs {
-        match input {
-            UplinkInput::Opened => out.extend_from_slice(b"opened")?,
-            UplinkInput::Heard(line) => {
-                out.extend_from_slice(b"heard ")?;
-                line.write_to(out)?;
-            }
-            UplinkInput::Closed => out.extend_from_slice(b"closed")?,
+/// Adds an input as words, and a LF.
+pub fn tell_input(out: &mut Vec<u8>, input: &UplinkInput) -> Result<(), Fail> {
+    match input {
+        UplinkInput::Opened => out.extend_from_slice(b"opened")?,
+        UplinkInput::Heard(line) => {
+            out.extend_from_slice(b"heard ")?;
+            line.write_to(out)?;
         }
-        out.push(b'\n')?;
+        UplinkInput::Closed => out.extend_from_slice(b"closed")?,
+    }
+    out.push(b'\n')?;
+    Ok(())
+}
+
+/// Adds each input so.
+fn tell_inputs(out: &mut Vec<u8>, inputs: &[UplinkInput]) -> Result<(), Fail> {
+    for input in inputs {
+        tell_input(out, input)?;
     }
     Ok(())
 }
@@ -119,13 +126,16 @@ const PASSWORDS: &[(&str, &str)] = &[
     ),
 ];
 
+fn check_first(rt: &impl Abort, alloc: Global, password: &str, want: &str) -> Result<(), Fail> {
+    let first = first_bytes_with(alloc, password)?;
+    assert_eq!(rt; first.as_slice(), want.as_bytes());
+    Ok(())
+}
+
 #[test]
 fn a_password_comes_first(rt: HostRuntime) -> Result<(), Fail> {
     for (password, want) in PASSWORDS {
-        assert_eq!(rt;
-            first_bytes_with(rt.alloc(), password)?.as_slice(),
-            want.as_bytes()
-        );
+        check_first(&rt, rt.alloc(), password, want)?;
     }
     Ok(())
 }

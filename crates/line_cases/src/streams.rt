@@ -95,11 +95,16 @@ const STREAMS: &[(&str, &str)] = &[
     ("PING b", ""),
 ];
 
+fn check_stream(rt: &impl Abort, alloc: Global, bytes: &str, want: &str) -> Result<(), Fail> {
+    let told = told_in_pieces(alloc, &[bytes.as_bytes()])?;
+    assert_eq!(rt; told.as_slice(), want.as_bytes());
+    Ok(())
+}
+
 #[test]
 fn a_stream_has_empty_contents_and_faults(rt: HostRuntime) -> Result<(), Fail> {
     for (bytes, want) in STREAMS {
-        let told = told_in_pieces(rt.alloc(), &[bytes.as_bytes()])?;
-        assert_eq!(rt; told.as_slice(), want.as_bytes());
+        check_stream(&rt, rt.alloc(), bytes, want)?;
     }
     Ok(())
 }
