@@ -2,14 +2,18 @@
 use crate::listed_cases::CASES;
 use crate::listed_rows::WORKED;
 use bouncer_tower::{Tower, TowerBody};
-use buffer_commands::Setup;
+use buffer_commands::{Setup, WireLine};
 use headline::run_bouncers;
+use irc_line::Name;
 use raft_log::Entry;
 use recorder::parse_events;
 use std::alloc::{AllocError, Global};
 use std::test::Fail;
 use wire_bytes::Wire;
+use world_events::Event;
 use world_run::World;
+
+type TowerEvent = Event<TowerBody, WireLine, Name>;
 
 /// Events, for a group of so many nodes: `;` stands between two of a line.
 pub struct Listed {
@@ -61,20 +65,41 @@ fn longer(
     Ok(Some(longest))
 }
 
+/// The same of what each node of so many commits after these events.
+fn longer_after(
+    alloc: Global,
+    size: u8,
+    setup: &Setup,
+    events: &[TowerEvent],
+    longest: Vec<u8>,
+) -> Result<Option<Vec<u8>>, Fail> {
+    let world = run_bouncers(alloc, size, setup, events)?;
+    Ok(longer(alloc, &world, longest)?)
+}
+
 /// The longest list that any node commits after any beginning of these events, unless one that some node
 /// commits does not begin it. Of two lists that both begin it one begins the other.
-fn agreed(alloc: Global, listed: &Listed) -> Result<Option<Vec<u8>>, Fail> {
-    let events = parse_events::<TowerBody>(alloc, &text(alloc, listed)?)?;
-    let setup = Setup::plain(alloc)?;
+fn agreed_over(
+    alloc: Global,
+    size: u8,
+    setup: &Setup,
+    events: &[TowerEvent],
+) -> Result<Option<Vec<u8>>, Fail> {
     let mut longest = Vec::new(alloc);
     for count in 0..events.len() + 1 {
-        let world = run_bouncers(alloc, listed.size, &setup, &events[..count])?;
-        match longer(alloc, &world, longest)? {
+        match longer_after(alloc, size, setup, &events[..count], longest)? {
             Some(list) => longest = list,
             None => return Ok(None),
         }
     }
     Ok(Some(longest))
+}
+
+/// The same of the events of a text.
+fn agreed(alloc: Global, listed: &Listed) -> Result<Option<Vec<u8>>, Fail> {
+    let events = parse_events::<TowerBody>(alloc, &text(alloc, listed)?)?;
+    let setup = Setup::plain(alloc)?;
+    agreed_over(alloc, listed.size, &setup, &events)
 }
 
 #[test]

@@ -8,7 +8,6 @@ use recorder::{
 use request_once::Answer;
 use session_fence::FenceEffect;
 use std::alloc::Global;
-use std::process::Abort;
 use std::test::Fail;
 use upstream_claim::ClaimsEffect;
 use wire_bytes::{Number, Origin};
@@ -48,13 +47,10 @@ fn fault(alloc: Global, text: &[u8]) -> Result<EventsFault, Fail> {
     }
 }
 
-/// The line after a good one is bad.
-fn check_bad(rt: &impl Abort, alloc: Global, line: &[u8]) -> Result<(), Fail> {
-    let mut text = Vec::from_slice(alloc, b"beat 1\n")?;
-    text.extend_from_slice(line)?;
-    text.extend_from_slice(b"\nbeat 1\n")?;
-    assert_eq!(rt; fault(alloc, &text)?, EventsFault::BadLine(2));
-    Ok(())
+/// What is wrong with a text whose line after a good one is this.
+fn fault_of_second(alloc: Global, line: &str) -> Result<EventsFault, Fail> {
+    let text = format!(in alloc; "beat 1\n{line}\nbeat 1\n")?;
+    fault(alloc, text.as_bytes())
 }
 
 #[test]
@@ -64,10 +60,14 @@ fn what_is_read_is_written_as_it_was(rt: HostRuntime) -> Result<(), Fail> {
     Ok(())
 }
 
+fn count(alloc: Global, text: &[u8]) -> Result<usize, Fail> {
+    let events = parse_events::<Command>(alloc, text).map_err(|_| "no events")?;
+    Ok(events.len())
+}
+
 #[test]
 fn a_line_is_one_event(rt: HostRuntime) -> Result<(), Fail> {
-    let events = parse_events::<Command>(rt.alloc(), EVERY_KIND).map_err(|_| "no events")?;
-    assert_eq!(rt; events.len(), 14);
+    assert_eq!(rt; count(rt.alloc(), EVERY_KIND)?, 14);
     Ok(())
 }
 
@@ -83,22 +83,29 @@ fn the_first_bad_line_is_named(rt: HostRuntime) -> Result<(), Fail> {
     Ok(())
 }
 
+/// Lines that are no event.
+const NO_EVENTS: &[&str] = &[
+    "timeout 0",
+    "timeout  1",
+    "timeout 1 ",
+    "Timeout 1",
+    "deliver 1 18446744073709551616",
+    "ask 1 0302000000000000000A",
+    "ask 1 030200000000000000",
+    "heard 1 250000000001 PING",
+    "heard 1 0 ping",
+    "look 3 01 #x",
+    "look 3 1 a b",
+    "stop before restart 1",
+    "stop timeout 1",
+];
+
 #[test]
 fn what_is_no_event_is_bad(rt: HostRuntime) -> Result<(), Fail> {
-    let alloc = rt.alloc();
-    check_bad(&rt, alloc, b"timeout 0")?;
-    check_bad(&rt, alloc, b"timeout  1")?;
-    check_bad(&rt, alloc, b"timeout 1 ")?;
-    check_bad(&rt, alloc, b"Timeout 1")?;
-    check_bad(&rt, alloc, b"deliver 1 18446744073709551616")?;
-    check_bad(&rt, alloc, b"ask 1 0302000000000000000A")?;
-    check_bad(&rt, alloc, b"ask 1 030200000000000000")?;
-    check_bad(&rt, alloc, b"heard 1 250000000001 PING")?;
-    check_bad(&rt, alloc, b"heard 1 0 ping")?;
-    check_bad(&rt, alloc, b"look 3 01 #x")?;
-    check_bad(&rt, alloc, b"look 3 1 a b")?;
-    check_bad(&rt, alloc, b"stop before restart 1")?;
-    check_bad(&rt, alloc, b"stop timeout 1")
+    for line in NO_EVENTS {
+        assert_eq!(rt; fault_of_second(rt.alloc(), line)?, EventsFault::BadLine(2));
+    }
+    Ok(())
 }
 
 /// Whether a line tells an event.
@@ -126,19 +133,33 @@ fn a_line_alone_is_read(rt: HostRuntime) -> Result<(), Fail> {
     Ok(())
 }
 
+fn restart_line(alloc: Global) -> Result<Vec<u8>, Fail> {
+    let mut out = Vec::new(alloc);
+    push_event::<Command>(alloc, &mut out, &Event::Restart(NodeId::new(3)))?;
+    Ok(out)
+}
+
 #[test]
 fn a_restart_is_its_line(rt: HostRuntime) -> Result<(), Fail> {
-    let mut out = Vec::new(rt.alloc());
-    push_event::<Command>(rt.alloc(), &mut out, &Event::Restart(NodeId::new(3)))?;
-    assert_eq!(rt; out.as_slice(), b"restart 3".as_slice());
+    assert_eq!(rt;
+        restart_line(rt.alloc())?.as_slice(),
+        b"restart 3".as_slice()
+    );
     Ok(())
+}
+
+fn delivery_line(alloc: Global) -> Result<Vec<u8>, Fail> {
+    let mut out = Vec::new(alloc);
+    push_input::<Command>(alloc, &mut out, &Input::Deliver(NodeId::new(3), 12))?;
+    Ok(out)
 }
 
 #[test]
 fn a_delivery_is_its_line(rt: HostRuntime) -> Result<(), Fail> {
-    let mut out = Vec::new(rt.alloc());
-    push_input::<Command>(rt.alloc(), &mut out, &Input::Deliver(NodeId::new(3), 12))?;
-    assert_eq!(rt; out.as_slice(), b"deliver 3 12".as_slice());
+    assert_eq!(rt;
+        delivery_line(rt.alloc())?.as_slice(),
+        b"deliver 3 12".as_slice()
+    );
     Ok(())
 }
 
@@ -162,16 +183,20 @@ fn candidate(alloc: Global, size: GroupSize) -> Result<NodeState<u8>, Fail> {
     Ok(NodeState { standing, log })
 }
 
-#[test]
-fn a_node_is_its_line(rt: HostRuntime) -> Result<(), Fail> {
+fn node_line(alloc: Global) -> Result<Vec<u8>, Fail> {
     let Some(size) = GroupSize::new(3) else {
         return Err(Fail::from("no such size"));
     };
-    let state = candidate(rt.alloc(), size)?;
-    let mut out = Vec::new(rt.alloc());
+    let state = candidate(alloc, size)?;
+    let mut out = Vec::new(alloc);
     push_node(&mut out, NodeId::new(2), &state)?;
+    Ok(out)
+}
+
+#[test]
+fn a_node_is_its_line(rt: HostRuntime) -> Result<(), Fail> {
     let line = b"node 2 candidate term 3 vote 2 log 1 last 2 commit 1 applied 0\n";
-    assert_eq!(rt; out.as_slice(), line.as_slice());
+    assert_eq!(rt; node_line(rt.alloc())?.as_slice(), line.as_slice());
     Ok(())
 }
 
@@ -182,27 +207,41 @@ fn words_of<E: Words>(alloc: Global, effect: &E) -> Result<Vec<u8>, Fail> {
     Ok(out)
 }
 
+fn busy_words(alloc: Global) -> Result<Vec<u8>, Fail> {
+    let busy: TowerEffect = Answer::Effect(ClaimsEffect::Busy(Origin::new(2, 5, 7)));
+    words_of(alloc, &busy)
+}
+
+fn gap_words(alloc: Global) -> Result<Vec<u8>, Fail> {
+    let gap: TowerEffect = Answer::Gap(Origin::new(2, 5, 7), 3);
+    words_of(alloc, &gap)
+}
+
 #[test]
 fn what_leaves_the_tower_is_told_in_words(rt: HostRuntime) -> Result<(), Fail> {
-    let origin = Origin::new(2, 5, 7);
-    let busy: TowerEffect = Answer::Effect(ClaimsEffect::Busy(origin));
     assert_eq!(rt;
-        words_of(rt.alloc(), &busy)?.as_slice(),
+        busy_words(rt.alloc())?.as_slice(),
         b"busy 2.5.7".as_slice()
     );
-    let gap: TowerEffect = Answer::Gap(origin, 3);
     assert_eq!(rt;
-        words_of(rt.alloc(), &gap)?.as_slice(),
+        gap_words(rt.alloc())?.as_slice(),
         b"gap 2.5.7 3".as_slice()
     );
     Ok(())
 }
 
-#[test]
-fn answers_stand_on_lines(rt: HostRuntime) -> Result<(), Fail> {
-    let mut out = Vec::new(rt.alloc());
+fn answer_lines(alloc: Global) -> Result<Vec<u8>, Fail> {
+    let mut out = Vec::new(alloc);
     let close = Answer::Effect(Effect::Close(Origin::new(1, 1, 1)));
     push_answers(&mut out, 12, &[close])?;
-    assert_eq!(rt; out.as_slice(), b"12 close 1.1.1\n".as_slice());
+    Ok(out)
+}
+
+#[test]
+fn answers_stand_on_lines(rt: HostRuntime) -> Result<(), Fail> {
+    assert_eq!(rt;
+        answer_lines(rt.alloc())?.as_slice(),
+        b"12 close 1.1.1\n".as_slice()
+    );
     Ok(())
 }

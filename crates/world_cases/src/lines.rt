@@ -1,7 +1,8 @@
 //! Lines of what comes out, by examples.
 use bouncer_tower::{Tower, TowerBody};
-use buffer_commands::{Effect, Setup};
+use buffer_commands::{Effect, Setup, WireLine};
 use buffer_lines::Shown;
+use irc_line::Name;
 use node_steps::Refusal;
 use raft_log::NodeId;
 use recorder::parse_events;
@@ -54,26 +55,42 @@ node 2 follower term 1 vote 1 log 0 last 0 commit 0 applied 0
 node 3 follower term 1 vote 0 log 4 last 1 commit 4 applied 4
 ";
 
+type TowerEvent = Event<TowerBody, WireLine, Name>;
+
+/// The text of the world of three nodes after these events.
+fn told(alloc: Global, setup: &Setup, events: &[TowerEvent]) -> Result<Vec<u8>, Fail> {
+    let world = World::<Tower>::run(alloc, 3, setup, events)?;
+    Ok(world_text(alloc, events, &world)?)
+}
+
+/// The same after the events of a text.
+fn told_after(alloc: Global, text: &[u8]) -> Result<Vec<u8>, Fail> {
+    let events = parse_events::<TowerBody>(alloc, text).map_err(|_| "no events")?;
+    let setup = Setup::plain(alloc)?;
+    told(alloc, &setup, &events)
+}
+
 #[test]
 fn a_world_is_its_text(rt: HostRuntime) -> Result<(), Fail> {
-    let events = parse_events::<TowerBody>(rt.alloc(), EVENTS).map_err(|_| "no events")?;
-    let setup = Setup::plain(rt.alloc())?;
-    let world = World::<Tower>::run(rt.alloc(), 3, &setup, &events)?;
-    let text = world_text(rt.alloc(), &events, &world)?;
-    assert_eq!(rt; text.as_slice(), TEXT);
+    assert_eq!(rt; told_after(rt.alloc(), EVENTS)?.as_slice(), TEXT);
     Ok(())
+}
+
+/// The lines of three nodes that nothing happened to.
+fn told_nodes(alloc: Global) -> Result<Vec<u8>, Fail> {
+    let world = World::<Toy>::run(alloc, 3, &0, &[])?;
+    let mut out = Vec::new(alloc);
+    push_nodes(&mut out, &world)?;
+    Ok(out)
 }
 
 #[test]
 fn each_node_has_a_line(rt: HostRuntime) -> Result<(), Fail> {
-    let world = World::<Toy>::run(rt.alloc(), 3, &0, &[])?;
-    let mut out = Vec::new(rt.alloc());
-    push_nodes(&mut out, &world)?;
     let lines = b"node 1 follower term 0 vote 0 log 0 last 0 commit 0 applied 0
 node 2 follower term 0 vote 0 log 0 last 0 commit 0 applied 0
 node 3 follower term 0 vote 0 log 0 last 0 commit 0 applied 0
 ";
-    assert_eq!(rt; out.as_slice(), lines.as_slice());
+    assert_eq!(rt; told_nodes(rt.alloc())?.as_slice(), lines.as_slice());
     Ok(())
 }
 
@@ -84,83 +101,101 @@ fn lines(alloc: Global, outcome: &BufferOutcome) -> Result<Vec<u8>, Fail> {
     Ok(out)
 }
 
-/// A refusal is told in these words.
+/// A refusal has this line.
 fn check_refusal(
     rt: &impl Abort,
     alloc: Global,
     refusal: Refusal,
-    words: &[u8],
+    line: &[u8],
 ) -> Result<(), Fail> {
-    let mut line = Vec::from_slice(alloc, b"12 3 refused ")?;
-    line.extend_from_slice(words)?;
-    line.push(b'\n')?;
     let told = lines(alloc, &Outcome::Refused(refusal))?;
-    assert_eq!(rt; told.as_slice(), line.as_slice());
+    assert_eq!(rt; told.as_slice(), line);
     Ok(())
 }
 
 #[test]
 fn refusals_are_told_by_number_and_name(rt: HostRuntime) -> Result<(), Fail> {
-    let alloc = rt.alloc();
-    check_refusal(&rt, alloc, Refusal::LogFull, b"3 LogFull")?;
-    check_refusal(&rt, alloc, Refusal::TermsSpent, b"4 TermsSpent")?;
-    check_refusal(&rt, alloc, Refusal::NoLeader, b"5 NoLeader")?;
-    check_refusal(&rt, alloc, Refusal::Behind(Number::new(10)), b"6 Behind 10")?;
-    check_refusal(&rt, alloc, Refusal::BadOrigin, b"7 BadOrigin")
+    let (alloc, behind) = (rt.alloc(), Refusal::Behind(Number::new(10)));
+    check_refusal(&rt, alloc, Refusal::LogFull, b"12 3 refused 3 LogFull\n")?;
+    check_refusal(
+        &rt,
+        alloc,
+        Refusal::TermsSpent,
+        b"12 3 refused 4 TermsSpent\n",
+    )?;
+    check_refusal(&rt, alloc, Refusal::NoLeader, b"12 3 refused 5 NoLeader\n")?;
+    check_refusal(&rt, alloc, behind, b"12 3 refused 6 Behind 10\n")?;
+    check_refusal(
+        &rt,
+        alloc,
+        Refusal::BadOrigin,
+        b"12 3 refused 7 BadOrigin\n",
+    )
+}
+
+/// Two connections are closed at place 7.
+fn closes(alloc: Global) -> Result<BufferOutcome, Fail> {
+    let mut effects = Vec::new(alloc);
+    effects.push(Effect::Close(Origin::new(3, 1, 1)))?;
+    effects.push(Effect::Close(Origin::new(3, 1, 2)))?;
+    let place = Number::new(7);
+    Ok(Outcome::Left { place, effects })
 }
 
 #[test]
 fn each_effect_has_a_line(rt: HostRuntime) -> Result<(), Fail> {
-    let mut effects = Vec::new(rt.alloc());
-    effects.push(Effect::Close(Origin::new(3, 1, 1)))?;
-    effects.push(Effect::Close(Origin::new(3, 1, 2)))?;
-    let told = lines(
-        rt.alloc(),
-        &Outcome::Left {
-            place: Number::new(7),
-            effects,
-        },
-    )?;
-    assert_eq!(rt;
-        told.as_slice(),
-        b"12 3 7 close 3.1.1\n12 3 7 close 3.1.2\n".as_slice()
-    );
+    let told = lines(rt.alloc(), &closes(rt.alloc())?)?;
+    let want = b"12 3 7 close 3.1.1\n12 3 7 close 3.1.2\n";
+    assert_eq!(rt; told.as_slice(), want.as_slice());
     Ok(())
+}
+
+const LONG: &[u8] = &[b'a'; 600];
+
+/// A playback of a line with 600 letters.
+fn played(alloc: Global) -> Result<BufferOutcome, Fail> {
+    let shown = Shown::of_parts(alloc, None, b"X", &[LONG])?;
+    let lines = vec![in alloc; shown]?;
+    let place = Number::new(7);
+    Ok(Outcome::Looked { place, lines })
 }
 
 #[test]
 fn a_long_line_is_cut(rt: HostRuntime) -> Result<(), Fail> {
-    let long = [b'a'; 600];
-    let shown = Shown::of_parts(rt.alloc(), None, b"X", &[&long])?;
-    let told = lines(
-        rt.alloc(),
-        &Outcome::Looked {
-            place: Number::new(7),
-            lines: vec![in rt.alloc(); shown]?,
-        },
-    )?;
     let mut wanted = Vec::from_slice(rt.alloc(), b"12 3 7 looked 1\n12 3 line X ")?;
-    wanted.extend_from_slice(&long[..508])?;
+    wanted.extend_from_slice(&LONG[..508])?;
     wanted.push(b'\n')?;
+    let told = lines(rt.alloc(), &played(rt.alloc())?)?;
     assert_eq!(rt; told.as_slice(), wanted.as_slice());
     Ok(())
 }
 
-#[test]
-fn events_are_numbered_from_one(rt: HostRuntime) -> Result<(), Fail> {
-    let mut events: Vec<Event<u8, u8, u8>> = Vec::new(rt.alloc());
+fn three_events(alloc: Global) -> Result<Vec<Event<u8, u8, u8>>, Fail> {
+    let mut events = Vec::new(alloc);
     events.push(Event::Restart(NodeId::new(2)))?;
     events.push(Event::StopIn(Input::Beat(NodeId::new(4)), true))?;
     events.push(Event::Does(Input::Deliver(NodeId::new(5), 9)))?;
-    let mut outs: Vec<BufferOutcome> = Vec::new(rt.alloc());
+    Ok(events)
+}
+
+/// What came of each.
+fn three_outcomes(alloc: Global) -> Result<Vec<BufferOutcome>, Fail> {
+    let mut outs = Vec::new(alloc);
     outs.push(Outcome::Quiet)?;
     outs.push(Outcome::Missing)?;
     outs.push(Outcome::Refused(Refusal::LogFull))?;
+    Ok(outs)
+}
+
+#[test]
+fn events_are_numbered_from_one(rt: HostRuntime) -> Result<(), Fail> {
     let mut out = Vec::new(rt.alloc());
-    push_outcomes(&mut out, &events, &outs)?;
-    assert_eq!(rt;
-        out.as_slice(),
-        b"2 none\n3 5 refused 3 LogFull\n".as_slice()
-    );
+    push_outcomes(
+        &mut out,
+        &three_events(rt.alloc())?,
+        &three_outcomes(rt.alloc())?,
+    )?;
+    let want = b"2 none\n3 5 refused 3 LogFull\n";
+    assert_eq!(rt; out.as_slice(), want.as_slice());
     Ok(())
 }
