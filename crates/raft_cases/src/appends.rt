@@ -8,6 +8,7 @@ use raft_log::{
 };
 use replication::{ask, beat, commit_place, on_append, on_append_reply, on_forward, on_vote};
 use std::alloc::{AllocError, Global};
+use std::process::Abort;
 use std::test::Fail;
 use wire_bytes::Number;
 
@@ -107,28 +108,35 @@ fn batch(alloc: Global, prev: u8) -> Result<Batch<u8>, AllocError> {
     Ok(Batch::new(number(prev), number(1), entries, number(9)))
 }
 
+/// What node 1, with a log of terms 1, 1, 2, 2, makes of the batch behind a place, from node 2.
+fn appended(alloc: Global, position: Position, prev: u8) -> Result<Step<u8>, Fail> {
+    let log = log_of(alloc, &[1, 1, 2, 2])?;
+    let (own, leader) = (NodeId::new(1), NodeId::new(2));
+    let node = standing(position)?;
+    let sent = batch(alloc, prev)?;
+    Ok(on_append(alloc, node, &log, own, leader, number(3), sent)?)
+}
+
+fn check_taken(rt: &impl Abort, step: &Step<u8>) {
+    assert!(rt; left(step) == (2, 1, 3));
+    assert!(rt; known(step) == Some(2));
+    assert!(rt; answered(&step.messages) == Some((2, true, 3)));
+}
+
 #[test]
 fn entries_of_the_leader_take_the_place_of_others(rt: HostRuntime) -> Result<(), Fail> {
-    let log = log_of(rt.alloc(), &[1, 1, 2, 2])?;
-    let node = standing(Position::Candidate)?;
-    let (own, leader) = (NodeId::new(1), NodeId::new(2));
-    let sent = batch(rt.alloc(), 2)?;
-    let step = on_append(rt.alloc(), node, &log, own, leader, number(3), sent)?;
-    assert!(rt; left(&step) == (2, 1, 3));
-    assert!(rt; known(&step) == Some(2));
-    assert!(rt; answered(&step.messages) == Some((2, true, 3)));
+    check_taken(&rt, &appended(rt.alloc(), Position::Candidate, 2)?);
     Ok(())
+}
+
+fn check_refused(rt: &impl Abort, step: &Step<u8>) {
+    assert!(rt; left(step) == (4, 0, 0));
+    assert!(rt; answered(&step.messages) == Some((2, false, 3)));
 }
 
 #[test]
 fn entries_behind_another_term_are_refused(rt: HostRuntime) -> Result<(), Fail> {
-    let log = log_of(rt.alloc(), &[1, 1, 2, 2])?;
-    let node = standing(Position::Follower(None))?;
-    let (own, leader) = (NodeId::new(1), NodeId::new(2));
-    let sent = batch(rt.alloc(), 3)?;
-    let step = on_append(rt.alloc(), node, &log, own, leader, number(3), sent)?;
-    assert!(rt; left(&step) == (4, 0, 0));
-    assert!(rt; answered(&step.messages) == Some((2, false, 3)));
+    check_refused(&rt, &appended(rt.alloc(), Position::Follower(None), 3)?);
     Ok(())
 }
 
@@ -147,11 +155,14 @@ fn elected(alloc: Global) -> Result<Step<u8>, Fail> {
     Ok(on_vote(alloc, candidate()?, &log, from, number(3), true, blank)?)
 }
 
+fn check_elected(rt: &impl Abort, step: &Step<u8>) {
+    assert!(rt; role(step) == Role::Leader);
+    assert!(rt; left(step) == (1, 1, 0));
+}
+
 #[test]
 fn the_vote_that_elects_appends_a_blank_body(rt: HostRuntime) -> Result<(), Fail> {
-    let step = elected(rt.alloc())?;
-    assert!(rt; role(&step) == Role::Leader);
-    assert!(rt; left(&step) == (1, 1, 0));
+    check_elected(&rt, &elected(rt.alloc())?);
     Ok(())
 }
 
@@ -185,16 +196,23 @@ fn answered_by(alloc: Global, state: NodeState<u8>, node: u8) -> Result<NodeStat
     Ok(NodeState { standing, log })
 }
 
-fn commit(state: &NodeState<u8>) -> u64 {
-    state.standing.commit.value()
+/// The commit of the leader once node 2 answered so.
+fn committed_once(alloc: Global) -> Result<u64, Fail> {
+    let once = answered_by(alloc, leader(alloc)?, 2)?;
+    Ok(once.standing.commit.value())
+}
+
+/// The same once node 3 did too.
+fn committed_twice(alloc: Global) -> Result<u64, Fail> {
+    let once = answered_by(alloc, leader(alloc)?, 2)?;
+    let twice = answered_by(alloc, once, 3)?;
+    Ok(twice.standing.commit.value())
 }
 
 #[test]
 fn a_third_log_of_five_commits(rt: HostRuntime) -> Result<(), Fail> {
-    let once = answered_by(rt.alloc(), leader(rt.alloc())?, 2)?;
-    assert!(rt; commit(&once) == 0);
-    let twice = answered_by(rt.alloc(), once, 3)?;
-    assert!(rt; commit(&twice) == 1);
+    assert_eq!(rt; committed_once(rt.alloc())?, 0);
+    assert_eq!(rt; committed_twice(rt.alloc())?, 1);
     Ok(())
 }
 
@@ -211,14 +229,16 @@ fn appended_to(alloc: Global, messages: &[Message<u8>]) -> Result<Vec<u8>, Alloc
     Ok(nodes)
 }
 
+/// To whom the leader sends its entries.
+fn sent_to(alloc: Global) -> Result<Vec<u8>, Fail> {
+    let leader = leader(alloc)?;
+    let step = beat(alloc, leader.standing, &leader.log, NodeId::new(1))?;
+    Ok(appended_to(alloc, &step.messages)?)
+}
+
 #[test]
 fn a_leader_sends_its_entries_to_all_others(rt: HostRuntime) -> Result<(), Fail> {
-    let leader = leader(rt.alloc())?;
-    let step = beat(rt.alloc(), leader.standing, &leader.log, NodeId::new(1))?;
-    assert_eq!(rt;
-        appended_to(rt.alloc(), &step.messages)?.as_slice(),
-        [2, 3, 4, 5].as_slice()
-    );
+    assert_eq!(rt; sent_to(rt.alloc())?.as_slice(), [2, 3, 4, 5].as_slice());
     Ok(())
 }
 
@@ -233,21 +253,29 @@ fn forwarded_to(messages: &[Message<u8>]) -> Option<(u8, u8)> {
     }
 }
 
+/// What a leader with a log of one entry makes of a body that it is sent.
+fn forwarded(alloc: Global) -> Result<Step<u8>, Fail> {
+    let log = log_of(alloc, &[1])?;
+    let leads = standing(Position::Leader(None))?;
+    Ok(on_forward(alloc, leads, &log, LoggedBody::new(7))?)
+}
+
+/// What node 1, which follows node 4, makes of a body that it is asked for.
+fn asked(alloc: Global) -> Result<Step<u8>, Fail> {
+    let log = log_of(alloc, &[1])?;
+    let follows = standing(Position::Follower(Some(NodeId::new(4))))?;
+    let own = NodeId::new(1);
+    Ok(ask(alloc, follows, &log, own, LoggedBody::new(7))?)
+}
+
+fn check_asked(rt: &impl Abort, step: &Step<u8>) {
+    assert!(rt; left(step) == (1, 0, 0));
+    assert!(rt; forwarded_to(&step.messages) == Some((4, 7)));
+}
+
 #[test]
 fn a_body_goes_behind_the_log_of_the_leader(rt: HostRuntime) -> Result<(), Fail> {
-    let log = log_of(rt.alloc(), &[1])?;
-    let leads = standing(Position::Leader(None))?;
-    let step = on_forward(rt.alloc(), leads, &log, LoggedBody::new(7))?;
-    assert!(rt; left(&step) == (1, 1, 0));
-    let follows = standing(Position::Follower(Some(NodeId::new(4))))?;
-    let step = ask(
-        rt.alloc(),
-        follows,
-        &log,
-        NodeId::new(1),
-        LoggedBody::new(7),
-    )?;
-    assert!(rt; left(&step) == (1, 0, 0));
-    assert!(rt; forwarded_to(&step.messages) == Some((4, 7)));
+    assert!(rt; left(&forwarded(rt.alloc())?) == (1, 1, 0));
+    check_asked(&rt, &asked(rt.alloc())?);
     Ok(())
 }

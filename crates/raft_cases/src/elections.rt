@@ -5,6 +5,7 @@ use raft_log::{
     Standing, Step,
 };
 use std::alloc::{AllocError, Global};
+use std::process::Abort;
 use std::test::Fail;
 use wire_bytes::Number;
 
@@ -76,24 +77,31 @@ fn asked_by(alloc: Global, messages: &[Message<u8>]) -> Result<Vec<u8>, AllocErr
     Ok(nodes)
 }
 
+/// The same of that follower.
+fn asked_follower(
+    alloc: Global,
+    last_index: u8,
+    last_term: u8,
+) -> Result<Option<(bool, Option<u8>)>, Fail> {
+    let state = follower(alloc)?;
+    Ok(asked(alloc, &state, last_index, last_term)?)
+}
+
 #[test]
 fn a_longer_log_of_an_older_term_gets_no_vote(rt: HostRuntime) -> Result<(), Fail> {
-    let state = follower(rt.alloc())?;
-    assert!(rt; asked(rt.alloc(), &state, 5, 1)? == Some((false, None)));
+    assert!(rt; asked_follower(rt.alloc(), 5, 1)? == Some((false, None)));
     Ok(())
 }
 
 #[test]
 fn a_shorter_log_of_the_same_term_gets_no_vote(rt: HostRuntime) -> Result<(), Fail> {
-    let state = follower(rt.alloc())?;
-    assert!(rt; asked(rt.alloc(), &state, 2, 2)? == Some((false, None)));
+    assert!(rt; asked_follower(rt.alloc(), 2, 2)? == Some((false, None)));
     Ok(())
 }
 
 #[test]
 fn a_log_as_up_to_date_gets_the_vote(rt: HostRuntime) -> Result<(), Fail> {
-    let state = follower(rt.alloc())?;
-    assert!(rt; asked(rt.alloc(), &state, 3, 2)? == Some((true, Some(4))));
+    assert!(rt; asked_follower(rt.alloc(), 3, 2)? == Some((true, Some(4))));
     Ok(())
 }
 
@@ -106,30 +114,40 @@ fn voted(step: &Step<u8>) -> (u64, Option<u8>) {
     (step.standing.term.value(), vote)
 }
 
+/// What the follower does as node 1 when it begins an election.
+fn begun(alloc: Global) -> Result<Step<u8>, Fail> {
+    let state = follower(alloc)?;
+    Ok(begin(alloc, state.standing, &state.log, NodeId::new(1))?)
+}
+
+fn check_begun(rt: &impl Abort, alloc: Global, step: &Step<u8>) -> Result<(), Fail> {
+    assert!(rt; voted(step) == (3, Some(1)));
+    let nodes = asked_by(alloc, &step.messages)?;
+    assert_eq!(rt; nodes.as_slice(), [2, 3, 4, 5].as_slice());
+    Ok(())
+}
+
 #[test]
 fn an_election_asks_all_others(rt: HostRuntime) -> Result<(), Fail> {
-    let state = follower(rt.alloc())?;
-    let step = begin(rt.alloc(), state.standing, &state.log, NodeId::new(1))?;
-    assert!(rt; voted(&step) == (3, Some(1)));
-    assert_eq!(rt;
-        asked_by(rt.alloc(), &step.messages)?.as_slice(),
-        [2, 3, 4, 5].as_slice()
-    );
-    Ok(())
+    check_begun(&rt, rt.alloc(), &begun(rt.alloc())?)
+}
+
+/// The role of a node where these nodes vote for it in term 3.
+fn voted_for(standing: Standing, log: &Log<u8>, voters: &[u8]) -> Role {
+    let mut standing = standing;
+    for from in voters {
+        if *from >= 1 && *from <= 7 {
+            standing = on_vote(standing, log, NodeId::new(*from), Number::new(3), true);
+        }
+    }
+    standing.position.role()
 }
 
 /// The role of node 1 of five where these nodes vote for it in term 3.
 fn elected(alloc: Global, voters: &[u8]) -> Result<Role, Fail> {
     let state = follower(alloc)?;
     let step = begin(alloc, state.standing, &state.log, NodeId::new(1))?;
-    let mut standing = step.standing;
-    for from in voters {
-        if *from >= 1 && *from <= 7 {
-            let from = NodeId::new(*from);
-            standing = on_vote(standing, &state.log, from, Number::new(3), true);
-        }
-    }
-    Ok(standing.position.role())
+    Ok(voted_for(step.standing, &state.log, voters))
 }
 
 #[test]

@@ -10,6 +10,7 @@ use raft_log::{
     Standing, Step,
 };
 use std::alloc::{AllocError, Global};
+use std::process::Abort;
 use std::test::Fail;
 use toy_machine::Toy;
 use wire_bytes::{Moment, Number, Origin, SessionId};
@@ -123,14 +124,21 @@ fn asked(alloc: Global, step: &Step<u8>) -> Result<Vec<u8>, AllocError> {
     Ok(nodes)
 }
 
+/// What comes of a timeout of a follower.
+fn timed_out(alloc: Global) -> Result<Step<u8>, Fail> {
+    let standing = standing(Position::Follower(None))?;
+    prepared(on_timeout(alloc, standing, &log(alloc)?, NodeId::new(1)))
+}
+
+fn check_timed_out(rt: &impl Abort, alloc: Global, step: &Step<u8>) -> Result<(), Fail> {
+    assert!(rt; voted(step) == (5, Some(1)));
+    assert_eq!(rt; asked(alloc, step)?.as_slice(), [2, 3].as_slice());
+    Ok(())
+}
+
 #[test]
 fn a_timeout_asks_the_others_for_their_votes(rt: HostRuntime) -> Result<(), Fail> {
-    let standing = standing(Position::Follower(None))?;
-    let log = log(rt.alloc())?;
-    let step = prepared(on_timeout(rt.alloc(), standing, &log, NodeId::new(1)))?;
-    assert!(rt; voted(&step) == (5, Some(1)));
-    assert_eq!(rt; asked(rt.alloc(), &step)?.as_slice(), [2, 3].as_slice());
-    Ok(())
+    check_timed_out(&rt, rt.alloc(), &timed_out(rt.alloc())?)
 }
 
 /// What comes of an ask at node 1.
@@ -157,55 +165,72 @@ fn an_ask_is_refused_where_no_leader_is_known_or_its_origin_is_another(
     Ok(())
 }
 
+/// What comes of an ask of a leader's run.
+fn appended(alloc: Global) -> Result<Step<u8>, Fail> {
+    let leader = standing(Position::Leader(None))?;
+    let (id, source) = (NodeId::new(1), Source::Run(1, 2));
+    prepared(on_ask(alloc, leader, &log(alloc)?, id, source, body()))
+}
+
+/// A step leaves this session and adds an entry of term 4 with this body.
+fn check_step(
+    rt: &impl Abort,
+    alloc: Global,
+    step: &Step<u8>,
+    live: Option<(u64, u64)>,
+    body: u8,
+) -> Result<(), Fail> {
+    assert!(rt; session(step) == live);
+    assert_eq!(rt; added(alloc, step)?.as_slice(), [(4, body)].as_slice());
+    Ok(())
+}
+
 #[test]
 fn a_leader_appends_what_is_asked(rt: HostRuntime) -> Result<(), Fail> {
+    check_step(&rt, rt.alloc(), &appended(rt.alloc())?, None, 9)
+}
+
+/// What comes of an opening at a leader.
+fn opened(alloc: Global) -> Result<Step<u8>, Fail> {
     let leader = standing(Position::Leader(None))?;
-    let log = log(rt.alloc())?;
-    let source = Source::Run(1, 2);
-    let step = prepared(on_ask(rt.alloc(), leader, &log, NodeId::new(1), source, body()))?;
-    assert_eq!(rt; added(rt.alloc(), &step)?.as_slice(), [(4, 9)].as_slice());
-    Ok(())
+    prepared(on_opened::<Toy>(alloc, leader, &log(alloc)?))
 }
 
 #[test]
 fn a_leader_opens_the_session_of_its_next_attempt(rt: HostRuntime) -> Result<(), Fail> {
-    let leader = standing(Position::Leader(None))?;
-    let log = log(rt.alloc())?;
-    let step = prepared(on_opened::<Toy>(rt.alloc(), leader, &log))?;
-    assert!(rt; session(&step) == Some((2, 1)));
-    assert_eq!(rt; added(rt.alloc(), &step)?.as_slice(), [(4, 1)].as_slice());
-    Ok(())
+    check_step(&rt, rt.alloc(), &opened(rt.alloc())?, Some((2, 1)), 1)
+}
+
+/// What comes of the end of the session.
+fn closed(alloc: Global) -> Result<Step<u8>, Fail> {
+    prepared(on_closed::<Toy>(alloc, holder()?, &log(alloc)?))
 }
 
 #[test]
 fn a_session_that_ends_is_shut(rt: HostRuntime) -> Result<(), Fail> {
-    let log = log(rt.alloc())?;
-    let step = prepared(on_closed::<Toy>(rt.alloc(), holder()?, &log))?;
-    assert!(rt; session(&step) == None);
-    assert_eq!(rt; added(rt.alloc(), &step)?.as_slice(), [(4, 2)].as_slice());
-    Ok(())
+    check_step(&rt, rt.alloc(), &closed(rt.alloc())?, None, 2)
 }
 
 /// What comes of a line of the session.
-fn heard(alloc: Global, log: &Log<u8>) -> Result<Step<u8>, Fail> {
-    let live = live();
+fn heard(alloc: Global) -> Result<Step<u8>, Fail> {
+    let (live, log) = (live(), log(alloc)?);
     if live.next > log.len() {
         return Err(Fail::from("a line is no entry"));
     }
     let leader = standing(Position::Leader(Some(live)))?;
-    prepared(on_heard::<Toy>(alloc, leader, log, Moment::new(50), 0))
+    prepared(on_heard::<Toy>(alloc, leader, &log, Moment::new(50), 0))
+}
+
+/// What comes of a claim of the session.
+fn claimed(alloc: Global) -> Result<Step<u8>, Fail> {
+    let claim = Some(number(1));
+    prepared(on_claim::<Toy>(alloc, holder()?, &log(alloc)?, claim))
 }
 
 #[test]
 fn a_line_is_counted_and_a_claim_is_not(rt: HostRuntime) -> Result<(), Fail> {
-    let log = log(rt.alloc())?;
-    let step = heard(rt.alloc(), &log)?;
-    assert!(rt; session(&step) == Some((1, 4)));
-    assert_eq!(rt; added(rt.alloc(), &step)?.as_slice(), [(4, 3)].as_slice());
-    let step = prepared(on_claim::<Toy>(rt.alloc(), holder()?, &log, Some(number(1))))?;
-    assert!(rt; session(&step) == Some((1, 3)));
-    assert_eq!(rt; added(rt.alloc(), &step)?.as_slice(), [(4, 4)].as_slice());
-    Ok(())
+    check_step(&rt, rt.alloc(), &heard(rt.alloc())?, Some((1, 4)), 3)?;
+    check_step(&rt, rt.alloc(), &claimed(rt.alloc())?, Some((1, 3)), 4)
 }
 
 /// What comes of a request for a vote of term 5, from node 2.

@@ -1,6 +1,7 @@
 //! Worlds, by examples.
 use raft_log::{NodeId, Role};
 use std::alloc::{AllocError, Global};
+use std::process::Abort;
 use std::test::Fail;
 use toy_machine::Toy;
 use world_events::{Event, Input};
@@ -62,45 +63,68 @@ fn role(world: &World<Toy>, node: u8) -> Option<Role> {
     }
 }
 
+/// The world of three nodes after these events.
+fn ran(alloc: Global, events: &[Event<u8, u8, u8>]) -> Result<World<Toy>, Fail> {
+    Ok(World::<Toy>::run(alloc, 3, &0, events)?)
+}
+
+/// The same after the agreement.
+fn agreed(alloc: Global) -> Result<World<Toy>, Fail> {
+    ran(alloc, &agreement(alloc)?)
+}
+
+fn check_roles(rt: &impl Abort, world: &World<Toy>) {
+    assert!(rt; world.size() == 3);
+    assert!(rt; role(world, 1) == Some(Role::Leader));
+    assert!(rt; role(world, 3) == Some(Role::Follower));
+    assert!(rt; role(world, 4) == None);
+}
+
 #[test]
 fn each_node_is_as_the_events_left_it(rt: HostRuntime) -> Result<(), Fail> {
-    let events = agreement(rt.alloc())?;
-    let world = World::<Toy>::run(rt.alloc(), 3, &0, &events)?;
-    assert!(rt; world.size() == 3);
-    assert!(rt; role(&world, 1) == Some(Role::Leader));
-    assert!(rt; role(&world, 3) == Some(Role::Follower));
-    assert!(rt; role(&world, 4) == None);
+    check_roles(&rt, &agreed(rt.alloc())?);
     Ok(())
+}
+
+fn check_committed(rt: &impl Abort, world: &World<Toy>) {
+    assert!(rt; committed(world, 1) == Some(2));
+    assert!(rt; committed(world, 2) == Some(0));
+    assert!(rt; committed(world, 4) == None);
 }
 
 #[test]
 fn the_leader_commits_first_and_no_other_node_is_there(rt: HostRuntime) -> Result<(), Fail> {
-    let events = agreement(rt.alloc())?;
-    let world = World::<Toy>::run(rt.alloc(), 3, &0, &events)?;
-    assert!(rt; committed(&world, 1) == Some(2));
-    assert!(rt; committed(&world, 2) == Some(0));
-    assert!(rt; committed(&world, 4) == None);
+    check_committed(&rt, &agreed(rt.alloc())?);
     Ok(())
+}
+
+/// The places that were applied, and how many effects left at each, after these events.
+fn left_after(alloc: Global, events: &[Event<u8, u8, u8>]) -> Result<Vec<(u64, usize)>, Fail> {
+    Ok(left(alloc, ran(alloc, events)?.outputs())?)
 }
 
 #[test]
 fn what_a_majority_has_is_applied_and_leaves_at_its_node(rt: HostRuntime) -> Result<(), Fail> {
     let events = agreement(rt.alloc())?;
-    let world = World::<Toy>::run(rt.alloc(), 3, &0, &events)?;
     assert_eq!(rt;
-        left(rt.alloc(), world.outputs())?.as_slice(),
+        left_after(rt.alloc(), &events)?.as_slice(),
         [(1, 0), (2, 1)].as_slice()
     );
     Ok(())
 }
 
-#[test]
-fn a_leader_that_stops_applies_nothing(rt: HostRuntime) -> Result<(), Fail> {
-    let mut events = agreement(rt.alloc())?;
+/// Node 1 stops after the agreement, and is to apply one more entry.
+fn stopped(alloc: Global) -> Result<Events, AllocError> {
+    let mut events = agreement(alloc)?;
     events.push(Event::Restart(NodeId::new(1)))?;
     add(&mut events, Input::Apply(NodeId::new(1)))?;
-    let world = World::<Toy>::run(rt.alloc(), 3, &0, &events)?;
-    assert_eq!(rt; left(rt.alloc(), world.outputs())?.len(), 2);
+    Ok(events)
+}
+
+#[test]
+fn a_leader_that_stops_applies_nothing(rt: HostRuntime) -> Result<(), Fail> {
+    let events = stopped(rt.alloc())?;
+    assert_eq!(rt; left_after(rt.alloc(), &events)?.len(), 2);
     Ok(())
 }
 
@@ -113,8 +137,7 @@ fn no_group_has_four_nodes(rt: HostRuntime) -> Result<(), Fail> {
 
 #[test]
 fn a_machine_without_lines_hands_none(rt: HostRuntime) -> Result<(), Fail> {
-    let events = agreement(rt.alloc())?;
-    let world = World::<Toy>::run(rt.alloc(), 3, &0, &events)?;
+    let world = agreed(rt.alloc())?;
     assert!(rt; world.handed(rt.alloc())?.is_empty());
     Ok(())
 }
