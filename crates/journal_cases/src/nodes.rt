@@ -6,8 +6,9 @@ use fault_disks::{Fails, FaultDisk, Unsynced};
 use journal_store::{JournalStore, MemoryDisk};
 use raft_log::{Batch, Entry, GroupSize, Kind, LoggedBody, Message, NodeId};
 use raft_node::{Cause, Input, Node, NodeFault};
-use stable_store::Stable;
+use stable_store::{Saved, Stable};
 use std::alloc::{AllocError, Global};
+use std::process::Abort;
 use std::test::Fail;
 use toy_machine::Toy;
 use wire_bytes::Number;
@@ -67,21 +68,34 @@ fn entries(alloc: Global) -> Result<Input<u8, u8>, AllocError> {
 
 type JournalNode<'a> = Node<Toy, JournalStore<u8, LentDisk<'a>>>;
 
-/// How many steps node 2 of three does over an empty journal on a disk: it begins its first run, gives
-/// node 1 its vote, takes its entries, and begins its second run. Three calls of the disk adopt, four
-/// save, and three more begin the second run.
+/// Node 2 of three in its first run, over an empty journal on a disk. Three calls of the disk adopt, and
+/// four save.
+fn started<'a>(alloc: Global, disk: &'a mut FaultDisk) -> Result<JournalNode<'a>, NodeFault> {
+    let Some(size) = GroupSize::new(3) else {
+        return Err(NodeFault::Down(Cause::Memory));
+    };
+    let Ok(store) = JournalStore::adopt(alloc, LentDisk { disk }) else {
+        return Err(NodeFault::Down(Cause::Store));
+    };
+    JournalNode::start(alloc, NodeId::new(2), size, &0, store)
+}
+
+/// How many steps node 2 does over an empty journal on a disk: it begins its first run, gives node 1 its
+/// vote, takes its entries, and begins its second run. Four calls of the disk save, and three more begin
+/// the second run.
 fn steps_done(alloc: Global, disk: &mut FaultDisk) -> Result<usize, Fail>
     ensures { IfOk result (λ n. n ≤ 4) }
 {
-    let Some(size) = GroupSize::new(3) else {
-        return Err(Fail::from("no such size"));
-    };
-    let Ok(store) = JournalStore::adopt(alloc, LentDisk { disk }) else {
-        return Ok(0);
-    };
-    let Ok(mut node) = JournalNode::start(alloc, NodeId::new(2), size, &0, store) else {
-        return Ok(0);
-    };
+    match started(alloc, disk) {
+        Ok(mut node) => steps_of(alloc, &mut node),
+        Err(_) => Ok(0),
+    }
+}
+
+/// How many steps a node in its first run has done then.
+fn steps_of(alloc: Global, node: &mut JournalNode<'_>) -> Result<usize, Fail>
+    ensures { IfOk result (λ n. n ≤ 4) }
+{
     if node.step(request()).is_err() {
         return Ok(1);
     }
@@ -99,6 +113,10 @@ fn found(alloc: Global, file: Vec<u8>) -> Result<String, Fail> {
     let disk = MemoryDisk::new(alloc, file);
     let store: JournalStore<u8, MemoryDisk> = JournalStore::adopt(alloc, disk)?;
     let saved = store.read()?;
+    told(alloc, &saved)
+}
+
+fn told(alloc: Global, saved: &Saved<u8>) -> Result<String, Fail> {
     let (boot, term) = (saved.boot.value(), saved.term.value());
     let vote = match saved.vote {
         None => 0,
@@ -109,18 +127,36 @@ fn found(alloc: Global, file: Vec<u8>) -> Result<String, Fail> {
     Ok(format!(in alloc; "boot {boot} term {term} vote {vote} log {log} last {last}")?)
 }
 
+/// Whether a crash leaves a disk with what stands for this.
+fn leaves(alloc: Global, disk: &FaultDisk, unsynced: Unsynced, wanted: &str) -> Result<bool, Fail> {
+    let left = found(alloc, disk.crashed(unsynced)?)?;
+    Ok(left.as_str() == wanted)
+}
+
+/// A disk with an empty journal, of which these calls fail.
+fn empty(alloc: Global, fails: Fails) -> Result<FaultDisk, AllocError> {
+    Ok(FaultDisk::new(alloc, EMPTY.to_vec(alloc)?, fails))
+}
+
+/// A crash leaves what stands after so many steps, or after the next one.
+fn check_done(rt: &impl Abort, alloc: Global, disk: &FaultDisk, done: usize) -> Result<(), Fail>
+    requires { done ≤ 4 }
+{
+    for unsynced in IMAGES {
+        let before = leaves(alloc, disk, unsynced, SAVED[done])?;
+        assert!(rt; before || (done < 4 && leaves(alloc, disk, unsynced, SAVED[done + 1])?));
+    }
+    Ok(())
+}
+
 #[test]
 fn whatever_call_fails_each_step_stands_or_does_not(rt: HostRuntime) -> Result<(), Fail> {
     let alloc = rt.alloc();
     for call in 0..23 {
         for fails in [Fails::From(call), Fails::Once(call)] {
-            let mut disk = FaultDisk::new(alloc, EMPTY.to_vec(alloc)?, fails);
+            let mut disk = empty(alloc, fails)?;
             let done = steps_done(alloc, &mut disk)?;
-            for unsynced in IMAGES {
-                let left = found(alloc, disk.crashed(unsynced)?)?;
-                let before = left.as_str() == SAVED[done];
-                assert!(rt; before || (done < 4 && left.as_str() == SAVED[done + 1]));
-            }
+            check_done(&rt, alloc, &disk, done)?;
         }
     }
     Ok(())
@@ -128,29 +164,50 @@ fn whatever_call_fails_each_step_stands_or_does_not(rt: HostRuntime) -> Result<(
 
 /// Whether node 2, once it gave its vote, tells node 1 that it took its entries, and does no more.
 fn answered(alloc: Global, disk: &mut FaultDisk) -> Result<bool, NodeFault> {
-    let Some(size) = GroupSize::new(3) else {
-        return Err(NodeFault::Down(Cause::Memory));
-    };
-    let Ok(store) = JournalStore::adopt(alloc, LentDisk { disk }) else {
-        return Err(NodeFault::Down(Cause::Store));
-    };
-    let mut node = JournalNode::start(alloc, NodeId::new(2), size, &0, store)?;
+    let mut node = started(alloc, disk)?;
+    answers(alloc, &mut node)
+}
+
+fn answers(alloc: Global, node: &mut JournalNode<'_>) -> Result<bool, NodeFault> {
     node.step(request())?;
     let output = node.step(entries(alloc)?)?;
-    match output.messages.as_slice() {
+    Ok(is_answer(&output.messages))
+}
+
+/// Whether all that is sent is that entries were taken up to place 2.
+fn is_answer(messages: &[Message<u8>]) -> bool {
+    match messages {
         [message] => match &message.kind {
-            Kind::AppendReply { ok, place } => Ok(message.to == 1 && *ok && place.value() == 2),
-            _ => Ok(false),
+            Kind::AppendReply { ok, place } => message.to == 1 && *ok && place.value() == 2,
+            _ => false,
         },
-        _ => Ok(false),
+        _ => false,
     }
+}
+
+/// A follower that stops once so many calls of the disk passed as it saved its entries does not answer,
+/// and each kind of image has the entries or has them not.
+fn check_stopped(
+    rt: &impl Abort,
+    alloc: Global,
+    passed: usize,
+    taken: &[bool; 4],
+) -> Result<(), Fail>
+    requires { passed ≤ 4 }
+{
+    let mut disk = empty(alloc, Fails::From(11 + passed))?;
+    assert!(rt; answered(alloc, &mut disk) == Err(NodeFault::Down(Cause::Store)));
+    for image in 0..4 {
+        let saved = if taken[image] { SAVED[3] } else { SAVED[2] };
+        assert!(rt; leaves(alloc, &disk, IMAGES[image], saved)?);
+    }
+    Ok(())
 }
 
 #[test]
 fn a_follower_that_stops_while_it_saves_entries_has_all_or_none_and_does_not_answer(
     rt: HostRuntime,
 ) -> Result<(), Fail> {
-    let alloc = rt.alloc();
     // whether each kind of image has the entries, by how many of the four calls passed
     let taken = [
         [false, false, false, false],
@@ -159,27 +216,15 @@ fn a_follower_that_stops_while_it_saves_entries_has_all_or_none_and_does_not_ans
         [true, false, true, true],
     ];
     for passed in 0..4 {
-        let mut disk = FaultDisk::new(alloc, EMPTY.to_vec(alloc)?, Fails::From(11 + passed));
-        assert!(rt; answered(alloc, &mut disk) == Err(NodeFault::Down(Cause::Store)));
-        for image in 0..4 {
-            let left = found(alloc, disk.crashed(IMAGES[image])?)?;
-            let saved = if taken[passed][image] {
-                SAVED[3]
-            } else {
-                SAVED[2]
-            };
-            assert_eq!(rt; left.as_str(), saved);
-        }
+        check_stopped(&rt, rt.alloc(), passed, &taken[passed])?;
     }
     Ok(())
 }
 
 #[test]
 fn a_follower_answers_once_its_entries_are_saved(rt: HostRuntime) -> Result<(), Fail> {
-    let alloc = rt.alloc();
-    let mut disk = FaultDisk::new(alloc, EMPTY.to_vec(alloc)?, Fails::From(15));
-    assert!(rt; answered(alloc, &mut disk) == Ok(true));
-    let left = found(alloc, disk.crashed(Unsynced::Overwritten(255))?)?;
-    assert_eq!(rt; left.as_str(), SAVED[3]);
+    let mut disk = empty(rt.alloc(), Fails::From(15))?;
+    assert!(rt; answered(rt.alloc(), &mut disk) == Ok(true));
+    assert!(rt; leaves(rt.alloc(), &disk, Unsynced::Overwritten(255), SAVED[3])?);
     Ok(())
 }
