@@ -4,7 +4,5 @@
 mod marking;
 mod of_tower;
 mod of_toy;
-#[cfg(test)]
-mod tests;
 
 pub use marking::Marking;

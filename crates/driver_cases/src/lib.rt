@@ -5,6 +5,8 @@
 #[cfg(test)]
 mod node_stories;
 #[cfg(test)]
+mod paces;
+#[cfg(test)]
 mod stories;
 #[cfg(test)]
 mod story;

@@ -10,6 +10,3 @@ mod timer;
 pub use backoff::Backoff;
 pub use pace::Pace;
 pub use timer::Timer;
-
-#[cfg(test)]
-mod tests;

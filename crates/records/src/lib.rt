@@ -19,6 +19,3 @@ pub use record::{Merged, Record, Turn};
 pub use replay_fault::ReplayFault;
 pub use verdict::{Verdict, verdict_of};
 pub use writing::write_record;
-
-#[cfg(test)]
-mod tests;

@@ -8,6 +8,3 @@ mod wire_setup;
 
 pub use fields::{LineCount, OffsetMinutes, QueryCount};
 pub use wire_setup::{WireSetup, put_setup};
-
-#[cfg(test)]
-mod tests;

@@ -12,6 +12,8 @@ mod gates;
 #[cfg(test)]
 mod inputs;
 #[cfg(test)]
+mod marks;
+#[cfg(test)]
 mod meeting;
 #[cfg(test)]
 mod request;

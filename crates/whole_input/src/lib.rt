@@ -6,6 +6,3 @@ mod read_fault;
 
 pub use input::read_whole;
 pub use read_fault::ReadFault;
-
-#[cfg(test)]
-mod tests;

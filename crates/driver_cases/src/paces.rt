@@ -1,4 +1,5 @@
-use crate::{Backoff, Pace, Timer};
+//! How often something may be done, by example.
+use pacing::{Backoff, Pace, Timer};
 use std::test::Fail;
 
 #[test]

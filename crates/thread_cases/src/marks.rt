@@ -1,4 +1,5 @@
-use crate::marking::Marking;
+//! What bodies tell of marks, by example.
+use body_marks::Marking;
 use bouncer_tower::Tower;
 use std::test::Fail;
 use toy_machine::Toy;

@@ -1,10 +1,10 @@
 //! Records, their files and verdicts, by example.
-use super::*;
 use buffer_commands::{Effect, WireLine};
 use buffer_lines::Shown;
 use irc_line::Name;
 use raft_log::{GroupSize, NodeId, Role};
 use recorder::NodeFields;
+use records::{Merged, Record, ReplayFault, Turn, Verdict, merge, parse_record, verdict_of, write_record};
 use std::alloc::{AllocError, Global};
 use std::test::Fail;
 use wire_bytes::Number;

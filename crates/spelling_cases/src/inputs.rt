@@ -1,6 +1,6 @@
 //! What a reader comes to, by examples.
-use super::*;
 use std::test::Fail;
+use whole_input::read_whole;
 
 #[test]
 fn an_input_is_read_to_its_end(rt: HostRuntime) -> Result<(), Fail> {

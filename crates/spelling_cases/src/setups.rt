@@ -1,8 +1,8 @@
 //! The bytes of setups, by example.
-use super::*;
 use buffer_commands::{Options, Setup};
 use buffer_lines::Offset;
 use irc_line::Name;
+use setup_spelling::{WireSetup, put_setup};
 use std::alloc::{AllocError, Global};
 use std::test::Fail;
 use wire_bytes::{Wire, WireFault};
