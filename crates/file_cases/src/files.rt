@@ -56,11 +56,11 @@ fn outcome(rt: &HostRuntime, path: &str) -> &'static str {
 }
 
 fn check_bytes(rt: &impl Abort, told: &[u8], wanted: &[u8]) {
-    assert_eq!(rt; told, wanted);
+    assert!(rt; told == wanted);
 }
 
 fn check_text(rt: &impl Abort, told: &str, wanted: &str) {
-    assert_eq!(rt; told, wanted);
+    assert!(rt; told == wanted);
 }
 
 /// Saves boot 1 in the journal of a path, which serves again. Answers how many calls failed.
@@ -76,9 +76,9 @@ fn a_journal_over_a_file_keeps_what_is_saved(rt: HostRuntime) -> Result<(), Fail
     let _ = fs::remove_dir_all(&rt, SAVED);
     fs::create_dir(&rt, SAVED)?;
     let path = "file_cases_saved/node-1";
-    assert_eq!(rt; saved(&rt, path)?, 0);
+    assert!(rt; saved(&rt, path)? == 0);
     check_bytes(&rt, &fs::read(&rt, path)?, &BOOT);
-    assert_eq!(rt; boot(&rt, path)?, 1);
+    assert!(rt; boot(&rt, path)? == 1);
     fs::remove_dir_all(&rt, SAVED)?;
     Ok(())
 }
@@ -96,11 +96,11 @@ fn a_journal_is_opened_once(rt: HostRuntime) -> Result<(), Fail> {
     let _ = fs::remove_dir_all(&rt, HELD);
     fs::create_dir(&rt, HELD)?;
     let path = "file_cases_held/node-1";
-    assert_eq!(rt; opened_twice(&rt, path)?, "in use");
-    assert_eq!(rt; boot(&rt, path)?, 0);
-    assert_eq!(rt; outcome(&rt, HELD), "system");
-    assert_eq!(rt; outcome(&rt, "/dev/null"), "not a file");
-    assert_eq!(rt; outcome(&rt, "file_cases_held/no/node-1"), "system");
+    assert!(rt; opened_twice(&rt, path)? == "in use");
+    assert!(rt; boot(&rt, path)? == 0);
+    assert!(rt; outcome(&rt, HELD) == "system");
+    assert!(rt; outcome(&rt, "/dev/null") == "not a file");
+    assert!(rt; outcome(&rt, "file_cases_held/no/node-1") == "system");
     fs::remove_dir_all(&rt, HELD)?;
     Ok(())
 }
@@ -146,9 +146,9 @@ fn check_disk(
     alloc: Global,
     disk: &mut FileDisk<FaultFile>,
 ) -> Result<(), DiskFault> {
-    assert_eq!(rt; disk.len()?, 41);
+    assert!(rt; disk.len()? == 41);
     assert!(rt; disk.sync() == Err(DiskFault::Device));
-    assert_eq!(rt; disk.failures(), 1);
+    assert!(rt; disk.failures() == 1);
     check_read(rt, alloc, disk, 0, b"RBSTOR")?;
     check_read(rt, alloc, disk, 39, b"\0\0")?;
     check_read(rt, alloc, disk, 60, b"")

@@ -4,7 +4,9 @@ use buffer_lines::Shown;
 use irc_line::Name;
 use raft_log::{GroupSize, NodeId, Role};
 use recorder::NodeFields;
-use records::{Merged, Record, ReplayFault, Turn, Verdict, merge, parse_record, verdict_of, write_record};
+use records::{
+    Merged, Record, ReplayFault, Turn, Verdict, merge, parse_record, verdict_of, write_record,
+};
 use std::alloc::{AllocError, Global};
 use std::test::Fail;
 use wire_bytes::Number;
@@ -63,7 +65,7 @@ fn turns_stand_by_ticket_then_node_then_place(rt: HostRuntime) -> Result<(), Fai
     let third = letters(alloc, NodeId::new(3), &[(2, b'd')])?;
     let run = merge(alloc, vec![in alloc; second, first, third]?)?;
     assert!(rt; word(alloc, &run)?.as_slice() == b"aAbBcCdDeEfF".as_slice());
-    assert_eq!(rt; run.nodes.len(), 3);
+    assert!(rt; run.nodes.len() == 3);
     Ok(())
 }
 
@@ -91,9 +93,9 @@ fn a_run_is_written_as_its_file(rt: HostRuntime) -> Result<(), Fail> {
 #[test]
 fn a_file_is_read_up_to_its_outputs(rt: HostRuntime) -> Result<(), Fail> {
     let (recording, outputs) = parse_record::<u8, u8>(rt.alloc(), TEXT)?;
-    assert_eq!(rt; recording.setup, 42);
-    assert_eq!(rt; recording.size.value(), 3);
-    assert_eq!(rt; recording.events.len(), 2);
+    assert!(rt; recording.setup == 42);
+    assert!(rt; recording.size.value() == 3);
+    assert!(rt; recording.events.len() == 2);
     assert!(rt; outputs.starts_with(b"2 1 refused 5 NoLeader\nnode 1 "));
     Ok(())
 }
@@ -109,60 +111,39 @@ fn fault(alloc: Global, text: &[u8]) -> Option<ReplayFault> {
 #[test]
 fn the_first_line_begins_with_the_version(rt: HostRuntime) -> Result<(), Fail> {
     let alloc = rt.alloc();
-    assert_eq!(rt; fault(alloc, b""), Some(ReplayFault::Version));
-    assert_eq!(rt; fault(alloc, b"RBREC01\n"), Some(ReplayFault::Version));
-    assert_eq!(rt;
-        fault(alloc, b"RBREC02 3\n2a\noutputs\n"),
-        Some(ReplayFault::Version)
-    );
+    assert!(rt; fault(alloc, b"") == Some(ReplayFault::Version));
+    assert!(rt; fault(alloc, b"RBREC01\n") == Some(ReplayFault::Version));
+    assert!(rt; fault(alloc, b"RBREC02 3\n2a\noutputs\n") == Some(ReplayFault::Version));
     Ok(())
 }
 
 #[test]
 fn the_first_bad_line_is_told(rt: HostRuntime) -> Result<(), Fail> {
     let alloc = rt.alloc();
-    assert_eq!(rt; fault(alloc, b"RBREC01 3"), Some(ReplayFault::BadLine(1)));
-    assert_eq!(rt;
-        fault(alloc, b"RBREC01 03\n2a\noutputs\n"),
-        Some(ReplayFault::BadLine(1))
-    );
-    assert_eq!(rt; fault(alloc, b"RBREC01 4\n"), Some(ReplayFault::BadLine(1)));
-    assert_eq!(rt; fault(alloc, b"RBREC01 3\n"), Some(ReplayFault::BadLine(2)));
-    assert_eq!(rt;
-        fault(alloc, b"RBREC01 3\n2A\n"),
-        Some(ReplayFault::BadLine(2))
-    );
+    assert!(rt; fault(alloc, b"RBREC01 3") == Some(ReplayFault::BadLine(1)));
+    assert!(rt; fault(alloc, b"RBREC01 03\n2a\noutputs\n") == Some(ReplayFault::BadLine(1)));
+    assert!(rt; fault(alloc, b"RBREC01 4\n") == Some(ReplayFault::BadLine(1)));
+    assert!(rt; fault(alloc, b"RBREC01 3\n") == Some(ReplayFault::BadLine(2)));
+    assert!(rt; fault(alloc, b"RBREC01 3\n2A\n") == Some(ReplayFault::BadLine(2)));
     Ok(())
 }
 
 #[test]
 fn a_file_without_outputs_is_bad_behind_its_last_line(rt: HostRuntime) -> Result<(), Fail> {
     let alloc = rt.alloc();
-    assert_eq!(rt;
-        fault(alloc, b"RBREC01 3\n2a\n"),
-        Some(ReplayFault::BadLine(3))
-    );
-    assert_eq!(rt;
-        fault(alloc, b"RBREC01 3\n2a\nbeat 1\n"),
-        Some(ReplayFault::BadLine(4))
-    );
-    assert_eq!(rt;
-        fault(alloc, b"RBREC01 3\n2a\noutputs"),
-        Some(ReplayFault::BadLine(3))
-    );
-    assert_eq!(rt;
-        fault(alloc, b"RBREC01 3\n2a\nbeat 8\nno"),
-        Some(ReplayFault::BadLine(3))
-    );
+    assert!(rt; fault(alloc, b"RBREC01 3\n2a\n") == Some(ReplayFault::BadLine(3)));
+    assert!(rt; fault(alloc, b"RBREC01 3\n2a\nbeat 1\n") == Some(ReplayFault::BadLine(4)));
+    assert!(rt; fault(alloc, b"RBREC01 3\n2a\noutputs") == Some(ReplayFault::BadLine(3)));
+    assert!(rt; fault(alloc, b"RBREC01 3\n2a\nbeat 8\nno") == Some(ReplayFault::BadLine(3)));
     Ok(())
 }
 
 #[test]
 fn the_first_other_line_is_told(rt: HostRuntime) -> Result<(), Fail> {
-    assert_eq!(rt; verdict_of(b"a\nb\n", b"a\nb\n"), Verdict::Same);
-    assert_eq!(rt; verdict_of(b"a\nc\n", b"a\nb\n"), Verdict::Differs(2));
-    assert_eq!(rt; verdict_of(b"a\n", b"a\nb\n"), Verdict::Differs(2));
-    assert_eq!(rt; verdict_of(b"a\nb\nc\n", b"a\nb\n"), Verdict::Differs(3));
-    assert_eq!(rt; verdict_of(b"a\nb", b"a\nb\n"), Verdict::Differs(2));
+    assert!(rt; verdict_of(b"a\nb\n", b"a\nb\n") == Verdict::Same);
+    assert!(rt; verdict_of(b"a\nc\n", b"a\nb\n") == Verdict::Differs(2));
+    assert!(rt; verdict_of(b"a\n", b"a\nb\n") == Verdict::Differs(2));
+    assert!(rt; verdict_of(b"a\nb\nc\n", b"a\nb\n") == Verdict::Differs(3));
+    assert!(rt; verdict_of(b"a\nb", b"a\nb\n") == Verdict::Differs(2));
     Ok(())
 }

@@ -89,38 +89,20 @@ fn with_channels(alloc: Global, count: u8, names: &[u8]) -> Result<Vec<u8>, Allo
 #[test]
 fn channels_stand_in_rising_order(rt: HostRuntime) -> Result<(), Fail> {
     let alloc = rt.alloc();
-    assert_eq!(rt; fault(alloc, &with_channels(alloc, 3, b"aBc")?), None);
-    assert_eq!(rt;
-        fault(alloc, &with_channels(alloc, 3, b"acB")?),
-        Some(WireFault::Bad(12))
-    );
-    assert_eq!(rt;
-        fault(alloc, &with_channels(alloc, 2, b"aA")?),
-        Some(WireFault::Bad(8))
-    );
+    assert!(rt; fault(alloc, &with_channels(alloc, 3, b"aBc")?) == None);
+    assert!(rt; fault(alloc, &with_channels(alloc, 3, b"acB")?) == Some(WireFault::Bad(12)));
+    assert!(rt; fault(alloc, &with_channels(alloc, 2, b"aA")?) == Some(WireFault::Bad(8)));
     Ok(())
 }
 
 #[test]
 fn a_field_past_its_limits_is_refused_at_its_place(rt: HostRuntime) -> Result<(), Fail> {
     let alloc = rt.alloc();
-    assert_eq!(rt; fault(alloc, &[0, 1, b'n', 101]), Some(WireFault::Bad(3)));
-    assert_eq!(rt;
-        fault(alloc, &[0, 1, b'n', 0, 1, 245]),
-        Some(WireFault::Bad(4))
-    );
-    assert_eq!(rt;
-        fault(alloc, &[0, 1, b'n', 0, 0, 0, 1, 245]),
-        Some(WireFault::Bad(6))
-    );
-    assert_eq!(rt;
-        fault(alloc, &[0, 1, b'n', 0, 0, 0, 0, 0, 51]),
-        Some(WireFault::Bad(8))
-    );
-    assert_eq!(rt;
-        fault(alloc, &[0, 1, b'n', 1, 0, 1, b'x']),
-        Some(WireFault::Bad(4))
-    );
+    assert!(rt; fault(alloc, &[0, 1, b'n', 101]) == Some(WireFault::Bad(3)));
+    assert!(rt; fault(alloc, &[0, 1, b'n', 0, 1, 245]) == Some(WireFault::Bad(4)));
+    assert!(rt; fault(alloc, &[0, 1, b'n', 0, 0, 0, 1, 245]) == Some(WireFault::Bad(6)));
+    assert!(rt; fault(alloc, &[0, 1, b'n', 0, 0, 0, 0, 0, 51]) == Some(WireFault::Bad(8)));
+    assert!(rt; fault(alloc, &[0, 1, b'n', 1, 0, 1, b'x']) == Some(WireFault::Bad(4)));
     Ok(())
 }
 
@@ -128,7 +110,7 @@ fn a_field_past_its_limits_is_refused_at_its_place(rt: HostRuntime) -> Result<()
 fn an_offset_past_a_day_is_refused(rt: HostRuntime) -> Result<(), Fail> {
     let alloc = rt.alloc();
     let past = &[0, 1, b'n', 0, 0, 0, 0, 0, 1, 0, 0, 0, 11, 63];
-    assert_eq!(rt; fault(alloc, past), Some(WireFault::Bad(12)));
-    assert_eq!(rt; fault(alloc, &OTHER[..13]), Some(WireFault::Short));
+    assert!(rt; fault(alloc, past) == Some(WireFault::Bad(12)));
+    assert!(rt; fault(alloc, &OTHER[..13]) == Some(WireFault::Short));
     Ok(())
 }

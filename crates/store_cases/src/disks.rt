@@ -82,7 +82,7 @@ fn letters(alloc: Global, calls: &[Called]) -> Result<Vec<u8>, AllocError> {
 }
 
 fn check_bytes(rt: &impl Abort, told: &[u8], wanted: &[u8]) {
-    assert_eq!(rt; told, wanted);
+    assert!(rt; told == wanted);
 }
 
 /// The calls were these.
@@ -111,10 +111,7 @@ fn writes(alloc: Global, calls: &[Called]) -> Result<Vec<(usize, usize)>, AllocE
 /// A record and the gate behind it were written, then its gate, however long the file was.
 fn check_writes(rt: &impl Abort, alloc: Global, calls: &[Called]) -> Result<(), AllocError> {
     let writes = writes(alloc, calls)?;
-    assert_eq!(rt;
-        writes.as_slice(),
-        [(9, 32), (8, 1), (41, 32), (40, 1)].as_slice()
-    );
+    assert!(rt; writes.as_slice() == [(9, 32), (8, 1), (41, 32), (40, 1)].as_slice());
     Ok(())
 }
 
@@ -147,7 +144,7 @@ fn check_broken(
     store: &mut JournalStore<u8, FaultDisk>,
 ) -> Result<(), AllocError> {
     assert!(rt; save(alloc, store, 1) == Err(StoreFault::Device));
-    assert_eq!(rt; store.failures(), 1);
+    assert!(rt; store.failures() == 1);
     assert!(rt; boot(store) == Err(StoreFault::Device));
     assert!(rt; save(alloc, store, 1) == Err(StoreFault::Device));
     check_calls(rt, alloc, store.disk().calls(), b"slrwS")
@@ -160,9 +157,9 @@ fn check_mended(
     store: &mut JournalStore<u8, FaultDisk>,
 ) -> Result<(), StoreFault> {
     store.again()?;
-    assert_eq!(rt; boot(store)?, 0);
+    assert!(rt; boot(store)? == 0);
     save(alloc, store, 1)?;
-    assert_eq!(rt; boot(store)?, 1);
+    assert!(rt; boot(store)? == 1);
     Ok(())
 }
 
@@ -249,8 +246,8 @@ fn check_left(
 
 /// A write that failed counts, changes nothing that is read, and may be torn by a crash.
 fn check_failed(rt: &impl Abort, alloc: Global, disk: &mut FaultDisk) -> Result<(), DiskFault> {
-    assert_eq!(rt; disk.failures(), 1);
-    assert_eq!(rt; disk.len()?, 3);
+    assert!(rt; disk.failures() == 1);
+    assert!(rt; disk.len()? == 3);
     check_bytes(rt, &disk.read(alloc, 1, 9)?, b"XY");
     check_left(rt, disk, Unsynced::Kept, b"aXY")?;
     check_left(rt, disk, Unsynced::Overwritten(7), b"aX\x07\x07")

@@ -81,7 +81,7 @@ fn parts_of(change: &Change<u8>) -> Parts {
 #[test]
 fn a_change_is_its_numbers_its_vote_and_its_entries(rt: HostRuntime) -> Result<(), Fail> {
     let bytes = spelled(rt.alloc(), Some(3))?;
-    assert_eq!(rt; bytes.as_slice(), BYTES.as_slice());
+    assert!(rt; bytes.as_slice() == BYTES.as_slice());
     assert!(rt; read(rt.alloc(), &BYTES) == Ok((40, (1, 2, Some(3), 1, 1))));
     Ok(())
 }
@@ -91,7 +91,7 @@ fn no_vote_is_a_zero(rt: HostRuntime) -> Result<(), Fail> {
     let mut bytes = BYTES;
     bytes[16] = 0;
     let spelled = spelled(rt.alloc(), None)?;
-    assert_eq!(rt; spelled.as_slice(), bytes.as_slice());
+    assert!(rt; spelled.as_slice() == bytes.as_slice());
     assert!(rt; read(rt.alloc(), &bytes) == Ok((40, (1, 2, None, 1, 1))));
     Ok(())
 }
@@ -138,9 +138,9 @@ fn check_saved(
     terms_wanted: &[u64],
 ) -> Result<(), StoreFault> {
     let saved = store.read()?;
-    assert_eq!(rt; numbers(&saved), wanted);
+    assert!(rt; numbers(&saved) == wanted);
     let terms = terms(alloc, &saved)?;
-    assert_eq!(rt; terms.as_slice(), terms_wanted);
+    assert!(rt; terms.as_slice() == terms_wanted);
     Ok(())
 }
 
@@ -159,7 +159,7 @@ fn a_memory_store_keeps_what_is_saved(rt: HostRuntime) -> Result<(), Fail> {
     let mut store = saved_once(rt.alloc())?;
     store.again()?;
     check_saved(&rt, rt.alloc(), &store, (1, 2, 3), &[2])?;
-    assert_eq!(rt; store.failures(), 0);
+    assert!(rt; store.failures() == 0);
     Ok(())
 }
 
@@ -215,9 +215,9 @@ fn a_store_holds_what_it_is_made_of(rt: HostRuntime) -> Result<(), Fail> {
 
 #[test]
 fn faults_are_numbered_from_1_to_5(rt: HostRuntime) {
-    assert_eq!(rt; StoreFault::Device.number(), 1);
-    assert_eq!(rt; StoreFault::NotAStore.number(), 2);
-    assert_eq!(rt; StoreFault::Version.number(), 3);
-    assert_eq!(rt; StoreFault::Damaged(8).number(), 4);
-    assert_eq!(rt; StoreFault::Memory.number(), 5);
+    assert!(rt; StoreFault::Device.number() == 1);
+    assert!(rt; StoreFault::NotAStore.number() == 2);
+    assert!(rt; StoreFault::Version.number() == 3);
+    assert!(rt; StoreFault::Damaged(8).number() == 4);
+    assert!(rt; StoreFault::Memory.number() == 5);
 }

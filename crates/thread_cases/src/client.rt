@@ -91,8 +91,8 @@ pub fn ask_all<M: Marking, R: Wait + Clock>(
     pace: Pace,
 ) -> Result<u64, Fail> {
     let mut beats = 0u64;
-    for request in [Request::Attach, Request::Detach, Request::Say] {
-        beats = beats.saturating_add(ask_each(rt, alloc, crew, clients, request, pace)?);
+    for request in Request::ALL {
+        beats = beats.saturating_add(ask_each(rt, alloc, crew, clients, *request, pace)?);
     }
     Ok(beats)
 }

@@ -92,9 +92,9 @@ fn request_of<M: Hosted>(
     M::fits(body);
     let mut bytes = Vec::new(alloc);
     body.put(&mut bytes)?;
-    for request in [Request::Attach, Request::Detach, Request::Say] {
+    for request in Request::ALL {
         if request.spelled(alloc, node)?.as_slice() == bytes.as_slice() {
-            return Ok(Some(request));
+            return Ok(Some(*request));
         }
     }
     Ok(None)

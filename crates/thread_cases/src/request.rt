@@ -13,6 +13,9 @@ pub enum Request {
 }
 
 impl Request {
+    /// All of them, the first first.
+    pub const ALL: &[Request] = &[Request::Attach, Request::Detach, Request::Say];
+
     /// From 1 on.
     pub fn number(self) -> u8 {
         match self {

@@ -91,9 +91,9 @@ fn confirmed_waits(rt: HostRuntime) -> Result<(), Fail> {
     let lines = told(&rt, alloc, size, counters.as_slice(), gate, story)?;
     let mut lines = lines.as_slice().split(|byte| *byte == b'\n');
     lines.next();
-    assert_eq!(rt; lines.next(), Some(LINE));
+    assert!(rt; lines.next() == Some(LINE));
     lines.next();
-    assert_eq!(rt; lines.next(), Some(b"".as_slice()));
-    assert_eq!(rt; lines.next(), None);
+    assert!(rt; lines.next() == Some(b"".as_slice()));
+    assert!(rt; lines.next() == None);
     Ok(())
 }

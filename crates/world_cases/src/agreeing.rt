@@ -21,14 +21,19 @@ pub struct Listed {
     pub events: &'static [&'static str],
 }
 
+/// Appends the text of the events of a line.
+fn push_line(out: &mut Vec<u8>, line: &str) -> Result<(), AllocError> {
+    for byte in line.as_bytes() {
+        out.push(if *byte == b';' { b'\n' } else { *byte })?;
+    }
+    Ok(out.push(b'\n')?)
+}
+
 /// The text of a list of events.
 fn text(alloc: Global, listed: &Listed) -> Result<Vec<u8>, AllocError> {
     let mut out = Vec::new(alloc);
     for line in listed.events {
-        for byte in line.as_bytes() {
-            out.push(if *byte == b';' { b'\n' } else { *byte })?;
-        }
-        out.push(b'\n')?;
+        push_line(&mut out, line)?;
     }
     Ok(out)
 }
@@ -102,18 +107,24 @@ fn agreed(alloc: Global, listed: &Listed) -> Result<Option<Vec<u8>>, Fail> {
     agreed_over(alloc, listed.size, &setup, &events)
 }
 
+/// Whether that is so of the events of each.
+fn all_agree(alloc: Global, all: &[Listed]) -> Result<bool, Fail> {
+    for listed in all {
+        if agreed(alloc, listed)?.is_none() {
+            return Ok(false);
+        }
+    }
+    Ok(true)
+}
+
 #[test]
 fn what_nodes_commit_in_worked_cases_begins_one_list(rt: HostRuntime) -> Result<(), Fail> {
-    for listed in WORKED {
-        assert!(rt; agreed(rt.alloc(), listed)?.is_some());
-    }
+    assert!(rt; all_agree(rt.alloc(), WORKED)?);
     Ok(())
 }
 
 #[test]
 fn what_nodes_commit_in_other_cases_begins_one_list(rt: HostRuntime) -> Result<(), Fail> {
-    for listed in CASES {
-        assert!(rt; agreed(rt.alloc(), listed)?.is_some());
-    }
+    assert!(rt; all_agree(rt.alloc(), CASES)?);
     Ok(())
 }

@@ -8,9 +8,10 @@ use recorder::{
 use request_once::Answer;
 use session_fence::FenceEffect;
 use std::alloc::Global;
+use std::slice;
 use std::test::Fail;
 use upstream_claim::ClaimsEffect;
-use wire_bytes::{Number, Origin};
+use wire_bytes::{Number, Origin, Wire};
 use world_events::{Event, Input};
 
 /// Every kind of event; the body is that node 2 is gone up to its run 5.
@@ -34,52 +35,49 @@ stop after ask 1 03020000000000000005
 type TowerEffect = Answer<ClaimsEffect<FenceEffect<Effect>>>;
 
 /// The text of the events of a text.
-fn rewritten(alloc: Global, text: &[u8]) -> Result<Vec<u8>, Fail> {
-    let events = parse_events::<Command>(alloc, text).map_err(|_| "no events")?;
+fn rewritten<B: Wire>(alloc: Global, text: &[u8]) -> Result<Vec<u8>, Fail> {
+    let events = parse_events::<B>(alloc, text).map_err(|_| "no events")?;
     Ok(write_events(alloc, &events)?)
 }
 
 /// What is wrong with a text.
-fn fault(alloc: Global, text: &[u8]) -> Result<EventsFault, Fail> {
-    match parse_events::<Command>(alloc, text) {
+fn fault<B: Wire>(alloc: Global, text: &[u8]) -> Result<EventsFault, Fail> {
+    match parse_events::<B>(alloc, text) {
         Ok(_) => Err(Fail::from("events")),
         Err(fault) => Ok(fault),
     }
 }
 
 /// What is wrong with a text whose line after a good one is this.
-fn fault_of_second(alloc: Global, line: &str) -> Result<EventsFault, Fail> {
+fn fault_of_second<B: Wire>(alloc: Global, line: &str) -> Result<EventsFault, Fail> {
     let text = format!(in alloc; "beat 1\n{line}\nbeat 1\n")?;
-    fault(alloc, text.as_bytes())
+    fault::<B>(alloc, text.as_bytes())
 }
 
 #[test]
 fn what_is_read_is_written_as_it_was(rt: HostRuntime) -> Result<(), Fail> {
-    assert_eq!(rt; rewritten(rt.alloc(), EVERY_KIND)?.as_slice(), EVERY_KIND);
-    assert_eq!(rt; rewritten(rt.alloc(), b"")?.len(), 0);
+    assert!(rt; rewritten::<Command>(rt.alloc(), EVERY_KIND)?.as_slice() == EVERY_KIND);
+    assert!(rt; rewritten::<Command>(rt.alloc(), b"")?.len() == 0);
     Ok(())
 }
 
-fn count(alloc: Global, text: &[u8]) -> Result<usize, Fail> {
-    let events = parse_events::<Command>(alloc, text).map_err(|_| "no events")?;
+fn count<B: Wire>(alloc: Global, text: &[u8]) -> Result<usize, Fail> {
+    let events = parse_events::<B>(alloc, text).map_err(|_| "no events")?;
     Ok(events.len())
 }
 
 #[test]
 fn a_line_is_one_event(rt: HostRuntime) -> Result<(), Fail> {
-    assert_eq!(rt; count(rt.alloc(), EVERY_KIND)?, 14);
+    assert!(rt; count::<Command>(rt.alloc(), EVERY_KIND)? == 14);
     Ok(())
 }
 
 #[test]
 fn the_first_bad_line_is_named(rt: HostRuntime) -> Result<(), Fail> {
     let alloc = rt.alloc();
-    assert_eq!(rt; fault(alloc, b"timeout 8\n")?, EventsFault::BadLine(1));
-    assert_eq!(rt; fault(alloc, b"beat 1\nbeat 1")?, EventsFault::BadLine(2));
-    assert_eq!(rt;
-        fault(alloc, b"beat 1\n\nbeat 9\n")?,
-        EventsFault::BadLine(2)
-    );
+    assert!(rt; fault::<Command>(alloc, b"timeout 8\n")? == EventsFault::BadLine(1));
+    assert!(rt; fault::<Command>(alloc, b"beat 1\nbeat 1")? == EventsFault::BadLine(2));
+    assert!(rt; fault::<Command>(alloc, b"beat 1\n\nbeat 9\n")? == EventsFault::BadLine(2));
     Ok(())
 }
 
@@ -103,63 +101,51 @@ const NO_EVENTS: &[&str] = &[
 #[test]
 fn what_is_no_event_is_bad(rt: HostRuntime) -> Result<(), Fail> {
     for line in NO_EVENTS {
-        assert_eq!(rt; fault_of_second(rt.alloc(), line)?, EventsFault::BadLine(2));
+        assert!(rt; fault_of_second::<Command>(rt.alloc(), line)? == EventsFault::BadLine(2));
     }
     Ok(())
 }
 
 /// Whether a line tells an event.
-fn is_event(alloc: Global, line: &[u8]) -> Result<bool, Fail> {
-    match read_event::<Command>(alloc, line)? {
-        Some(_) => Ok(true),
-        None => Ok(false),
-    }
+fn is_event<B: Wire>(alloc: Global, line: &[u8]) -> Result<bool, Fail> {
+    Ok(read_event::<B>(alloc, line)?.is_some())
 }
 
 /// Whether a line tells what happens to one node.
-fn is_input(alloc: Global, line: &[u8]) -> Result<bool, Fail> {
-    match read_input::<Command>(alloc, line)? {
-        Some(_) => Ok(true),
-        None => Ok(false),
-    }
+fn is_input<B: Wire>(alloc: Global, line: &[u8]) -> Result<bool, Fail> {
+    Ok(read_input::<B>(alloc, line)?.is_some())
 }
 
 #[test]
 fn a_line_alone_is_read(rt: HostRuntime) -> Result<(), Fail> {
-    assert!(rt; is_event(rt.alloc(), b"stop before beat 1")?);
-    assert!(rt; !is_event(rt.alloc(), b"stop")?);
-    assert!(rt; is_input(rt.alloc(), b"look 2 9 #x")?);
-    assert!(rt; !is_input(rt.alloc(), b"restart 1")?);
+    assert!(rt; is_event::<Command>(rt.alloc(), b"stop before beat 1")?);
+    assert!(rt; !is_event::<Command>(rt.alloc(), b"stop")?);
+    assert!(rt; is_input::<Command>(rt.alloc(), b"look 2 9 #x")?);
+    assert!(rt; !is_input::<Command>(rt.alloc(), b"restart 1")?);
     Ok(())
 }
 
-fn restart_line(alloc: Global) -> Result<Vec<u8>, Fail> {
+fn restart_line<B: Wire>(alloc: Global) -> Result<Vec<u8>, Fail> {
     let mut out = Vec::new(alloc);
-    push_event::<Command>(alloc, &mut out, &Event::Restart(NodeId::new(3)))?;
+    push_event::<B>(alloc, &mut out, &Event::Restart(NodeId::new(3)))?;
     Ok(out)
 }
 
 #[test]
 fn a_restart_is_its_line(rt: HostRuntime) -> Result<(), Fail> {
-    assert_eq!(rt;
-        restart_line(rt.alloc())?.as_slice(),
-        b"restart 3".as_slice()
-    );
+    assert!(rt; restart_line::<Command>(rt.alloc())?.as_slice() == b"restart 3".as_slice());
     Ok(())
 }
 
-fn delivery_line(alloc: Global) -> Result<Vec<u8>, Fail> {
+fn delivery_line<B: Wire>(alloc: Global) -> Result<Vec<u8>, Fail> {
     let mut out = Vec::new(alloc);
-    push_input::<Command>(alloc, &mut out, &Input::Deliver(NodeId::new(3), 12))?;
+    push_input::<B>(alloc, &mut out, &Input::Deliver(NodeId::new(3), 12))?;
     Ok(out)
 }
 
 #[test]
 fn a_delivery_is_its_line(rt: HostRuntime) -> Result<(), Fail> {
-    assert_eq!(rt;
-        delivery_line(rt.alloc())?.as_slice(),
-        b"deliver 3 12".as_slice()
-    );
+    assert!(rt; delivery_line::<Command>(rt.alloc())?.as_slice() == b"deliver 3 12".as_slice());
     Ok(())
 }
 
@@ -196,7 +182,7 @@ fn node_line(alloc: Global) -> Result<Vec<u8>, Fail> {
 #[test]
 fn a_node_is_its_line(rt: HostRuntime) -> Result<(), Fail> {
     let line = b"node 2 candidate term 3 vote 2 log 1 last 2 commit 1 applied 0\n";
-    assert_eq!(rt; node_line(rt.alloc())?.as_slice(), line.as_slice());
+    assert!(rt; node_line(rt.alloc())?.as_slice() == line.as_slice());
     Ok(())
 }
 
@@ -219,29 +205,20 @@ fn gap_words(alloc: Global) -> Result<Vec<u8>, Fail> {
 
 #[test]
 fn what_leaves_the_tower_is_told_in_words(rt: HostRuntime) -> Result<(), Fail> {
-    assert_eq!(rt;
-        busy_words(rt.alloc())?.as_slice(),
-        b"busy 2.5.7".as_slice()
-    );
-    assert_eq!(rt;
-        gap_words(rt.alloc())?.as_slice(),
-        b"gap 2.5.7 3".as_slice()
-    );
+    assert!(rt; busy_words(rt.alloc())?.as_slice() == b"busy 2.5.7".as_slice());
+    assert!(rt; gap_words(rt.alloc())?.as_slice() == b"gap 2.5.7 3".as_slice());
     Ok(())
 }
 
 fn answer_lines(alloc: Global) -> Result<Vec<u8>, Fail> {
     let mut out = Vec::new(alloc);
     let close = Answer::Effect(Effect::Close(Origin::new(1, 1, 1)));
-    push_answers(&mut out, 12, &[close])?;
+    push_answers(&mut out, 12, slice::from_ref(&close))?;
     Ok(out)
 }
 
 #[test]
 fn answers_stand_on_lines(rt: HostRuntime) -> Result<(), Fail> {
-    assert_eq!(rt;
-        answer_lines(rt.alloc())?.as_slice(),
-        b"12 close 1.1.1\n".as_slice()
-    );
+    assert!(rt; answer_lines(rt.alloc())?.as_slice() == b"12 close 1.1.1\n".as_slice());
     Ok(())
 }

@@ -72,7 +72,7 @@ fn told_after(alloc: Global, text: &[u8]) -> Result<Vec<u8>, Fail> {
 
 #[test]
 fn a_world_is_its_text(rt: HostRuntime) -> Result<(), Fail> {
-    assert_eq!(rt; told_after(rt.alloc(), EVENTS)?.as_slice(), TEXT);
+    assert!(rt; told_after(rt.alloc(), EVENTS)?.as_slice() == TEXT);
     Ok(())
 }
 
@@ -90,7 +90,7 @@ fn each_node_has_a_line(rt: HostRuntime) -> Result<(), Fail> {
 node 2 follower term 0 vote 0 log 0 last 0 commit 0 applied 0
 node 3 follower term 0 vote 0 log 0 last 0 commit 0 applied 0
 ";
-    assert_eq!(rt; told_nodes(rt.alloc())?.as_slice(), lines.as_slice());
+    assert!(rt; told_nodes(rt.alloc())?.as_slice() == lines.as_slice());
     Ok(())
 }
 
@@ -109,7 +109,7 @@ fn check_refusal(
     line: &[u8],
 ) -> Result<(), Fail> {
     let told = lines(alloc, &Outcome::Refused(refusal))?;
-    assert_eq!(rt; told.as_slice(), line);
+    assert!(rt; told.as_slice() == line);
     Ok(())
 }
 
@@ -146,7 +146,7 @@ fn closes(alloc: Global) -> Result<BufferOutcome, Fail> {
 fn each_effect_has_a_line(rt: HostRuntime) -> Result<(), Fail> {
     let told = lines(rt.alloc(), &closes(rt.alloc())?)?;
     let want = b"12 3 7 close 3.1.1\n12 3 7 close 3.1.2\n";
-    assert_eq!(rt; told.as_slice(), want.as_slice());
+    assert!(rt; told.as_slice() == want.as_slice());
     Ok(())
 }
 
@@ -155,7 +155,8 @@ const LONG: &[u8] = &[b'a'; 600];
 /// A playback of a line with 600 letters.
 fn played(alloc: Global) -> Result<BufferOutcome, Fail> {
     let shown = Shown::of_parts(alloc, None, b"X", &[LONG])?;
-    let lines = vec![in alloc; shown]?;
+    let mut lines = Vec::new(alloc);
+    lines.push(shown)?;
     let place = Number::new(7);
     Ok(Outcome::Looked { place, lines })
 }
@@ -166,7 +167,7 @@ fn a_long_line_is_cut(rt: HostRuntime) -> Result<(), Fail> {
     wanted.extend_from_slice(&LONG[..508])?;
     wanted.push(b'\n')?;
     let told = lines(rt.alloc(), &played(rt.alloc())?)?;
-    assert_eq!(rt; told.as_slice(), wanted.as_slice());
+    assert!(rt; told.as_slice() == wanted.as_slice());
     Ok(())
 }
 
@@ -196,6 +197,6 @@ fn events_are_numbered_from_one(rt: HostRuntime) -> Result<(), Fail> {
         &three_outcomes(rt.alloc())?,
     )?;
     let want = b"2 none\n3 5 refused 3 LogFull\n";
-    assert_eq!(rt; out.as_slice(), want.as_slice());
+    assert!(rt; out.as_slice() == want.as_slice());
     Ok(())
 }
