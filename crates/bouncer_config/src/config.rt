@@ -1,11 +1,11 @@
 ghost use Rattle.std.specs.Prelude.{◌≡◌, ◌==◌, not, Some, IfOk, IfErr, IfSome, IsTrue, option_map, option_and_then, string_bytes};
 ghost use Rattle.std.specs.List.{list_all};
 ghost use Rattle.toml.specs.View.{table_view};
-ghost use Rattle.bouncer_config.specs.KeyTexts.{kind_of};
+ghost use Rattle.bouncer_config.specs.KeyTexts.{kind_of, limits_of};
 ghost use Rattle.bouncer_config.specs.Texts.{address_of, is_path};
-ghost use Rattle.bouncer_config.specs.Found.{AreOptions, text_at, text_in, value_at};
+ghost use Rattle.bouncer_config.specs.Found.{AreOptions, level_in, number_in, text_at, text_in, value_at};
 ghost use Rattle.bouncer_config.specs.Judged.{IsConfig, IsSetup};
-ghost use Rattle.bouncer_config.specs.Wrong.{IsProblem};
+ghost use Rattle.bouncer_config.specs.Wrong.{IsProblem, Listens};
 
 use crate::address::Address;
 use crate::key::Key;
@@ -60,27 +60,111 @@ impl Config {
     {
         check_names(alloc, table)?;
         let setup = setup(alloc, table)?;
-        let password = password(alloc, table)?;
-        let upstream = upstream(table)?;
-        let upstream_password = upstream_password(alloc, table)?;
-        let listen = listen(alloc, table, upstream)?;
-        let store = store(alloc, table)?;
-        let record = record(alloc, table)?;
+        let links = read_links(alloc, table)?;
+        let paths = read_paths(alloc, table)?;
+        let pace = read_pace(table)?;
         Ok(Config {
             setup,
-            password,
-            upstream,
-            upstream_password,
-            listen,
-            store,
-            record,
-            beat_ms: number(table, Key::BeatMs)?,
-            timeout_ms: number(table, Key::TimeoutMs)?,
-            flood_burst: number(table, Key::FloodBurst)?,
-            flood_ms: number(table, Key::FloodMs)?,
-            log: log(table)?,
+            password: links.password,
+            upstream: links.upstream,
+            upstream_password: links.upstream_password,
+            listen: links.listen,
+            store: paths.store,
+            record: paths.record,
+            beat_ms: pace.beat_ms,
+            timeout_ms: pace.timeout_ms,
+            flood_burst: pace.flood_burst,
+            flood_ms: pace.flood_ms,
+            log: pace.log,
         })
     }
+}
+
+/// What the clients and the server are reached by.
+#[derive(Drop)]
+struct Links {
+    password: Password,
+    upstream: Address,
+    upstream_password: Option<Password>,
+    listen: Vec<Address>,
+}
+
+/// What the clients and the server are reached by.
+fn read_links(alloc: Global, table: &Table) -> Result<Links, Problem>
+    ensures password { IfOk result (λ l.
+        text_at Key.Password (table_view table.now) ≡ Some l.password) }
+    ensures upstream_password { IfOk result (λ l.
+        text_in (value_at Key.UpstreamPassword (table_view table.now))
+        ≡ Some l.upstream_password) }
+    ensures listen { IfOk result (λ l. Listens (table_view table.now) l.upstream l.listen.items) }
+    ensures err { IfErr result (IsProblem (table_view table.now)) }
+{
+    let password = password(alloc, table)?;
+    let upstream = upstream(table)?;
+    let upstream_password = upstream_password(alloc, table)?;
+    let listen = listen(alloc, table, upstream)?;
+    Ok(Links {
+        password,
+        upstream,
+        upstream_password,
+        listen,
+    })
+}
+
+/// What is written on the disk.
+#[derive(Drop)]
+struct Paths {
+    store: String,
+    record: Option<String>,
+}
+
+/// What is written on the disk.
+fn read_paths(alloc: Global, table: &Table) -> Result<Paths, Problem>
+    ensures store { IfOk result (λ p.
+        text_at Key.Store (table_view table.now) ≡ Some (string_bytes p.store)) }
+    ensures store_path { IfOk result (λ p. IsTrue (is_path (string_bytes p.store))) }
+    ensures record_text { IfOk result (λ p. text_in (value_at Key.Record (table_view table.now))
+        ≡ Some (option_map string_bytes p.record)) }
+    ensures record_path { IfOk result (λ p.
+        IfSome p.record (λ path. IsTrue (is_path (string_bytes path)))) }
+    ensures err { IfErr result (IsProblem (table_view table.now)) }
+{
+    let store = store(alloc, table)?;
+    let record = record(alloc, table)?;
+    Ok(Paths { store, record })
+}
+
+/// How often a bouncer does what it does, and how much it tells.
+#[derive(Clone, Copy)]
+struct Pace {
+    beat_ms: u16,
+    timeout_ms: u16,
+    flood_burst: u16,
+    flood_ms: u16,
+    log: LogLevel,
+}
+
+/// How often a bouncer does what it does, and how much it tells.
+fn read_pace(table: &Table) -> Result<Pace, Problem>
+    ensures beat { IfOk result (λ p. number_in (limits_of Key.BeatMs)
+        (value_at Key.BeatMs (table_view table.now)) ≡ Some p.beat_ms) }
+    ensures timeout { IfOk result (λ p. number_in (limits_of Key.TimeoutMs)
+        (value_at Key.TimeoutMs (table_view table.now)) ≡ Some p.timeout_ms) }
+    ensures burst { IfOk result (λ p. number_in (limits_of Key.FloodBurst)
+        (value_at Key.FloodBurst (table_view table.now)) ≡ Some p.flood_burst) }
+    ensures flood { IfOk result (λ p. number_in (limits_of Key.FloodMs)
+        (value_at Key.FloodMs (table_view table.now)) ≡ Some p.flood_ms) }
+    ensures log { IfOk result (λ p. level_in (value_at Key.Log (table_view table.now))
+        ≡ Some p.log) }
+    ensures err { IfErr result (IsProblem (table_view table.now)) }
+{
+    Ok(Pace {
+        beat_ms: number(table, Key::BeatMs)?,
+        timeout_ms: number(table, Key::TimeoutMs)?,
+        flood_burst: number(table, Key::FloodBurst)?,
+        flood_ms: number(table, Key::FloodMs)?,
+        log: log(table)?,
+    })
 }
 
 /// The own nick.

@@ -15,41 +15,40 @@ pub struct ConfigFault {
 /// and a colon before. Where no line is known it begins with a space in place of one.
 impl fmt::Display for ConfigFault {
     fn fmt<W: fmt::Write>(&self, f: &mut fmt::Formatter<W>) -> fmt::Result {
-        if let Some(line) = self.line {
-            write!(f, "{line}:")?;
-        }
-        f.write_str(" ")?;
-        match &self.problem {
-            Problem::Memory => f.write_str("out of memory"),
-            Problem::NotToml => f.write_str("is no TOML"),
-            Problem::Unknown(name) => write_problem(
-                f,
-                name.as_str(),
-                "is no key of a configuration",
-            ),
-            Problem::Missing(key) => write_problem(f, key.text(), "is missing"),
-            Problem::Kind(key) => write_problem(f, key.text(), kind_text(key.kind())),
-            Problem::Refused(key) => write_problem(f, key.text(), rule_text(*key)),
-            Problem::ListenCount => {
-                write_problem(f, "listen", "needs three, five or seven addresses")
-            }
-            Problem::ListenTwice => {
-                write_problem(
-                    f,
-                    "listen",
-                    "needs addresses that differ, and none of upstream's",
-                )
-            }
-            Problem::ChannelCount => write_problem(f, "channels", "takes at most 100 names"),
-            Problem::Setup(_) => write_problem(f, "channels", "names a channel twice"),
-        }
+        write_line(f, self.line)?;
+        write_key(f, self.problem.key_text())?;
+        f.write_str(reason(&self.problem))
     }
 }
 
-fn write_problem<W: fmt::Write>(f: &mut fmt::Formatter<W>, key: &str, why: &str) -> fmt::Result {
-    f.write_str(key)?;
-    f.write_str(": ")?;
-    f.write_str(why)
+fn write_line<W: fmt::Write>(f: &mut fmt::Formatter<W>, line: Option<usize>) -> fmt::Result {
+    match line {
+        Some(line) => write!(f, "{line}: "),
+        None => f.write_str(" "),
+    }
+}
+
+fn write_key<W: fmt::Write>(f: &mut fmt::Formatter<W>, key: Option<&str>) -> fmt::Result {
+    match key {
+        Some(key) => write!(f, "{key}: "),
+        None => Ok(()),
+    }
+}
+
+/// What is wrong, without the key with which it is.
+fn reason(problem: &Problem) -> &'static str {
+    match problem {
+        Problem::Memory => "out of memory",
+        Problem::NotToml => "is no TOML",
+        Problem::Unknown(_) => "is no key of a configuration",
+        Problem::Missing(_) => "is missing",
+        Problem::Kind(key) => kind_text(key.kind()),
+        Problem::Refused(key) => rule_text(*key),
+        Problem::ListenCount => "needs three, five or seven addresses",
+        Problem::ListenTwice => "needs addresses that differ, and none of upstream's",
+        Problem::ChannelCount => "takes at most 100 names",
+        Problem::Setup(_) => "names a channel twice",
+    }
 }
 
 /// What a key of this kind needs.

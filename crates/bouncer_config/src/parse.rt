@@ -54,13 +54,10 @@ fn line_at(text: &[u8], place: usize) -> usize {
 
 /// The line in which the key of a problem stands, where one does.
 fn line_of(text: &[u8], problem: &Problem) -> Option<usize> {
-    match problem {
-        Problem::Memory | Problem::NotToml | Problem::Missing(_) => None,
-        Problem::Unknown(name) => line_of_key(text, name.as_str().as_bytes()),
-        Problem::Kind(key) | Problem::Refused(key) => { line_of_key(text, key.text().as_bytes()) }
-        Problem::ListenCount | Problem::ListenTwice => line_of_key(text, b"listen"),
-        Problem::ChannelCount | Problem::Setup(_) => line_of_key(text, b"channels"),
+    if let Problem::Missing(_) = problem {
+        return None;
     }
+    line_of_key(text, problem.key_text()?.as_bytes())
 }
 
 /// The first line, from 1, that begins with a key.

@@ -38,3 +38,16 @@ impl From<AllocError> for Problem {
         Problem::Memory
     }
 }
+
+impl Problem {
+    /// The text of the key with which something is wrong, or the name that no key has.
+    pub(crate) fn key_text(&self) -> Option<&str> {
+        match self {
+            Problem::Memory | Problem::NotToml => None,
+            Problem::Unknown(name) => Some(name.as_str()),
+            Problem::Missing(key) | Problem::Kind(key) | Problem::Refused(key) => Some(key.text()),
+            Problem::ListenCount | Problem::ListenTwice => Some("listen"),
+            Problem::ChannelCount | Problem::Setup(_) => Some("channels"),
+        }
+    }
+}
