@@ -6,6 +6,8 @@ mod mailboxes;
 #[cfg(test)]
 mod memory;
 #[cfg(test)]
+mod passes;
+#[cfg(test)]
 mod seated;
 #[cfg(test)]
 mod threads;
