@@ -1,15 +1,8 @@
 //! What lines say, by examples.
-use crate::made::{filled, name, text};
-use irc_line::{Line, LineFault, write_parts};
-use std::alloc::Global;
-use std::process::Abort;
+use crate::made::{filled, filled_to, name, text};
+use irc_line::{Line, LineFault, Name, Text, write_parts};
+use std::alloc::{AllocError, Global};
 use std::test::Fail;
-
-fn spelled(alloc: Global, content: &str) -> Result<Vec<u8>, Fail> {
-    let mut out = Vec::new(alloc);
-    Line::parse(alloc, content.as_bytes())?.write_to(&mut out)?;
-    Ok(out)
-}
 
 /// Contents, and the spelling of the line of each.
 const SPELLED: &[(&str, &str)] = &[
@@ -30,27 +23,22 @@ const SPELLED: &[(&str, &str)] = &[
     ("MODE #Finnish +o Kilroy", "MODE #Finnish +o Kilroy"),
 ];
 
-fn check_spelled(rt: &impl Abort, alloc: Global, content: &str, want: &str) -> Result<(), Fail> {
-    let out = spelled(alloc, content)?;
-    assert_eq!(rt; out.as_slice(), want.as_bytes());
-    Ok(())
+/// The line of a content.
+fn parsed(alloc: Global, content: &[u8]) -> Result<Line, LineFault> {
+    Line::parse(alloc, content)
 }
 
-#[test]
-fn a_line_is_spelled_in_one_way(rt: HostRuntime) -> Result<(), Fail> {
-    for (content, want) in SPELLED {
-        check_spelled(&rt, rt.alloc(), content, want)?;
-    }
-    Ok(())
-}
-
-/// The spelling of the line whose spelling this is, or nothing where it is of none.
-fn spelled_again(alloc: Global, bytes: &str) -> Result<Vec<u8>, Fail> {
+/// Whether a line is spelled so.
+fn has_spelling(alloc: Global, line: &Line, want: &[u8]) -> Result<bool, AllocError> {
     let mut out = Vec::new(alloc);
-    if let Some(line) = Line::from_spelling(alloc, bytes.as_bytes())? {
-        line.write_to(&mut out)?;
-    }
-    Ok(out)
+    line.write_to(&mut out)?;
+    Ok(out.as_slice() == want)
+}
+
+/// Whether the line of a content is spelled so.
+fn is_spelled(alloc: Global, content: &str, want: &str) -> Result<bool, LineFault> {
+    let line = parsed(alloc, content.as_bytes())?;
+    Ok(has_spelling(alloc, &line, want.as_bytes())?)
 }
 
 /// Bytes, and whether they are the spelling of a line.
@@ -71,23 +59,26 @@ const SPELLINGS: &[(&str, bool)] = &[
     ("", false),
 ];
 
-/// These bytes are the spelling of a line, which is spelled so, or of none.
-fn check_spelling(
-    rt: &impl Abort,
-    alloc: Global,
-    bytes: &str,
-    is_spelling: bool,
-) -> Result<(), Fail> {
-    let out = spelled_again(alloc, bytes)?;
-    let want = if is_spelling { bytes } else { "" };
-    assert_eq!(rt; out.as_slice(), want.as_bytes());
-    Ok(())
+/// The line whose spelling this is, if it is of one.
+fn read(alloc: Global, bytes: &[u8]) -> Result<Option<Line>, AllocError> {
+    Line::from_spelling(alloc, bytes)
+}
+
+/// Whether these bytes are the spelling of a line, which is spelled so, or of none, as is wanted.
+fn is_read(alloc: Global, bytes: &str, is_spelling: bool) -> Result<bool, AllocError> {
+    match read(alloc, bytes.as_bytes())? {
+        Some(line) => Ok(is_spelling && has_spelling(alloc, &line, bytes.as_bytes())?),
+        None => Ok(!is_spelling),
+    }
 }
 
 #[test]
-fn a_line_comes_from_its_spelling_alone(rt: HostRuntime) -> Result<(), Fail> {
+fn a_line_is_spelled_in_one_way(rt: HostRuntime) -> Result<(), Fail> {
+    for (content, want) in SPELLED {
+        assert!(rt; is_spelled(rt.alloc(), content, want)?);
+    }
     for (bytes, is_spelling) in SPELLINGS {
-        check_spelling(&rt, rt.alloc(), bytes, *is_spelling)?;
+        assert!(rt; is_read(rt.alloc(), bytes, *is_spelling)?);
     }
     Ok(())
 }
@@ -107,123 +98,119 @@ const FAULTS: &[(&str, LineFault)] = &[
 ];
 
 fn fault(alloc: Global, content: &[u8]) -> Option<LineFault> {
-    Line::parse(alloc, content).err()
+    parsed(alloc, content).err()
+}
+
+/// Whether a content of so many bytes, letters behind these, is too long.
+fn is_too_long(alloc: Global, front: &[u8], len: usize) -> Result<bool, AllocError> {
+    let content = filled(alloc, front, len)?;
+    Ok(fault(alloc, &content) == Some(LineFault::TooLong))
 }
 
 #[test]
-fn a_content_has_its_first_fault(rt: HostRuntime) {
-    for (content, want) in FAULTS {
-        assert_eq!(rt; fault(rt.alloc(), content.as_bytes()), Some(*want));
-    }
-}
-
-/// What is wrong with a content of so many bytes, letters behind these.
-fn fault_of_filled(alloc: Global, front: &[u8], len: usize) -> Result<Option<LineFault>, Fail> {
-    Ok(fault(alloc, &filled(alloc, front, len)?))
-}
-
-/// The length of the longest line's spelling.
-fn longest_len(alloc: Global) -> Result<usize, Fail> {
-    Ok(Line::parse(alloc, &filled(alloc, b"PRIVMSG #x :", 511)?)?.spelled_len())
-}
-
-/// What stands behind these bytes when the longest line is cut behind them.
-fn longest_cut(alloc: Global, before: &[u8]) -> Result<Vec<u8>, Fail> {
-    let mut out = Vec::from_slice(alloc, before)?;
-    Line::parse(alloc, &filled(alloc, b"PRIVMSG #x :", 511)?)?.write_cut(&mut out)?;
-    Ok(out)
-}
-
-#[test]
-fn a_line_has_at_most_511_bytes(rt: HostRuntime) -> Result<(), Fail> {
+fn a_content_has_its_first_fault(rt: HostRuntime) -> Result<(), Fail> {
     let alloc = rt.alloc();
-    assert_eq!(rt; longest_len(alloc)?, 511);
-    let too_long = Some(LineFault::TooLong);
-    assert_eq!(rt; fault_of_filled(alloc, b"PRIVMSG #x :", 512)?, too_long);
-    assert_eq!(rt; fault_of_filled(alloc, b"PRIVMSG #x ", 511)?, too_long);
+    for (content, want) in FAULTS {
+        assert!(rt; fault(alloc, content.as_bytes()) == Some(*want));
+    }
+    assert!(rt; is_too_long(alloc, b"PRIVMSG #x :", 512)?);
+    assert!(rt; is_too_long(alloc, b"PRIVMSG #x ", 511)?);
     Ok(())
 }
 
-#[test]
-fn a_line_of_511_bytes_is_cut_by_one(rt: HostRuntime) -> Result<(), Fail> {
-    let mut want = filled(rt.alloc(), b"before PRIVMSG #x :", 7 + 510)?;
-    want.extend_from_slice(b"\r\n")?;
-    assert_eq!(rt;
-        longest_cut(rt.alloc(), b"before ")?.as_slice(),
-        want.as_slice()
-    );
-    Ok(())
+/// Whether a line of 511 bytes comes to this when it is cut behind other bytes.
+fn is_cut(alloc: Global, line: &Line, want: &[u8]) -> Result<bool, AllocError> {
+    let mut out = Vec::from_slice(alloc, b"before ")?;
+    line.write_cut(&mut out)?;
+    Ok(line.spelled_len() == 511 && out.as_slice() == want)
 }
 
-/// What a line says of itself: its prefix, its command, how many parameters it has and all of them, and
+/// The same of the line of a content.
+fn is_content_cut(alloc: Global, content: &[u8], want: &[u8]) -> Result<bool, LineFault> {
+    let line = parsed(alloc, content)?;
+    Ok(is_cut(alloc, &line, want)?)
+}
+
+/// Whether the longest line is of 511 bytes, of which the last is cut off.
+fn is_cut_by_one(alloc: Global) -> Result<bool, LineFault> {
+    let content = filled(alloc, b"PRIVMSG #x :", 511)?;
+    let want = filled_to(alloc, b"before PRIVMSG #x :", 7 + 510, b"\r\n")?;
+    is_content_cut(alloc, &content, &want)
+}
+
+/// Adds what a line says of itself: its prefix, its command, how many parameters it has and all of them, and
 /// those at the places 0, 1 and 2, with a LF behind each.
-fn parts(alloc: Global, line: &Line) -> Result<Vec<u8>, Fail> {
-    let mut out = Vec::new(alloc);
+fn tell_parts(out: &mut Vec<u8>, line: &Line) -> Result<(), AllocError> {
     if let Some(prefix) = line.prefix() {
-        tell(&mut out, prefix)?;
+        tell(out, prefix)?;
     }
-    tell(&mut out, line.command())?;
+    tell(out, line.command())?;
     if line.parameter_count() == 2 && line.parameters().len() == 2 {
-        tell(&mut out, b"two")?;
+        tell(out, b"two")?;
     }
-    tell(&mut out, line.parameter(0))?;
-    tell(&mut out, line.parameter(1))?;
-    tell(&mut out, line.parameter(2))?;
-    Ok(out)
+    tell(out, line.parameter(0))?;
+    tell(out, line.parameter(1))?;
+    tell(out, line.parameter(2))
 }
 
-fn tell(out: &mut Vec<u8>, part: &[u8]) -> Result<(), Fail> {
+fn tell(out: &mut Vec<u8>, part: &[u8]) -> Result<(), AllocError> {
     out.extend_from_slice(part)?;
     out.push(b'\n')?;
     Ok(())
 }
 
-/// What is told of the copy of the line of a content.
-fn copied_parts(alloc: Global, content: &[u8]) -> Result<Vec<u8>, Fail> {
-    let line = Line::parse(alloc, content)?.copy(alloc)?;
-    parts(alloc, &line)
+/// Whether this is told of a line.
+fn is_told(alloc: Global, line: &Line, want: &[u8]) -> Result<bool, AllocError> {
+    let mut out = Vec::new(alloc);
+    tell_parts(&mut out, line)?;
+    Ok(out.as_slice() == want)
+}
+
+fn copied(alloc: Global, line: &Line) -> Result<Line, AllocError> {
+    line.copy(alloc)
+}
+
+/// Whether this is told of the copy of the line of a content.
+fn has_parts(alloc: Global, content: &[u8], want: &[u8]) -> Result<bool, LineFault> {
+    let line = parsed(alloc, content)?;
+    let copy = copied(alloc, &line)?;
+    Ok(is_told(alloc, &copy, want)?)
+}
+
+/// A message to this name with this text.
+fn message(alloc: Global, target: &Name, text: &Text) -> Result<Line, AllocError> {
+    Line::message(alloc, Some(b"me!bouncer@local"), b"PRIVMSG", target, text)
+}
+
+/// Whether a message to this name with this text is spelled so.
+fn is_message(alloc: Global, target: &str, bytes: &str, want: &[u8]) -> Result<bool, Fail> {
+    let target = name(alloc, target)?;
+    let text = text(alloc, bytes)?;
+    let line = message(alloc, &target, &text)?;
+    Ok(has_spelling(alloc, &line, want)?)
+}
+
+/// Whether a line is written from its parts.
+fn is_written(alloc: Global) -> Result<bool, AllocError> {
+    let mut out = Vec::new(alloc);
+    write_parts(&mut out, None, b"CAP", &[b"*".as_slice(), b"LS", b""])?;
+    Ok(out.as_slice() == b"CAP * LS :".as_slice())
 }
 
 #[test]
 fn a_line_says_its_parts(rt: HostRuntime) -> Result<(), Fail> {
-    let told = copied_parts(rt.alloc(), b":WiZ!jto@tolsun.oulu.fi nick Kilroy :")?;
+    let alloc = rt.alloc();
+    assert!(rt; is_cut_by_one(alloc)?);
     let want = b"WiZ!jto@tolsun.oulu.fi\nNICK\ntwo\nKilroy\n\n\n";
-    assert_eq!(rt; told.as_slice(), want.as_slice());
-    Ok(())
-}
-
-/// The spelling of a message of this nick.
-fn message(alloc: Global, target: &str, bytes: &str) -> Result<Vec<u8>, Fail> {
-    let (target, text) = (name(alloc, target)?, text(alloc, bytes)?);
-    let mut out = Vec::new(alloc);
-    let line = Line::message(alloc, Some(b"me!bouncer@local"), b"PRIVMSG", &target, &text)?;
-    line.write_to(&mut out)?;
-    Ok(out)
-}
-
-#[test]
-fn messages_are_built(rt: HostRuntime) -> Result<(), Fail> {
-    assert_eq!(rt;
-        message(rt.alloc(), "#x", "hi")?.as_slice(),
-        b":me!bouncer@local PRIVMSG #x :hi".as_slice()
-    );
-    Ok(())
-}
-
-#[test]
-fn a_line_is_written_from_its_parts(rt: HostRuntime) -> Result<(), Fail> {
-    let mut out = Vec::new(rt.alloc());
-    write_parts(&mut out, None, b"CAP", &[b"*".as_slice(), b"LS", b""])?;
-    assert_eq!(rt; out.as_slice(), b"CAP * LS :".as_slice());
+    assert!(rt; has_parts(alloc, b":WiZ!jto@tolsun.oulu.fi nick Kilroy :", want)?);
+    assert!(rt; is_message(alloc, "#x", "hi", b":me!bouncer@local PRIVMSG #x :hi")?);
+    assert!(rt; is_written(alloc)?);
     Ok(())
 }
 
 #[test]
 fn faults_are_told(rt: HostRuntime) -> Result<(), Fail> {
     let told = format!(in rt.alloc(); "{}; {}", LineFault::BadByte(3), LineFault::NoCommand)?;
-    assert_eq!(rt;
-        told.as_str(),
-        "a byte that no line may hold stands at 3; a line has no command"
-    );
+    assert!(rt; told.as_str() == "a byte that no line may hold stands at 3; a line has no command");
     Ok(())
 }

@@ -3,7 +3,7 @@ use crate::made::{filled, name, text};
 use irc_line::{
     Name, Text, compare_names, fold_name, is_action, is_channel_name, is_name_below, is_same_name,
 };
-use std::alloc::Global;
+use std::alloc::{AllocError, Global};
 use std::cmp::Ordering;
 use std::test::Fail;
 
@@ -23,33 +23,16 @@ const ORDERED: &[(&str, &str, bool)] = &[
 ];
 
 #[test]
-fn names_are_in_order(rt: HostRuntime) -> Result<(), Fail> {
+fn names_are_in_order(rt: HostRuntime) {
     for (a, b, want) in ORDERED {
-        assert_eq!(rt; is_name_below(a.as_bytes(), b.as_bytes()), *want);
-        let order = compare_names(a.as_bytes(), b.as_bytes());
-        assert_eq!(rt; order == Ordering::Less, *want);
-        assert_eq!(rt;
-            order == Ordering::Equal,
-            is_same_name(a.as_bytes(), b.as_bytes())
-        );
+        let (a, b) = (a.as_bytes(), b.as_bytes());
+        let order = compare_names(a, b);
+        assert!(rt; is_name_below(a, b) == *want && (order == Ordering::Less) == *want);
+        assert!(rt; (order == Ordering::Equal) == is_same_name(a, b));
     }
-    Ok(())
-}
-
-#[test]
-fn names_fold(rt: HostRuntime) -> Result<(), Fail> {
-    assert_eq!(rt;
-        fold_name(rt.alloc(), b"A[]\\~Z@a{}|^_`")?.as_slice(),
-        b"a{}|^z@a{}|^_`".as_slice()
-    );
-    Ok(())
-}
-
-#[test]
-fn names_are_the_same_where_they_fold_alike(rt: HostRuntime) {
     assert!(rt; is_same_name(b"#Ab[]\\~", b"#aB{}|^"));
-    assert!(rt; !is_same_name(b"ab", b"a"));
-    assert!(rt; !is_same_name(b"a_", b"a^"));
+    assert!(rt; !is_same_name(b"ab", b"a") && !is_same_name(b"a_", b"a^"));
+    assert!(rt; is_action(b"\x01ACTION waves\x01") && !is_action(b"\x01ACTIONS"));
 }
 
 /// Bytes, whether they are a name, and whether they are a channel's.
@@ -67,44 +50,45 @@ const NAMES: &[(&str, bool, bool)] = &[
     ("#a\x07", false, false),
 ];
 
-fn is_name(alloc: Global, bytes: &[u8]) -> Result<bool, Fail> {
+fn is_name(alloc: Global, bytes: &[u8]) -> Result<bool, AllocError> {
     Ok(Name::from_bytes(Vec::from_slice(alloc, bytes)?).is_some())
 }
 
 #[test]
 fn names_have_limits(rt: HostRuntime) -> Result<(), Fail> {
     for (bytes, is_named, is_channel) in NAMES {
-        assert_eq!(rt;
-            is_name(rt.alloc(), bytes.as_bytes())?,
-            *is_named,
-            "{bytes}"
-        );
-        assert_eq!(rt; is_channel_name(bytes.as_bytes()), *is_channel, "{bytes}");
+        let bytes = bytes.as_bytes();
+        assert!(rt; is_name(rt.alloc(), bytes)? == *is_named);
+        assert!(rt; is_channel_name(bytes) == *is_channel);
     }
     Ok(())
 }
 
-#[test]
-fn texts_have_limits(rt: HostRuntime) -> Result<(), Fail> {
-    let alloc = rt.alloc();
-    assert!(rt; Text::from_bytes(filled(alloc, b"a", 510)?).is_some());
-    assert!(rt; Text::from_bytes(filled(alloc, b"a", 511)?).is_none());
-    assert!(rt; Text::from_bytes(Vec::from_slice(alloc, b"two\nlines")?).is_none());
-    Ok(())
+/// Whether these bytes and letters behind them, so many in all, are a text.
+fn is_text(alloc: Global, front: &[u8], len: usize) -> Result<bool, AllocError> {
+    Ok(Text::from_bytes(filled(alloc, front, len)?).is_some())
+}
+
+fn is_folded(alloc: Global, name: &[u8], want: &[u8]) -> Result<bool, AllocError> {
+    Ok(fold_name(alloc, name)?.as_slice() == want)
+}
+
+/// Whether the copy of this name is a channel's.
+fn is_copied_channel(alloc: Global, bytes: &str) -> Result<bool, Fail> {
+    Ok(name(alloc, bytes)?.copy(alloc)?.is_channel())
+}
+
+/// Whether the copy of the text of these bytes is of them.
+fn is_copied_text(alloc: Global, bytes: &str) -> Result<bool, Fail> {
+    Ok(text(alloc, bytes)?.copy(alloc)?.as_bytes() == bytes.as_bytes())
 }
 
 #[test]
-fn names_and_texts_are_copied(rt: HostRuntime) -> Result<(), Fail> {
+fn texts_have_limits_and_names_fold(rt: HostRuntime) -> Result<(), Fail> {
     let alloc = rt.alloc();
-    assert!(rt; name(alloc, "#x")?.copy(alloc)?.is_channel());
-    assert_eq!(rt;
-        text(alloc, "hi")?.copy(alloc)?.as_bytes(),
-        b"hi".as_slice()
-    );
+    assert!(rt; is_text(alloc, b"a", 510)? && !is_text(alloc, b"a", 511)?);
+    assert!(rt; !is_text(alloc, b"two\nlines", 9)?);
+    assert!(rt; is_folded(alloc, b"A[]\\~Z@a{}|^_`", b"a{}|^z@a{}|^_`")?);
+    assert!(rt; is_copied_channel(alloc, "#x")? && is_copied_text(alloc, "hi")?);
     Ok(())
-}
-
-#[test]
-fn an_action_is_marked(rt: HostRuntime) {
-    assert!(rt; is_action(b"\x01ACTION waves\x01") && !is_action(b"\x01ACTIONS"));
 }

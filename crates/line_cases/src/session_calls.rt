@@ -1,6 +1,6 @@
 //! Sessions call by call.
-use crate::sessions::{Told, feed, new_uplink, tell_input};
-use std::alloc::Global;
+use crate::sessions::{Told, new_uplink};
+use std::alloc::{AllocError, Global};
 use std::process::Abort;
 use std::test::Fail;
 use uplink::Uplink;
@@ -12,38 +12,22 @@ enum Call {
     End(&'static str),
 }
 
-/// What bytes bring.
-fn fed(alloc: Global, uplink: &mut Uplink, bytes: &str) -> Result<Told, Fail> {
+/// Whether a call brings what it says.
+fn is_as_told(alloc: Global, uplink: &mut Uplink, call: &Call) -> Result<bool, AllocError> {
     let mut told = Told::nothing(alloc);
-    feed(uplink, &mut told, bytes.as_bytes())?;
-    Ok(told)
-}
-
-/// What the end brings.
-fn ended(alloc: Global, uplink: &mut Uplink) -> Result<Told, Fail> {
-    let mut told = Told::nothing(alloc);
-    if let Some(input) = uplink.end() {
-        tell_input(&mut told.inputs, &input)?;
-    }
-    Ok(told)
-}
-
-/// Makes a call, and compares what it brings.
-fn compare_one(
-    rt: &impl Abort,
-    alloc: Global,
-    uplink: &mut Uplink,
-    call: &Call,
-) -> Result<(), Fail> {
     match call {
         Call::Feed(bytes, inputs, reply) => {
-            assert!(rt; fed(alloc, uplink, bytes)?.is(inputs, reply))
+            told.feed(uplink, bytes.as_bytes())?;
+            Ok(told.is(inputs, reply))
         }
-        Call::End(inputs) => assert!(rt; ended(alloc, uplink)?.is(inputs, "")),
+        Call::End(inputs) => {
+            told.end(uplink)?;
+            Ok(told.is(inputs, ""))
+        }
     }
-    Ok(())
 }
 
+/// Makes calls, and compares what each brings.
 fn compare_all(
     rt: &impl Abort,
     alloc: Global,
@@ -51,7 +35,7 @@ fn compare_all(
     calls: &[Call],
 ) -> Result<(), Fail> {
     for call in calls {
-        compare_one(rt, alloc, uplink, call)?;
+        assert!(rt; is_as_told(alloc, uplink, call)?);
     }
     Ok(())
 }
@@ -62,6 +46,7 @@ fn compare(rt: &impl Abort, alloc: Global, nick: &str, calls: &[Call]) -> Result
     compare_all(rt, alloc, &mut uplink, calls)
 }
 
+/// The nick, of 62 bytes, is in use.
 const NICK_IN_USE: &[Call] = &[
     Call::Feed("PING a b\r\n", "", "PONG a\r\n"),
     Call::Feed(
@@ -82,12 +67,7 @@ const NICK_IN_USE: &[Call] = &[
     Call::End(""),
 ];
 
-#[test]
-fn a_nick_of_62_bytes_is_in_use(rt: HostRuntime) -> Result<(), Fail> {
-    let nick = "nnnnnnnnnnnnnnnnnnnnnnnnnnnnnnnnnnnnnnnnnnnnnnnnnnnnnnnnnnnnnn";
-    compare(&rt, rt.alloc(), nick, NICK_IN_USE)
-}
-
+/// Bytes come after the end.
 const AFTER_THE_END: &[Call] = &[
     Call::Feed(":s 001 me", "", ""),
     Call::Feed(
@@ -101,11 +81,7 @@ const AFTER_THE_END: &[Call] = &[
     Call::End(""),
 ];
 
-#[test]
-fn bytes_come_after_the_end(rt: HostRuntime) -> Result<(), Fail> {
-    compare(&rt, rt.alloc(), "me", AFTER_THE_END)
-}
-
+/// Lines are cut at any byte.
 const CUT_ANYWHERE: &[Call] = &[
     Call::Feed("PING", "", ""),
     Call::Feed("\n:me!u@", "", ""),
@@ -135,32 +111,48 @@ const CUT_ANYWHERE: &[Call] = &[
     Call::End("closed\n"),
 ];
 
-#[test]
-fn lines_are_cut_at_any_byte(rt: HostRuntime) -> Result<(), Fail> {
-    compare(&rt, rt.alloc(), "me", CUT_ANYWHERE)
-}
-
-/// The end of a session, and behind it what would have opened it.
+/// What is fed before the end is nothing, half a welcome, or a welcome and half of another. Behind the end comes what
+/// would have opened the session.
 const ENDED: &[Call] = &[
+    Call::Feed("", "", ""),
     Call::End("closed\n"),
     Call::Feed("1 me :Hello\nPING :k\n433\n", "", ""),
     Call::End(""),
 ];
 
-/// What is fed before the end: nothing, half a welcome, and a welcome and half of another.
-const BEFORE: &[&str] = &["", ":s NOTICE * :hi\n:s 00", ":s 001 me :Hello\n:s 00"];
+const ENDED_IN_A_WELCOME: &[Call] = &[
+    Call::Feed(":s NOTICE * :hi\n:s 00", "", ""),
+    Call::End("closed\n"),
+    Call::Feed("1 me :Hello\nPING :k\n433\n", "", ""),
+    Call::End(""),
+];
 
-/// Feeds these bytes to a new uplink, and compares what the end brings and what comes behind it.
-fn compare_end(rt: &impl Abort, alloc: Global, before: &str) -> Result<(), Fail> {
-    let mut uplink = new_uplink(alloc, "me")?;
-    let _told = fed(alloc, &mut uplink, before)?;
-    compare_all(rt, alloc, &mut uplink, ENDED)
-}
+const ENDED_WHEN_OPEN: &[Call] = &[
+    Call::Feed(
+        ":s 001 me :Hello\n:s 00",
+        "opened\nheard :s 001 me Hello\n",
+        "",
+    ),
+    Call::End("closed\n"),
+    Call::Feed("1 me :Hello\nPING :k\n433\n", "", ""),
+    Call::End(""),
+];
+
+/// The calls of sessions of nick `me`.
+const SESSIONS: &[&[Call]] = &[
+    AFTER_THE_END,
+    CUT_ANYWHERE,
+    ENDED,
+    ENDED_IN_A_WELCOME,
+    ENDED_WHEN_OPEN,
+];
 
 #[test]
-fn the_end_is_told_once_and_nothing_comes_behind_it(rt: HostRuntime) -> Result<(), Fail> {
-    for before in BEFORE {
-        compare_end(&rt, rt.alloc(), before)?;
+fn each_call_of_a_session_brings_its_own(rt: HostRuntime) -> Result<(), Fail> {
+    let nick = "nnnnnnnnnnnnnnnnnnnnnnnnnnnnnnnnnnnnnnnnnnnnnnnnnnnnnnnnnnnnnn";
+    compare(&rt, rt.alloc(), nick, NICK_IN_USE)?;
+    for calls in SESSIONS {
+        compare(&rt, rt.alloc(), "me", calls)?;
     }
     Ok(())
 }

@@ -1,21 +1,12 @@
 //! How streams are split, by examples.
+use crate::made::filled_to;
 use irc_line::{Item, LineFault, Splitter};
-use std::alloc::Global;
+use std::alloc::{AllocError, Global};
 use std::process::Abort;
 use std::test::Fail;
 
-/// Adds the front of a content, `a` up to this length, and an end.
-fn fed_content(out: &mut Vec<u8>, front: &[u8], len: usize, end: &[u8]) -> Result<(), Fail> {
-    out.extend_from_slice(front)?;
-    for _ in front.len()..len {
-        out.push(b'a')?;
-    }
-    out.extend_from_slice(end)?;
-    Ok(())
-}
-
 /// Adds each item: a line's canonical spelling or its fault's letter, and a LF.
-fn tell_items(out: &mut Vec<u8>, items: &[Item]) -> Result<(), Fail> {
+fn tell_items(out: &mut Vec<u8>, items: &[Item]) -> Result<(), AllocError> {
     for item in items {
         match item {
             Item::Got(line) => line.write_to(out)?,
@@ -28,62 +19,54 @@ fn tell_items(out: &mut Vec<u8>, items: &[Item]) -> Result<(), Fail> {
     Ok(())
 }
 
-/// What is told of the items of bytes that are fed piece by piece.
-fn told_in_pieces(alloc: Global, pieces: &[&[u8]]) -> Result<Vec<u8>, Fail> {
+/// Adds what is told of the items of bytes that are fed.
+fn feed(splitter: &mut Splitter, told: &mut Vec<u8>, bytes: &[u8]) -> Result<(), AllocError> {
+    let items = splitter.feed(bytes)?;
+    tell_items(told, &items)
+}
+
+/// Whether this is told of the items of bytes that are fed piece by piece.
+fn is_told(alloc: Global, pieces: &[&[u8]], want: &[u8]) -> Result<bool, AllocError> {
     let mut splitter = Splitter::new(alloc);
     let mut told = Vec::new(alloc);
     for piece in pieces {
-        tell_items(&mut told, &splitter.feed(*piece)?)?;
+        feed(&mut splitter, &mut told, *piece)?;
     }
-    Ok(told)
+    Ok(told.as_slice() == want)
 }
 
-/// What is told of the items of bytes that are fed byte by byte.
-fn told_by_byte(alloc: Global, bytes: &[u8]) -> Result<Vec<u8>, Fail> {
+/// Whether this is told of the items of bytes that are fed byte by byte.
+fn is_told_by_byte(alloc: Global, bytes: &[u8], want: &[u8]) -> Result<bool, AllocError> {
     let mut splitter = Splitter::new(alloc);
     let mut told = Vec::new(alloc);
     for byte in bytes {
-        tell_items(&mut told, &splitter.feed(&[*byte])?)?;
+        feed(&mut splitter, &mut told, &[*byte])?;
     }
-    Ok(told)
+    Ok(told.as_slice() == want)
 }
 
 /// The longest content, one that is too long, and a short one.
-fn stream(alloc: Global) -> Result<Vec<u8>, Fail> {
-    let mut bytes = Vec::new(alloc);
-    fed_content(&mut bytes, b"PRIVMSG #x :", 510, b"\r\n")?;
-    fed_content(&mut bytes, b"PRIVMSG #x :", 511, b"\r\n")?;
-    bytes.extend_from_slice(b"PING  b\n")?;
+fn stream(alloc: Global) -> Result<Vec<u8>, AllocError> {
+    let mut bytes = filled_to(alloc, b"PRIVMSG #x :", 510, b"\r\n")?;
+    let too_long = filled_to(alloc, b"PRIVMSG #x :", 511, b"\r\nPING  b\n")?;
+    bytes.extend_from_slice(&too_long)?;
     Ok(bytes)
 }
 
 /// What is told of it.
-fn wanted(alloc: Global) -> Result<Vec<u8>, Fail> {
-    let mut want = Vec::new(alloc);
-    fed_content(&mut want, b"PRIVMSG #x :", 510, b"\n")?;
-    want.extend_from_slice(b"L\nPING b\n")?;
-    Ok(want)
+fn wanted(alloc: Global) -> Result<Vec<u8>, AllocError> {
+    filled_to(alloc, b"PRIVMSG #x :", 510, b"\nL\nPING b\n")
 }
 
 /// This is told of bytes that are fed whole, in two pieces, and byte by byte.
 fn check_cuts(rt: &impl Abort, alloc: Global, bytes: &[u8], want: &[u8]) -> Result<(), Fail> {
-    assert_eq!(rt; told_in_pieces(alloc, &[bytes])?.as_slice(), want);
+    assert!(rt; is_told(alloc, &[bytes], want)?);
     for cut in 0..bytes.len() {
         let (front, rest) = bytes.split_at(cut);
-        assert_eq!(rt;
-            told_in_pieces(alloc, &[front, rest])?.as_slice(),
-            want,
-            "{cut}"
-        );
+        assert!(rt; is_told(alloc, &[front, rest], want)?, "{cut}");
     }
-    assert_eq!(rt; told_by_byte(alloc, bytes)?.as_slice(), want);
+    assert!(rt; is_told_by_byte(alloc, bytes, want)?);
     Ok(())
-}
-
-#[test]
-fn a_stream_is_split_however_it_is_cut(rt: HostRuntime) -> Result<(), Fail> {
-    let alloc = rt.alloc();
-    check_cuts(&rt, alloc, &stream(alloc)?, &wanted(alloc)?)
 }
 
 /// Streams, and what is told of the items of each.
@@ -95,16 +78,11 @@ const STREAMS: &[(&str, &str)] = &[
     ("PING b", ""),
 ];
 
-fn check_stream(rt: &impl Abort, alloc: Global, bytes: &str, want: &str) -> Result<(), Fail> {
-    let told = told_in_pieces(alloc, &[bytes.as_bytes()])?;
-    assert_eq!(rt; told.as_slice(), want.as_bytes());
-    Ok(())
-}
-
 #[test]
-fn a_stream_has_empty_contents_and_faults(rt: HostRuntime) -> Result<(), Fail> {
+fn a_stream_is_split_however_it_is_cut(rt: HostRuntime) -> Result<(), Fail> {
+    let alloc = rt.alloc();
     for (bytes, want) in STREAMS {
-        check_stream(&rt, rt.alloc(), bytes, want)?;
+        assert!(rt; is_told(alloc, &[bytes.as_bytes()], want.as_bytes())?);
     }
-    Ok(())
+    check_cuts(&rt, alloc, &stream(alloc)?, &wanted(alloc)?)
 }
