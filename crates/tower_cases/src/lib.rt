@@ -2,6 +2,12 @@
 #![tactic(auto)]
 
 #[cfg(test)]
+mod bodies;
+#[cfg(test)]
 mod hosted;
+#[cfg(test)]
+mod layers;
+#[cfg(test)]
+mod told;
 #[cfg(test)]
 mod towers;
