@@ -1,10 +1,10 @@
 //! What is kept and shown, by examples.
+use crate::made::name;
 use buffer_commands::{Command, Setup};
 use buffer_machine::{
     BufferMachine, a_detached_channel_is_not_shown, no_target_keeps_more_than_its_size,
     playing_leaves_nothing, who_is_not_attached_changes_nothing,
 };
-use irc_line::Name;
 use machine_laws::Machine;
 use std::alloc::Global;
 use std::process::Abort;
@@ -34,8 +34,7 @@ fn apply(alloc: Global, machine: &mut BufferMachine, bytes: &[u8]) -> Result<(),
 
 /// How many lines a machine plays of a target.
 fn count(alloc: Global, machine: &BufferMachine, target: &[u8]) -> Result<usize, Fail> {
-    let target = Name::from_bytes(Vec::from_slice(alloc, target)?).ok_or("no name")?;
-    Ok(machine.playback(&target)?.len())
+    Ok(machine.playback(&name(alloc, target)?)?.len())
 }
 
 /// Its nick is `me`, and it plays three lines of a channel, as often as it is asked.

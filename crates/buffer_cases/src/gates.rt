@@ -1,15 +1,11 @@
 //! What a gate does, by examples.
-use buffer_commands::Effect;
-use buffer_lines::Shown;
-use client_gate::{ClientGate, Fed, GateEffect, Request};
-use irc_line::{Line, Name};
-use request_once::Answer;
-use session_fence::FenceEffect;
+use crate::heard::{Client, Heard};
+use crate::made::{check_bytes, name};
+use client_gate::{ClientGate, Fed, Request};
 use std::alloc::Global;
 use std::process::Abort;
 use std::test::Fail;
-use upstream_claim::ClaimsEffect;
-use wire_bytes::{Origin, Wire};
+use wire_bytes::Wire;
 
 /// What a gate is given, and what it has to answer.
 #[derive(Clone, Copy)]
@@ -30,41 +26,6 @@ enum Step<'a> {
     Waiting(usize),
     /// What is requested where the connection is gone.
     End(&'a [u8]),
-}
-
-/// What a gate hears.
-#[derive(Clone, Copy)]
-enum Heard<'a> {
-    /// This line is shown to a client.
-    Show(Origin, &'a [u8]),
-    Close(Origin),
-    Busy(Origin),
-    Done(Origin, u64),
-    Repeat(Origin, u64),
-    Gap(Origin, u64),
-}
-
-impl<'a> Heard<'a> {
-    fn effect(&self, alloc: Global) -> Result<GateEffect, Fail> {
-        Ok(match self {
-            Heard::Show(origin, line) => of_buffers(Effect::Show(*origin, shown(alloc, line)?)),
-            Heard::Close(origin) => of_buffers(Effect::Close(*origin)),
-            Heard::Busy(origin) => Answer::Effect(ClaimsEffect::Busy(*origin)),
-            Heard::Done(origin, number) => Answer::Done(*origin, *number),
-            Heard::Repeat(origin, number) => Answer::Repeat(*origin, *number),
-            Heard::Gap(origin, number) => Answer::Gap(*origin, *number),
-        })
-    }
-}
-
-/// An effect of the buffers.
-fn of_buffers(effect: Effect) -> GateEffect {
-    Answer::Effect(ClaimsEffect::Inner(FenceEffect::Inner(effect)))
-}
-
-fn shown(alloc: Global, line: &[u8]) -> Result<Shown, Fail> {
-    let line = Line::parse(alloc, line)?;
-    Ok(Shown::of_line(alloc, &line)?)
 }
 
 /// What calls answered: a line for each request with its number and the bytes of its action, all
@@ -117,8 +78,7 @@ fn tell_request(alloc: Global, out: &mut Vec<u8>, request: &Request) -> Result<(
 /// The gate of the client 1.1.1, whose password is `pw` and whose nick is `me`.
 fn new_gate(alloc: Global) -> Result<ClientGate, Fail> {
     let password = Vec::from_slice(alloc, b"pw")?;
-    let nick = Name::from_bytes(Vec::from_slice(alloc, b"me")?).ok_or("no name")?;
-    Ok(ClientGate::new(alloc, Origin::new(1, 1, 1), password, nick)?)
+    Ok(ClientGate::new(alloc, Client::Own.origin(), password, name(alloc, b"me")?)?)
 }
 
 /// All of this happens to a new gate.
@@ -180,10 +140,6 @@ fn hear(
     told.add(alloc, &gate.on_effect(&effect)?)
 }
 
-fn check_bytes(rt: &impl Abort, told: &[u8], wanted: &[u8]) {
-    assert_eq!(rt; told, wanted);
-}
-
 fn check_told(rt: &impl Abort, told: &Told, requests: &[u8], reply: &[u8], close: bool) {
     check_bytes(rt, &told.requests, requests);
     check_bytes(rt, &told.reply, reply);
@@ -229,23 +185,20 @@ const ASKED: Step<'static> = Step::Told(
     false,
 );
 
-#[test]
-fn a_client_attaches_asks_and_leaves(rt: HostRuntime) -> Result<(), Fail> {
-    let whole = [
-        Step::Feed(ASKS),
-        ASKED,
-        Step::End(b"4 \x02\n"),
-        Step::End(b""),
-    ];
-    follow(&rt, rt.alloc(), &whole)?;
-    let byte_by_byte = [
-        Step::FeedBytes(ASKS),
-        ASKED,
-        Step::End(b"4 \x02\n"),
-        Step::End(b""),
-    ];
-    follow(&rt, rt.alloc(), &byte_by_byte)
-}
+/// A client attaches, asks and leaves.
+const LEAVES: &[Step<'static>] = &[
+    Step::Feed(ASKS),
+    ASKED,
+    Step::End(b"4 \x02\n"),
+    Step::End(b""),
+];
+
+const LEAVES_BYTE_BY_BYTE: &[Step<'static>] = &[
+    Step::FeedBytes(ASKS),
+    ASKED,
+    Step::End(b"4 \x02\n"),
+    Step::End(b""),
+];
 
 const LACKS_PASSWORD: &[u8] = b"JOIN #x\r\nNICK n\r\nUSER u 0 * r\r\n";
 
@@ -255,45 +208,58 @@ const REFUSED: Step<'static> = Step::Told(
     true,
 );
 
-#[test]
-fn a_client_without_the_password_is_refused(rt: HostRuntime) -> Result<(), Fail> {
-    let whole = [Step::Feed(LACKS_PASSWORD), REFUSED, Step::End(b"")];
-    follow(&rt, rt.alloc(), &whole)?;
-    let byte_by_byte = [Step::FeedBytes(LACKS_PASSWORD), REFUSED, Step::End(b"")];
-    follow(&rt, rt.alloc(), &byte_by_byte)
-}
+/// A client without the password is refused.
+const NO_PASSWORD: &[Step<'static>] = &[Step::Feed(LACKS_PASSWORD), REFUSED, Step::End(b"")];
+
+const NO_PASSWORD_BYTE_BY_BYTE: &[Step<'static>] = &[
+    Step::FeedBytes(LACKS_PASSWORD),
+    REFUSED,
+    Step::End(b""),
+];
+
+const LINE: &[u8] = b":a!b@c PRIVMSG #x :hi";
+
+/// Effects are told to their client alone.
+const ALONE: &[Step<'static>] = &[
+    Step::Feed(REGISTER),
+    Step::Feed(b"WHO #x\r\n"),
+    Step::Told(b"1 \x01\n2 \x0e\0\x06WHO #x\n", REGISTERED, false),
+    Step::Hear(Heard::Show(Client::Other, LINE)),
+    Step::Hear(Heard::Busy(Client::Other)),
+    Step::Hear(Heard::Gap(Client::Other, 1)),
+    Step::Hear(Heard::Show(Client::Own, LINE)),
+    Step::Hear(Heard::Busy(Client::Own)),
+    Step::Hear(Heard::Gap(Client::Own, 1)),
+    Step::Told(
+        b"",
+        b":a!b@c PRIVMSG #x :hi\r\n:*status!bouncer@local PRIVMSG me :Busy, not sent.\r\n",
+        false,
+    ),
+    Step::Hear(Heard::Done(Client::Other, 2)),
+    Step::Waiting(2),
+    Step::Hear(Heard::Repeat(Client::Own, 1)),
+    Step::Waiting(1),
+    Step::Hear(Heard::Close(Client::Other)),
+    Step::IsClosed(false),
+    Step::Hear(Heard::Close(Client::Own)),
+    Step::IsClosed(true),
+    Step::Feed(b"WHO #x\r\n"),
+    Step::Requests(b""),
+    Step::End(b"3 \x02\n"),
+];
+
+const STORIES: &[&[Step<'static>]] = &[
+    LEAVES,
+    LEAVES_BYTE_BY_BYTE,
+    NO_PASSWORD,
+    NO_PASSWORD_BYTE_BY_BYTE,
+    ALONE,
+];
 
 #[test]
-fn effects_are_told_to_their_client_alone(rt: HostRuntime) -> Result<(), Fail> {
-    let own = Origin::new(1, 1, 1);
-    let other = Origin::new(2, 1, 1);
-    let line = b":a!b@c PRIVMSG #x :hi";
-    let story = [
-        Step::Feed(REGISTER),
-        Step::Feed(b"WHO #x\r\n"),
-        Step::Told(b"1 \x01\n2 \x0e\0\x06WHO #x\n", REGISTERED, false),
-        Step::Hear(Heard::Show(other, line)),
-        Step::Hear(Heard::Busy(other)),
-        Step::Hear(Heard::Gap(other, 1)),
-        Step::Hear(Heard::Show(own, line)),
-        Step::Hear(Heard::Busy(own)),
-        Step::Hear(Heard::Gap(own, 1)),
-        Step::Told(
-            b"",
-            b":a!b@c PRIVMSG #x :hi\r\n:*status!bouncer@local PRIVMSG me :Busy, not sent.\r\n",
-            false,
-        ),
-        Step::Hear(Heard::Done(other, 2)),
-        Step::Waiting(2),
-        Step::Hear(Heard::Repeat(own, 1)),
-        Step::Waiting(1),
-        Step::Hear(Heard::Close(other)),
-        Step::IsClosed(false),
-        Step::Hear(Heard::Close(own)),
-        Step::IsClosed(true),
-        Step::Feed(b"WHO #x\r\n"),
-        Step::Requests(b""),
-        Step::End(b"3 \x02\n"),
-    ];
-    follow(&rt, rt.alloc(), &story)
+fn a_gate_serves_its_client_alone(rt: HostRuntime) -> Result<(), Fail> {
+    for story in STORIES {
+        follow(&rt, rt.alloc(), story)?;
+    }
+    Ok(())
 }

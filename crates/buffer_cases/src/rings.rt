@@ -1,5 +1,6 @@
 //! What rings keep and play, by examples.
-use buffer_lines::{KeptLine, LineRing, Offset, Shown};
+use crate::made::{check_bytes, push_line, shown};
+use buffer_lines::{KeptLine, LineRing, Offset};
 use irc_line::{Line, LineFault};
 use std::alloc::{AllocError, Global};
 use std::process::Abort;
@@ -13,8 +14,26 @@ enum Step<'a> {
     Push(&'a [u8], u8),
     SetSize(usize),
     Clear,
-    /// It plays this, with a line feed behind each line.
-    Plays(Offset, &'a [u8]),
+    /// By this clock it plays this, with a line feed behind each line.
+    Plays(Clock, &'a [u8]),
+}
+
+/// What a clock shows: the time as it is set up by default, or an hour ahead of UTC or behind it.
+#[derive(Clone, Copy)]
+enum Clock {
+    Default,
+    Ahead,
+    Behind,
+}
+
+impl Clock {
+    fn offset(self) -> Offset {
+        match self {
+            Clock::Default => Offset::default(),
+            Clock::Ahead => Offset::new(1439 + 60),
+            Clock::Behind => Offset::new(1439 - 60),
+        }
+    }
 }
 
 /// A line that came so many seconds after 1,700,000,000.
@@ -27,8 +46,7 @@ fn kept(alloc: Global, content: &[u8], second: u8) -> Result<KeptLine, LineFault
 fn played(alloc: Global, ring: &LineRing, offset: Offset) -> Result<Vec<u8>, AllocError> {
     let mut out = Vec::new(alloc);
     for shown in &ring.play(offset, b"#x")? {
-        out.extend_from_slice(shown.spelling())?;
-        out.push(b'\n')?;
+        push_line(&mut out, shown.spelling())?;
     }
     Ok(out)
 }
@@ -52,7 +70,7 @@ fn follow_one(
         Step::Push(content, second) => ring.push(kept(alloc, content, *second)?),
         Step::SetSize(size) => ring.set_size(*size)?,
         Step::Clear => ring.clear(),
-        Step::Plays(offset, wanted) => check(rt, alloc, ring, *offset, wanted)?,
+        Step::Plays(clock, wanted) => check(rt, alloc, ring, clock.offset(), wanted)?,
     }
     Ok(())
 }
@@ -69,83 +87,93 @@ fn check(
     Ok(())
 }
 
-fn check_bytes(rt: &impl Abort, told: &[u8], wanted: &[u8]) {
-    assert_eq!(rt; told, wanted);
-}
-
-#[test]
-fn plays_one_line_between_its_frame_lines(rt: HostRuntime) -> Result<(), Fail> {
-    let text = b":***!bouncer@local PRIVMSG #x :Buffer Playback...\n\
+/// A ring plays one line between its frame lines, and nothing once it is cleared.
+const ONE_LINE: &[Step<'static>] = &[
+    Step::Push(b":a!b@c PRIVMSG #x :hi", 0),
+    Step::Plays(
+        Clock::Default,
+        b":***!bouncer@local PRIVMSG #x :Buffer Playback...\n\
         :a!b@c PRIVMSG #x :[22:13:20] hi\n\
-        :***!bouncer@local PRIVMSG #x :Playback Complete.\n";
-    let story = [
-        Step::Push(b":a!b@c PRIVMSG #x :hi", 0),
-        Step::Plays(Offset::default(), text),
-        Step::Clear,
-        Step::Plays(Offset::default(), b""),
-    ];
-    follow(&rt, rt.alloc(), 50, &story)
-}
+        :***!bouncer@local PRIVMSG #x :Playback Complete.\n",
+    ),
+    Step::Clear,
+    Step::Plays(Clock::Default, b""),
+];
 
-#[test]
-fn lets_the_oldest_line_go(rt: HostRuntime) -> Result<(), Fail> {
-    let text = b":***!bouncer@local PRIVMSG #x :Buffer Playback...\n\
+/// A ring of two lines lets the oldest line go.
+const OLDEST_GOES: &[Step<'static>] = &[
+    Step::Push(b":a!b@c PRIVMSG #x :one", 0),
+    Step::Push(b":a!b@c PRIVMSG #x :two", 1),
+    Step::Push(b":a!b@c PRIVMSG #x :three", 2),
+    Step::Plays(
+        Clock::Default,
+        b":***!bouncer@local PRIVMSG #x :Buffer Playback...\n\
         :a!b@c PRIVMSG #x :[22:13:21] two\n\
         :a!b@c PRIVMSG #x :[22:13:22] three\n\
-        :***!bouncer@local PRIVMSG #x :Playback Complete.\n";
-    let story = [
-        Step::Push(b":a!b@c PRIVMSG #x :one", 0),
-        Step::Push(b":a!b@c PRIVMSG #x :two", 1),
-        Step::Push(b":a!b@c PRIVMSG #x :three", 2),
-        Step::Plays(Offset::default(), text),
-    ];
-    follow(&rt, rt.alloc(), 2, &story)
-}
+        :***!bouncer@local PRIVMSG #x :Playback Complete.\n",
+    ),
+];
 
-#[test]
-fn keeps_the_newest_lines_of_a_new_size(rt: HostRuntime) -> Result<(), Fail> {
-    let text = b":***!bouncer@local PRIVMSG #x :Buffer Playback...\n\
+/// A ring of three lines keeps the newest lines of a new size.
+const NEW_SIZE: &[Step<'static>] = &[
+    Step::Push(b":a!b@c PRIVMSG #x :one", 0),
+    Step::Push(b":a!b@c PRIVMSG #x :two", 1),
+    Step::Push(b":a!b@c PRIVMSG #x :three", 2),
+    Step::SetSize(1),
+    Step::SetSize(50),
+    Step::Push(b":a!b@c PRIVMSG #x :four", 3),
+    Step::Plays(
+        Clock::Default,
+        b":***!bouncer@local PRIVMSG #x :Buffer Playback...\n\
         :a!b@c PRIVMSG #x :[22:13:22] three\n\
         :a!b@c PRIVMSG #x :[22:13:23] four\n\
-        :***!bouncer@local PRIVMSG #x :Playback Complete.\n";
-    let story = [
-        Step::Push(b":a!b@c PRIVMSG #x :one", 0),
-        Step::Push(b":a!b@c PRIVMSG #x :two", 1),
-        Step::Push(b":a!b@c PRIVMSG #x :three", 2),
-        Step::SetSize(1),
-        Step::SetSize(50),
-        Step::Push(b":a!b@c PRIVMSG #x :four", 3),
-        Step::Plays(Offset::default(), text),
-    ];
-    follow(&rt, rt.alloc(), 3, &story)
-}
+        :***!bouncer@local PRIVMSG #x :Playback Complete.\n",
+    ),
+];
 
-#[test]
-fn shows_the_time_of_the_offset(rt: HostRuntime) -> Result<(), Fail> {
-    let ahead = b":***!bouncer@local PRIVMSG #x :Buffer Playback...\n\
+/// A ring shows the time of the offset.
+const OFFSET: &[Step<'static>] = &[
+    Step::Push(b"NOTICE #x hi", 0),
+    Step::Plays(
+        Clock::Ahead,
+        b":***!bouncer@local PRIVMSG #x :Buffer Playback...\n\
         NOTICE #x :[23:13:20] hi\n\
-        :***!bouncer@local PRIVMSG #x :Playback Complete.\n";
-    let behind = b":***!bouncer@local PRIVMSG #x :Buffer Playback...\n\
+        :***!bouncer@local PRIVMSG #x :Playback Complete.\n",
+    ),
+    Step::Plays(
+        Clock::Behind,
+        b":***!bouncer@local PRIVMSG #x :Buffer Playback...\n\
         NOTICE #x :[21:13:20] hi\n\
-        :***!bouncer@local PRIVMSG #x :Playback Complete.\n";
-    let story = [
-        Step::Push(b"NOTICE #x hi", 0),
-        Step::Plays(Offset::new(1439 + 60), ahead),
-        Step::Plays(Offset::new(1439 - 60), behind),
-    ];
-    follow(&rt, rt.alloc(), 1, &story)
-}
+        :***!bouncer@local PRIVMSG #x :Playback Complete.\n",
+    ),
+];
+
+/// A ring shows the time behind the mark of an action.
+const ACTION: &[Step<'static>] = &[
+    Step::Push(b":a!b@c PRIVMSG #x :\x01ACTION waves\x01", 0),
+    Step::Plays(
+        Clock::Default,
+        b":***!bouncer@local PRIVMSG #x :Buffer Playback...\n\
+        :a!b@c PRIVMSG #x :\x01ACTION [22:13:20] waves\x01\n\
+        :***!bouncer@local PRIVMSG #x :Playback Complete.\n",
+    ),
+];
+
+/// The size of a ring, and what happens to it.
+const STORIES: &[(usize, &[Step<'static>])] = &[
+    (50, ONE_LINE),
+    (2, OLDEST_GOES),
+    (3, NEW_SIZE),
+    (1, OFFSET),
+    (1, ACTION),
+];
 
 #[test]
-fn shows_the_time_behind_the_mark_of_an_action(rt: HostRuntime) -> Result<(), Fail> {
-    let text = b":***!bouncer@local PRIVMSG #x :Buffer Playback...\n\
-        :a!b@c PRIVMSG #x :\x01ACTION [22:13:20] waves\x01\n\
-        :***!bouncer@local PRIVMSG #x :Playback Complete.\n";
-    let story = [
-        Step::Push(b":a!b@c PRIVMSG #x :\x01ACTION waves\x01", 0),
-        Step::Plays(Offset::default(), text),
-    ];
-    follow(&rt, rt.alloc(), 1, &story)
+fn a_ring_plays_its_newest_lines(rt: HostRuntime) -> Result<(), Fail> {
+    for (size, story) in STORIES {
+        follow(&rt, rt.alloc(), *size, story)?;
+    }
+    Ok(())
 }
 
 /// The canonical spelling of a line, and that of its copy, a line feed behind each.
@@ -153,24 +181,14 @@ fn spelled(alloc: Global, content: &[u8]) -> Result<Vec<u8>, Fail> {
     let shown = shown(alloc, content)?;
     let copy = shown.copy(alloc)?;
     let mut out = Vec::new(alloc);
-    for shown in [&shown, &copy] {
-        out.extend_from_slice(shown.spelling())?;
-        out.push(b'\n')?;
-    }
+    push_line(&mut out, shown.spelling())?;
+    push_line(&mut out, copy.spelling())?;
     Ok(out)
-}
-
-fn shown(alloc: Global, content: &[u8]) -> Result<Shown, Fail> {
-    let line = Line::parse(alloc, content)?;
-    Ok(Shown::of_line(alloc, &line)?)
 }
 
 #[test]
 fn shows_the_canonical_spelling(rt: HostRuntime) -> Result<(), Fail> {
     let text = spelled(rt.alloc(), b"privmsg  #x  hi")?;
-    assert_eq!(rt;
-        text.as_slice(),
-        b"PRIVMSG #x :hi\nPRIVMSG #x :hi\n".as_slice()
-    );
+    check_bytes(&rt, &text, b"PRIVMSG #x :hi\nPRIVMSG #x :hi\n");
     Ok(())
 }
