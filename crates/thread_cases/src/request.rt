@@ -14,7 +14,7 @@ pub enum Request {
 
 impl Request {
     /// All of them, the first first.
-    pub const ALL: &[Request] = &[Request::Attach, Request::Detach, Request::Say];
+    pub const ALL: &'static [Request] = &[Request::Attach, Request::Detach, Request::Say];
 
     /// From 1 on.
     pub fn number(self) -> u8 {
