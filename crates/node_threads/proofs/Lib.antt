@@ -4,3 +4,5 @@ pub mod Opened
 mod HomeMarked
 pub mod Started
 mod Going
+mod Told
+mod Answering

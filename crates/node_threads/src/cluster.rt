@@ -1,12 +1,12 @@
 //! The nodes of one process.
-ghost use Rattle.std.specs.Prelude.{◌≡◌, ◌<◌, ◌≤◌, MatchResult};
+ghost use Rattle.std.specs.Prelude.{◌≡◌, ◌<◌, ◌≤◌, MatchResult, length};
 ghost use Rattle.node_threads.specs.declared.cluster_fault.ClusterFault.TheVariants.{NoNode};
 ghost use Rattle.node_threads.specs.Faults.{IsAnswered, IsNotOfCaller, IsTold};
 ghost use Rattle.node_threads.specs.Homes.{AreLeft};
 
 use crate::cluster_fault::ClusterFault;
 use crate::inlet::Inlet;
-use crate::job::Job;
+use crate::job::{Job, put};
 use crate::leaver::join_all;
 use crate::worker::Running;
 use body_marks::Marking;
@@ -63,10 +63,7 @@ impl<M: Marking, S: Stable<M::Command>, U: Upstream> Cluster<M, S, U> {
         ensures { MatchResult result (λ _. node ≤ self.now.ether.size)
             (λ e. (self.now.ether.size < node) × (e ≡ NoNode node)) }
     {
-        match self.inboxes.get(node.value() as usize - 1) {
-            Some(inbox) => Ok(inbox),
-            None => Err(ClusterFault::NoNode(node.value())),
-        }
+        inbox_of(self.inboxes.as_slice(), node)
     }
 
     /// A node is told something; the call does not wait for what comes of it.
@@ -78,7 +75,8 @@ impl<M: Marking, S: Stable<M::Command>, U: Upstream> Cluster<M, S, U> {
     ) -> Result<(), ClusterFault>
         ensures { IsTold self.now.ether.size node result }
     {
-        self.tell(rt, node, Job::Note(note))
+        let inbox = self.inbox(node)?;
+        Job::Note(note).put(rt, inbox)
     }
 
     /// Where another thread puts what a node is told.
@@ -91,13 +89,6 @@ impl<M: Marking, S: Stable<M::Command>, U: Upstream> Cluster<M, S, U> {
         }
     }
 
-    /// A worker has something more to do.
-    fn tell(&self, rt: &impl Wait, node: NodeId, job: Job<M>) -> Result<(), ClusterFault>
-        ensures { IsTold self.now.ether.size node result }
-    {
-        job.put(rt, self.inbox(node)?)
-    }
-
     /// A playback of a target at a node, where what it applied reaches to a place.
     pub fn look(
         &self,
@@ -108,29 +99,27 @@ impl<M: Marking, S: Stable<M::Command>, U: Upstream> Cluster<M, S, U> {
     ) -> Result<Looked<M::Played>, ClusterFault>
         ensures { IsAnswered self.now.ether.size node result }
     {
-        self.inbox(node)?;
+        let inbox = self.inbox(node)?;
         let (reply, answer) = bounded(self.alloc, 1)?;
-        self.tell(rt, node, Job::Look(from_place, target, reply))?;
-        answer_of(rt, &answer)
+        ask(rt, inbox, Job::Look(from_place, target, reply), &answer)
     }
 
     /// A node is started again over its store.
     pub fn restart(&self, rt: &impl Wait, node: NodeId) -> Result<(), ClusterFault>
         ensures { IsAnswered self.now.ether.size node result }
     {
-        self.inbox(node)?;
+        let inbox = self.inbox(node)?;
         let (reply, answer) = bounded(self.alloc, 1)?;
-        self.tell(rt, node, Job::Restart(reply))?;
-        answer_of(rt, &answer)
+        ask(rt, inbox, Job::Restart(reply), &answer)
     }
 
     /// How a node stands.
     pub fn status(&self, rt: &impl Wait, node: NodeId) -> Result<Status, ClusterFault>
         ensures { IsTold self.now.ether.size node result }
     {
-        self.inbox(node)?;
+        let inbox = self.inbox(node)?;
         let (reply, answer) = bounded(self.alloc, 1)?;
-        self.tell(rt, node, Job::Status(reply))?;
+        Job::Status(reply).put(rt, inbox)?;
         match answer.recv(rt) {
             Ok(status) => Ok(status),
             Err(_) => Err(ClusterFault::Stopped),
@@ -159,13 +148,28 @@ impl<M: Marking, S: Stable<M::Command>, U: Upstream> Cluster<M, S, U> {
     }
 }
 
-/// What a worker answers.
-pub fn answer_of<T: Drop>(
+/// The inbox of a node's worker, among those of all.
+fn inbox_of<T>(inboxes: &[Sender<T>], node: NodeId) -> Result<&Sender<T>, ClusterFault>
+    ensures { MatchResult result (λ _. node ≤ length inboxes.now)
+        (λ e. (length inboxes.now < node) × (e ≡ NoNode node)) }
+{
+    match inboxes.get(node.value() as usize - 1) {
+        Some(inbox) => Ok(inbox),
+        None => Err(ClusterFault::NoNode(node.value())),
+    }
+}
+
+/// What a worker answers to a job.
+#[tactic(auto, using(crate::proofs::Answering::undelivered))]
+pub fn ask<J: Drop, T: Drop>(
     rt: &impl Wait,
+    inbox: &Sender<J>,
+    job: J,
     answer: &Receiver<Result<T, CellFault>>,
 ) -> Result<T, ClusterFault>
     ensures { IsNotOfCaller result }
 {
+    put(rt, inbox, job)?;
     match answer.recv(rt) {
         Ok(Ok(given)) => Ok(given),
         Ok(Err(fault)) => Err(ClusterFault::from(fault)),

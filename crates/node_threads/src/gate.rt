@@ -1,4 +1,5 @@
 //! What workers pass before each turn.
+use raft_log::NodeId;
 use std::sync::Wait;
 
 /// What a worker passes before each turn of its node; tests hold workers there.
@@ -13,4 +14,10 @@ pub struct OpenGate;
 
 impl Gate for OpenGate {
     fn pass<R: Wait>(&self, _rt: &R, _node: u8, _turn: u64) {}
+}
+
+/// A worker of this node comes to one turn more.
+pub(crate) fn pass_gate<R: Wait, G: Gate>(rt: &R, gate: &G, node: NodeId, turns: &mut u64) {
+    *turns = turns.saturating_add(1);
+    gate.pass(rt, node.value(), *turns);
 }

@@ -34,11 +34,7 @@ impl<M: Hosted> Job<M> {
     pub fn put(self, rt: &impl Wait, inbox: &Sender<Job<M>>) -> Result<(), ClusterFault>
         ensures { IfErr result IsUndelivered }
     {
-        match inbox.send(rt, self) {
-            Ok(()) => Ok(()),
-            Err(SendError::OutOfMemory(_)) => Err(ClusterFault::Memory),
-            Err(SendError::Disconnected(_)) => Err(ClusterFault::Stopped),
-        }
+        put(rt, inbox, self)
     }
 
     /// Whether the node was told this, so that it counts as done. What another worker tells, or a
@@ -59,5 +55,16 @@ impl<M: Hosted> Job<M> {
         ensures { result ≡ waits self.now }
     {
         matches!(self, Job::LookAfter(_, _, _))
+    }
+}
+
+/// Puts something into an inbox. `Stopped` where nobody takes from it any more.
+pub fn put<T: Drop>(rt: &impl Wait, inbox: &Sender<T>, message: T) -> Result<(), ClusterFault>
+    ensures { IfErr result IsUndelivered }
+{
+    match inbox.send(rt, message) {
+        Ok(()) => Ok(()),
+        Err(SendError::OutOfMemory(_)) => Err(ClusterFault::Memory),
+        Err(SendError::Disconnected(_)) => Err(ClusterFault::Stopped),
     }
 }

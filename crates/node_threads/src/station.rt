@@ -7,10 +7,10 @@ ghost use Rattle.node_threads.specs.Homes.{IsSameHome};
 ghost use Rattle.node_threads.specs.Reports.{IsReport, is_told, waits};
 ghost use Rattle.node_threads.specs.Work.{HasDone, HasDoneNote, HasGoneOn, HasHadTurn, HasLookedIn, HasRun, HasTaken};
 
-use crate::gate::Gate;
-use crate::job::Job;
+use crate::gate::{Gate, pass_gate};
+use crate::job::{Job, put};
 use crate::outlet::Outlet;
-use crate::station::telling::{standing, status};
+use crate::station::telling::{standing, status, wake_all};
 use body_marks::Marking;
 use crossbeam_channel::{Receiver, Sender};
 use machine_laws::{Hosted, Machine};
@@ -103,19 +103,19 @@ impl<M: Marking, G: Gate + Drop, O: Outlet<M::Effect>> Station<M, G, O> {
         match job {
             Job::Note(note) => self.follow(rt, cell, note),
             Job::Look(from_place, target, reply) => {
-                let _ = reply.send(rt, cell.look(from_place, target));
+                let _ = put(rt, &reply, cell.look(from_place, target));
             }
             Job::Mark(reply) => {
-                let _ = reply.send(rt, self.mark(rt, cell));
+                let _ = put(rt, &reply, self.mark(rt, cell));
             }
             Job::LookAfter(number, target, reply) => {
-                let _ = reply.send(rt, cell.look_after(number, target));
+                let _ = put(rt, &reply, cell.look_after(number, target));
             }
             Job::Restart(reply) => {
-                let _ = reply.send(rt, cell.restart());
+                let _ = put(rt, &reply, cell.restart());
             }
             Job::Status(reply) => {
-                let _ = reply.send(rt, status(cell));
+                let _ = put(rt, &reply, status(cell));
             }
         }
     }
@@ -151,7 +151,7 @@ impl<M: Marking, G: Gate + Drop, O: Outlet<M::Effect>> Station<M, G, O> {
         ensures { HasHadTurn (⟦<M as Described>⟧.machine cell.old.parts.ether.setup) U.tally
             cell.old.parts input cell.new.parts }
     {
-        self.pass_gate(rt);
+        pass_gate(rt, &*self.gate, self.id, &mut self.turns);
         let turned = cell.turn(input);
         self.pass_on(rt, cell, turned, led);
     }
@@ -165,18 +165,12 @@ impl<M: Marking, G: Gate + Drop, O: Outlet<M::Effect>> Station<M, G, O> {
         ensures { HasMarked (⟦<M as Described>⟧.machine cell.old.parts.ether.setup) U.tally
             M.marked M.mark cell.old.parts result cell.new.parts }
     {
-        self.pass_gate(rt);
+        pass_gate(rt, &*self.gate, self.id, &mut self.turns);
         let marked = cell.mark();
         if marked.is_ok() {
-            self.wake_all(rt);
+            wake_all(rt, self.others.as_slice());
         }
         marked
-    }
-
-    /// One turn more begins.
-    fn pass_gate<R: Wait>(&mut self, rt: &R) {
-        self.turns = self.turns.saturating_add(1);
-        self.gate.pass(rt, self.id.value(), self.turns);
     }
 
     /// Takes each mailbox once, by rising number of the sender.

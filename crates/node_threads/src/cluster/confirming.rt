@@ -2,7 +2,7 @@
 ghost use Rattle.std.specs.Prelude.{◌≡◌, false};
 ghost use Rattle.node_threads.specs.Faults.{IsAnswered, comes_early, is_early};
 
-use crate::cluster::{Cluster, answer_of};
+use crate::cluster::{Cluster, ask};
 use crate::cluster_fault::ClusterFault;
 use crate::job::Job;
 use body_marks::Marking;
@@ -72,10 +72,9 @@ impl<M: Marking, S: Stable<M::Command>, U: Upstream> Cluster<M, S, U> {
     fn mark(&self, rt: &impl Wait, node: NodeId) -> Result<u64, ClusterFault>
         ensures { IsAnswered self.now.ether.size node result }
     {
-        self.inbox(node)?;
+        let inbox = self.inbox(node)?;
         let (reply, answer) = bounded(self.alloc, 1)?;
-        self.tell(rt, node, Job::Mark(reply))?;
-        answer_of(rt, &answer)
+        ask(rt, inbox, Job::Mark(reply), &answer)
     }
 
     /// A playback of a target at a node that has applied its mark of this number.
@@ -88,11 +87,10 @@ impl<M: Marking, S: Stable<M::Command>, U: Upstream> Cluster<M, S, U> {
     ) -> Result<Looked<M::Played>, ClusterFault>
         ensures { IsAnswered self.now.ether.size node result }
     {
-        self.inbox(node)?;
-        let (reply, answer) = bounded(self.alloc, 1)?;
+        let inbox = self.inbox(node)?;
         let target = target.copy(self.alloc)?;
-        self.tell(rt, node, Job::LookAfter(number, target, reply))?;
-        answer_of(rt, &answer)
+        let (reply, answer) = bounded(self.alloc, 1)?;
+        ask(rt, inbox, Job::LookAfter(number, target, reply), &answer)
     }
 }
 

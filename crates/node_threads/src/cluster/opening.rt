@@ -27,9 +27,9 @@ use std::sync::Arc;
 
 /// The two ends of the inboxes of all workers, node 1's first.
 #[derive(Drop)]
-pub struct Inboxes<M: Marking> {
-    pub inboxes: Vec<Sender<Job<M>>>,
-    pub outboxes: Vec<Receiver<Job<M>>>,
+pub struct Inboxes<J: Drop> {
+    pub inboxes: Vec<Sender<J>>,
+    pub outboxes: Vec<Receiver<J>>,
 }
 
 /// The workers of all nodes, node 1's first.
@@ -45,7 +45,7 @@ pub fn workers<
     passes: Vec<Pass<M::Command, M::Line, M::Target>>,
     parts: Vec<Part<S, U, O>>,
     gate: G,
-    ends: &Inboxes<M>,
+    ends: &Inboxes<Job<M>>,
     recording: Recording,
 ) -> Result<Vec<Worker<M, S, U, G, O>>, ClusterFault>
     requires passes { AreNew (arc_value ether.now) passes.items }
@@ -87,7 +87,7 @@ fn open_worker<M: Marking, S: Stable<M::Command>, U: Upstream, G: Drop, O: Outle
     pass: Pass<M::Command, M::Line, M::Target>,
     part: Part<S, U, O>,
     gate: &Arc<G>,
-    ends: &Inboxes<M>,
+    ends: &Inboxes<Job<M>>,
     recording: Recording,
 ) -> Result<Worker<M, S, U, G, O>, ClusterFault>
     requires pass { IsPass (arc_value ether.now) pass × IsUnopened pass
@@ -114,7 +114,7 @@ fn station<M: Marking, G: Drop, O: Outlet<M::Effect>>(
     id: NodeId,
     gate: &Arc<G>,
     outlet: O,
-    ends: &Inboxes<M>,
+    ends: &Inboxes<Job<M>>,
 ) -> Result<Station<M, G, O>, ClusterFault>
     requires { id ≤ length ends.now.outboxes.items }
     ensures { IfErr result (λ e. e ≡ Memory) }
@@ -130,34 +130,15 @@ fn station<M: Marking, G: Drop, O: Outlet<M::Effect>>(
         alloc,
         id,
         inbox,
-        others: clones(alloc, ends.inboxes.as_slice())?,
+        others: ends.inboxes.clone()?,
         gate,
         outlet,
         turns: 0,
     })
 }
 
-/// The same inboxes, once more.
-fn clones<M: Marking>(
-    alloc: Global,
-    inboxes: &[Sender<Job<M>>],
-) -> Result<Vec<Sender<Job<M>>>, ClusterFault>
-    ensures { IfErr result (λ e. e ≡ Memory) }
-{
-    let mut all = Vec::new(alloc);
-    for inbox in inboxes {
-        let Ok(one) = inbox.clone() else {
-            return Err(ClusterFault::Memory);
-        };
-        if all.push(one).is_err() {
-            return Err(ClusterFault::Memory);
-        }
-    }
-    Ok(all)
-}
-
 /// The two ends of an inbox for each node.
-pub fn make_inboxes<M: Marking>(alloc: Global, size: GroupSize) -> Result<Inboxes<M>, ClusterFault>
+pub fn make_inboxes<J: Drop>(alloc: Global, size: GroupSize) -> Result<Inboxes<J>, ClusterFault>
     ensures all { IfOk result (λ ends. (length ends.inboxes.items ≡ size)
         × (length ends.outboxes.items ≡ size)) }
     ensures fault { IfErr result (λ e. e ≡ Memory) }

@@ -1,10 +1,12 @@
 //! The start of a cluster.
 ghost use Rattle.std.specs.Prelude.{◌≡◌, [], length, IfOk, IfErr, IfSome, map};
 ghost use Rattle.node_threads.specs.declared.cluster_fault.ClusterFault.TheVariants.{Memory};
+ghost use Rattle.std.specs.Arc.{arc_value};
+ghost use Rattle.ether.specs.Passes.{AreNew};
 ghost use Rattle.raft_node.specs.Parts.{keeper};
 ghost use Rattle.node_threads.specs.Homes.{AllFrom, HasStarted, IsHome, IsUnpaired, home_of};
 
-use crate::cluster::opening::{make_inboxes, workers};
+use crate::cluster::opening::{Inboxes, make_inboxes, workers};
 use crate::cluster::{Cluster, end_all};
 use crate::cluster_fault::ClusterFault;
 use crate::gate::Gate;
@@ -15,7 +17,7 @@ use crate::task::spawn_task;
 use crate::worker::{Homecoming, Running, Worker};
 use body_marks::Marking;
 use crossbeam_channel::Sender;
-use ether::Ether;
+use ether::{Ether, Pass};
 use machine_laws::{Hosted, Machine};
 use node_cells::{Closing, Recording, Upstream};
 use raft_log::GroupSize;
@@ -23,7 +25,7 @@ use stable_store::Stable;
 use std::alloc::Global;
 use std::snapshot::Snapshot;
 use std::sync::{Arc, Wait};
-use std::thread::Threads;
+use std::thread::{Promise, PromisedHandle, Threads};
 
 impl<M, S, U> Cluster<M, S, U>
 where
@@ -58,15 +60,13 @@ where
             recording result }
     {
         unpaired(size, parts.len())?;
-        let Ok((ether, passes)) = Ether::<M>::new(alloc, size, setup) else {
-            return Err(ClusterFault::Memory);
-        };
-        let ether = match Arc::new(alloc, ether) {
-            Ok(ether) => ether,
-            Err(_) => return Err(ClusterFault::Memory),
-        };
-        let closing = Closing::new(alloc, &ether, recording)?;
-        let ends = make_inboxes(alloc, size)?;
+        let ground = make_ground(alloc, size, setup, recording)?;
+        let Ground {
+            ether,
+            passes,
+            closing,
+            ends,
+        } = ground;
         let workers = workers(alloc, &ether, passes, parts, gate, &ends, recording)?;
         Cluster::begin(rt, alloc, workers, ends.inboxes, closing)
     }
@@ -124,6 +124,49 @@ where
     }
 }
 
+/// What the nodes of a cluster share before one is opened, with a pass for each.
+#[derive(Drop)]
+struct Ground<M: Marking> {
+    ether: Arc<Ether<M>, Global>,
+    passes: Vec<Pass<M::Command, M::Line, M::Target>>,
+    closing: Closing<M>,
+    ends: Inboxes<Job<M>>,
+}
+
+/// What so many nodes share.
+fn make_ground<M: Marking>(
+    alloc: Global,
+    size: GroupSize,
+    setup: &M::Setup,
+    recording: Recording,
+) -> Result<Ground<M>, ClusterFault>
+    ensures size { IfOk result (λ g. (arc_value g.ether).size ≡ size) }
+    ensures setup { IfOk result (λ g. (arc_value g.ether).setup ≡ setup.now) }
+    ensures passes { IfOk result (λ g. AreNew (arc_value g.ether) g.passes.items) }
+    ensures many { IfOk result (λ g. length g.passes.items ≡ size) }
+    ensures closing { IfOk result (λ g. (g.closing.ether ≡ arc_value g.ether)
+        × (g.closing.recording ≡ recording) × (g.closing.views ≡ [])) }
+    ensures ends { IfOk result (λ g. (length g.ends.inboxes.items ≡ size)
+        × (length g.ends.outboxes.items ≡ size)) }
+    ensures fault { IfErr result (λ e. e ≡ Memory) }
+{
+    let Ok((ether, passes)) = Ether::<M>::new(alloc, size, setup) else {
+        return Err(ClusterFault::Memory);
+    };
+    let ether = match Arc::new(alloc, ether) {
+        Ok(ether) => ether,
+        Err(_) => return Err(ClusterFault::Memory),
+    };
+    let closing = Closing::new(alloc, &ether, recording)?;
+    let ends = make_inboxes(alloc, size)?;
+    Ok(Ground {
+        ether,
+        passes,
+        closing,
+        ends,
+    })
+}
+
 /// No fault, where there are as many parts as nodes.
 fn unpaired(size: GroupSize, parts: usize) -> Result<(), ClusterFault>
     ensures paired { IfOk result (λ _. parts ≡ size) }
@@ -146,6 +189,11 @@ fn call_off<R: Threads + Wait, M: Marking, S: Stable<M::Command>, U: Upstream>(
     threads: Vec<Running<M, S, U>>,
 ) {
     end_all(rt, inboxes);
+    join_each(rt, threads);
+}
+
+/// Joins all threads, whatever they leave.
+fn join_each<R: Threads, T: Drop, P: Promise<T>>(rt: &R, threads: Vec<PromisedHandle<T, P>>) {
     for thread in threads {
         thread.join(rt);
     }

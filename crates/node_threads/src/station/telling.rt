@@ -7,6 +7,7 @@ use crate::job::Job;
 use crate::outlet::Outlet;
 use crate::station::Station;
 use body_marks::Marking;
+use crossbeam_channel::Sender;
 use machine_laws::{Hosted, Machine};
 use marked_cells::MarkedCell;
 use node_cells::{CellFault, TurnOutput, Upstream};
@@ -27,29 +28,29 @@ impl<M: Marking, G: Gate + Drop, O: Outlet<M::Effect>> Station<M, G, O> {
     ) {
         if let Ok(output) = &turned {
             for to in &output.posted_to {
-                self.wake(rt, *to);
+                wake(rt, self.others.as_slice(), *to);
             }
         }
         if let Some(report) = report_of_turn(self.alloc, cell, turned, led) {
             self.outlet.report(rt, report);
         }
     }
+}
 
-    /// The worker of the node of this number is to look into its mailboxes.
-    fn wake<R: Wait>(&self, rt: &R, node: u8) {
-        if node < 1 {
-            return;
-        }
-        if let Some(inbox) = self.others.get(node as usize - 1) {
-            let _ = inbox.send(rt, Job::Note(Note::Wake));
-        }
+/// The worker of the node of this number is to look into its mailboxes.
+fn wake<M: Hosted>(rt: &impl Wait, inboxes: &[Sender<Job<M>>], node: u8) {
+    if node < 1 {
+        return;
     }
+    if let Some(inbox) = inboxes.get(node as usize - 1) {
+        let _ = Job::Note(Note::Wake).put(rt, inbox);
+    }
+}
 
-    /// All workers are to look into their mailboxes.
-    pub fn wake_all<R: Wait>(&self, rt: &R) {
-        for inbox in &self.others {
-            let _ = inbox.send(rt, Job::Note(Note::Wake));
-        }
+/// All workers are to look into their mailboxes.
+pub fn wake_all<M: Hosted>(rt: &impl Wait, inboxes: &[Sender<Job<M>>]) {
+    for inbox in inboxes {
+        let _ = Job::Note(Note::Wake).put(rt, inbox);
     }
 }
 
