@@ -5,13 +5,6 @@ use Rattle.node_threads.specs.declared.cluster_fault.ClusterFault.TheVariants.{M
 use Rattle.node_threads.specs.Faults.{IsAnswered, IsNotOfCaller, IsTold, IsUndelivered}
 
 module _ {A : Type 0} where
-  pub undelivered : (e : ClusterFault) → IsUndelivered e → IsNotOfCaller {A = A} (Err e)
-  undelivered Memory h = tt
-  undelivered (NoNode n) h = absurd h
-  undelivered Stopped h = tt
-  undelivered (Node fault) h = absurd h
-  undelivered Spent h = absurd h
-
   pub answered : (size node : ℕ) (result : Result A ClusterFault) → node ≤ size → IsNotOfCaller result → IsAnswered size node result
   answered size node (Ok x) within h = within
   answered size node (Err Memory) within h = within

@@ -160,7 +160,6 @@ fn inbox_of<T>(inboxes: &[Sender<T>], node: NodeId) -> Result<&Sender<T>, Cluste
 }
 
 /// What a worker answers to a job.
-#[tactic(auto, using(crate::proofs::Answering::undelivered))]
 pub fn ask<J: Drop, T: Drop>(
     rt: &impl Wait,
     inbox: &Sender<J>,

@@ -119,6 +119,7 @@ fn station<M: Marking, G: Drop, O: Outlet<M::Effect>>(
     requires { id ≤ length ends.now.outboxes.items }
     ensures { IfErr result (λ e. e ≡ Memory) }
 {
+    let others = clones(&ends.inboxes)?;
     let inbox = &ends.outboxes[id.value() as usize - 1];
     let Ok(inbox) = inbox.clone() else {
         return Err(ClusterFault::Memory);
@@ -130,11 +131,18 @@ fn station<M: Marking, G: Drop, O: Outlet<M::Effect>>(
         alloc,
         id,
         inbox,
-        others: ends.inboxes.clone()?,
+        others,
         gate,
         outlet,
         turns: 0,
     })
+}
+
+/// Inboxes that lead where these do.
+fn clones<T: Drop>(inboxes: &Vec<Sender<T>>) -> Result<Vec<Sender<T>>, ClusterFault>
+    ensures { IfErr result (λ e. e ≡ Memory) }
+{
+    Ok(inboxes.clone()?)
 }
 
 /// The two ends of an inbox for each node.
