@@ -58,9 +58,13 @@ impl Told for Tower {
     }
 }
 
-/// Appends the last digit of a number.
+/// Appends the digit of a number below 10, and a question mark for any other.
 fn push_digit(out: &mut Vec<u8>, number: u64) -> Result<(), AllocError> {
-    Ok(out.push(b'0' + (number % 10) as u8)?)
+    Ok(out.push(if number < 10 {
+        b'0' + number as u8
+    } else {
+        b'?'
+    })?)
 }
 
 /// Appends a word, a session's id and a space.
