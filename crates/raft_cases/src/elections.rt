@@ -5,7 +5,6 @@ use raft_log::{
     Standing, Step,
 };
 use std::alloc::{AllocError, Global};
-use std::process::Abort;
 use std::test::Fail;
 use wire_bytes::Number;
 
@@ -87,20 +86,11 @@ fn asked_follower(
     Ok(asked(alloc, &state, last_index, last_term)?)
 }
 
-#[test]
-fn a_longer_log_of_an_older_term_gets_no_vote(rt: HostRuntime) -> Result<(), Fail> {
-    assert!(rt; asked_follower(rt.alloc(), 5, 1)? == Some((false, None)));
-    Ok(())
-}
-
-#[test]
-fn a_shorter_log_of_the_same_term_gets_no_vote(rt: HostRuntime) -> Result<(), Fail> {
-    assert!(rt; asked_follower(rt.alloc(), 2, 2)? == Some((false, None)));
-    Ok(())
-}
-
+/// A longer log of an older term and a shorter one of the same term get no vote, and one as up to date does.
 #[test]
 fn a_log_as_up_to_date_gets_the_vote(rt: HostRuntime) -> Result<(), Fail> {
+    assert!(rt; asked_follower(rt.alloc(), 5, 1)? == Some((false, None)));
+    assert!(rt; asked_follower(rt.alloc(), 2, 2)? == Some((false, None)));
     assert!(rt; asked_follower(rt.alloc(), 3, 2)? == Some((true, Some(4))));
     Ok(())
 }
@@ -120,16 +110,16 @@ fn begun(alloc: Global) -> Result<Step<u8>, Fail> {
     Ok(begin(alloc, state.standing, &state.log, NodeId::new(1))?)
 }
 
-fn check_begun(rt: &impl Abort, alloc: Global, step: &Step<u8>) -> Result<(), Fail> {
-    assert!(rt; voted(step) == (3, Some(1)));
+/// Whether requests for a vote go to nodes 2 to 5, by a node that voted for itself in term 3.
+fn asks_all(alloc: Global, step: &Step<u8>) -> Result<bool, AllocError> {
     let nodes = asked_by(alloc, &step.messages)?;
-    assert_eq!(rt; nodes.as_slice(), [2, 3, 4, 5].as_slice());
-    Ok(())
+    Ok(voted(step) == (3, Some(1)) && nodes.as_slice() == [2, 3, 4, 5].as_slice())
 }
 
-#[test]
-fn an_election_asks_all_others(rt: HostRuntime) -> Result<(), Fail> {
-    check_begun(&rt, rt.alloc(), &begun(rt.alloc())?)
+/// Whether the follower does so when it begins an election.
+fn begins(alloc: Global) -> Result<bool, Fail> {
+    let step = begun(alloc)?;
+    Ok(asks_all(alloc, &step)?)
 }
 
 /// The role of a node where these nodes vote for it in term 3.
@@ -151,7 +141,8 @@ fn elected(alloc: Global, voters: &[u8]) -> Result<Role, Fail> {
 }
 
 #[test]
-fn a_node_that_votes_twice_is_counted_once(rt: HostRuntime) -> Result<(), Fail> {
+fn an_election_asks_all_others_and_counts_each_once(rt: HostRuntime) -> Result<(), Fail> {
+    assert!(rt; begins(rt.alloc())?);
     assert!(rt; elected(rt.alloc(), &[2, 2])? == Role::Candidate);
     assert!(rt; elected(rt.alloc(), &[2, 2, 4])? == Role::Leader);
     Ok(())

@@ -39,46 +39,85 @@ fn terms_of(alloc: Global, log: &Log<u8>) -> Result<Vec<u64>, AllocError> {
     Ok(terms)
 }
 
-/// The terms of a log of terms 1, 1, 2 after an entry of this term behind a place.
-fn repaired(alloc: Global, prev: u8, term: u8) -> Result<Vec<u64>, AllocError> {
-    let mut log = log_of(alloc, &[1, 1, 2])?;
+/// Whether a log is of these terms.
+fn has_terms(alloc: Global, log: &Log<u8>, terms: &[u64]) -> Result<bool, AllocError> {
+    Ok(terms_of(alloc, log)?.as_slice() == terms)
+}
+
+/// An entry of this term comes behind a place of a log that has the place.
+fn repair(alloc: Global, log: &mut Log<u8>, prev: u8, term: u8) -> Result<(), AllocError> {
     let prev = place(prev);
+    let entries = vec![in alloc; entry(term, 0)]?;
     if prev <= log.len() {
-        let mut entries = Vec::new(alloc);
-        entries.push(entry(term, 0))?;
         log.repair(prev, entries)?;
     }
-    terms_of(alloc, &log)
+    Ok(())
+}
+
+/// Whether a log of terms 1, 1, 2 has these terms after that.
+fn is_repaired(alloc: Global, prev: u8, term: u8, terms: &[u64]) -> Result<bool, AllocError> {
+    let mut log = log_of(alloc, &[1, 1, 2])?;
+    repair(alloc, &mut log, prev, term)?;
+    has_terms(alloc, &log, terms)
+}
+
+/// Entries of terms 3 and 4 take the place of what stands behind place 2.
+fn replace(log: &mut Log<u8>) -> Result<(), AllocError> {
+    if place(2) <= log.len() {
+        log.replace_from(place(2), &[entry(3, 0), entry(4, 0)])?;
+    }
+    Ok(())
+}
+
+/// Whether a log of terms 1, 1, 2 has these terms after that.
+fn is_replaced(alloc: Global, terms: &[u64]) -> Result<bool, AllocError> {
+    let mut log = log_of(alloc, &[1, 1, 2])?;
+    replace(&mut log)?;
+    has_terms(alloc, &log, terms)
+}
+
+/// An append that stands already changes nothing, a conflict goes with all behind it, a missing entry is added, and
+/// what follows a place is replaced.
+#[test]
+fn a_log_is_repaired_and_replaced(rt: HostRuntime) -> Result<(), Fail> {
+    let alloc = rt.alloc();
+    assert!(rt; is_repaired(alloc, 1, 1, &[1, 1, 2])?);
+    assert!(rt; is_repaired(alloc, 1, 3, &[1, 3])?);
+    assert!(rt; is_repaired(alloc, 3, 2, &[1, 1, 2, 2])?);
+    assert!(rt; is_replaced(alloc, &[1, 1, 3, 4])?);
+    Ok(())
 }
 
 const ENTRY: &[u8] = &[0, 0, 0, 0, 0, 0, 0, 2, 0, 0, 0, 1, 7];
 
-fn spelled(alloc: Global) -> Result<Vec<u8>, Fail> {
+/// Whether the entry of term 2 and body 7 is spelled so.
+fn is_spelled(alloc: Global, spelling: &[u8]) -> Result<bool, AllocError> {
     let mut out = Vec::new(alloc);
     entry(2, 7).put(&mut out)?;
-    Ok(out)
+    Ok(out.as_slice() == spelling)
 }
 
-/// The term and the body of an entry.
-fn parts(entry: &Entry<u8>) -> (u64, u8) {
-    (entry.term.value(), *entry.body.get())
+/// Whether this is the entry of term 2 and body 7.
+fn is_it(entry: &Entry<u8>) -> bool {
+    entry.term.value() == 2 && *entry.body.get() == 7
 }
 
-/// Those of the entry at the front of an input, with its length.
-fn read(alloc: Global, input: &[u8]) -> Result<((u64, u8), usize), WireFault> {
-    let (entry, len) = Entry::<u8>::take(alloc, input)?;
-    Ok((parts(&entry), len))
+/// Whether it stands at the front of an input, in so many bytes.
+fn is_read(alloc: Global, input: &[u8], len: usize) -> Result<bool, WireFault> {
+    let (entry, read_len) = Entry::<u8>::take(alloc, input)?;
+    Ok(is_it(&entry) && read_len == len)
 }
 
-fn copied(alloc: Global) -> Result<(u64, u8), AllocError> {
-    Ok(parts(&entry(2, 7).copy(alloc)?))
+fn is_copied(alloc: Global) -> Result<bool, AllocError> {
+    let copy = entry(2, 7).copy(alloc)?;
+    Ok(is_it(&copy))
 }
 
 #[test]
 fn an_entry_is_its_term_and_its_body_behind_a_length(rt: HostRuntime) -> Result<(), Fail> {
-    assert_eq!(rt; spelled(rt.alloc())?.as_slice(), ENTRY);
-    assert_eq!(rt; read(rt.alloc(), ENTRY)?, ((2, 7), 13));
-    assert_eq!(rt; copied(rt.alloc())?, (2, 7));
+    assert!(rt; is_spelled(rt.alloc(), ENTRY)?);
+    assert!(rt; is_read(rt.alloc(), ENTRY, 13)?);
+    assert!(rt; is_copied(rt.alloc())?);
     Ok(())
 }
 
@@ -108,30 +147,6 @@ fn a_field_of_an_entry_is_refused_at_its_place(rt: HostRuntime) {
     }
 }
 
-#[test]
-fn an_append_that_stands_already_changes_nothing(rt: HostRuntime) -> Result<(), Fail> {
-    assert_eq!(rt;
-        repaired(rt.alloc(), 1, 1)?.as_slice(),
-        [1, 1, 2].as_slice()
-    );
-    Ok(())
-}
-
-#[test]
-fn a_conflict_goes_with_all_behind_it(rt: HostRuntime) -> Result<(), Fail> {
-    assert_eq!(rt; repaired(rt.alloc(), 1, 3)?.as_slice(), [1, 3].as_slice());
-    Ok(())
-}
-
-#[test]
-fn a_missing_entry_is_added(rt: HostRuntime) -> Result<(), Fail> {
-    assert_eq!(rt;
-        repaired(rt.alloc(), 3, 2)?.as_slice(),
-        [1, 1, 2, 2].as_slice()
-    );
-    Ok(())
-}
-
 /// Of a log of terms 1, 1, 2.
 fn check_up_to_date(rt: &impl Abort, log: &Log<u8>) {
     assert!(rt; !log.up_to_date(place(5), Number::new(1)));
@@ -139,19 +154,7 @@ fn check_up_to_date(rt: &impl Abort, log: &Log<u8>) {
     assert!(rt; log.up_to_date(place(3), Number::new(2)));
     assert!(rt; log.up_to_date(place(1), Number::new(3)));
     let (index, term) = log.last();
-    assert_eq!(rt; (index.value(), term.value()), (3, 2));
-}
-
-#[test]
-fn a_later_last_term_is_more_up_to_date_than_a_longer_log(rt: HostRuntime) -> Result<(), Fail> {
-    check_up_to_date(&rt, &log_of(rt.alloc(), &[1, 1, 2])?);
-    Ok(())
-}
-
-#[test]
-fn a_node_is_its_number(rt: HostRuntime) {
-    assert_eq!(rt; NodeId::new(7).value(), 7);
-    assert!(rt; NodeId::new(1) != NodeId::new(2));
+    assert!(rt; index.value() == 3 && term.value() == 2);
 }
 
 /// Of a log of terms 1, 2.
@@ -163,31 +166,15 @@ fn check_agrees(rt: &impl Abort, log: &Log<u8>) {
     assert!(rt; !log.agrees_at(place(3), Number::new(2)));
 }
 
-#[test]
-fn place_0_always_agrees(rt: HostRuntime) -> Result<(), Fail> {
-    check_agrees(&rt, &log_of(rt.alloc(), &[1, 2])?);
-    Ok(())
+/// Whether the copy of a log of terms 1, 2 agrees with it at place 1.
+fn does_copy_agree(alloc: Global, log: &Log<u8>) -> Result<bool, AllocError> {
+    let copy = log.copy(alloc)?;
+    Ok(copy.agrees_at(place(1), Number::new(1)))
 }
 
-#[test]
-fn a_copy_of_a_log_agrees(rt: HostRuntime) -> Result<(), Fail> {
-    let copy = log_of(rt.alloc(), &[1, 2])?.copy(rt.alloc())?;
-    assert!(rt; copy.agrees_at(place(1), Number::new(1)));
-    Ok(())
-}
-
-/// The terms of a log of terms 1, 1, 2 once entries of terms 3 and 4 stand behind place 2.
-fn replaced(alloc: Global) -> Result<Vec<u64>, AllocError> {
-    let mut log = log_of(alloc, &[1, 1, 2])?;
-    if place(2) <= log.len() {
-        log.replace_from(place(2), &[entry(3, 0), entry(4, 0)])?;
-    }
-    terms_of(alloc, &log)
-}
-
-#[test]
-fn what_follows_a_place_is_replaced(rt: HostRuntime) -> Result<(), Fail> {
-    assert_eq!(rt; replaced(rt.alloc())?.as_slice(), [1, 1, 3, 4].as_slice());
+fn check_copied(rt: &impl Abort, alloc: Global, log: &Log<u8>) -> Result<(), Fail> {
+    check_agrees(rt, log);
+    assert!(rt; does_copy_agree(alloc, log)?);
     Ok(())
 }
 
@@ -203,49 +190,51 @@ fn looked_at(alloc: Global) -> Result<Log<u8>, AllocError> {
     Ok(log)
 }
 
-/// How many entries are copied behind a place, at most so many; none of a log without that place.
-fn copied_len(log: &Log<u8>, behind: u8, most: usize) -> Result<Option<usize>, Fail> {
+/// Whether so many entries are copied behind a place, at most so many; none of a log without that place.
+fn copies(log: &Log<u8>, behind: u8, most: usize, want: usize) -> Result<bool, AllocError> {
     if place(behind) > log.len() {
-        return Ok(None);
+        return Ok(false);
     }
-    Ok(Some(log.copied_behind(place(behind), most)?.len()))
+    let copied = log.copied_behind(place(behind), most)?;
+    Ok(copied.len() == want)
 }
 
 fn check_looked_at(rt: &impl Abort, log: &Log<u8>) -> Result<(), Fail> {
     if place(2) <= log.len() {
-        assert_eq!(rt; *log.entry(place(1)).body.get(), 7);
-        assert_eq!(rt; *log.entry(place(2)).body.get(), 8);
+        assert!(rt; *log.entry(place(1)).body.get() == 7);
+        assert!(rt; *log.entry(place(2)).body.get() == 8);
     }
-    assert!(rt; copied_len(log, 0, 1)? == Some(1));
-    assert!(rt; copied_len(log, 1, 9)? == Some(1));
-    assert!(rt; copied_len(log, 2, 1)? == Some(0));
+    assert!(rt; copies(log, 0, 1, 1)?);
+    assert!(rt; copies(log, 1, 9, 1)?);
+    assert!(rt; copies(log, 2, 1, 0)?);
     Ok(())
-}
-
-#[test]
-fn entries_are_looked_at_by_their_place(rt: HostRuntime) -> Result<(), Fail> {
-    check_looked_at(&rt, &looked_at(rt.alloc())?)
 }
 
 /// Of a log of terms 1, 1, 2 and entries of terms 1, 3.
 fn check_compared(rt: &impl Abort, log: &Log<u8>, entries: &[Entry<u8>]) {
     if place(2) <= log.len() && !entries.is_empty() {
-        assert_eq!(rt; log.standing(place(1), entries), 1);
+        assert!(rt; log.standing(place(1), entries) == 1);
         assert!(rt; log.conflicts_within(place(1), entries, 2));
         assert!(rt; !log.conflicts_within(place(1), entries, 1));
         assert!(rt; !log.conflicts_within(place(1), &entries[..1], 2));
     }
 }
 
+/// Of a log of terms 1, 1, 2.
+fn check_log(rt: &impl Abort, log: &Log<u8>) {
+    check_up_to_date(rt, log);
+    check_compared(rt, log, &[entry(1, 0), entry(3, 0)]);
+}
+
 #[test]
-fn entries_are_compared_with_what_stands_there(rt: HostRuntime) -> Result<(), Fail> {
-    let entries = [entry(1, 0), entry(3, 0)];
-    check_compared(&rt, &log_of(rt.alloc(), &[1, 1, 2])?, &entries);
-    Ok(())
+fn logs_are_compared_copied_and_looked_at(rt: HostRuntime) -> Result<(), Fail> {
+    check_log(&rt, &log_of(rt.alloc(), &[1, 1, 2])?);
+    check_copied(&rt, rt.alloc(), &log_of(rt.alloc(), &[1, 2])?)?;
+    check_looked_at(&rt, &looked_at(rt.alloc())?)
 }
 
 /// An append of node 1 in term 5, of one entry behind place 3 of term 2.
-fn append(alloc: Global) -> Result<Message<u8>, Fail> {
+fn append(alloc: Global) -> Result<Message<u8>, AllocError> {
     let entries = vec![in alloc; entry(4, 9)]?;
     let batch = Batch::new(Number::new(3), Number::new(2), entries, Number::new(1));
     Ok(Message {
@@ -256,26 +245,33 @@ fn append(alloc: Global) -> Result<Message<u8>, Fail> {
     })
 }
 
-fn check_append(rt: &impl Abort, message: &Message<u8>) {
-    assert_eq!(rt; (message.term.value(), message.from, message.to), (5, 1, 2));
+/// Whether this is that append.
+fn is_append(message: &Message<u8>) -> bool {
     match &message.kind {
-        Kind::Append(batch) => check_batch(rt, batch),
-        _ => assert!(rt; false),
+        Kind::Append(batch) => {
+            message.term.value() == 5 && message.from == 1 && message.to == 2 && is_batch(batch)
+        }
+        _ => false,
     }
 }
 
-fn check_batch(rt: &impl Abort, batch: &Batch<u8>) {
-    let numbers = (
-        batch.prev_index().value(),
-        batch.prev_term().value(),
-        batch.commit().value(),
-    );
-    assert_eq!(rt; numbers, (3, 2, 1));
-    assert_eq!(rt; batch.entries().len(), 1);
+fn is_batch(batch: &Batch<u8>) -> bool {
+    batch.prev_index().value() == 3
+        && batch.prev_term().value() == 2
+        && batch.commit().value() == 1
+        && batch.entries().len() == 1
+}
+
+/// Whether the copy of that append is that append.
+fn is_message_copied(alloc: Global) -> Result<bool, AllocError> {
+    let message = append(alloc)?;
+    let copy = message.copy(alloc)?;
+    Ok(is_append(&copy))
 }
 
 #[test]
 fn a_message_is_copied_with_its_entries(rt: HostRuntime) -> Result<(), Fail> {
-    check_append(&rt, &append(rt.alloc())?.copy(rt.alloc())?);
+    assert!(rt; is_message_copied(rt.alloc())?);
+    assert!(rt; NodeId::new(7).value() == 7 && NodeId::new(1) != NodeId::new(2));
     Ok(())
 }

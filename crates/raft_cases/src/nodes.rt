@@ -1,27 +1,46 @@
 //! Nodes over stores, by examples.
-ghost use Rattle.std.specs.Prelude.{◌≡◌, IfOk};
-ghost use Rattle.raft_log.specs.Lists.{IsNode};
-
 use crate::failing::Failing;
 use node_steps::Refusal;
 use raft_log::{GroupSize, Kind, Message, NodeId};
-use raft_node::{Cause, Input, Node, NodeFault};
-use stable_store::MemoryStore;
-use std::alloc::Global;
+use raft_node::{Cause, Input, Node, NodeFault, Output};
+use stable_store::{MemoryStore, Stable};
+use std::alloc::{AllocError, Global};
 use std::process::Abort;
 use std::test::Fail;
 use toy_machine::Toy;
-use wire_bytes::{Number, Wire};
+use wire_bytes::Number;
 
 type ToyNode = Node<Toy, MemoryStore<u8>>;
 
-/// Node 1 of a group of three, in its first run.
-fn first_run(alloc: Global) -> Result<ToyNode, Fail> {
-    let Some(size) = GroupSize::new(3) else {
-        return Err(Fail::from("no such size"));
-    };
-    let store = MemoryStore::new(alloc);
-    Ok(ToyNode::start(alloc, NodeId::new(1), size, &0, store)?)
+/// Node 1 of a group of three, in its first run over this store.
+fn started<S: Stable<u8>>(alloc: Global, store: S) -> Result<Node<Toy, S>, NodeFault> {
+    match GroupSize::new(3) {
+        None => Err(NodeFault::Down(Cause::Memory)),
+        Some(size) => Node::start(alloc, NodeId::new(1), size, &0, store),
+    }
+}
+
+/// What happens to a node.
+fn step<S: Stable<u8>>(
+    node: &mut Node<Toy, S>,
+    input: Input<u8, u8>,
+) -> Result<Output<u8, u8>, NodeFault> {
+    node.step(input)
+}
+
+/// The fault of a step, if it is one.
+fn fault<S: Stable<u8>>(node: &mut Node<Toy, S>, input: Input<u8, u8>) -> Option<NodeFault> {
+    step(node, input).err()
+}
+
+/// What happens to a node, whatever comes out.
+fn go(node: &mut ToyNode, input: Input<u8, u8>) -> Result<(), Fail> {
+    let _output = step(node, input)?;
+    Ok(())
+}
+
+fn first_run(alloc: Global) -> Result<ToyNode, NodeFault> {
+    started(alloc, MemoryStore::new(alloc))
 }
 
 /// What node 2 says to node 1 in term 1.
@@ -34,21 +53,18 @@ fn from_second(kind: Kind<u8>) -> Input<u8, u8> {
     })
 }
 
-/// Node 1, elected by itself and node 2.
-fn elected(alloc: Global) -> Result<ToyNode, Fail> {
-    let mut node = first_run(alloc)?;
-    node.step(Input::Timeout)?;
-    node.step(from_second(Kind::Vote { granted: true }))?;
-    Ok(node)
+/// It is elected by itself and node 2.
+fn elect(node: &mut ToyNode) -> Result<(), Fail> {
+    go(node, Input::Timeout)?;
+    go(node, from_second(Kind::Vote { granted: true }))
 }
 
-/// The same, which appended this body, and knows that node 2 has it too.
-fn committed(alloc: Global, body: u8) -> Result<ToyNode, Fail> {
-    let mut node = elected(alloc)?;
-    node.step(Input::Ask(body))?;
+/// It is elected, appends the body 7, and knows that node 2 has it too.
+fn commit(node: &mut ToyNode) -> Result<(), Fail> {
+    elect(node)?;
+    go(node, Input::Ask(7))?;
     let place = Number::new(2);
-    node.step(from_second(Kind::AppendReply { ok: true, place }))?;
-    Ok(node)
+    go(node, from_second(Kind::AppendReply { ok: true, place }))
 }
 
 /// Its boot, its term, its vote, and how many entries it has.
@@ -76,153 +92,92 @@ fn places(node: &ToyNode) -> (u64, u64) {
     )
 }
 
-/// To whom messages go.
-fn receivers(alloc: Global, messages: &[Message<u8>]) -> Result<Vec<u8>, Fail> {
-    let mut nodes = Vec::new(alloc);
-    for message in messages {
-        nodes.push(message.to)?;
-    }
-    Ok(nodes)
+/// Whether the messages of a step go to nodes 2 and 3.
+fn asks_both(node: &mut ToyNode, input: Input<u8, u8>) -> Result<bool, NodeFault> {
+    let output = step(node, input)?;
+    Ok(match output.messages.as_slice() {
+        [one, other] => one.to == 2 && other.to == 3,
+        _ => false,
+    })
 }
 
-/// To whom the messages of a step go.
-fn sent(alloc: Global, node: &mut ToyNode, input: Input<u8, u8>) -> Result<Vec<u8>, Fail> {
-    receivers(alloc, &node.step(input)?.messages)
-}
-
-fn check_first_run(rt: &impl Abort, node: &ToyNode) {
-    assert!(rt; saved(node) == (1, 0, 0, 0));
-    assert!(rt; places(node) == (0, 0));
-    assert_eq!(rt; node.id().value(), 1);
-    assert!(rt; node.down() == None);
-    assert_eq!(rt; node.next_claim(), None);
+fn check_first_run(rt: &impl Abort, node: &mut ToyNode) -> Result<(), Fail> {
+    assert!(rt; saved(node) == (1, 0, 0, 0) && places(node) == (0, 0));
+    assert!(rt; node.id().value() == 1 && node.down() == None && node.next_claim() == None);
     node.is_whole();
-}
-
-#[test]
-fn a_first_run_follows_and_has_saved_its_number(rt: HostRuntime) -> Result<(), Fail> {
-    check_first_run(&rt, &first_run(rt.alloc())?);
-    Ok(())
-}
-
-fn check_timeout(rt: &impl Abort, alloc: Global, node: &mut ToyNode) -> Result<(), Fail> {
-    assert_eq!(rt;
-        sent(alloc, node, Input::Timeout)?.as_slice(),
-        [2, 3].as_slice()
-    );
+    assert!(rt; asks_both(node, Input::Timeout)?);
     assert!(rt; saved(node) == (1, 1, 1, 0));
     Ok(())
 }
 
 #[test]
-fn a_timeout_asks_the_others_for_their_votes(rt: HostRuntime) -> Result<(), Fail> {
-    check_timeout(&rt, rt.alloc(), &mut first_run(rt.alloc())?)
+fn a_first_run_follows_and_asks_the_others_for_their_votes(rt: HostRuntime) -> Result<(), Fail> {
+    check_first_run(&rt, &mut first_run(rt.alloc())?)
 }
 
-fn check_leader(rt: &impl Abort, alloc: Global, node: &mut ToyNode) -> Result<(), Fail> {
+const BAD_ORIGIN: NodeFault = NodeFault::Refused(Refusal::BadOrigin);
+
+fn check_leader(rt: &impl Abort, node: &mut ToyNode) -> Result<(), Fail> {
+    elect(node)?;
     assert!(rt; saved(node) == (1, 1, 1, 1));
-    assert_eq!(rt;
-        sent(alloc, node, Input::Beat)?.as_slice(),
-        [2, 3].as_slice()
-    );
+    assert!(rt; asks_both(node, Input::Beat)?);
+    assert!(rt; fault(node, Input::Ask(8)) == Some(BAD_ORIGIN));
+    assert!(rt; saved(node) == (1, 1, 1, 1));
+    assert!(rt; fault(node, Input::Ask(7)).is_none());
     Ok(())
 }
 
 #[test]
-fn a_majority_makes_a_leader_which_appends_a_blank(rt: HostRuntime) -> Result<(), Fail> {
-    check_leader(&rt, rt.alloc(), &mut elected(rt.alloc())?)
+fn a_leader_appends_a_blank_and_is_as_it_was_after_a_refusal(rt: HostRuntime) -> Result<(), Fail> {
+    check_leader(&rt, &mut first_run(rt.alloc())?)
 }
 
-/// The next step of the machine is at this place, with these effects.
-fn check_apply(
-    rt: &impl Abort,
-    node: &mut ToyNode,
-    place: u64,
-    effects: &[u8],
-) -> Result<(), Fail> {
-    let output = node.step(Input::Apply)?;
-    assert_eq!(rt; output.place.value(), place);
-    assert_eq!(rt; output.effects.as_slice(), effects);
-    Ok(())
+/// Whether the next step of the machine is at this place, with these effects.
+fn applies(node: &mut ToyNode, place: u64, effects: &[u8]) -> Result<bool, NodeFault> {
+    let output = step(node, Input::Apply)?;
+    Ok(output.place.value() == place && output.effects.as_slice() == effects)
+}
+
+/// Whether a look for place 2 plays this.
+fn plays(node: &ToyNode, lines: &[u8]) -> Result<bool, NodeFault> {
+    let looked = node.look(&0, 2)?;
+    Ok(looked.place.value() == 2 && looked.lines.as_slice() == lines)
+}
+
+/// Whether a look for the wanted place is refused, since the node is at this one.
+fn is_behind(node: &ToyNode, wanted: u64, place: u8) -> bool {
+    let behind = NodeFault::Refused(Refusal::Behind(Number::new(place as u64)));
+    node.look(&0, wanted).err() == Some(behind)
 }
 
 fn check_applied(rt: &impl Abort, node: &mut ToyNode) -> Result<(), Fail> {
-    assert!(rt; places(node) == (2, 0));
-    assert_eq!(rt; node.committed().len(), 2);
-    check_apply(rt, node, 1, &[])?;
-    check_apply(rt, node, 2, &[7])?;
-    check_apply(rt, node, 0, &[])?;
+    commit(node)?;
+    assert!(rt; places(node) == (2, 0) && node.committed().len() == 2);
+    assert!(rt; applies(node, 1, &[])?);
+    assert!(rt; applies(node, 2, &[7])?);
+    assert!(rt; plays(node, &[7])? && is_behind(node, 3, 2));
+    assert!(rt; applies(node, 0, &[])?);
     assert!(rt; places(node) == (2, 2));
     Ok(())
 }
 
 #[test]
-fn what_a_majority_has_is_committed_and_applied_place_by_place(
-    rt: HostRuntime,
-) -> Result<(), Fail> {
-    check_applied(&rt, &mut committed(rt.alloc(), 7)?)
-}
-
-fn check_look(rt: &impl Abort, node: &ToyNode) -> Result<(), Fail> {
-    let looked = node.look(&0, 2)?;
-    assert_eq!(rt; looked.place.value(), 2);
-    assert_eq!(rt; looked.lines.as_slice(), [7].as_slice());
-    Ok(())
-}
-
-fn check_behind(rt: &impl Abort, node: &ToyNode, wanted: u64, place: u8) {
-    let behind = NodeFault::Refused(Refusal::Behind(Number::new(place as u64)));
-    assert!(rt; node.look(&0, wanted).err() == Some(behind));
-}
-
-/// Node 1, which applied the body 7 at place 2.
-fn played(alloc: Global) -> Result<ToyNode, Fail> {
-    let mut node = committed(alloc, 7)?;
-    node.step(Input::Apply)?;
-    node.step(Input::Apply)?;
-    Ok(node)
-}
-
-#[test]
-fn a_look_plays_what_was_applied_or_is_behind(rt: HostRuntime) -> Result<(), Fail> {
-    let node = played(rt.alloc())?;
-    check_look(&rt, &node)?;
-    check_behind(&rt, &node, 3, 2);
-    Ok(())
-}
-
-const BAD_ORIGIN: NodeFault = NodeFault::Refused(Refusal::BadOrigin);
-
-fn check_refused(rt: &impl Abort, node: &mut ToyNode) {
-    assert!(rt; node.step(Input::Ask(8)).err() == Some(BAD_ORIGIN));
-    assert!(rt; saved(node) == (1, 1, 1, 1));
-    assert!(rt; node.step(Input::Ask(7)).is_ok());
-}
-
-#[test]
-fn a_refused_step_leaves_the_node_as_it_was(rt: HostRuntime) -> Result<(), Fail> {
-    check_refused(&rt, &mut elected(rt.alloc())?);
-    Ok(())
-}
-
-/// Node 1 of a group of three over a store that fails after so many saves.
-fn failing(alloc: Global, left: u8) -> Result<Node<Toy, Failing>, NodeFault> {
-    match GroupSize::new(3) {
-        None => Err(NodeFault::Down(Cause::Memory)),
-        Some(size) => {
-            let store = Failing { alloc, left };
-            Node::start(alloc, NodeId::new(1), size, &0, store)
-        }
-    }
+fn what_a_majority_has_is_applied_place_by_place_and_played(rt: HostRuntime) -> Result<(), Fail> {
+    check_applied(&rt, &mut first_run(rt.alloc())?)
 }
 
 const STORE_FAILED: NodeFault = NodeFault::Down(Cause::Store);
 
+/// Over a store that fails after so many saves.
+fn failing(alloc: Global, left: u8) -> Result<Node<Toy, Failing>, NodeFault> {
+    started(alloc, Failing { alloc, left })
+}
+
 fn check_down(rt: &impl Abort, node: &mut Node<Toy, Failing>) {
-    assert!(rt; node.step(Input::Timeout).err() == Some(STORE_FAILED));
-    assert_eq!(rt; node.state().standing.term.value(), 0);
+    assert!(rt; fault(node, Input::Timeout) == Some(STORE_FAILED));
+    assert!(rt; node.state().standing.term.value() == 0);
     assert!(rt; node.down() == Some(Cause::Store));
-    assert!(rt; node.step(Input::Apply).err() == Some(STORE_FAILED));
+    assert!(rt; fault(node, Input::Apply) == Some(STORE_FAILED));
     assert!(rt; node.look(&0, 0).err() == Some(STORE_FAILED));
     assert!(rt; node.restart().err() == Some(STORE_FAILED));
 }
@@ -237,39 +192,41 @@ fn a_node_whose_store_fails_is_down_and_shows_the_state_from_before(
 }
 
 fn check_restart(rt: &impl Abort, node: &mut ToyNode) -> Result<(), Fail> {
-    node.step(Input::Apply)?;
+    commit(node)?;
+    go(node, Input::Apply)?;
     node.restart()?;
-    assert!(rt; saved(node) == (2, 1, 1, 2));
-    assert!(rt; places(node) == (0, 0));
-    check_behind(rt, node, 1, 0);
+    assert!(rt; saved(node) == (2, 1, 1, 2) && places(node) == (0, 0));
+    assert!(rt; is_behind(node, 1, 0));
     // the client of the first run is gone with it
-    assert!(rt; node.step(Input::Ask(7)).err() == Some(BAD_ORIGIN));
+    assert!(rt; fault(node, Input::Ask(7)) == Some(BAD_ORIGIN));
     Ok(())
 }
 
 #[test]
 fn a_restart_keeps_what_was_saved_alone(rt: HostRuntime) -> Result<(), Fail> {
-    check_restart(&rt, &mut committed(rt.alloc(), 7)?)
+    check_restart(&rt, &mut first_run(rt.alloc())?)
+}
+
+/// Whether a fault is printed so.
+fn is_shown(alloc: Global, fault: &NodeFault, want: &str) -> Result<bool, AllocError> {
+    let shown = format!(in alloc; "{fault}")?;
+    Ok(shown.as_str() == want)
 }
 
 #[test]
 fn the_faults_have_numbers_and_texts(rt: HostRuntime) -> Result<(), Fail> {
-    let down = NodeFault::Down(Cause::Store);
-    assert_eq!(rt;
-        format!(in rt.alloc(); "{down}")?.as_str(),
-        "the node is down: its store failed"
+    assert!(rt;
+        is_shown(
+            rt.alloc(),
+            &STORE_FAILED,
+            "the node is down: its store failed"
+        )?
     );
-    assert_eq!(rt;
-        (down.number(), NodeFault::Down(Cause::Memory).number()),
-        (1, 2)
-    );
-    assert_eq!(rt; NodeFault::Refused(Refusal::LogFull).number(), 3);
-    assert_eq!(rt; NodeFault::Refused(Refusal::TermsSpent).number(), 4);
-    assert_eq!(rt; NodeFault::Refused(Refusal::NoLeader).number(), 5);
-    assert_eq!(rt;
-        NodeFault::Refused(Refusal::Behind(Number::new(3))).number(),
-        6
-    );
-    assert_eq!(rt; NodeFault::Refused(Refusal::BadOrigin).number(), 7);
+    assert!(rt; STORE_FAILED.number() == 1 && NodeFault::Down(Cause::Memory).number() == 2);
+    assert!(rt; NodeFault::Refused(Refusal::LogFull).number() == 3);
+    assert!(rt; NodeFault::Refused(Refusal::TermsSpent).number() == 4);
+    assert!(rt; NodeFault::Refused(Refusal::NoLeader).number() == 5);
+    assert!(rt; NodeFault::Refused(Refusal::Behind(Number::new(3))).number() == 6);
+    assert!(rt; BAD_ORIGIN.number() == 7);
     Ok(())
 }

@@ -64,53 +64,49 @@ fn role(world: &World<Toy>, node: u8) -> Option<Role> {
 }
 
 /// The world of three nodes after these events.
-fn ran(alloc: Global, events: &[Event<u8, u8, u8>]) -> Result<World<Toy>, Fail> {
-    Ok(World::<Toy>::run(alloc, 3, &0, events)?)
+fn ran(alloc: Global, events: &[Event<u8, u8, u8>]) -> Result<World<Toy>, WorldFault> {
+    World::<Toy>::run(alloc, 3, &0, events)
 }
 
 /// The same after the agreement.
 fn agreed(alloc: Global) -> Result<World<Toy>, Fail> {
-    ran(alloc, &agreement(alloc)?)
+    let events = agreement(alloc)?;
+    Ok(ran(alloc, &events)?)
 }
 
-fn check_roles(rt: &impl Abort, world: &World<Toy>) {
+fn check_agreed(rt: &impl Abort, alloc: Global, world: &World<Toy>) -> Result<(), Fail> {
     assert!(rt; world.size() == 3);
     assert!(rt; role(world, 1) == Some(Role::Leader));
     assert!(rt; role(world, 3) == Some(Role::Follower));
     assert!(rt; role(world, 4) == None);
+    assert!(rt; committed(world, 1) == Some(2) && committed(world, 2) == Some(0));
+    assert!(rt; committed(world, 4) == None);
+    assert!(rt; hands_nothing(alloc, world)?);
+    Ok(())
 }
 
+/// Whether no line is handed, by a machine without lines.
+fn hands_nothing(alloc: Global, world: &World<Toy>) -> Result<bool, AllocError> {
+    let handed = world.handed(alloc)?;
+    Ok(handed.is_empty())
+}
+
+/// The leader commits first, no other node is there, and each is as the events left it.
 #[test]
 fn each_node_is_as_the_events_left_it(rt: HostRuntime) -> Result<(), Fail> {
-    check_roles(&rt, &agreed(rt.alloc())?);
-    Ok(())
-}
-
-fn check_committed(rt: &impl Abort, world: &World<Toy>) {
-    assert!(rt; committed(world, 1) == Some(2));
-    assert!(rt; committed(world, 2) == Some(0));
-    assert!(rt; committed(world, 4) == None);
-}
-
-#[test]
-fn the_leader_commits_first_and_no_other_node_is_there(rt: HostRuntime) -> Result<(), Fail> {
-    check_committed(&rt, &agreed(rt.alloc())?);
-    Ok(())
+    check_agreed(&rt, rt.alloc(), &agreed(rt.alloc())?)
 }
 
 /// The places that were applied, and how many effects left at each, after these events.
 fn left_after(alloc: Global, events: &[Event<u8, u8, u8>]) -> Result<Vec<(u64, usize)>, Fail> {
-    Ok(left(alloc, ran(alloc, events)?.outputs())?)
+    let world = ran(alloc, events)?;
+    Ok(left(alloc, world.outputs())?)
 }
 
-#[test]
-fn what_a_majority_has_is_applied_and_leaves_at_its_node(rt: HostRuntime) -> Result<(), Fail> {
-    let events = agreement(rt.alloc())?;
-    assert_eq!(rt;
-        left_after(rt.alloc(), &events)?.as_slice(),
-        [(1, 0), (2, 1)].as_slice()
-    );
-    Ok(())
+/// Whether these left after the agreement.
+fn leaves(alloc: Global, want: &[(u64, usize)]) -> Result<bool, Fail> {
+    let events = agreement(alloc)?;
+    Ok(left_after(alloc, &events)?.as_slice() == want)
 }
 
 /// Node 1 stops after the agreement, and is to apply one more entry.
@@ -121,23 +117,27 @@ fn stopped(alloc: Global) -> Result<Events, AllocError> {
     Ok(events)
 }
 
-#[test]
-fn a_leader_that_stops_applies_nothing(rt: HostRuntime) -> Result<(), Fail> {
-    let events = stopped(rt.alloc())?;
-    assert_eq!(rt; left_after(rt.alloc(), &events)?.len(), 2);
-    Ok(())
+/// How much left after that.
+fn left_when_stopped(alloc: Global) -> Result<usize, Fail> {
+    let events = stopped(alloc)?;
+    Ok(left_after(alloc, &events)?.len())
 }
 
 #[test]
-fn no_group_has_four_nodes(rt: HostRuntime) -> Result<(), Fail> {
-    let world = World::<Toy>::run(rt.alloc(), 4, &0, &[]);
-    assert!(rt; world.err() == Some(WorldFault::Refused(4)));
+fn what_a_majority_has_leaves_at_its_node_and_a_stopped_one_applies_nothing(
+    rt: HostRuntime,
+) -> Result<(), Fail> {
+    assert!(rt; leaves(rt.alloc(), &[(1, 0), (2, 1)])?);
+    assert!(rt; left_when_stopped(rt.alloc())? == 2);
     Ok(())
 }
 
+/// The fault of a world of four nodes.
+fn fault_of_four(alloc: Global) -> Option<WorldFault> {
+    World::<Toy>::run(alloc, 4, &0, &[]).err()
+}
+
 #[test]
-fn a_machine_without_lines_hands_none(rt: HostRuntime) -> Result<(), Fail> {
-    let world = agreed(rt.alloc())?;
-    assert!(rt; world.handed(rt.alloc())?.is_empty());
-    Ok(())
+fn no_group_has_four_nodes(rt: HostRuntime) {
+    assert!(rt; fault_of_four(rt.alloc()) == Some(WorldFault::Refused(4)));
 }
