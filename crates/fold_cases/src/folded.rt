@@ -1,34 +1,17 @@
-//! Setups, bodies in words, and their answers as lines of text.
+//! Bodies in words, and their answers as lines of text.
 use crate::said::said;
-use buffer_commands::{Action, Command, Effect, Options, Setup};
-use buffer_machine::BufferMachine;
-use irc_line::Name;
-use machine_laws::{Machine, run_all};
+use machine_laws::{HasClients, Machine, run_all};
 use recorder::{Words, push_answers};
 use request_once::{Answer, Body, Once};
-use std::alloc::Global;
+use std::alloc::{AllocError, Global};
 use std::process::Abort;
 use std::test::Fail;
-use wire_bytes::Wire;
-
-/// The name of these bytes.
-fn name(alloc: Global, bytes: &[u8]) -> Result<Name, Fail> {
-    Ok(Name::from_bytes(Vec::from_slice(alloc, bytes)?).ok_or("no name")?)
-}
-
-/// The setup of the nick `me`, these channels, and these options.
-pub fn setup(alloc: Global, channels: &[&[u8]], options: Options) -> Result<Setup, Fail> {
-    let mut names = Vec::new(alloc);
-    for channel in channels {
-        names.push(name(alloc, channel)?)?;
-    }
-    Ok(Setup::new(name(alloc, b"me")?, names, options).map_err(|_| "setup")?)
-}
+use wire_bytes::{Copied, Wire};
 
 /// The body that these words say.
-fn body(alloc: Global, words: &str) -> Result<Body<Command, Action>, Fail> {
+fn body<W: Wire>(alloc: Global, words: &str) -> Result<W, Fail> {
     let bytes = said(alloc, words)?;
-    let (body, len) = Body::<Command, Action>::take(alloc, &bytes).map_err(|_| "spelling")?;
+    let (body, len) = W::take(alloc, &bytes)?;
     if len == bytes.len() {
         Ok(body)
     } else {
@@ -46,57 +29,96 @@ pub fn ended(alloc: Global, lines: &[&str]) -> Result<Vec<u8>, Fail> {
     Ok(text)
 }
 
-/// The answers to all bodies, at places from 1.
-fn answered(alloc: Global, setup: &Setup, bodies: &[&str]) -> Result<Vec<u8>, Fail> {
-    let mut machine: Once<BufferMachine> = Once::start(alloc, setup)?;
-    let mut out = Vec::new(alloc);
+/// The text is these lines, each with its end.
+pub fn check_lines(rt: &impl Abort, alloc: Global, text: &[u8], want: &[&str]) -> Result<(), Fail> {
+    let want = ended(alloc, want)?;
+    check_text(rt, text, &want);
+    Ok(())
+}
+
+pub fn check_text(rt: &impl Abort, text: &[u8], want: &[u8]) {
+    assert_eq!(rt; text, want);
+}
+
+/// A body in words comes to a machine, and its answers are appended.
+fn come<M: HasClients>(
+    alloc: Global,
+    machine: &mut Once<M>,
+    out: &mut Vec<u8>,
+    place: u64,
+    words: &str,
+) -> Result<(), Fail>
+where
+    M::Effect: Words,
+{
+    let body = body::<Body<M::Command, M::Action>>(alloc, words)?;
+    let answers = machine.apply(place, &body)?;
+    Ok(push_answers(out, place, &answers)?)
+}
+
+/// These bodies come to a machine, at places from 1, and their answers are appended.
+fn come_all<M: HasClients>(
+    alloc: Global,
+    machine: &mut Once<M>,
+    out: &mut Vec<u8>,
+    bodies: &[&str],
+) -> Result<(), Fail>
+where
+    M::Effect: Words,
+{
     let mut place = 0u64;
     for words in bodies {
         place = place.wrapping_add(1);
-        let answers = machine.apply(place, &body(alloc, words)?)?;
-        push_answers(&mut out, place, &answers)?;
+        come(alloc, machine, out, place, words)?;
     }
+    Ok(())
+}
+
+/// The answers to all bodies, at places from 1.
+pub fn answered<M: HasClients>(
+    alloc: Global,
+    setup: M::Setup,
+    bodies: &[&str],
+) -> Result<Vec<u8>, Fail>
+where
+    M::Effect: Words,
+{
+    let mut machine = Once::<M>::start(alloc, &setup)?;
+    let mut out = Vec::new(alloc);
+    come_all(alloc, &mut machine, &mut out, bodies)?;
     Ok(out)
 }
 
-/// These bodies are answered by these lines over this setup.
-pub fn check(
-    rt: &impl Abort,
-    alloc: Global,
-    setup: &Setup,
-    bodies: &[&str],
-    want: &[&str],
-) -> Result<(), Fail> {
-    assert_eq!(rt;
-        answered(alloc, setup, bodies)?.as_slice(),
-        ended(alloc, want)?.as_slice()
-    );
-    Ok(())
-}
-
-/// What all bodies bring about from a new machine, in one run.
-fn run(alloc: Global, setup: &Setup, bodies: &[&str]) -> Result<Vec<Answer<Effect>>, Fail> {
+fn bodies<W: Wire>(alloc: Global, said: &[&str]) -> Result<Vec<W>, Fail> {
     let mut all = Vec::new(alloc);
-    for words in bodies {
+    for words in said {
         all.push(body(alloc, words)?)?;
     }
-    let mut machine: Once<BufferMachine> = Once::start(alloc, setup)?;
-    Ok(run_all(alloc, &mut machine, &all)?)
+    Ok(all)
 }
 
-/// These bodies are answered in one run by these lines, which do not tell their places.
-pub fn check_run(
-    rt: &impl Abort,
-    alloc: Global,
-    setup: &Setup,
-    bodies: &[&str],
-    want: &[&str],
-) -> Result<(), Fail> {
-    let mut out = Vec::new(alloc);
-    for answer in &run(alloc, setup, bodies)? {
-        answer.push_words(&mut out)?;
+/// Appends a line for each answer.
+fn push_run<E: Words>(out: &mut Vec<u8>, answers: &[Answer<E>]) -> Result<(), AllocError> {
+    for answer in answers {
+        answer.push_words(out)?;
         out.push(b'\n')?;
     }
-    assert_eq!(rt; out.as_slice(), ended(alloc, want)?.as_slice());
     Ok(())
+}
+
+/// The answers to all bodies in one run, without their places.
+pub fn answered_in_one_run<M: HasClients>(
+    alloc: Global,
+    setup: M::Setup,
+    said: &[&str],
+) -> Result<Vec<u8>, Fail>
+where
+    M::Effect: Words,
+{
+    let bodies = bodies::<Body<M::Command, M::Action>>(alloc, said)?;
+    let mut machine = Once::<M>::start(alloc, &setup)?;
+    let answers = run_all(alloc, &mut machine, &bodies)?;
+    let mut out = Vec::new(alloc);
+    push_run(&mut out, &answers)?;
+    Ok(out)
 }

@@ -3,14 +3,16 @@
 #![tactic(auto)]
 
 #[cfg(test)]
+mod faulty;
+#[cfg(test)]
 mod folded;
 #[cfg(test)]
 mod folds;
 #[cfg(test)]
 mod kept;
 #[cfg(test)]
-mod marks;
-#[cfg(test)]
 mod said;
+#[cfg(test)]
+mod setup_cases;
 #[cfg(test)]
 mod setups;

@@ -8,90 +8,64 @@ use std::test::Fail;
 /// The moment from which seconds are counted, which is 22:13:20.
 const START: u64 = 1_700_000_000;
 
-/// What stands before the first of these bytes and what stands behind it, or all and nothing.
-fn cut_at(words: &[u8], end: u8) -> (&[u8], &[u8]) {
-    match words.iter().position(|byte| *byte == end) {
-        Some(place) => (&words[..place], &words[place + 1..]),
-        None => (words, b""),
+/// What stands before the first end and what stands behind it, or all and nothing.
+fn cut(words: &str, end: char) -> (&str, &str) {
+    match words.split_once(end) {
+        Some(parts) => parts,
+        None => (words, ""),
     }
 }
 
-/// The first word, and the words behind it.
-fn cut(words: &[u8]) -> (&[u8], &[u8]) {
-    cut_at(words, b' ')
+fn push_number(out: &mut Vec<u8>, word: &str) -> Result<(), Fail> {
+    let number = word.parse::<u64>()?;
+    Ok(out.extend_from_slice(&number.to_be_bytes())?)
 }
 
-/// The number of these digits.
-fn number_of(word: &[u8]) -> Result<u64, Fail> {
-    if word.is_empty() {
-        return Err(Fail::from("no number"));
-    }
-    let mut number = 0u64;
-    for digit in word {
-        if !digit.is_ascii_digit() {
-            return Err(Fail::from("no number"));
-        }
-        number = number
-            .saturating_mul(10)
-            .saturating_add((*digit - b'0') as u64);
-    }
-    Ok(number)
+fn push_byte(out: &mut Vec<u8>, word: &str) -> Result<(), Fail> {
+    Ok(out.push(word.parse::<u8>()?)?)
 }
 
-fn push_number(out: &mut Vec<u8>, word: &[u8]) -> Result<(), Fail> {
-    out.extend_from_slice(&number_of(word)?.to_be_bytes())?;
-    Ok(())
+fn push_moment(out: &mut Vec<u8>, word: &str) -> Result<(), Fail> {
+    let second = word.parse::<u8>()?;
+    Ok(out.extend_from_slice(&(START + second as u64).to_be_bytes())?)
 }
 
-fn push_byte(out: &mut Vec<u8>, word: &[u8]) -> Result<(), Fail> {
-    out.push(u8::try_from(number_of(word)?).map_err(|_| "no byte")?)?;
-    Ok(())
+fn push_size(out: &mut Vec<u8>, word: &str) -> Result<(), Fail> {
+    let size = word.parse::<u16>()?;
+    Ok(out.extend_from_slice(&size.to_be_bytes())?)
 }
 
-fn push_moment(out: &mut Vec<u8>, word: &[u8]) -> Result<(), Fail> {
-    let second = u8::try_from(number_of(word)?).map_err(|_| "no second")?;
-    out.extend_from_slice(&(START + second as u64).to_be_bytes())?;
-    Ok(())
-}
-
-fn push_size(out: &mut Vec<u8>, word: &[u8]) -> Result<(), Fail> {
-    let size = u16::try_from(number_of(word)?).map_err(|_| "no size")?;
-    out.extend_from_slice(&size.to_be_bytes())?;
-    Ok(())
-}
-
-fn push_field(out: &mut Vec<u8>, field: &[u8]) -> Result<(), Fail> {
-    let len = u16::try_from(field.len()).map_err(|_| "a long field")?;
+fn push_field(out: &mut Vec<u8>, field: &str) -> Result<(), Fail> {
+    let len = u16::try_from(field.len())?;
     out.extend_from_slice(&len.to_be_bytes())?;
-    out.extend_from_slice(field)?;
-    Ok(())
+    Ok(out.extend_from_slice(field.as_bytes())?)
 }
 
 /// Appends `node.boot.client`, or `node.boot.number` of a mark.
-fn push_origin(out: &mut Vec<u8>, word: &[u8]) -> Result<(), Fail> {
-    let (node, run) = cut_at(word, b'.');
-    let (boot, client) = cut_at(run, b'.');
+fn push_origin(out: &mut Vec<u8>, word: &str) -> Result<(), Fail> {
+    let (node, run) = cut(word, '.');
+    let (boot, client) = cut(run, '.');
     push_byte(out, node)?;
     push_number(out, boot)?;
     push_number(out, client)
 }
 
 /// The actions, and the kind byte of each.
-const KINDS: &[(&[u8], u8)] = &[
-    (b"attach", 1),
-    (b"leave", 2),
-    (b"say", 3),
-    (b"join", 4),
-    (b"part", 5),
-    (b"detach", 6),
-    (b"reattach", 7),
-    (b"play", 8),
-    (b"clear", 9),
-    (b"size", 13),
+const KINDS: &[(&str, u8)] = &[
+    ("attach", 1),
+    ("leave", 2),
+    ("say", 3),
+    ("join", 4),
+    ("part", 5),
+    ("detach", 6),
+    ("reattach", 7),
+    ("play", 8),
+    ("clear", 9),
+    ("size", 13),
 ];
 
 /// The kind byte of an action.
-fn kind_of(verb: &[u8]) -> Result<u8, Fail> {
+fn kind_of(verb: &str) -> Result<u8, Fail> {
     for (word, kind) in KINDS {
         if *word == verb {
             return Ok(*kind);
@@ -100,11 +74,11 @@ fn kind_of(verb: &[u8]) -> Result<u8, Fail> {
     Err(Fail::from("no action"))
 }
 
-fn push_action(out: &mut Vec<u8>, words: &[u8]) -> Result<(), Fail> {
-    let (verb, rest) = cut(words);
+fn push_action(out: &mut Vec<u8>, words: &str) -> Result<(), Fail> {
+    let (verb, rest) = cut(words, ' ');
     let kind = kind_of(verb)?;
     out.push(kind)?;
-    let (target, last) = cut(rest);
+    let (target, last) = cut(rest, ' ');
     match kind {
         1 | 2 => Ok(()),
         3 => {
@@ -121,41 +95,45 @@ fn push_action(out: &mut Vec<u8>, words: &[u8]) -> Result<(), Fail> {
 }
 
 /// Appends a request: its origin, `#` and its number, and its action.
-fn push_request(out: &mut Vec<u8>, words: &[u8]) -> Result<(), Fail> {
-    let (origin, rest) = cut(words);
-    let (number, action) = cut(rest);
+fn push_request(out: &mut Vec<u8>, words: &str) -> Result<(), Fail> {
+    let (origin, rest) = cut(words, ' ');
+    let (number, action) = cut(rest, ' ');
     out.push(1)?;
     push_origin(out, origin)?;
-    push_number(out, number.strip_prefix(b"#").ok_or("no number")?)?;
-    push_moment(out, b"0")?;
+    push_number(out, number.strip_prefix('#').ok_or("no number")?)?;
+    push_moment(out, "0")?;
     push_action(out, action)
+}
+
+/// Appends the bytes of a body in words.
+fn push_body(out: &mut Vec<u8>, words: &str) -> Result<(), Fail> {
+    let (first, rest) = cut(words, ' ');
+    let (second, last) = cut(rest, ' ');
+    match first {
+        "up" => Ok(out.extend_from_slice(&[0, 4])?),
+        "down" => Ok(out.extend_from_slice(&[0, 5])?),
+        "gone" => {
+            out.extend_from_slice(&[0, 3])?;
+            push_byte(out, second)?;
+            push_number(out, last)
+        }
+        "heard" => {
+            out.extend_from_slice(&[0, 2])?;
+            push_moment(out, second)?;
+            push_field(out, last)
+        }
+        "blank" => Ok(out.push(2)?),
+        "mark" => {
+            out.push(3)?;
+            push_origin(out, second)
+        }
+        _ => push_request(out, words),
+    }
 }
 
 /// The bytes of a body in words.
 pub fn said(alloc: Global, words: &str) -> Result<Vec<u8>, Fail> {
     let mut out = Vec::new(alloc);
-    let words = words.as_bytes();
-    let (first, rest) = cut(words);
-    let (second, last) = cut(rest);
-    if first == b"up".as_slice() {
-        out.extend_from_slice(&[0, 4])?;
-    } else if first == b"down".as_slice() {
-        out.extend_from_slice(&[0, 5])?;
-    } else if first == b"gone".as_slice() {
-        out.extend_from_slice(&[0, 3])?;
-        push_byte(&mut out, second)?;
-        push_number(&mut out, last)?;
-    } else if first == b"heard".as_slice() {
-        out.extend_from_slice(&[0, 2])?;
-        push_moment(&mut out, second)?;
-        push_field(&mut out, last)?;
-    } else if first == b"blank".as_slice() {
-        out.push(2)?;
-    } else if first == b"mark".as_slice() {
-        out.push(3)?;
-        push_origin(&mut out, second)?;
-    } else {
-        push_request(&mut out, words)?;
-    }
+    push_body(&mut out, words)?;
     Ok(out)
 }

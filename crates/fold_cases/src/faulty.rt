@@ -1,0 +1,148 @@
+//! Readers and writers that fail.
+use fold_app::{FoldFault, fold};
+use std::alloc::Global;
+use std::io;
+use std::io::{Error, ErrorKind, Read, Write};
+use std::process::Abort;
+
+/// A reader that gives some bytes, then one answer for good, or once and then its end.
+#[derive(Drop)]
+struct Source {
+    left: u64,
+    then: Option<ErrorKind>,
+    once: bool,
+}
+
+impl Read for Source {
+    fn read(&mut self, buf: &mut [u8]) -> io::Result<usize> {
+        if self.left == 0 {
+            let then = self.then;
+            if self.once {
+                self.then = None;
+            }
+            return match then {
+                None => Ok(0),
+                Some(kind) => Err(Error::from(kind)),
+            };
+        }
+        let count = if self.left < buf.len() as u64 {
+            self.left as usize
+        } else {
+            buf.len()
+        };
+        self.left -= count as u64;
+        for b in buf[..count].iter_mut() {
+            *b = b'\n';
+        }
+        Ok(count)
+    }
+}
+
+/// What is wrong with a fold of what a reader gives, and how many bytes it writes.
+fn folded(alloc: Global, mut source: Source) -> (Option<FoldFault>, usize) {
+    let mut output = Vec::new(alloc);
+    let fault = fold(alloc, &mut source, &mut output).err();
+    (fault, output.len())
+}
+
+/// How many bytes a reader gives, what it answers then, whether only once, and what is wrong.
+type Reading = (u64, Option<ErrorKind>, bool, Option<FoldFault>);
+
+/// An input has at most 64 MiB.
+const LENGTHS: &[Reading] = &[
+    (u64::MAX, None, false, Some(FoldFault::InputTooLong)),
+    (67_108_865, None, false, Some(FoldFault::InputTooLong)),
+    (67_108_864, None, false, Some(FoldFault::BadBody(1))),
+];
+
+/// A reader fails for good, or once.
+const FAILURES: &[Reading] = &[
+    (
+        0,
+        Some(ErrorKind::Interrupted),
+        false,
+        Some(FoldFault::Read),
+    ),
+    (70, Some(ErrorKind::TimedOut), false, Some(FoldFault::Read)),
+    (0, Some(ErrorKind::TimedOut), true, Some(FoldFault::Read)),
+    (0, Some(ErrorKind::WouldBlock), true, Some(FoldFault::Read)),
+    (0, Some(ErrorKind::Interrupted), true, None),
+];
+
+/// Folds of what these readers give end so, and write nothing.
+fn check(rt: &impl Abort, alloc: Global, readings: &[Reading]) {
+    for (left, then, once, want) in readings {
+        let source = Source {
+            left: *left,
+            then: *then,
+            once: *once,
+        };
+        let (fault, written) = folded(alloc, source);
+        assert!(rt; fault == *want);
+        assert_eq!(rt; written, 0);
+    }
+}
+
+#[test]
+fn an_input_that_is_too_long_is_refused(rt: HostRuntime) {
+    check(&rt, rt.alloc(), LENGTHS);
+}
+
+#[test]
+fn an_input_that_is_not_read_whole_is_refused(rt: HostRuntime) {
+    check(&rt, rt.alloc(), FAILURES);
+}
+
+/// A writer that takes so many bytes, and then none, and whose flush may fail.
+#[derive(Drop)]
+struct Sink {
+    room: usize,
+    flushes: bool,
+}
+
+impl Write for Sink {
+    fn write(&mut self, buf: &[u8]) -> io::Result<usize> {
+        if self.room == 0 {
+            return Err(Error::from(ErrorKind::BrokenPipe));
+        }
+        let count = self.room.min(buf.len());
+        self.room -= count;
+        Ok(count)
+    }
+
+    fn flush(&mut self) -> io::Result<()> {
+        if self.flushes {
+            Ok(())
+        } else {
+            Err(Error::from(ErrorKind::BrokenPipe))
+        }
+    }
+}
+
+/// A request, which is answered by 15 bytes.
+const ATTACH: &[u8] = b"0101000000000000000100000000000000010000000000000001000000006553f10001\n";
+
+/// What is wrong with a fold of a request into a writer.
+fn written(alloc: Global, mut sink: Sink) -> Option<FoldFault> {
+    let mut reader = ATTACH;
+    fold(alloc, &mut reader, &mut sink).err()
+}
+
+/// How many bytes a writer takes, whether its flush succeeds, and what is wrong.
+const SINKS: &[(usize, bool, Option<FoldFault>)] = &[
+    (0, true, Some(FoldFault::Write)),
+    (14, true, Some(FoldFault::Write)),
+    (15, true, None),
+    (15, false, Some(FoldFault::Write)),
+];
+
+#[test]
+fn an_output_that_is_not_written_whole_is_a_fault(rt: HostRuntime) {
+    for (room, flushes, want) in SINKS {
+        let sink = Sink {
+            room: *room,
+            flushes: *flushes,
+        };
+        assert!(rt; written(rt.alloc(), sink) == *want);
+    }
+}
