@@ -1,25 +1,11 @@
-//! Worked cases of buffers, their commands and the gate of a client, whose expected values come from outside.
+//! Worked cases of lines, sessions, buffers, the tower over them and folds, whose expected values come from outside.
 #![tactic(auto)]
 
 #[cfg(test)]
-mod actions;
+mod buffer;
 #[cfg(test)]
-mod buffers;
+mod fold;
 #[cfg(test)]
-mod channels;
+mod line;
 #[cfg(test)]
-mod commands;
-#[cfg(test)]
-mod gates;
-#[cfg(test)]
-mod heard;
-#[cfg(test)]
-mod made;
-#[cfg(test)]
-mod queries;
-#[cfg(test)]
-mod rings;
-#[cfg(test)]
-mod setups;
-#[cfg(test)]
-mod targets;
+mod tower;

@@ -1,13 +1,16 @@
-//! Worked cases of events as text, and of what nodes agree on over lists of them, whose expected values come from outside.
+//! Worked cases of logs, nodes, their stores, what they agree on over lists of events, and how records are spelled, whose expected
+//! values come from outside.
 #![tactic(auto)]
 
 #[cfg(test)]
-mod agreeing;
+mod file;
 #[cfg(test)]
-mod events;
+mod journal;
 #[cfg(test)]
-mod lines;
+mod raft;
 #[cfg(test)]
-mod listed_cases;
+mod spelling;
 #[cfg(test)]
-mod listed_rows;
+mod store;
+#[cfg(test)]
+mod world;

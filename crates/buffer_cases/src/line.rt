@@ -1,0 +1,8 @@
+//! Lines, values as bytes and the session upstream.
+mod lines;
+mod made;
+mod names;
+mod session_calls;
+mod sessions;
+mod streams;
+mod values;

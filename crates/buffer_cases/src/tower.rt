@@ -1,0 +1,6 @@
+//! The tower of machines that nodes host.
+mod bodies;
+mod hosted;
+mod layers;
+mod told;
+mod towers;

@@ -1,0 +1,73 @@
+//! What a node asks of the tower that it hosts, by examples.
+use crate::tower::bodies::{ATTACH, CLAIM, HEARD, OPENED, SAY, check_bytes, taken};
+use crate::tower::told::{Told, machine_after};
+use bouncer_tower::Tower;
+use buffer_commands::Setup;
+use std::alloc::Global;
+use std::process::Abort;
+use std::test::Fail;
+use wire_bytes::Number;
+
+const PLAYED: &[u8] = b":***!bouncer@local PRIVMSG #x :Buffer Playback...\n\
+    :a!b@c PRIVMSG #x :[22:13:20] w\n\
+    :***!bouncer@local PRIVMSG #x :Playback Complete.\n";
+
+/// The number of the line that is to be claimed next after these bodies.
+fn claim_after<M: Told>(
+    alloc: Global,
+    setup: M::Setup,
+    bodies: &[&[u8]],
+) -> Result<Option<Number>, Fail> {
+    let machine = machine_after::<M>(alloc, setup, bodies)?;
+    Ok(machine.next_claim())
+}
+
+#[test]
+fn the_next_claim_is_of_the_first_line_that_waits(rt: HostRuntime) -> Result<(), Fail> {
+    let alloc = rt.alloc();
+    let bodies = [OPENED, ATTACH, SAY, CLAIM];
+    let waiting = claim_after::<Tower>(alloc, Setup::plain(alloc)?, &bodies[..3])?;
+    assert_eq!(rt; waiting, Some(Number::new(1)));
+    let claimed = claim_after::<Tower>(alloc, Setup::plain(alloc)?, &bodies)?;
+    assert_eq!(rt; claimed, None);
+    Ok(())
+}
+
+/// Appends what a machine plays of a target, a line each.
+fn push_played<M: Told>(out: &mut Vec<u8>, machine: &M, target: &M::Target) -> Result<(), Fail> {
+    for line in &machine.playback(target)? {
+        out.extend_from_slice(M::spelling(line))?;
+        out.push(b'\n')?;
+    }
+    Ok(())
+}
+
+/// A machine plays this of the channel `#X`.
+fn check_played<M: Told>(
+    rt: &impl Abort,
+    alloc: Global,
+    machine: &M,
+    wanted: &[u8],
+) -> Result<(), Fail> {
+    let target = taken::<M::Target>(alloc, b"\0\x02#X")?;
+    let mut out = Vec::new(alloc);
+    push_played::<M>(&mut out, machine, &target)?;
+    check_bytes(rt, &out, wanted);
+    Ok(())
+}
+
+/// After a line in the channel `#x` it is played twice.
+fn check_played_twice<M: Told>(
+    rt: &impl Abort,
+    alloc: Global,
+    setup: M::Setup,
+) -> Result<(), Fail> {
+    let machine = machine_after::<M>(alloc, setup, &[OPENED, HEARD])?;
+    check_played::<M>(rt, alloc, &machine, PLAYED)?;
+    check_played::<M>(rt, alloc, &machine, PLAYED)
+}
+
+#[test]
+fn what_is_kept_is_played_without_emptying_it(rt: HostRuntime) -> Result<(), Fail> {
+    check_played_twice::<Tower>(&rt, rt.alloc(), Setup::plain(rt.alloc())?)
+}

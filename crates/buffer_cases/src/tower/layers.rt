@@ -1,0 +1,62 @@
+//! The layers of a tower one by one, by examples, and their laws.
+use crate::tower::bodies::{check_bytes, spelled};
+use bouncer_tower::{
+    a_blank_or_a_mark_changes_nothing, a_dropped_request_changes_nothing, each_line_is_handed_once,
+};
+use buffer_commands::{Action, Command, Setup};
+use buffer_machine::BufferMachine;
+use machine_laws::{HasClients, HasLines, HasSession, Machine};
+use request_once::{Body, each_request_takes_effect_once};
+use session_fence::{Fence, FenceCommand};
+use std::alloc::Global;
+use std::test::Fail;
+use upstream_claim::{Claims, each_hand_is_a_claim, each_line_is_claimed_once};
+use wire_bytes::{Number, SessionId};
+
+#[test]
+fn a_node_that_is_gone_has_one_spelling_below_the_sessions(rt: HostRuntime) -> Result<(), Fail> {
+    let gone: Body<Command, Action> = Body::Inner(BufferMachine::node_gone(2, Number::new(5)));
+    let bytes = spelled(rt.alloc(), gone)?;
+    check_bytes(&rt, &bytes, b"\0\x03\x02\0\0\0\0\0\0\0\x05");
+    Ok(())
+}
+
+/// Sessions follow one another over a machine alone.
+fn session_after<M: HasClients + HasLines>(
+    alloc: Global,
+    setup: M::Setup,
+) -> Result<Option<SessionId>, Fail> {
+    let mut fence = Fence::<M>::start(alloc, &setup)?;
+    let opened = FenceCommand::Opened(SessionId::new(1, 2));
+    fence.apply(1, &opened)?;
+    Ok(fence.session())
+}
+
+/// The number of the line that is to be claimed next, without a request.
+fn claim_of_none<M: HasSession>(alloc: Global, setup: M::Setup) -> Result<Option<u64>, Fail> {
+    let mut claims = Claims::<M>::start(alloc, &setup)?;
+    let gone = Claims::<M>::node_gone(2, Number::new(5));
+    claims.apply(1, &gone)?;
+    Ok(claims.next_claim())
+}
+
+#[test]
+fn each_layer_stands_alone(rt: HostRuntime) -> Result<(), Fail> {
+    let alloc = rt.alloc();
+    let session = session_after::<BufferMachine>(alloc, Setup::plain(alloc)?)?;
+    assert!(rt; session == Some(SessionId::new(1, 2)));
+    let claim = claim_of_none::<Fence<BufferMachine>>(alloc, Setup::plain(alloc)?)?;
+    assert_eq!(rt; claim, None);
+    Ok(())
+}
+
+#[test]
+fn the_laws_can_be_called(_rt: HostRuntime) -> Result<(), Fail> {
+    a_dropped_request_changes_nothing();
+    a_blank_or_a_mark_changes_nothing();
+    each_line_is_handed_once();
+    each_line_is_claimed_once::<Fence<BufferMachine>>();
+    each_hand_is_a_claim::<Fence<BufferMachine>>();
+    each_request_takes_effect_once::<Claims<Fence<BufferMachine>>>();
+    Ok(())
+}

@@ -1,5 +1,0 @@
-use Rattle.ether.proofs.Gathering.{popped}
-use Rattle.ether_cases.proofs.passes.last_pass.Goals as goal
-
-pub returns-in-Some : goal.returns-in-Some
-returns-in-Some g c = popped _ _ _ _ _ c.requires c.in-Some.ensures.items

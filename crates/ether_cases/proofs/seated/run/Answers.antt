@@ -1,5 +1,0 @@
-use Rattle.ether_cases.proofs.Seating.{acted_by}
-use Rattle.ether_cases.proofs.seated.run.Goals as goal
-
-pub returns : goal.returns
-returns g c = acted_by _ _ _ _ _ _ c.in_ok-output.ensures.0 c.in_ok-output.ensures.1

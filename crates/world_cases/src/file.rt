@@ -1,0 +1,3 @@
+//! Disks and journals over files.
+mod fault_file;
+mod files;

@@ -1,0 +1,3 @@
+//! Nodes over journals on disks that fail.
+mod lent_disk;
+mod nodes;

@@ -1,0 +1,9 @@
+//! Logs, elections, appends, nodes, views and worlds, over the least machine.
+mod appends;
+mod elections;
+mod failing;
+mod logs;
+mod nodes;
+mod steps;
+mod views;
+mod worlds;

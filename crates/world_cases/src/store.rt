@@ -1,0 +1,4 @@
+//! Stores, journals and disks that fail.
+mod disks;
+mod journals;
+mod stores;
