@@ -1,4 +1,4 @@
 //! Cells over the least machine.
 mod cells;
 mod tests;
-mod upstream;
+pub mod upstream;

@@ -127,7 +127,7 @@ impl Hosted for Notes {
         no_mark()
     }
 
-    #[tactic(auto, using(crate::marked::proofs::Lengths::mark_is_short))]
+    #[tactic(auto, using(crate::proofs::Lengths::mark_is_short))]
     fn fits(body: &Mark) {
         body.fits();
     }
