@@ -1,5 +1,6 @@
-//! Why a trade did not begin.
+//! Why a task was not done.
 use ether::EtherFault;
+use file_disk::OpenFault;
 use raft_node::NodeFault;
 use std::alloc::AllocError;
 use thiserror::Error;
@@ -30,4 +31,15 @@ impl From<NodeFault> for TradeFault {
     fn from(_: NodeFault) -> Self {
         TradeFault::Node
     }
+}
+
+/// Why a task was not done.
+#[derive(Debug, Drop, Error)]
+pub enum BenchFault {
+    #[error("{0}")]
+    Trade(#[from] TradeFault),
+    #[error("{0}")]
+    Journal(#[from] OpenFault),
+    #[error("the answer cannot be written")]
+    Write,
 }

@@ -1,7 +1,7 @@
 //! Two threads that trade messages over an ether.
 ghost use Rattle.std.specs.Prelude.{◌≡◌, ◌≤◌, IfOk};
 ghost use Rattle.ether.specs.Passes.{AreNew, IsPass, IsUnopened};
-ghost use Rattle.ether_bench.specs.Ready.{IsReady};
+ghost use Rattle.bouncer_bench.specs.Ready.{IsReady};
 
 use crate::fault::TradeFault;
 use crate::no_device::NoDevice;

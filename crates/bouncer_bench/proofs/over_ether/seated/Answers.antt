@@ -1,6 +1,6 @@
 use Rattle.std.proofs.Common.{rules, ◌≡◌, suc}
-use Rattle.ether_bench.proofs.First.{first_as}
-use Rattle.ether_bench.proofs.over_ether.seated.Goals as goal
+use Rattle.bouncer_bench.proofs.First.{first_as}
+use Rattle.bouncer_bench.proofs.over_ether.seated.Goals as goal
 
 pub opening-requires-clause-node : goal.opening-requires-clause-node
 opening-requires-clause-node c =
