@@ -1,4 +1,5 @@
-//! Worked cases of nodes that run: their ether, their cells, and what drives them, whose expected values come from outside.
+//! Worked cases of nodes that run: their ether, their cells, what drives them, and their threads, whose expected values
+//! come from outside.
 #![tactic(auto)]
 
 #[cfg(test)]
@@ -7,5 +8,7 @@ mod cell;
 mod drive;
 #[cfg(test)]
 mod marked;
+#[cfg(test)]
+mod running;
 #[cfg(test)]
 mod tickets;

@@ -1,7 +1,7 @@
-use crate::client::Client;
-use crate::clusters::{Counter, counters, flag, watches};
-use crate::gates::{Hold, Holding, Meeting};
-use crate::story::{Story, play};
+use crate::running::client::Client;
+use crate::running::clusters::{Counter, counters, flag, watches};
+use crate::running::gates::{Hold, Holding, Meeting};
+use crate::running::story::{Story, play};
 use bouncer_tower::Tower;
 use buffer_commands::Setup;
 use node_threads::{Gate, OpenGate};

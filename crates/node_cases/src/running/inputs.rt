@@ -1,5 +1,5 @@
 //! How often each input came to a node.
-use crate::request::Request;
+use crate::running::request::Request;
 use machine_laws::{Hosted, Machine};
 use node_cells::NodeRecord;
 use raft_log::NodeId;

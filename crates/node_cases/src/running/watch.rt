@@ -1,5 +1,5 @@
 //! What leaves a node.
-use crate::clusters::Counter;
+use crate::running::clusters::Counter;
 use bouncer_tower::TowerEffect;
 use node_notes::Report;
 use node_threads::Outlet;

@@ -1,11 +1,11 @@
 //! What is done with the nodes of a cluster.
-use crate::client::Client;
-use crate::clusters::{Crew, parts};
-use crate::confirming::confirmed_lines;
-use crate::gates::Hold;
-use crate::inputs::Inputs;
-use crate::meeting::turn_both;
-use crate::runs::{hold, run};
+use crate::running::client::Client;
+use crate::running::clusters::{Crew, parts};
+use crate::running::confirming::confirmed_lines;
+use crate::running::gates::Hold;
+use crate::running::inputs::Inputs;
+use crate::running::meeting::turn_both;
+use crate::running::runs::{hold, run};
 use body_marks::Marking;
 use buffer_commands::{Setup, WireLine};
 use irc_line::Name;

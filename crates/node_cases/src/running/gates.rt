@@ -1,7 +1,7 @@
 //! Gates that hold workers.
 ghost use Rattle.std.specs.Prelude.{◌<◌};
 
-use crate::clusters::{Flag, MOST_POLLS, flag, rest};
+use crate::running::clusters::{Flag, MOST_POLLS, flag, rest};
 use node_threads::Gate;
 use std::alloc::{AllocError, Global};
 use std::rt::Clock;

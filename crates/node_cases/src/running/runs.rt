@@ -1,8 +1,8 @@
 //! Runs that are recorded.
-use crate::client::{Client, Pace, ask_all};
-use crate::clusters::{Crew, lead};
-use crate::inputs::Inputs;
-use crate::story::Told;
+use crate::running::client::{Client, Pace, ask_all};
+use crate::running::clusters::{Crew, lead};
+use crate::running::inputs::Inputs;
+use crate::running::story::Told;
 use body_marks::Marking;
 use irc_line::Name;
 use machine_laws::{Hosted, Machine};

@@ -1,6 +1,6 @@
 //! Clusters over new stores.
-use crate::upstream::NoUpstream;
-use crate::watch::Watch;
+use crate::cell::upstream::NoUpstream;
+use crate::running::watch::Watch;
 use body_marks::Marking;
 use machine_laws::{Hosted, Machine};
 use node_notes::Note;

@@ -1,8 +1,8 @@
 //! A confirmed look at a node that is held.
-use crate::client::{Client, Pace, ask_all};
-use crate::clusters::{Crew, Flag, MOST_POLLS, flag, lead, rest};
-use crate::gates::Hold;
-use crate::story::Told;
+use crate::running::client::{Client, Pace, ask_all};
+use crate::running::clusters::{Crew, Flag, MOST_POLLS, flag, lead, rest};
+use crate::running::gates::Hold;
+use crate::running::story::Told;
 use body_marks::Marking;
 use irc_line::Name;
 use machine_laws::{Hosted, Machine};

@@ -1,6 +1,6 @@
 //! Two nodes whose first turns meet.
-use crate::clusters::Crew;
-use crate::story::Told;
+use crate::running::clusters::Crew;
+use crate::running::story::Told;
 use body_marks::Marking;
 use machine_laws::Machine;
 use node_notes::Note;

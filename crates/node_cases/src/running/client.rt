@@ -1,9 +1,9 @@
 //! Clients that ask over and over until they are answered.
 ghost use Rattle.std.specs.Prelude.{◌<◌};
 
-use crate::clusters::{Counter, Crew, MOST_POLLS, rest};
-use crate::inputs::Inputs;
-use crate::request::Request;
+use crate::running::clusters::{Counter, Crew, MOST_POLLS, rest};
+use crate::running::inputs::Inputs;
+use crate::running::request::Request;
 use body_marks::Marking;
 use machine_laws::{Hosted, Machine};
 use node_notes::Note;

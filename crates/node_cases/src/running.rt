@@ -1,0 +1,13 @@
+//! Nodes that run in threads, by rows.
+mod client;
+mod clusters;
+mod confirming;
+mod gates;
+mod inputs;
+mod marks;
+mod meeting;
+mod request;
+mod runs;
+mod story;
+mod tests;
+mod watch;
