@@ -1,21 +1,48 @@
--- Why the nodes do not start, told as the program tells it.
-use Rattle.node_threads.specs.declared.cluster_fault.ClusterFault.{ClusterFault}
-use Rattle.node_threads.specs.declared.cluster_fault.ClusterFault.TheVariants as cluster
-use Rattle.raft_node.specs.declared.node_fault.Cause.TheVariants as cause
-use Rattle.raft_node.specs.declared.node_fault.NodeFault.{NodeFault}
-use Rattle.raft_node.specs.declared.node_fault.NodeFault.TheVariants.{Down, Refused}
-use Rattle.run_edges.specs.declared.run_fault.RunFault.{RunFault}
-use Rattle.run_edges.specs.declared.run_fault.RunFault.TheVariants.{Memory, Store}
+-- What faults of lower calls are to the program.
+use Rattle.std.specs.Prelude.{◌≡◌, ◌≢◌, ◌⊎◌}
+use Rattle.std.specs.declared.io.ErrorKind.{ErrorKind}
+use Rattle.std.specs.declared.io.ErrorKind.TheVariants.{OutOfMemory}
+use Rattle.std.specs.IoError.{error_kind}
+use Rattle.file_disk.specs.declared.open_fault.OpenFault.{OpenFault}
+use Rattle.file_disk.specs.declared.open_fault.OpenFault.TheVariants as opening
+use Rattle.stable_store.specs.declared.store_fault.StoreFault.{StoreFault}
+use Rattle.stable_store.specs.declared.store_fault.StoreFault.TheVariants as store
+use Rattle.bouncer_run.specs.declared.event_loop.LoopFault.{LoopFault}
+use Rattle.bouncer_run.specs.declared.event_loop.LoopFault.TheVariants as ended
+use Rattle.whole_input.specs.declared.read_fault.ReadFault.{ReadFault}
+use Rattle.whole_input.specs.declared.read_fault.ReadFault.TheVariants as input
+use Rattle.bouncer_run.specs.declared.run_fault.RunFault.{RunFault}
+use Rattle.bouncer_run.specs.declared.run_fault.RunFault.TheVariants.{InputTooLong, Memory, Read, Socket, Store}
 
--- a node that does not start: for want of memory, or for its store
-abbrev pub fault_of_node : NodeFault → RunFault
-fault_of_node (Down cause.Memory) = Memory
-fault_of_node (Down cause.Store) = Store
-fault_of_node (Refused refusal) = Store
+-- this fault, or want of memory
+abbrev pub IsOrMemory : RunFault → RunFault → Type 0
+IsOrMemory fault f = (f ≡ fault) ⊎ (f ≡ Memory)
 
-abbrev pub fault_by : ClusterFault → RunFault
-fault_by cluster.Memory = Memory
-fault_by (cluster.NoNode n) = Store
-fault_by cluster.Stopped = Store
-fault_by (cluster.Node fault) = fault_of_node fault
-fault_by cluster.Spent = Store
+-- an error of the system is want of memory where it is of that kind, and else that fault
+pub record IsFaultOfError (kind : ErrorKind) (otherwise fault : RunFault) : Type 0 where
+  pub memory : kind ≡ OutOfMemory → fault ≡ Memory
+  pub other : kind ≢ OutOfMemory → fault ≡ otherwise
+
+abbrev pub fault_of_reading : ReadFault → RunFault
+fault_of_reading input.InputTooLong = InputTooLong
+fault_of_reading input.Read = Read
+fault_of_reading input.Memory = Memory
+
+abbrev pub fault_of_loop : LoopFault → RunFault
+fault_of_loop ended.Socket = Socket
+fault_of_loop ended.Memory = Memory
+
+-- a store that fails: for want of memory, or for what lies in it
+abbrev pub fault_of_store : StoreFault → RunFault
+fault_of_store store.Device = Store
+fault_of_store store.NotAStore = Store
+fault_of_store store.Version = Store
+fault_of_store (store.Damaged place) = Store
+fault_of_store store.Memory = Memory
+
+-- a journal that is not opened: want of memory is told as that, also where the system tells it
+abbrev pub IsFaultOfOpening : OpenFault → RunFault → Type 0
+IsFaultOfOpening opening.InUse f = f ≡ Store
+IsFaultOfOpening opening.NotAFile f = f ≡ Store
+IsFaultOfOpening (opening.System error) f = IsFaultOfError (error_kind error) Store f
+IsFaultOfOpening (opening.Store fault) f = f ≡ fault_of_store fault

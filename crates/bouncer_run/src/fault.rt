@@ -1,10 +1,10 @@
 //! Why the nodes of a bouncer do not start, as the program tells it.
 ghost use Rattle.std.specs.Prelude.{◌≡◌};
-ghost use Rattle.bouncer_run.specs.Faults.{fault_by};
+ghost use Rattle.bouncer_run.specs.ClusterFaults.{fault_by};
 
+use crate::run_fault::RunFault;
 use node_threads::ClusterFault;
 use raft_node::{Cause, NodeFault};
-use run_edges::RunFault;
 
 /// What it is to the program that the nodes do not start: want of memory is that, also a node's
 /// own, and all else lies in a node's store.

@@ -1,8 +1,8 @@
 //! What leaves a node, told to the loop.
+use crate::inlet::{Inlet, Word};
 use bouncer_tower::TowerEffect;
 use node_notes::Report;
 use node_threads::Outlet;
-use sockets::{Inlet, Word};
 use std::sync::Wait;
 
 /// Tells the loop what leaves a node.

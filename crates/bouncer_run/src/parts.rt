@@ -1,14 +1,15 @@
 //! What the nodes of a bouncer run with.
 ghost use Rattle.std.specs.Prelude.{◌≡◌, ◌≤◌, IfOk, length, map};
 
+use crate::inlet::Inlet;
+use crate::inlets::Inlets;
 use crate::outlet::LoopOutlet;
+use crate::system::System;
 use bouncer_tower::TowerBody;
 use file_disk::FileJournal;
 use node_cells::Upstream;
 use node_threads::Part;
 use raft_log::NodeId;
-use run_edges::{Inlets, System};
-use sockets::Inlet;
 use std::alloc::{AllocError, Global};
 
 /// What a node of a bouncer runs with.

@@ -1,19 +1,29 @@
 //! The run of a bouncer.
 ghost use Rattle.std.specs.Prelude.{◌≡◌, ◌⊎◌, IfErr, IfOk};
-ghost use Rattle.run_edges.specs.Faults.{IsOrMemory};
+ghost use Rattle.bouncer_run.specs.Faults.{IsOrMemory};
 
+use crate::clock::Clockwork;
+use crate::driver_settings::settings_of;
+use crate::ending::watch_input;
+use crate::event_loop::run_loop;
+use crate::group::{address_of, size_of};
+use crate::inlet::{Inlet, Word};
+use crate::inlets::Inlets;
+use crate::journal_files::journals;
+use crate::listening::listen_all;
 use crate::parts::parts;
+use crate::reading::read;
+use crate::record_file::{try_record, write_record};
+use crate::run_fault::RunFault;
 use crate::running::Running;
+use crate::sockets::Sockets;
+use crate::system::System;
+use crate::telling::Telling;
 use bouncer_config::Config;
 use crossbeam_channel::{Receiver, unbounded};
 use driver::Driver;
 use node_cells::Upstream;
 use raft_log::NodeId;
-use run_edges::{
-    Inlets, RunFault, System, Telling, address_of, journals, listen_all, read, settings_of,
-    size_of, try_record, watch_input, write_record,
-};
-use sockets::{Clockwork, Inlet, Sockets, Word, run_loop};
 use std::alloc::Global;
 use std::io;
 use std::io::Read;

@@ -1,11 +1,16 @@
 //! The nodes of a bouncer, as the program starts them and as the loop speaks to them.
 ghost use Rattle.std.specs.Prelude.{◌≡◌, IfErr, IfOk, length};
-ghost use Rattle.run_edges.specs.Faults.{IsOrMemory};
-ghost use Rattle.run_edges.specs.Groups.{recording_by};
-ghost use Rattle.run_edges.specs.declared.run_fault.RunFault.TheVariants.{Store};
+ghost use Rattle.bouncer_run.specs.Faults.{IsOrMemory};
+ghost use Rattle.bouncer_run.specs.Groups.{recording_by};
+ghost use Rattle.bouncer_run.specs.declared.run_fault.RunFault.TheVariants.{Store};
 
+use crate::event_loop::Nodes;
 use crate::fault::fault_of_cluster;
+use crate::group::recording_of;
 use crate::parts::BouncerPart;
+use crate::record_file::TowerRecord;
+use crate::run_fault::RunFault;
+use crate::system::System;
 use bouncer_config::Config;
 use bouncer_tower::{Tower, TowerBody};
 use driver::TowerNote;
@@ -13,8 +18,6 @@ use file_disk::FileJournal;
 use node_cells::Upstream;
 use node_threads::{Cluster, OpenGate};
 use raft_log::{GroupSize, NodeId};
-use run_edges::{RunFault, System, TowerRecord, recording_of};
-use sockets::Nodes;
 use std::sync::Wait;
 
 /// The nodes of a bouncer, each in a thread of its own.

@@ -1,0 +1,26 @@
+//! Ways to tell the loop something.
+use crate::inlet::{Inlet, Word};
+use crossbeam_channel::Sender;
+use mio::Waker;
+use std::alloc::AllocError;
+use std::sync::Arc;
+
+/// What each inlet of a loop is made from.
+#[derive(Drop)]
+pub struct Inlets {
+    pub words: Sender<Word>,
+    pub waker: Arc<Waker>,
+}
+
+impl Inlets {
+    /// One more way to tell the loop something.
+    pub fn one(&self) -> Result<Inlet, AllocError> {
+        let Ok(words) = self.words.clone() else {
+            return Err(AllocError);
+        };
+        let Ok(waker) = Arc::try_clone(&self.waker) else {
+            return Err(AllocError);
+        };
+        Ok(Inlet { words, waker })
+    }
+}

@@ -1,0 +1,84 @@
+//! The configuration of a file.
+ghost use Rattle.std.specs.Prelude.{◌≡◌, IfErr, IfOk};
+ghost use Rattle.bouncer_run.specs.Configs.{IsConfigOf, IsSaid, IsUnread, IsUnreadFault, fault_of_unread};
+
+use crate::run_fault::RunFault;
+use crate::system::System;
+use bouncer_config::{Config, ConfigFault, Problem, parse_config};
+use std::alloc::Global;
+use std::fs;
+use std::io::Read;
+use whole_input::{ReadFault, read_whole};
+
+/// Why no configuration was read.
+#[derive(Drop)]
+pub enum Unread {
+    /// There is no text.
+    Unreadable(ReadFault),
+    /// There is a text, and it is no configuration.
+    Refused(ConfigFault),
+}
+
+impl Unread {
+    /// What it is to the program. Want of memory is that, also where a text could be no
+    /// configuration.
+    fn fault(&self) -> RunFault
+        ensures { result ≡ fault_of_unread self.now }
+    {
+        match self {
+            Unread::Unreadable(fault) => RunFault::from(*fault),
+            Unread::Refused(fault) => match &fault.problem {
+                Problem::Memory => RunFault::Memory,
+                _ => RunFault::Config,
+            },
+        }
+    }
+}
+
+/// The configuration in the file of this path. Where there is none, and it is not for want of
+/// memory, a line was written to standard error that names the file and says why.
+pub fn read<R: System>(rt: &R, path: &str) -> Result<Config, RunFault>
+    ensures said { IfOk result IsSaid }
+    ensures fault { IfErr result IsUnreadFault }
+{
+    let mut file = match fs::open(rt, path) {
+        Ok(file) => file,
+        Err(error) => {
+            let fault = RunFault::of_error(&error, RunFault::Read);
+            let _ = eprintln!(rt; "{path}: {error}");
+            return Err(fault);
+        }
+    };
+    match read_config(rt.alloc(), &mut file) {
+        Ok(config) => Ok(config),
+        Err(unread) => {
+            tell(rt, path, &unread);
+            Err(unread.fault())
+        }
+    }
+}
+
+/// The configuration that the bytes of a reader say, all of them.
+pub fn read_config<F: Read>(alloc: Global, file: &mut F) -> Result<Config, Unread>
+    ensures ok { IfOk result (IsConfigOf (F.remaining file.old)) }
+    ensures err { IfErr result (IsUnread (F.remaining file.old)) }
+{
+    let text = match read_whole(alloc, file) {
+        Ok(text) => text,
+        Err(fault) => return Err(Unread::Unreadable(fault)),
+    };
+    match parse_config(alloc, text.as_slice()) {
+        Ok(config) => Ok(config),
+        Err(fault) => Err(Unread::Refused(fault)),
+    }
+}
+
+/// Says on standard error why there is no configuration in a file.
+fn tell<R: System>(rt: &R, path: &str, unread: &Unread) {
+    let _ = match unread {
+        Unread::Unreadable(ReadFault::InputTooLong) => eprintln!(rt; "{path}: is too long"),
+        Unread::Unreadable(ReadFault::Read) => eprintln!(rt; "{path}: can't be read"),
+        Unread::Unreadable(ReadFault::Memory) => eprintln!(rt; "{path}: out of memory"),
+        Unread::Refused(fault) => eprintln!(rt; "{path}:{fault}"),
+    };
+}

@@ -1,0 +1,87 @@
+//! Why a bouncer does not run, or ended before it was to.
+ghost use Rattle.std.specs.Prelude.{◌≡◌};
+ghost use Rattle.std.specs.IoError.{error_kind};
+ghost use Rattle.bouncer_run.specs.Faults.{IsFaultOfError, IsOrMemory, fault_of_loop};
+
+use crate::event_loop::LoopFault;
+use std::alloc::AllocError;
+use std::io;
+use std::io::ErrorKind;
+use thiserror::Error;
+use whole_input::ReadFault;
+
+/// Why a bouncer does not run, or ended before it was to.
+#[derive(Clone, Copy, Debug, Drop, PartialEq, Eq, Error)]
+pub enum RunFault {
+    /// The configuration could not be read.
+    #[error("Read")]
+    Read,
+    /// The configuration has more than 67,108,864 bytes.
+    #[error("InputTooLong")]
+    InputTooLong,
+    /// The configuration is not one.
+    #[error("Config")]
+    Config,
+    /// The folder of the journals can't be made, a journal can't be made or adopted, or a node does
+    /// not start over it.
+    #[error("Store")]
+    Store,
+    /// A node can't listen at its address, or the sockets can't be waited for.
+    #[error("Socket")]
+    Socket,
+    /// The record could not be written; some of it may have been.
+    #[error("Write")]
+    Write,
+    #[error("Memory")]
+    Memory,
+}
+
+impl RunFault {
+    /// What an error of the system is: want of memory, where it is that, and else this fault.
+    pub fn of_error(error: &io::Error, otherwise: RunFault) -> RunFault
+        ensures kind { IsFaultOfError (error_kind error.now) otherwise result }
+        ensures either { IsOrMemory otherwise result }
+    {
+        if error.kind() == ErrorKind::OutOfMemory {
+            RunFault::Memory
+        } else {
+            otherwise
+        }
+    }
+
+    /// What it is to the program that the loop ended before it was to.
+    pub fn of_loop(fault: LoopFault) -> RunFault
+        ensures { result ≡ fault_of_loop fault }
+    {
+        match fault {
+            LoopFault::Socket => RunFault::Socket,
+            LoopFault::Memory => RunFault::Memory,
+        }
+    }
+}
+
+impl From<AllocError> for RunFault {
+    ghost use Rattle.std.specs.Prelude.{◌≡◌};
+    ghost use Rattle.bouncer_run.specs.declared.run_fault.RunFault.TheVariants.{Memory};
+
+    ghost from_gives = { λ _ e. e ≡ Memory };
+
+    fn from(_: AllocError) -> Self {
+        RunFault::Memory
+    }
+}
+
+impl From<ReadFault> for RunFault {
+    ghost use Rattle.std.specs.Prelude.{◌≡◌};
+    ghost use Rattle.bouncer_run.specs.Faults.{fault_of_reading};
+
+    ghost from_gives = { λ fault e. e ≡ fault_of_reading fault };
+
+    fn from(fault: ReadFault) -> Self {
+        match fault {
+            ReadFault::InputTooLong => RunFault::InputTooLong,
+            ReadFault::Read => RunFault::Read,
+            ReadFault::Memory => RunFault::Memory,
+        }
+    }
+}

@@ -1,6 +1,0 @@
-pub mod Configs
-pub mod Faults
-pub mod Groups
-pub mod Pasts
-pub mod Paths
-pub mod Settings
