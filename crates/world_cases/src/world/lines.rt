@@ -1,80 +1,18 @@
 //! Lines of what comes out, by examples.
-use bouncer_tower::{Tower, TowerBody};
-use buffer_commands::{Effect, Setup, WireLine};
+use buffer_commands::Effect;
 use buffer_lines::Shown;
-use irc_line::Name;
 use node_steps::Refusal;
 use raft_log::NodeId;
-use recorder::parse_events;
 use std::alloc::Global;
 use std::process::Abort;
 use std::test::Fail;
 use toy_machine::Toy;
 use wire_bytes::{Number, Origin};
 use world_events::{Event, Input};
-use world_lines::{push_nodes, push_outcome, push_outcomes, world_text};
+use world_lines::{push_nodes, push_outcome, push_outcomes};
 use world_run::{Outcome, World};
 
 type BufferOutcome = Outcome<Effect, Shown>;
-
-/// A client of node 1 attaches, detaches `#x` and says `hi` there; node 3 takes the leader's list and
-/// plays `#x`, a place at a time.
-const EVENTS: &[u8] = b"timeout 1
-deliver 1 1
-deliver 2 1
-ask 1 0101000000000000000100000000000000010000000000000001000000006553f10001
-ask 1 0101000000000000000100000000000000010000000000000002000000006553f1000600022378
-ask 1 0101000000000000000100000000000000010000000000000003000000006553f10003000002237800026869
-beat 1
-deliver 1 4
-deliver 3 1
-beat 1
-deliver 1 6
-apply 3
-apply 3
-look 3 3 #x
-apply 3
-look 3 3 #x
-apply 3
-look 3 4 #x
-deliver 1 99
-apply 1
-apply 1
-";
-
-const TEXT: &[u8] = b"14 3 refused 6 Behind 2
-16 3 3 looked 0
-18 3 4 looked 3
-18 3 line :***!bouncer@local PRIVMSG #x :Buffer Playback...
-18 3 line :me!bouncer@local PRIVMSG #x :[22:13:20] hi
-18 3 line :***!bouncer@local PRIVMSG #x :Playback Complete.
-19 none
-21 1 2 done 1.1.1 1
-node 1 leader term 1 vote 1 log 4 last 1 commit 4 applied 2
-node 2 follower term 1 vote 1 log 0 last 0 commit 0 applied 0
-node 3 follower term 1 vote 0 log 4 last 1 commit 4 applied 4
-";
-
-type TowerEvent = Event<TowerBody, WireLine, Name>;
-
-/// The text of the world of three nodes after these events.
-fn told(alloc: Global, setup: &Setup, events: &[TowerEvent]) -> Result<Vec<u8>, Fail> {
-    let world = World::<Tower>::run(alloc, 3, setup, events)?;
-    Ok(world_text(alloc, events, &world)?)
-}
-
-/// The same after the events of a text.
-fn told_after(alloc: Global, text: &[u8]) -> Result<Vec<u8>, Fail> {
-    let events = parse_events::<TowerBody>(alloc, text).map_err(|_| "no events")?;
-    let setup = Setup::plain(alloc)?;
-    told(alloc, &setup, &events)
-}
-
-#[test]
-fn a_world_is_its_text(rt: HostRuntime) -> Result<(), Fail> {
-    assert!(rt; told_after(rt.alloc(), EVENTS)?.as_slice() == TEXT);
-    Ok(())
-}
 
 /// The lines of three nodes that nothing happened to.
 fn told_nodes(alloc: Global) -> Result<Vec<u8>, Fail> {
