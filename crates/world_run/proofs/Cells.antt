@@ -2,7 +2,7 @@
 use Rattle.std.proofs.Common.{◌≡◌, ℕ, zero, suc, ◌+◌, ◌-◌, ◌<◌, ◌≤◌, List, [], ◌∷◌, ◌++◌, length, map, take, replicate, get_or, set, option_map, ◌⊎◌, inr, ⊎_elim, refl, sym, ap, ◌∙◌, subst, arith}
 use Rattle.std.proofs.lemmas.List.{map-set, map-append, length-set, length-map, length-append, replicate-append-replicate}
 use Rattle.std.proofs.lemmas.Option.{slice_get-map, slice_get-get_or}
-use Rattle.std.specs.Prelude.{Option, Some, None, slice_get}
+use Rattle.std.specs.Prelude.{Option, Some, None, Result, Ok, Err, IfOk, slice_get}
 use Rattle.raft_log.specs.declared.message.Message.{Message}
 use Rattle.raft_log.specs.Lists.{item, with_item}
 use Rattle.raft_log.specs.Node.{Node}
@@ -55,7 +55,7 @@ module _ {Setup Hosted Store B : Type 0} where
       subst (λ (x : CellParts Setup Hosted Store B). IsCell setup size (suc k) x) at (record { id_is = r.id_is ∙ omega arith; size_is = r.size_is; setup_is = r.setup_is; is_up = r.is_up })
 
   -- with another state of it
-  pub group_with : (setup : Setup) (size i : ℕ) (cells : List (CellParts Setup Hosted Store B)) (c new : CellParts Setup Hosted Store B)
+  group_with : (setup : Setup) (size i : ℕ) (cells : List (CellParts Setup Hosted Store B)) (c new : CellParts Setup Hosted Store B)
       → IsGroup setup size cells → (i ≡ 0 → ⊥) → IsCell setup size i c → IsStillUp c new → IsGroup setup size (set cells (i - 1) new)
   group_with setup size zero cells c new g pos is up = absurd (pos refl)
   group_with setup size (suc k) cells c new g pos is up =
@@ -89,6 +89,10 @@ module _ {Setup Hosted Store B : Type 0} where
   none_sent_at i number cells c pos le e h =
       no_message_at c.sent number h ∙ ap (λ (s : Option (Node B)). sent_of s number) (sym (node_at i cells c pos le e))
 
+  pub no_sender_at : (i number : ℕ) (cells : List (CellParts Setup Hosted Store B)) → length cells < i → None ≡ sent_of (item (nodes_in cells) i) number
+  no_sender_at zero number cells lt = refl
+  no_sender_at (suc k) number cells lt = ap (λ (s : Option (Node B)). sent_of s number) (sym (none_in cells k (omega (arith, lt))))
+
   -- what the node of a number commits
   pub committed_at : (i : ℕ) (cells : List (CellParts Setup Hosted Store B)) (c : CellParts Setup Hosted Store B) → (i ≡ 0 → ⊥) → i ≤ length cells → c ≡ get_or cells (i - 1) c
       → take c.node.state.standing.commit c.node.state.log ≡ committed (nodes_in cells) i
@@ -103,7 +107,7 @@ module _ {Setup Hosted Store B : Type 0} where
 
 module _ (M : Machine) {Setup Hosted Store : Type 0} where
   -- what happened to the node of a number
-  pub owned_at : (o : Own M) (setup : Setup) (size i : ℕ) (cells : List (CellParts Setup Hosted Store M.Body)) (c new : CellParts Setup Hosted Store M.Body) (out : Outcome M.Effect M.Played)
+  owned_at : (o : Own M) (setup : Setup) (size i : ℕ) (cells : List (CellParts Setup Hosted Store M.Body)) (c new : CellParts Setup Hosted Store M.Body) (out : Outcome M.Effect M.Played)
       → IsGroup setup size cells → (i ≡ 0 → ⊥) → i ≤ length cells → c ≡ get_or cells (i - 1) c → IsCell setup size i c → HasOwned M o c new out
       → HasOwnedAt M i o cells (set cells (i - 1) new) out
   owned_at o setup size zero cells c new out g pos le e is h = absurd (pos refl)
@@ -131,6 +135,18 @@ module _ (M : Machine) {Setup Hosted Store : Type 0} where
         nodes = ap (λ (s : Option (Node M.Body)). world.world_by M (nodes_in cells) (suc k) o s) (sym none);
         comes = ap (λ (s : Option (Node M.Body)). world.out_by M (nodes_in cells) (suc k) o s) (sym none);
       }
+
+  -- a call that did not fail made one of the nodes another state of it
+  pub group_after : {E : Type 0} (o : Own M) (setup : Setup) (size i : ℕ) (cells : List (CellParts Setup Hosted Store M.Body)) (c new : CellParts Setup Hosted Store M.Body) (r : Result (Outcome M.Effect M.Played) E)
+      → IsGroup setup size cells → (i ≡ 0 → ⊥) → IsCell setup size i c → IfOk r (HasOwned M o c new) → IfOk r (λ _. IsGroup setup size (set cells (i - 1) new))
+  group_after o setup size i cells c new (Ok out) g pos is h = group_with setup size i cells c new g pos is h.still_up
+  group_after o setup size i cells c new (Err e) g pos is h = tt
+
+  pub owned_after : {E : Type 0} (o : Own M) (setup : Setup) (size i : ℕ) (cells : List (CellParts Setup Hosted Store M.Body)) (c new : CellParts Setup Hosted Store M.Body) (r : Result (Outcome M.Effect M.Played) E)
+      → IsGroup setup size cells → (i ≡ 0 → ⊥) → i ≤ length cells → c ≡ get_or cells (i - 1) c → IsCell setup size i c → IfOk r (HasOwned M o c new)
+      → IfOk r (HasOwnedAt M i o cells (set cells (i - 1) new))
+  owned_after o setup size i cells c new (Ok out) g pos le e is h = owned_at o setup size i cells c new out g pos le e is h
+  owned_after o setup size i cells c new (Err x) g pos le e is h = tt
 
 module _ {Setup Hosted Store B : Type 0} where
   last_too : (setup : Setup) (size a k : ℕ) (cells : List (CellParts Setup Hosted Store B)) (c : CellParts Setup Hosted Store B) → AreCells setup size a cells → k ≡ a + length cells → IsCell setup size k c

@@ -1,6 +1,9 @@
 use Rattle.std.proofs.Common.{◌≡◌, ◌≤◌, ◌<◌, ◌-◌, ◌⊎◌, Some, length, get_or, ap, subst, ◌∙◌, arith}
-use Rattle.world_run.proofs.Cells.{sent_at, none_sent_at}
+use Rattle.world_run.proofs.Cells.{sent_at, none_sent_at, no_sender_at}
 use Rattle.world_run.proofs.group.sent.Goals as goal
+
+pub returns-then-place-cells : goal.returns-then-place-cells
+returns-then-place-cells g c = no_sender_at c.args.sender c.args.number c.args.cells.now (omega (arith, c.if-place-cells.true, c.value-place.ensures.value))
 
 pub returns-then-number-eq0 : goal.returns-then-number-eq0
 returns-then-number-eq0 g c =
