@@ -71,6 +71,10 @@ module _ {Setup Hosted Store B : Type 0} where
   none_in (c ∷ cells) zero le = absurd (omega (arith, le))
   none_in (c ∷ cells) (suc k) le = none_in cells k (omega (arith, le))
 
+  pub none_at : (i : ℕ) (cells : List (CellParts Setup Hosted Store B)) → (i ≡ 0) ⊎ (length cells < i) → item (nodes_in cells) i ≡ None
+  none_at zero cells h = refl
+  none_at (suc k) cells h = none_in cells k (⊎_elim (λ e. absurd (omega (arith, e))) (λ lt. omega (arith, lt)) h)
+
   node_at : (i : ℕ) (cells : List (CellParts Setup Hosted Store B)) (c : CellParts Setup Hosted Store B) → 1 ≤ i → i ≤ length cells → c ≡ get_or cells (i - 1) c
       → item (nodes_in cells) i ≡ Some (node_in c)
   node_at zero cells c pos le e = absurd (omega (arith, pos))
@@ -128,12 +132,11 @@ module _ (M : Machine) {Setup Hosted Store : Type 0} where
 
   -- there is no such node
   pub missing_at : (o : Own M) (i : ℕ) (cells : List (CellParts Setup Hosted Store M.Body)) → (i ≡ 0) ⊎ (length cells < i) → HasOwnedAt M i o cells cells Missing
-  missing_at o zero cells h = record { nodes = refl; comes = refl }
-  missing_at o (suc k) cells h =
-      let none : item (nodes_in cells) (suc k) ≡ None = none_in cells k (⊎_elim (λ e. absurd (omega (arith, e))) (λ lt. omega (arith, lt)) h) in
+  missing_at o i cells h =
+      let none : item (nodes_in cells) i ≡ None = none_at i cells h in
       record {
-        nodes = ap (λ (s : Option (Node M.Body)). world.world_by M (nodes_in cells) (suc k) o s) (sym none);
-        comes = ap (λ (s : Option (Node M.Body)). world.out_by M (nodes_in cells) (suc k) o s) (sym none);
+        nodes = ap (λ (s : Option (Node M.Body)). world.world_by M (nodes_in cells) i o s) (sym none);
+        comes = ap (λ (s : Option (Node M.Body)). world.out_by M (nodes_in cells) i o s) (sym none);
       }
 
   -- a call that did not fail made one of the nodes another state of it

@@ -1,12 +1,16 @@
 -- The lines that are handed upstream are the same, read off what came out as the code has it.
-use Rattle.std.proofs.Common.{◌≡◌, ◌≤◌, ℕ, List, [], ◌∷◌, ◌++◌, drop, length, refl, sym, ap, ◌∙◌}
-use Rattle.std.proofs.lemmas.List.{append_assoc, append-nil, drop_all}
+use Rattle.std.proofs.Common.{◌≡◌, ◌+◌, ◌<◌, ◌≤◌, ℕ, List, [], ◌∷◌, ◌++◌, Vec, Global, drop, get_or, length, map, refl, sym, ap, ◌∙◌}
+use Rattle.std.proofs.lemmas.List.{append_assoc, append-nil, drop_all, map-append}
 use Rattle.raft_node.specs.Machine.{Machine}
 use Rattle.irc_line.specs.Lines.{Parts}
+use Rattle.machine_laws.specs.Classes.{Handed, class_map, handed_by}
 use Rattle.machine_laws.specs.declared.class.Class.{Class}
+use Rattle.machine_laws.specs.declared.class.Class.TheVariants.{To, Hand, Rejoin, Nowhere}
+use Rattle.wire_bytes.specs.declared.session_id.SessionId.{SessionId}
+use Rattle.world_run.proofs.Onward.{first_of}
 use Rattle.world_run.specs.declared.outcome.Outcome.{Outcome}
 use Rattle.world_run.specs.declared.outcome.Outcome.TheVariants.{Quiet, Left, Looked, Refused, Missing}
-use Rattle.world_run.specs.Groups.{IsWorld, WorldParts}
+use Rattle.world_run.specs.Groups.{WorldParts}
 use Rattle.world_run.specs.Handing.{hands_by, handed_in, IsHandedOf}
 use Rattle.world_run.specs.Told.{outs_of}
 use Rattle.world_run.specs.World.{hands, hand_of, left_of}
@@ -16,6 +20,77 @@ pub all_is_told :
     {E P : Type 0} (class : E → Class Parts) (outs : List (Outcome E P)) (k : ℕ) (lines all : List (ℕ × Parts)) →
     length outs ≤ k → lines ++ handed_in class (drop k outs) ≡ all → lines ≡ all
 all_is_told class outs k lines all past e = sym (append-nil lines) ∙ ap (λ left. lines ++ handed_in class left) (sym (drop_all k outs past)) ∙ e
+
+pub all_are_told :
+    {E : Type 0} (class : E → Class Parts) (effects : List E) (k : ℕ) (lines all : List (ℕ × Parts)) →
+    length effects ≤ k → lines ++ hands_by class (drop k effects) ≡ all → lines ≡ all
+all_are_told class effects k lines all past e = sym (append-nil lines) ∙ ap (λ left. lines ++ hands_by class left) (sym (drop_all k effects past)) ∙ e
+
+-- the numbers and lines
+abbrev numbered : List Handed → List (ℕ × Parts)
+numbered hands = map (λ h. (h.0.0, h.1)) hands
+
+module _ {E L : Type 0} (class : E → Class Parts) (now : L → Parts) where
+  -- these, where each line is read through what holds it
+  abbrev told : List (ℕ × L) → List (ℕ × Parts)
+  told lines = map (λ h. (h.0, now h.1)) lines
+
+  -- an effect that is handed upstream is told, and is not to come any more
+  pub hand_told : (es : List E) (k : ℕ) (e : E) (at : Class L) (id : SessionId) (number : ℕ) (line : L) (old new : List (ℕ × L)) (all : List (ℕ × Parts))
+      → k < length es → e ≡ get_or es k e → class_map now at ≡ class e → at ≡ Hand id number line → new ≡ old ++ (number, line) ∷ []
+      → told old ++ hands_by class (drop k es) ≡ all → told new ++ hands_by class (drop (k + 1) es) ≡ all
+  hand_told es k e at id number line old new all lt is of hand more was =
+      let rest : List (ℕ × Parts) = hands_by class (drop (k + 1) es) in
+      ap (λ (l : List (ℕ × L)). told l ++ rest) more
+      ∙ (ap (λ (l : List (ℕ × Parts)). l ++ rest) (map-append (λ (h : ℕ × L). let n : ℕ × Parts = (h.0, now h.1) in n) old ((number, line) ∷ []))
+      ∙ (append_assoc (told old) ((number, now line) ∷ []) rest
+      ∙ (ap (λ (c : Class Parts). told old ++ (numbered (handed_by c) ++ rest)) (ap (λ (c : Class L). class_map now c) (sym hand) ∙ of)
+      ∙ (ap (λ (l : List E). told old ++ hands_by class l) (sym (first_of es k e lt is)) ∙ was))))
+
+  no_hand : (at : Class L) → ((id : SessionId) (number : ℕ) (line : L) → at ≡ Hand id number line → ⊥) → [] ≡ numbered (handed_by (class_map now at))
+  no_hand (To o) other = refl
+  no_hand (Hand id number line) other = absurd (other id number line refl)
+  no_hand (Rejoin id line) other = refl
+  no_hand Nowhere other = refl
+
+  -- another effect has nothing to tell
+  pub none_told : (es : List E) (k : ℕ) (e : E) (at : Class L) (old new : List (ℕ × L)) (all : List (ℕ × Parts))
+      → k < length es → e ≡ get_or es k e → class_map now at ≡ class e → ((id : SessionId) (number : ℕ) (line : L) → at ≡ Hand id number line → ⊥) → new ≡ old
+      → told old ++ hands_by class (drop k es) ≡ all → told new ++ hands_by class (drop (k + 1) es) ≡ all
+  none_told es k e at old new all lt is of other same was =
+      let rest : List (ℕ × Parts) = hands_by class (drop (k + 1) es) in
+      ap (λ (l : List (ℕ × L)). told l ++ rest) same
+      ∙ (ap (λ (l : List (ℕ × Parts)). told old ++ (l ++ rest)) (no_hand at other ∙ ap (λ (c : Class Parts). numbered (handed_by c)) of)
+      ∙ (ap (λ (l : List E). told old ++ hands_by class l) (sym (first_of es k e lt is)) ∙ was))
+
+  module _ {P : Type 0} where
+    -- the effects that left are told, and are not to come any more
+    pub left_told : (outs : List (Outcome E P)) (k : ℕ) (o : Outcome E P) (place : ℕ) (effects : Vec E Global) (seen : List E) (old mid new : List (ℕ × L)) (all : List (ℕ × Parts))
+        → k < length outs → o ≡ get_or outs k o → o ≡ Left place effects → seen ≡ effects.items → told mid ≡ told old ++ hands_by class seen → new ≡ mid
+        → told old ++ handed_in class (drop k outs) ≡ all → told new ++ handed_in class (drop (k + 1) outs) ≡ all
+    left_told outs k o place effects seen old mid new all lt is left these more same was =
+        let rest : List (ℕ × Parts) = handed_in class (drop (k + 1) outs) in
+        ap (λ (l : List (ℕ × L)). told l ++ rest) same
+        ∙ (ap (λ (l : List (ℕ × Parts)). l ++ rest) (more ∙ ap (λ (l : List E). told old ++ hands_by class l) these)
+        ∙ (append_assoc (told old) (hands_by class effects.items) rest
+        ∙ (ap (λ (x : Outcome E P). told old ++ handed_in class (x ∷ drop (k + 1) outs)) (sym left)
+        ∙ (ap (λ (l : List (Outcome E P)). told old ++ handed_in class l) (sym (first_of outs k o lt is)) ∙ was))))
+
+    none_left : (o : Outcome E P) (outs : List (Outcome E P)) → ((place : ℕ) (effects : Vec E Global) → o ≡ Left place effects → ⊥) → handed_in class outs ≡ handed_in class (o ∷ outs)
+    none_left Quiet outs other = refl
+    none_left (Left place effects) outs other = absurd (other place effects refl)
+    none_left (Looked place lines) outs other = refl
+    none_left (Refused refusal) outs other = refl
+    none_left Missing outs other = refl
+
+    -- where no effects left there is nothing to tell
+    pub rest_told : (outs : List (Outcome E P)) (k : ℕ) (o : Outcome E P) (old new : List (ℕ × L)) (all : List (ℕ × Parts))
+        → k < length outs → o ≡ get_or outs k o → ((place : ℕ) (effects : Vec E Global) → o ≡ Left place effects → ⊥) → new ≡ old
+        → told old ++ handed_in class (drop k outs) ≡ all → told new ++ handed_in class (drop (k + 1) outs) ≡ all
+    rest_told outs k o old new all lt is other same was =
+        ap (λ (l : List (ℕ × L)). told l ++ handed_in class (drop (k + 1) outs)) same
+        ∙ (ap (λ (l : List (ℕ × Parts)). told old ++ l) (none_left o (drop (k + 1) outs) other)
+        ∙ (ap (λ (l : List (Outcome E P)). told old ++ handed_in class l) (sym (first_of outs k o lt is)) ∙ was))
 
 module _ (M : Machine) where
   hands_are : (es : List M.Effect) → hands M es ≡ hands_by M.class es

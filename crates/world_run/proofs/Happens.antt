@@ -4,7 +4,6 @@ use Rattle.std.specs.Prelude.{Result, Ok, Err, IfOk}
 use Rattle.raft_log.specs.declared.message.Message.{Message}
 use Rattle.raft_log.specs.Lists.{item}
 use Rattle.raft_log.specs.Node.{Node}
-use Rattle.raft_node.specs.declared.input.Input.TheVariants as input
 use Rattle.raft_node.specs.Machine.{Machine}
 use Rattle.raft_node.specs.Steps.{Act, Own, Acts, Restarts, Stops}
 use Rattle.agreement.specs.World.{sent_of, to_of}
@@ -12,12 +11,11 @@ use Rattle.world_events.specs.declared.event.Event.{Event}
 use Rattle.world_events.specs.declared.event.Event.TheVariants.{Does, Restart, StopIn}
 use Rattle.world_events.specs.declared.event.Input.{Input}
 use Rattle.world_events.specs.declared.event.Input.TheVariants.{Timeout, Beat, Deliver, Ask, Opened, Closed, Heard, Claim, Apply, Look}
-use Rattle.world_run.specs.declared.told.Act.TheVariants.{Steps}
 use Rattle.world_run.specs.declared.told.Doing.{Doing}
 use Rattle.world_run.specs.declared.outcome.Outcome.{Outcome}
 use Rattle.world_run.specs.declared.outcome.Outcome.TheVariants.{Missing}
 use Rattle.world_run.specs.Groups.{CellParts, HasHappened, HasOwnedAt, nodes_in}
-use Rattle.world_run.specs.Told.{does, delivered, doing_of, input_of, told_act, out_of}
+use Rattle.world_run.specs.Told.{does, delivered, doing_of, input_of, told_act}
 use Rattle.world_run.specs.World as world
 
 module _ (M : Machine) where

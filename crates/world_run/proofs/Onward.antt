@@ -1,6 +1,6 @@
 -- A world, event by event.
-use Rattle.std.proofs.Common.{◌≡◌, ℕ, zero, suc, ◌+◌, ◌<◌, ◌≤◌, ⊎_elim, List, [], ◌∷◌, ◌++◌, append_assoc, append-nil, length, map, drop, get_or, refl, sym, ap, ◌∙◌, arith}
-use Rattle.std.proofs.lemmas.List.{map-append}
+use Rattle.std.proofs.Common.{◌≡◌, ℕ, zero, suc, ◌+◌, ◌<◌, ◌≤◌, ⊎_elim, List, [], ◌∷◌, ◌++◌, append_assoc, append-nil, length, map, drop, get_or, sym, ap, ◌∙◌, arith}
+use Rattle.std.proofs.lemmas.List.{map-append, drop_all}
 use Rattle.std.specs.Prelude.{◌↔◌, Result, Ok, Err}
 use Rattle.raft_log.specs.Node.{Node}
 use Rattle.raft_log.specs.Peers.{IsGroupSize}
@@ -10,9 +10,10 @@ use Rattle.world_events.specs.declared.event.Event.{Event}
 use Rattle.world_run.specs.declared.outcome.Outcome.{Outcome}
 use Rattle.world_run.specs.declared.outcome.WorldFault.{WorldFault}
 use Rattle.world_run.specs.declared.outcome.WorldFault.TheVariants.{Refused, Memory}
-use Rattle.world_run.specs.Groups.{CellParts, HasHappened, nodes_in}
+use Rattle.agreement.specs.World.{start}
+use Rattle.world_run.specs.Groups.{CellParts, HasHappened, IsWorld, nodes_in}
 use Rattle.world_run.specs.Told.{event_of, events_of, out_of, outs_of}
-use Rattle.world_run.specs.World.{run, outs}
+use Rattle.world_run.specs.World.{run, outs, outputs}
 use Rattle.world_run.specs.World as world
 use Rattle.world_run.specs.Laws.{IsAgreed, IsFaithful, IsRaft, RunsAreApart}
 use Rattle.world_run.proofs.Holds.{one_list, in_agreed, agreed_grows, each_brought, no_more, one_leader, one_vote, logs_match, leaders_hold, sessions_apart}
@@ -23,7 +24,7 @@ first [] k x lt e = absurd (omega (arith, lt))
 first (y ∷ xs) zero x lt e = ap (λ z. z ∷ xs) (sym e)
 first (y ∷ xs) (suc k) x lt e = first xs k x (omega (arith, lt)) e
 
-first_of : {A : Type 0} (xs : List A) (k : ℕ) (x : A) → k < length xs → x ≡ get_or xs k x → drop k xs ≡ x ∷ drop (k + 1) xs
+pub first_of : {A : Type 0} (xs : List A) (k : ℕ) (x : A) → k < length xs → x ≡ get_or xs k x → drop k xs ≡ x ∷ drop (k + 1) xs
 first_of xs k x lt e =
     let next : suc k ≡ k + 1 = omega arith in
     first xs k x lt e ∙ ap (λ (n : ℕ). x ∷ drop n xs) next
@@ -47,6 +48,26 @@ module _ (M : Machine) {Setup Hosted Store : Type 0} where
       ∙ (ap (λ (o : Out M). outs_of M came ++ o ∷ outs M (events_of M (drop (k + 1) es)) (nodes_in new)) h.comes
       ∙ (ap (λ (n : List (Node M.Body)). outs_of M came ++ world.out_of M (nodes_in old) (event_of M e) ∷ outs M (events_of M (drop (k + 1) es)) n) h.nodes
       ∙ (ap (λ (l : List (Event M.Body M.Line M.Target)). outs_of M came ++ outs M (events_of M l) (nodes_in old)) (sym (first_of es k e lt at)) ∙ was)))))
+
+  -- at first all is to come
+  pub begins : (es : List (Event M.Body M.Line M.Target)) (cells : List (CellParts Setup Hosted Store M.Body)) (came : List (Outcome M.Effect M.Played)) (n size : ℕ) → n ≡ size → came ≡ [] → nodes_in cells ≡ start n
+      → (run M (events_of M es) (nodes_in cells) ≡ run M (events_of M es) (start size)) × (outs_of M came ++ outs M (events_of M es) (nodes_in cells) ≡ outputs M size (events_of M es))
+  begins es cells came n size same none h =
+      let new : nodes_in cells ≡ start size = h ∙ ap (λ (k : ℕ). let w : List (Node M.Body) = start k in w) same in (
+        ap (λ (w : List (Node M.Body)). run M (events_of M es) w) new,
+        ap (λ (l : List (Outcome M.Effect M.Played)). outs_of M l ++ outs M (events_of M es) (nodes_in cells)) none ∙ ap (λ (w : List (Node M.Body)). outs M (events_of M es) w) new,
+      )
+
+  -- in the end nothing is
+  pub world_is : (setup : Setup) (es : List (Event M.Body M.Line M.Target)) (k size : ℕ) (cells : List (CellParts Setup Hosted Store M.Body)) (came : List (Outcome M.Effect M.Played))
+      → length es ≤ k → run M (events_of M (drop k es)) (nodes_in cells) ≡ run M (events_of M es) (start size)
+      → outs_of M came ++ outs M (events_of M (drop k es)) (nodes_in cells) ≡ outputs M size (events_of M es) → IsWorld M size es (record { setup = setup; nodes = nodes_in cells; outs = came })
+  world_is setup es k size cells came past nodes outs_are =
+      let none : [] ≡ drop k es = sym (drop_all k es past) in
+      record {
+        nodes = ap (λ (l : List (Event M.Body M.Line M.Target)). run M (events_of M l) (nodes_in cells)) none ∙ nodes;
+        outs = sym (append-nil (outs_of M came)) ∙ (ap (λ (l : List (Event M.Body M.Line M.Target)). outs_of M came ++ outs M (events_of M l) (nodes_in cells)) none ∙ outs_are);
+      }
 
 no_refusal : {A : Type 0} (n : ℕ) → (let r : Result A WorldFault = Err Memory in r) ≡ Err (Refused n) → ⊥
 no_refusal n h = absurd cc

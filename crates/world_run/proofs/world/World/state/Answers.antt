@@ -1,9 +1,20 @@
-use Rattle.std.proofs.Common.{◌≤◌, length, sym, subst, arith}
+use Rattle.std.proofs.Common.{◌≤◌, inl, inr, length, sym, ap, subst, ◌∙◌, arith}
 use Rattle.world_run.specs.Groups.{IsNodeOf, nodes_in}
-use Rattle.world_run.proofs.Cells.{state_at}
+use Rattle.raft_log.specs.Lists.{item}
+use Rattle.world_run.proofs.Cells.{none_at, state_at}
+use Rattle.world_run.proofs.world.World.state.Goals.{then-place-eq0-via-then-place-eq0, then-place-eq0-via-else-place-eq0+then-place-len}
 use Rattle.world_run.proofs.world.World.state.Goals as goal
 
 pub returns-clause-some : goal.returns-clause-some
 returns-clause-some g c =
     let le : c.args.node ≤ length c.self.inside.group.cells.items = omega (arith, c.if-place-len.false, c.len.ensures) in
     rw (sym c.self.view_is) (subst (λ state. IsNodeOf (nodes_in c.self.inside.group.cells.items) c.args.node state) (sym c.state.ensures) (state_at _ _ c.index.result.now c.if-place-eq0.false le c.index.ensures))
+
+pub returns-then-place-eq0-clause-none : goal.returns-then-place-eq0-clause-none
+returns-then-place-eq0-clause-none g c =
+    let cells = c.self.inside.group.cells.items in
+    λ _. ap (λ w. item w.nodes c.args.node) (sym c.self.view_is)
+    ∙ elim c.then-place-eq0.branch [
+      | then-place-eq0-via-then-place-eq0 w ↦ none_at c.args.node cells (inl w.if-place-eq0.true)
+      | then-place-eq0-via-else-place-eq0+then-place-len w ↦ none_at c.args.node cells (inr (omega (arith, w.if-place-len.true, w.len.ensures)))
+    ]
