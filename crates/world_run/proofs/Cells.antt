@@ -19,12 +19,12 @@ use Rattle.world_run.specs.World as world
 back : (k : ℕ) → k ≡ suc k - 1
 back k = omega arith
 
-message_at : {B : Type 0} (ms : List (Message B)) (number : ℕ) (m : Message B) → (number ≡ 0 → ⊥) → number ≤ length ms → m ≡ get_or ms (number - 1) m → Some m ≡ item ms number
+pub message_at : {B : Type 0} (ms : List (Message B)) (number : ℕ) (m : Message B) → (number ≡ 0 → ⊥) → number ≤ length ms → m ≡ get_or ms (number - 1) m → Some m ≡ item ms number
 message_at {B = B} ms zero m pos le e = absurd (pos refl)
 message_at {B = B} ms (suc k) m pos le e =
     ap (λ x. let s : Option (Message B) = Some x in s) (e ∙ ap (λ (n : ℕ). get_or ms n m) (sym (back k))) ∙ sym (slice_get-get_or ms k m (omega (arith, le)))
 
-no_message_at : {B : Type 0} (ms : List (Message B)) (number : ℕ) → (number ≡ 0) ⊎ ((number ≡ 0 → ⊥) × (length ms < number)) → None ≡ item ms number
+pub no_message_at : {B : Type 0} (ms : List (Message B)) (number : ℕ) → (number ≡ 0) ⊎ ((number ≡ 0 → ⊥) × (length ms < number)) → None ≡ item ms number
 no_message_at ms zero h = refl
 no_message_at [] (suc k) h = refl
 no_message_at (m ∷ ms) (suc zero) h = ⊎_elim (λ e. absurd (omega (arith, e))) (λ p. absurd (omega (arith, p.1))) h
@@ -82,16 +82,11 @@ module _ {Setup Hosted Store B : Type 0} where
       let at : get_or cells k c ≡ c = ap (λ (n : ℕ). get_or cells n c) (back k) ∙ sym e in
       item_in cells k c (omega (arith, le)) ∙ ap (λ (x : CellParts Setup Hosted Store B). let s : Option (Node B) = Some (node_in x) in s) at
 
-  -- the message of a number that a node sent
-  pub sent_at : (i number : ℕ) (cells : List (CellParts Setup Hosted Store B)) (c : CellParts Setup Hosted Store B) (m : Message B) → 1 ≤ i → i ≤ length cells → c ≡ get_or cells (i - 1) c
-      → (number ≡ 0 → ⊥) → number ≤ length c.sent → m ≡ get_or c.sent (number - 1) m → Some m ≡ sent_of (item (nodes_in cells) i) number
-  sent_at i number cells c m pos le e some within at =
-      message_at c.sent number m some within at ∙ ap (λ (s : Option (Node B)). sent_of s number) (sym (node_at i cells c pos le e))
-
-  pub none_sent_at : (i number : ℕ) (cells : List (CellParts Setup Hosted Store B)) (c : CellParts Setup Hosted Store B) → 1 ≤ i → i ≤ length cells → c ≡ get_or cells (i - 1) c
-      → (number ≡ 0) ⊎ ((number ≡ 0 → ⊥) × (length c.sent < number)) → None ≡ sent_of (item (nodes_in cells) i) number
-  none_sent_at i number cells c pos le e h =
-      no_message_at c.sent number h ∙ ap (λ (s : Option (Node B)). sent_of s number) (sym (node_at i cells c pos le e))
+  -- the messages that a node sent
+  pub sent_at : (i number : ℕ) (cells : List (CellParts Setup Hosted Store B)) (c : CellParts Setup Hosted Store B) (ms : List (Message B)) → 1 ≤ i → i ≤ length cells → c ≡ get_or cells (i - 1) c
+      → ms ≡ c.sent → item ms number ≡ sent_of (item (nodes_in cells) i) number
+  sent_at i number cells c ms pos le e all =
+      ap (λ (l : List (Message B)). item l number) all ∙ ap (λ (s : Option (Node B)). sent_of s number) (sym (node_at i cells c pos le e))
 
   pub no_sender_at : (i number : ℕ) (cells : List (CellParts Setup Hosted Store B)) → length cells < i → None ≡ sent_of (item (nodes_in cells) i) number
   no_sender_at zero number cells lt = refl

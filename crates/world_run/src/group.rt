@@ -13,7 +13,8 @@ use machine_laws::Hosted;
 use raft_log::{GroupSize, Message, NodeId};
 use raft_node::{Described, Input as NodeInput};
 use std::alloc::{AllocError, Global};
-use wire_bytes::Copied;
+use std::mem::drop;
+use wire_bytes::{Copied, Wire};
 use world_events::{Event, Input};
 
 /// The nodes, by rising number, with their setup.
@@ -90,6 +91,7 @@ impl<M: Hosted> Group<M> {
     {
         let place = node as usize;
         if place == 0 || place > self.cells.len() {
+            drop(own);
             return Ok(Outcome::Missing);
         }
         self.cells[place - 1].own(own)
@@ -140,9 +142,19 @@ fn sent<M: Hosted>(
     if place > cells.len() {
         return Ok(None);
     }
-    let all = cells[place - 1].sent();
-    if number == 0 || number > all.len() as u64 {
+    numbered(alloc, cells[place - 1].sent(), number)
+}
+
+/// The message of this number, from 1, among these.
+fn numbered<B: Wire>(
+    alloc: Global,
+    messages: &[Message<B>],
+    number: u64,
+) -> Result<Option<Message<B>>, AllocError>
+    ensures { IfOk result (λ m. m ≡ item messages.now number) }
+{
+    if number == 0 || number > messages.len() as u64 {
         return Ok(None);
     }
-    Ok(Some(all[number as usize - 1].copy(alloc)?))
+    Ok(Some(messages[number as usize - 1].copy(alloc)?))
 }

@@ -1,4 +1,4 @@
-use Rattle.std.proofs.Common.{◌≤◌, ◌-◌, IfOk, inl, inr, length, set, subst, arith}
+use Rattle.std.proofs.Common.{◌≤◌, ◌-◌, IfOk, inl, inr, length, refl, set, subst, arith}
 use Rattle.raft_node.specs.Hosts.{hosted}
 use Rattle.raft_node.specs.Machine.{Machine}
 use Rattle.world_run.specs.Groups.{HasOwnedAt}
@@ -22,6 +22,15 @@ returns-then-place-eq0-clause-comes g c =
       | then-place-eq0-via-then-place-eq0 w ↦ none (inl w.if-place-eq0.true)
       | then-place-eq0-via-else-place-eq0+then-place-len w ↦ none (inr (omega (arith, w.if-place-len.true, w.len.ensures)))
     ]
+
+pub returns-then-place-eq0-clause-same : goal.returns-then-place-eq0-clause-same
+returns-then-place-eq0-clause-same g c = (refl, refl)
+
+pub returns-then-place-eq0-clause-group : goal.returns-then-place-eq0-clause-group
+returns-then-place-eq0-clause-group g c = c.requires
+
+pub returns-clause-same : goal.returns-clause-same
+returns-clause-same g c = (refl, refl)
 
 pub own-requires : goal.own-requires
 own-requires g c = (cell_at _ _ _ _ _ c.requires c.if-place-eq0.false (omega (arith, c.if-place-len.false, c.len.ensures)) c.index_mut.ensures.value).is_up

@@ -1,4 +1,4 @@
-use Rattle.std.proofs.Common.{ℕ, Err, refl, ap, subst, ◌∙◌}
+use Rattle.std.proofs.Common.{ℕ, Err, refl, sym, ap, subst, ◌∙◌}
 use Rattle.world_run.specs.declared.outcome.WorldFault.TheVariants.{Memory}
 use Rattle.std.proofs.lemmas.Bool.{cond-true}
 use Rattle.world_run.specs.Groups.{HasHappened, IsGroup}
@@ -7,8 +7,15 @@ use Rattle.world_run.proofs.Onward.{at_most_seven, begins, world_is, agreed_of, 
 use Rattle.world_run.proofs.world.World.run.Invariants.{machine}
 use Rattle.world_run.proofs.world.World.run.Goals as goal
 
-pub returns-then-is_err-clause-refused : goal.returns-then-is_err-clause-refused
-returns-then-is_err-clause-refused g c = memory_is_no_refusal (Err Memory) _ (c.in-Some.ensures.allowed.0 refl) refl
+pub returns-then-is_err : goal.returns-then-is_err
+returns-then-is_err g c =
+    record { world = tt; agreed = tt; faithful = tt; raft = tt; apart = tt; setup = tt; allowed = tt; refused = memory_is_no_refusal (Err Memory) c.args.size (c.in-Some.ensures.allowed.0 refl) refl }
+
+pub happen-requires : goal.happen-requires
+happen-requires g c =
+    let i = c.loop-event.invariant in
+    let cells = c.loop-event.group.cells.items in
+    subst (λ s. IsGroup s c.loop-event.group.size cells) (sym i.0) (subst (λ (n : ℕ). IsGroup c.args.setup.now n cells) (sym i.1) i.2)
 
 pub loop-event-preserved : goal.loop-event-preserved
 loop-event-preserved g c =
@@ -30,8 +37,12 @@ returns-clause-allowed g c = c.in-Some.ensures.allowed.0 refl
 pub returns-clause-refused : goal.returns-clause-refused
 returns-clause-refused g c = world_is_no_refusal _ _ (c.in-Some.ensures.allowed.0 refl)
 
-pub returns-in_default-happen-clause-refused : goal.returns-in_default-happen-clause-refused
-returns-in_default-happen-clause-refused g c = memory_is_no_refusal (Err Memory) _ (c.in-Some.ensures.allowed.0 refl) refl
+pub returns-in_default-happen : goal.returns-in_default-happen
+returns-in_default-happen g c =
+    record { world = tt; agreed = tt; faithful = tt; raft = tt; apart = tt; setup = tt; allowed = tt; refused = memory_is_no_refusal (Err Memory) c.args.size (c.in-Some.ensures.allowed.0 refl) refl }
+
+pub returns-clause-setup : goal.returns-clause-setup
+returns-clause-setup g c = c.loop-event.invariant.0
 
 pub returns-clause-agreed : goal.returns-clause-agreed
 returns-clause-agreed g c = let m = machine g c.args.setup.now in agreed_of m c.args.size (events_of m c.args.events.now)
