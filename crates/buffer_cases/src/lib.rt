@@ -8,4 +8,6 @@ mod fold;
 #[cfg(test)]
 mod line;
 #[cfg(test)]
+mod made;
+#[cfg(test)]
 mod tower;

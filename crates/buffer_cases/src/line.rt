@@ -1,6 +1,5 @@
 //! Lines, values as bytes and the session upstream.
 mod lines;
-mod made;
 mod names;
 mod session_calls;
 mod sessions;

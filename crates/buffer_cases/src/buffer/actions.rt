@@ -1,5 +1,5 @@
 //! Actions as bytes, by examples.
-use crate::buffer::made::{check_bytes, fault_of, is_spelled, name, text};
+use crate::made::{check_bytes, fault_of, is_spelled, name, taken, text};
 use buffer_commands::{Action, BufferSize, ChannelName, Verb};
 use std::alloc::{AllocError, Global};
 use std::process::Abort;
@@ -38,14 +38,10 @@ fn is_copied_so(alloc: Global, action: &Action, bytes: &[u8]) -> Result<bool, Al
     Ok(is_action(alloc, &copy, bytes)? && is_action(alloc, action, bytes)?)
 }
 
-/// The kind of the action that these bytes are, all of them, if it and its copy are spelled so.
-fn kind_of(alloc: Global, bytes: &[u8]) -> Result<&'static str, Fail> {
-    let (action, len) = Action::take(alloc, bytes)?;
-    if len == bytes.len() && is_copied_so(alloc, &action, bytes)? {
-        Ok(kind(&action))
-    } else {
-        Err(Fail::from("spelled otherwise"))
-    }
+/// Whether these bytes are an action of this kind, all of them, and it and its copy are spelled so.
+fn is_of_kind(alloc: Global, bytes: &[u8], want: &str) -> Result<bool, WireFault> {
+    let (action, len) = taken::<Action>(alloc, bytes)?;
+    Ok(len == bytes.len() && kind(&action) == want && is_copied_so(alloc, &action, bytes)?)
 }
 
 /// Bytes and the kind of the action that they are.
@@ -71,7 +67,7 @@ const SPELLED: &[(&[u8], &str)] = &[
 #[test]
 fn actions_are_spelled(rt: HostRuntime) -> Result<(), Fail> {
     for (bytes, want) in SPELLED {
-        assert_eq!(rt; kind_of(rt.alloc(), bytes)?, *want);
+        assert!(rt; is_of_kind(rt.alloc(), bytes, want)?);
     }
     Ok(())
 }

@@ -1,5 +1,5 @@
 //! What is kept and shown, by examples.
-use crate::buffer::made::name;
+use crate::made::name;
 use buffer_commands::{Command, Setup};
 use buffer_machine::{
     BufferMachine, a_detached_channel_is_not_shown, no_target_keeps_more_than_its_size,

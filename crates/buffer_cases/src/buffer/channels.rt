@@ -1,7 +1,9 @@
 //! Channels, by examples.
-use crate::buffer::made::{check_bytes, name};
 use crate::buffer::targets::{line, push_target};
+use crate::made::{check_bytes, name};
+use buffer_lines::KeptLine;
 use buffer_targets::Channels;
+use irc_line::Name;
 use std::alloc::{AllocError, Global};
 use std::process::Abort;
 use std::test::Fail;
@@ -81,35 +83,54 @@ fn follow_one(
     step: &Step<'_>,
 ) -> Result<(), Fail> {
     match step {
-        Step::Join(bytes) => join(alloc, channels, bytes)?,
-        Step::Store(name, text) => store(alloc, channels, name, text)?,
-        Step::Resize(name, size) => channels.resize_at(name.as_bytes(), *size)?,
-        Step::Change(change) => change.make(channels),
-        Step::Count(wanted) => assert_eq!(rt; channels.as_slice().len(), *wanted),
-        Step::Holds(wanted) => check(rt, alloc, channels, wanted)?,
+        Step::Join(bytes) => join(alloc, channels, bytes),
+        Step::Store(name, text) => store(alloc, channels, name, text),
+        Step::Resize(name, size) => resize(channels, name, *size),
+        Step::Change(change) => {
+            change.make(channels);
+            Ok(())
+        }
+        Step::Count(wanted) => {
+            assert!(rt; channels.as_slice().len() == *wanted);
+            Ok(())
+        }
+        Step::Holds(wanted) => check(rt, alloc, channels, wanted),
         Step::Finds(name, wanted) => {
-            assert_eq!(rt; channels.find(name.as_bytes()).is_some(), *wanted)
+            assert!(rt; is_found(channels, name) == *wanted);
+            Ok(())
         }
     }
-    Ok(())
+}
+
+fn is_found(channels: &Channels, name: &str) -> bool {
+    channels.find(name.as_bytes()).is_some()
+}
+
+fn resize(channels: &mut Channels, name: &str, size: usize) -> Result<(), Fail> {
+    Ok(channels.resize_at(name.as_bytes(), size)?)
 }
 
 fn join(alloc: Global, channels: &mut Channels, bytes: &str) -> Result<(), Fail> {
-    Ok(channels.join(&name(alloc, bytes.as_bytes())?, 2)?)
+    let name = name(alloc, bytes.as_bytes())?;
+    Ok(join_named(channels, &name)?)
+}
+
+fn join_named(channels: &mut Channels, name: &Name) -> Result<(), AllocError> {
+    channels.join(name, 2)
 }
 
 fn store(alloc: Global, channels: &mut Channels, name: &str, text: &str) -> Result<(), Fail> {
-    let place = channels.place_of(name.as_bytes());
-    channels.store_at(place, line(alloc, text)?);
+    let line = line(alloc, text)?;
+    store_line(channels, name, line);
     Ok(())
 }
 
-fn check(
-    rt: &impl Abort,
-    alloc: Global,
-    channels: &Channels,
-    wanted: &str,
-) -> Result<(), AllocError> {
+fn store_line(channels: &mut Channels, name: &str, line: KeptLine) {
+    let place = channels.place_of(name.as_bytes());
+    channels.store_at(place, line);
+}
+
+fn check(rt: &impl Abort, alloc: Global, channels: &Channels, wanted: &str) -> Result<(), Fail> {
     let text = told(alloc, channels)?;
     check_bytes(rt, &text, wanted.as_bytes());
     Ok(())

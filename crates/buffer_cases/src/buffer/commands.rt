@@ -1,5 +1,5 @@
 //! Commands as bytes, and the lines that they hold, by examples.
-use crate::buffer::made::{fault_of, is_spelled, name, text};
+use crate::made::{fault_of, filled_to, is_spelled, name, taken, text};
 use buffer_commands::{Action, Command, WireLine};
 use irc_line::Line;
 use std::alloc::{AllocError, Global};
@@ -23,20 +23,25 @@ fn is_command(alloc: Global, command: &Command, bytes: &[u8]) -> Result<bool, Al
     is_spelled(alloc, command, bytes)
 }
 
-/// Whether a command is spelled so, and its copy too.
-fn is_copied_so(alloc: Global, command: &Command, bytes: &[u8]) -> Result<bool, AllocError> {
-    let copy = command.copy(alloc)?;
-    Ok(is_command(alloc, &copy, bytes)? && is_command(alloc, command, bytes)?)
+fn copied(alloc: Global, command: &Command) -> Result<Command, AllocError> {
+    command.copy(alloc)
 }
 
-/// The kind of the command that these bytes are, all of them, if it and its copy are spelled so.
-fn kind_of(alloc: Global, bytes: &[u8]) -> Result<&'static str, Fail> {
-    let (command, len) = Command::take(alloc, bytes)?;
-    if len == bytes.len() && is_copied_so(alloc, &command, bytes)? {
-        Ok(kind(&command))
-    } else {
-        Err(Fail::from("spelled otherwise"))
-    }
+/// Whether the copy of a command is spelled so.
+fn is_copy_so(alloc: Global, command: &Command, bytes: &[u8]) -> Result<bool, AllocError> {
+    let copy = copied(alloc, command)?;
+    is_command(alloc, &copy, bytes)
+}
+
+/// Whether a command is spelled so, and its copy too.
+fn is_copied_so(alloc: Global, command: &Command, bytes: &[u8]) -> Result<bool, AllocError> {
+    Ok(is_copy_so(alloc, command, bytes)? && is_command(alloc, command, bytes)?)
+}
+
+/// Whether these bytes are a command of this kind, all of them, and it and its copy are spelled so.
+fn is_of_kind(alloc: Global, bytes: &[u8], want: &str) -> Result<bool, WireFault> {
+    let (command, len) = taken::<Command>(alloc, bytes)?;
+    Ok(len == bytes.len() && kind(&command) == want && is_copied_so(alloc, &command, bytes)?)
 }
 
 /// The client 1.2.3 leaves, 1,700,000,000 seconds after 1970.
@@ -60,7 +65,7 @@ const SPELLED: &[(&[u8], &str)] = &[
 #[test]
 fn commands_are_spelled(rt: HostRuntime) -> Result<(), Fail> {
     for (bytes, want) in SPELLED {
-        assert_eq!(rt; kind_of(rt.alloc(), bytes)?, *want);
+        assert!(rt; is_of_kind(rt.alloc(), bytes, want)?);
     }
     Ok(())
 }
@@ -101,17 +106,13 @@ fn fields_of_a_command_are_refused_at_their_place(rt: HostRuntime) {
 
 /// A line of so many bytes.
 fn line_of(alloc: Global, len: usize) -> Result<Line, Fail> {
-    let mut bytes = Vec::from_slice(alloc, b"PING ")?;
-    for _ in 5..len {
-        bytes.push(b'a')?;
-    }
-    Ok(Line::parse(alloc, bytes.as_slice())?)
+    let bytes = filled_to(alloc, b"PING ", len, b"")?;
+    Ok(Line::parse(alloc, &bytes)?)
 }
 
 /// A message of more than 511 bytes.
 fn long_message(alloc: Global) -> Result<Line, Fail> {
-    let letters = vec![in alloc; b'a'; 510]?;
-    let letters = text(alloc, letters.as_slice())?;
+    let letters = text(alloc, &filled_to(alloc, b"", 510, b"")?)?;
     Ok(Line::message(alloc, None, b"PRIVMSG", &name(alloc, b"#x")?, &letters)?)
 }
 

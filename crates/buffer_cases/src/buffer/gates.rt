@@ -1,11 +1,11 @@
 //! What a gate does, by examples.
+use crate::buffer::gate_told::{Told, tell_request};
 use crate::buffer::heard::{Client, Heard};
-use crate::buffer::made::{check_bytes, name};
-use client_gate::{ClientGate, Fed, Request};
-use std::alloc::Global;
+use crate::made::{check_bytes, name};
+use client_gate::{ClientGate, Fed, GateEffect, Request};
+use std::alloc::{AllocError, Global};
 use std::process::Abort;
 use std::test::Fail;
-use wire_bytes::Wire;
 
 /// What a gate is given, and what it has to answer.
 #[derive(Clone, Copy)]
@@ -26,53 +26,6 @@ enum Step<'a> {
     Waiting(usize),
     /// What is requested where the connection is gone.
     End(&'a [u8]),
-}
-
-/// What calls answered: a line for each request with its number and the bytes of its action, all
-/// bytes that were written, and whether a call closed.
-#[derive(Drop)]
-struct Told {
-    requests: Vec<u8>,
-    reply: Vec<u8>,
-    close: bool,
-}
-
-impl Told {
-    fn new(alloc: Global) -> Told {
-        Told {
-            requests: Vec::new(alloc),
-            reply: Vec::new(alloc),
-            close: false,
-        }
-    }
-
-    fn add(&mut self, alloc: Global, fed: &Fed) -> Result<(), Fail> {
-        tell_requests(alloc, &mut self.requests, &fed.requests)?;
-        self.reply.extend_from_slice(fed.reply.as_slice())?;
-        self.close = self.close || fed.close;
-        Ok(())
-    }
-
-    fn forget(&mut self) {
-        self.requests.clear();
-        self.reply.clear();
-        self.close = false;
-    }
-}
-
-fn tell_requests(alloc: Global, out: &mut Vec<u8>, requests: &[Request]) -> Result<(), Fail> {
-    for request in requests {
-        tell_request(alloc, out, request)?;
-    }
-    Ok(())
-}
-
-fn tell_request(alloc: Global, out: &mut Vec<u8>, request: &Request) -> Result<(), Fail> {
-    let number = request.number.value();
-    out.extend_from_slice(format!(in alloc; "{number} ")?.as_bytes())?;
-    request.action.fits();
-    request.action.put(out)?;
-    Ok(out.push(b'\n')?)
 }
 
 /// The gate of the client 1.1.1, whose password is `pw` and whose nick is `me`.
@@ -99,23 +52,34 @@ fn follow_one(
     step: &Step<'_>,
 ) -> Result<(), Fail> {
     match step {
-        Step::Feed(bytes) => feed(alloc, gate, told, bytes)?,
-        Step::FeedBytes(bytes) => feed_bytes(alloc, gate, told, bytes)?,
-        Step::Hear(heard) => hear(alloc, gate, told, heard)?,
+        Step::Feed(bytes) => feed(alloc, gate, told, bytes),
+        Step::FeedBytes(bytes) => feed_bytes(alloc, gate, told, bytes),
+        Step::Hear(heard) => hear(alloc, gate, told, heard),
         Step::Told(requests, reply, close) => {
             check_told(rt, told, requests, reply, *close);
             told.forget();
+            Ok(())
         }
-        Step::Requests(wanted) => check_bytes(rt, &told.requests, wanted),
-        Step::IsClosed(wanted) => assert_eq!(rt; told.close, *wanted),
-        Step::Waiting(wanted) => check_waiting(rt, gate, *wanted)?,
-        Step::End(wanted) => check_end(rt, alloc, gate, wanted)?,
+        Step::Requests(wanted) => {
+            check_bytes(rt, &told.requests, wanted);
+            Ok(())
+        }
+        Step::IsClosed(wanted) => {
+            assert!(rt; told.close == *wanted);
+            Ok(())
+        }
+        Step::Waiting(wanted) => check_waiting(rt, gate, *wanted),
+        Step::End(wanted) => check_end(rt, alloc, gate, wanted),
     }
-    Ok(())
+}
+
+fn give(gate: &mut ClientGate, bytes: &[u8]) -> Result<Fed, AllocError> {
+    gate.feed(bytes)
 }
 
 fn feed(alloc: Global, gate: &mut ClientGate, told: &mut Told, bytes: &[u8]) -> Result<(), Fail> {
-    told.add(alloc, &gate.feed(bytes)?)
+    let fed = give(gate, bytes)?;
+    Ok(told.add(alloc, &fed)?)
 }
 
 fn feed_bytes(
@@ -137,17 +101,29 @@ fn hear(
     heard: &Heard<'_>,
 ) -> Result<(), Fail> {
     let effect = heard.effect(alloc)?;
-    told.add(alloc, &gate.on_effect(&effect)?)
+    let fed = answered(gate, effect)?;
+    Ok(told.add(alloc, &fed)?)
+}
+
+fn answered(gate: &mut ClientGate, effect: GateEffect) -> Result<Fed, AllocError> {
+    gate.on_effect(&effect)
 }
 
 fn check_told(rt: &impl Abort, told: &Told, requests: &[u8], reply: &[u8], close: bool) {
     check_bytes(rt, &told.requests, requests);
     check_bytes(rt, &told.reply, reply);
-    assert_eq!(rt; told.close, close);
+    assert!(rt; told.close == close);
+}
+
+/// How many requests wait for their answers.
+fn waiting(gate: &ClientGate) -> Result<usize, AllocError> {
+    let again = gate.again()?;
+    Ok(again.len())
 }
 
 fn check_waiting(rt: &impl Abort, gate: &ClientGate, wanted: usize) -> Result<(), Fail> {
-    assert_eq!(rt; gate.again()?.len(), wanted);
+    let count = waiting(gate)?;
+    assert!(rt; count == wanted);
     Ok(())
 }
 
@@ -162,10 +138,14 @@ fn check_end(
     Ok(())
 }
 
+fn ended(gate: &mut ClientGate) -> Option<Request> {
+    gate.end()
+}
+
 /// What `end` answers, as a line.
-fn told_end(alloc: Global, gate: &mut ClientGate) -> Result<Vec<u8>, Fail> {
+fn told_end(alloc: Global, gate: &mut ClientGate) -> Result<Vec<u8>, AllocError> {
     let mut out = Vec::new(alloc);
-    if let Some(request) = &gate.end() {
+    if let Some(request) = &ended(gate) {
         tell_request(alloc, &mut out, request)?;
     }
     Ok(out)

@@ -1,5 +1,5 @@
 //! What a gate hears, by examples.
-use crate::buffer::made::shown;
+use crate::made::shown;
 use buffer_commands::Effect;
 use client_gate::GateEffect;
 use request_once::Answer;

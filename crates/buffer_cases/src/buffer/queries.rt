@@ -1,7 +1,9 @@
 //! Queries, by examples.
-use crate::buffer::made::{check_bytes, name};
 use crate::buffer::targets::{line, push_target};
+use crate::made::{check_bytes, name};
+use buffer_lines::KeptLine;
 use buffer_targets::Queries;
+use irc_line::Name;
 use std::alloc::{AllocError, Global};
 use std::process::Abort;
 use std::test::Fail;
@@ -45,29 +47,43 @@ fn follow_one(
     step: &Step<'_>,
 ) -> Result<(), Fail> {
     match step {
-        Step::Store(name, text) => store(alloc, queries, name, text)?,
-        Step::Resize(name, size) => queries.resize_at(name.as_bytes(), *size)?,
-        Step::Clear(name) => queries.clear_at(name.as_bytes()),
-        Step::ClearAll => queries.clear_all(),
-        Step::Holds(wanted) => check(rt, alloc, queries, wanted)?,
+        Step::Store(name, text) => store(alloc, queries, name, text),
+        Step::Resize(name, size) => resize(queries, name, *size),
+        Step::Clear(name) => {
+            queries.clear_at(name.as_bytes());
+            Ok(())
+        }
+        Step::ClearAll => {
+            queries.clear_all();
+            Ok(())
+        }
+        Step::Holds(wanted) => check(rt, alloc, queries, wanted),
         Step::Finds(name, wanted) => {
-            assert_eq!(rt; queries.find(name.as_bytes()).is_some(), *wanted)
+            assert!(rt; is_found(queries, name) == *wanted);
+            Ok(())
         }
     }
-    Ok(())
+}
+
+fn is_found(queries: &Queries, name: &str) -> bool {
+    queries.find(name.as_bytes()).is_some()
+}
+
+fn resize(queries: &mut Queries, name: &str, size: usize) -> Result<(), Fail> {
+    Ok(queries.resize_at(name.as_bytes(), size)?)
 }
 
 fn store(alloc: Global, queries: &mut Queries, bytes: &str, text: &str) -> Result<(), Fail> {
     let line = line(alloc, text)?;
-    Ok(queries.store(&name(alloc, bytes.as_bytes())?, line, 2, 3)?)
+    let name = name(alloc, bytes.as_bytes())?;
+    Ok(store_line(queries, &name, line)?)
 }
 
-fn check(
-    rt: &impl Abort,
-    alloc: Global,
-    queries: &Queries,
-    wanted: &str,
-) -> Result<(), AllocError> {
+fn store_line(queries: &mut Queries, name: &Name, line: KeptLine) -> Result<(), AllocError> {
+    queries.store(name, line, 2, 3)
+}
+
+fn check(rt: &impl Abort, alloc: Global, queries: &Queries, wanted: &str) -> Result<(), Fail> {
     let text = told(alloc, queries)?;
     check_bytes(rt, &text, wanted.as_bytes());
     Ok(())

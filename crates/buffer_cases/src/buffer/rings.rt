@@ -1,5 +1,5 @@
 //! What rings keep and play, by examples.
-use crate::buffer::made::{check_bytes, push_line, shown};
+use crate::made::{check_bytes, push_line, shown};
 use buffer_lines::{KeptLine, LineRing, Offset};
 use irc_line::{Line, LineFault};
 use std::alloc::{AllocError, Global};
@@ -67,11 +67,19 @@ fn follow_one(
     step: &Step<'_>,
 ) -> Result<(), Fail> {
     match step {
-        Step::Push(content, second) => ring.push(kept(alloc, content, *second)?),
-        Step::SetSize(size) => ring.set_size(*size)?,
-        Step::Clear => ring.clear(),
-        Step::Plays(clock, wanted) => check(rt, alloc, ring, clock.offset(), wanted)?,
+        Step::Push(content, second) => push(alloc, ring, content, *second),
+        Step::SetSize(size) => Ok(ring.set_size(*size)?),
+        Step::Clear => {
+            ring.clear();
+            Ok(())
+        }
+        Step::Plays(clock, wanted) => check(rt, alloc, ring, clock.offset(), wanted),
     }
+}
+
+fn push(alloc: Global, ring: &mut LineRing, content: &[u8], second: u8) -> Result<(), Fail> {
+    let line = kept(alloc, content, second)?;
+    ring.push(line);
     Ok(())
 }
 

@@ -1,5 +1,5 @@
 //! Setups and their limits, by examples.
-use crate::buffer::made::{check_bytes, name, names};
+use crate::made::{name, names};
 use buffer_commands::{Options, Setup, SetupFault};
 use buffer_lines::Offset;
 use irc_line::Name;
@@ -101,7 +101,13 @@ fn told_names(alloc: Global, setup: &Setup) -> Result<Vec<u8>, AllocError> {
     Ok(out)
 }
 
-fn has_options(setup: &Setup, options: &Options) -> bool {
+/// Whether these are told of a setup.
+pub fn is_told(alloc: Global, setup: &Setup, want: &[u8]) -> Result<bool, AllocError> {
+    let told = told_names(alloc, setup)?;
+    Ok(told.as_slice() == want)
+}
+
+pub fn has_options(setup: &Setup, options: &Options) -> bool {
     setup.channel_size() == options.channel_size as usize
         && setup.query_size() == options.query_size as usize
         && setup.most_queries() == options.most_queries as usize
@@ -115,10 +121,8 @@ fn plain_copy(alloc: Global) -> Result<Setup, AllocError> {
     Setup::plain(alloc)?.copy(alloc)
 }
 
-#[test]
-fn the_plain_setup_is_of_a_nick_and_a_channel(rt: HostRuntime) -> Result<(), Fail> {
-    let setup = plain_copy(rt.alloc())?;
-    check_bytes(&rt, &told_names(rt.alloc(), &setup)?, b"me #x ");
+/// Whether these are the options of the plain setup.
+fn is_plain(setup: &Setup) -> bool {
     let options = Options {
         channel_size: 50,
         query_size: 50,
@@ -128,7 +132,13 @@ fn the_plain_setup_is_of_a_nick_and_a_channel(rt: HostRuntime) -> Result<(), Fai
         many_clients: true,
         offset: Offset::new(1439),
     };
-    assert!(rt; has_options(&setup, &options));
+    has_options(setup, &options)
+}
+
+#[test]
+fn the_plain_setup_is_of_a_nick_and_a_channel(rt: HostRuntime) -> Result<(), Fail> {
+    let setup = plain_copy(rt.alloc())?;
+    assert!(rt; is_told(rt.alloc(), &setup, b"me #x ")? && is_plain(&setup));
     Ok(())
 }
 
@@ -153,18 +163,17 @@ fn keeps_options(
     Ok(has_options(&setup, &options))
 }
 
-/// The nick and the channels of a setup of these.
-fn told_setup(alloc: Global, nick: &[u8], channels: &[&[u8]]) -> Result<Vec<u8>, Fail> {
+/// Whether the nick and the channels of a setup of these are told so.
+fn keeps_names(alloc: Global, nick: &[u8], channels: &[&[u8]], want: &[u8]) -> Result<bool, Fail> {
     let channels = names(alloc, channels)?;
     let setup = Setup::new(name(alloc, nick)?, channels, Options::default())?;
-    Ok(told_names(alloc, &setup)?)
+    Ok(is_told(alloc, &setup, want)?)
 }
 
 #[test]
 fn a_setup_has_what_it_is_made_of(rt: HostRuntime) -> Result<(), Fail> {
-    let text = told_setup(rt.alloc(), b"Bob", &[b"#A", b"#b", b"&A"])?;
-    check_bytes(&rt, &text, b"Bob #A #b &A ");
     let alloc = rt.alloc();
+    assert!(rt; keeps_names(alloc, b"Bob", &[b"#A", b"#b", b"&A"], b"Bob #A #b &A ")?);
     assert!(rt; keeps_options(alloc, true, false, false, Offset::new(0))?);
     assert!(rt; keeps_options(alloc, false, true, false, Offset::new(1500))?);
     assert!(rt; keeps_options(alloc, false, false, true, Offset::new(2878))?);

@@ -1,5 +1,6 @@
 //! Bodies in words, and their answers as lines of text.
 use crate::fold::said::said;
+use crate::made::{check_bytes, push_line};
 use machine_laws::{HasClients, Machine, run_all};
 use recorder::{Words, push_answers};
 use request_once::{Answer, Body, Once};
@@ -20,11 +21,10 @@ fn body<W: Wire>(alloc: Global, words: &str) -> Result<W, Fail> {
 }
 
 /// The text of these lines, each with its end.
-pub fn ended(alloc: Global, lines: &[&str]) -> Result<Vec<u8>, Fail> {
+fn ended(alloc: Global, lines: &[&str]) -> Result<Vec<u8>, AllocError> {
     let mut text = Vec::new(alloc);
     for line in lines {
-        text.extend_from_slice(line.as_bytes())?;
-        text.push(b'\n')?;
+        push_line(&mut text, line.as_bytes())?;
     }
     Ok(text)
 }
@@ -32,12 +32,8 @@ pub fn ended(alloc: Global, lines: &[&str]) -> Result<Vec<u8>, Fail> {
 /// The text is these lines, each with its end.
 pub fn check_lines(rt: &impl Abort, alloc: Global, text: &[u8], want: &[&str]) -> Result<(), Fail> {
     let want = ended(alloc, want)?;
-    check_text(rt, text, &want);
+    check_bytes(rt, text, &want);
     Ok(())
-}
-
-pub fn check_text(rt: &impl Abort, text: &[u8], want: &[u8]) {
-    assert_eq!(rt; text, want);
 }
 
 /// A body in words comes to a machine, and its answers are appended.

@@ -1,6 +1,7 @@
 //! Worked cases.
-use crate::fold::folded::{check_lines, check_text};
+use crate::fold::folded::check_lines;
 use crate::fold::said::said;
+use crate::made::filled_to;
 use fold_app::{FoldFault, fold};
 use std::alloc::{AllocError, Global};
 use std::process::Abort;
@@ -31,16 +32,17 @@ fn joined(alloc: Global, lines: &[&str]) -> Result<Vec<u8>, AllocError> {
     Ok(input)
 }
 
-/// What a fold of these lines writes.
-fn printed(alloc: Global, lines: &[&str]) -> Result<Vec<u8>, Fail> {
+/// Whether a fold of these lines writes this.
+fn is_printed(alloc: Global, lines: &[&str], want: &[u8]) -> Result<bool, Fail> {
     let input = joined(alloc, lines)?;
-    Ok(folded(alloc, &input)?)
+    let output = folded(alloc, &input)?;
+    Ok(output.as_slice() == want)
 }
 
-/// What is wrong with these lines.
-fn fault_of_lines(alloc: Global, lines: &[&str]) -> Result<Option<FoldFault>, Fail> {
+/// Whether this is wrong with these lines.
+fn has_fault(alloc: Global, lines: &[&str], want: FoldFault) -> Result<bool, AllocError> {
     let input = joined(alloc, lines)?;
-    Ok(fault(alloc, &input))
+    Ok(fault(alloc, &input) == Some(want))
 }
 
 /// Lines, and what a fold of them writes.
@@ -55,7 +57,7 @@ const PRINTED: &[(&[&str], &str)] = &[
 #[test]
 fn lines_are_folded(rt: HostRuntime) -> Result<(), Fail> {
     for (lines, want) in PRINTED {
-        check_text(&rt, &printed(rt.alloc(), lines)?, want.as_bytes());
+        assert!(rt; is_printed(rt.alloc(), lines, want.as_bytes())?);
     }
     Ok(())
 }
@@ -102,7 +104,7 @@ const FAULTS: &[(&[&str], FoldFault)] = &[
 #[test]
 fn a_bad_line_is_named_by_the_first(rt: HostRuntime) -> Result<(), Fail> {
     for (lines, want) in FAULTS {
-        assert!(rt; fault_of_lines(rt.alloc(), lines)? == Some(*want), "{want}");
+        assert!(rt; has_fault(rt.alloc(), lines, *want)?);
     }
     Ok(())
 }
@@ -126,18 +128,15 @@ fn digit(value: u8) -> u8 {
 }
 
 /// A body that brings a message of so many bytes in all from upstream.
-fn long_message(alloc: Global, len: u16) -> Result<Vec<u8>, Fail> {
-    let mut line = Vec::from_slice(alloc, b"PRIVMSG #x :")?;
-    for _ in line.len()..len as usize {
-        line.push(b'a')?;
-    }
+fn long_message(alloc: Global, len: u16) -> Result<Vec<u8>, AllocError> {
+    let line = filled_to(alloc, b"PRIVMSG #x :", len as usize, b"")?;
     let mut text = Vec::from_slice(alloc, b"0002000000006553f100")?;
     push_hex(&mut text, &len.to_be_bytes())?;
     push_hex(&mut text, &line)?;
     Ok(text)
 }
 
-fn fault_of_long(alloc: Global, len: u16) -> Result<Option<FoldFault>, Fail> {
+fn fault_of_long(alloc: Global, len: u16) -> Result<Option<FoldFault>, AllocError> {
     let input = long_message(alloc, len)?;
     Ok(fault(alloc, &input))
 }
@@ -172,5 +171,6 @@ pub struct Case<'a> {
 }
 
 pub fn check(rt: &impl Abort, alloc: Global, case: &Case<'_>) -> Result<(), Fail> {
-    check_lines(rt, alloc, &folded_bodies(alloc, case.bodies)?, case.want)
+    let text = folded_bodies(alloc, case.bodies)?;
+    check_lines(rt, alloc, &text, case.want)
 }

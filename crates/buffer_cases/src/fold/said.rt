@@ -2,6 +2,8 @@
 //! `heard 0 :a!b@c PRIVMSG #x :hi` (a line from upstream at the second 0), `1.1.1 #2 play #x`
 //! (a client's second request, at the second 0), `blank`, and `mark 2.5.7` (the mark 7 of the run 5
 //! of node 2).
+ghost use Rattle.std.specs.Prelude.{◌≤◌};
+
 use std::alloc::Global;
 use std::test::Fail;
 
@@ -16,23 +18,18 @@ fn cut(words: &str, end: char) -> (&str, &str) {
     }
 }
 
-fn push_number(out: &mut Vec<u8>, word: &str) -> Result<(), Fail> {
+/// Appends a number in so many bytes.
+fn push_number(out: &mut Vec<u8>, word: &str, len: usize) -> Result<(), Fail>
+    requires { len ≤ 8 }
+{
     let number = word.parse::<u64>()?;
-    Ok(out.extend_from_slice(&number.to_be_bytes())?)
-}
-
-fn push_byte(out: &mut Vec<u8>, word: &str) -> Result<(), Fail> {
-    Ok(out.push(word.parse::<u8>()?)?)
+    let bytes = number.to_be_bytes();
+    Ok(out.extend_from_slice(&bytes[8 - len..])?)
 }
 
 fn push_moment(out: &mut Vec<u8>, word: &str) -> Result<(), Fail> {
     let second = word.parse::<u8>()?;
     Ok(out.extend_from_slice(&(START + second as u64).to_be_bytes())?)
-}
-
-fn push_size(out: &mut Vec<u8>, word: &str) -> Result<(), Fail> {
-    let size = word.parse::<u16>()?;
-    Ok(out.extend_from_slice(&size.to_be_bytes())?)
 }
 
 fn push_field(out: &mut Vec<u8>, field: &str) -> Result<(), Fail> {
@@ -45,9 +42,9 @@ fn push_field(out: &mut Vec<u8>, field: &str) -> Result<(), Fail> {
 fn push_origin(out: &mut Vec<u8>, word: &str) -> Result<(), Fail> {
     let (node, run) = cut(word, '.');
     let (boot, client) = cut(run, '.');
-    push_byte(out, node)?;
-    push_number(out, boot)?;
-    push_number(out, client)
+    push_number(out, node, 1)?;
+    push_number(out, boot, 8)?;
+    push_number(out, client, 8)
 }
 
 /// The actions, and the kind byte of each.
@@ -88,7 +85,7 @@ fn push_action(out: &mut Vec<u8>, words: &str) -> Result<(), Fail> {
         }
         13 => {
             push_field(out, target)?;
-            push_size(out, last)
+            push_number(out, last, 2)
         }
         _ => push_field(out, target),
     }
@@ -100,7 +97,7 @@ fn push_request(out: &mut Vec<u8>, words: &str) -> Result<(), Fail> {
     let (number, action) = cut(rest, ' ');
     out.push(1)?;
     push_origin(out, origin)?;
-    push_number(out, number.strip_prefix('#').ok_or("no number")?)?;
+    push_number(out, number.strip_prefix('#').ok_or("no number")?, 8)?;
     push_moment(out, "0")?;
     push_action(out, action)
 }
@@ -114,8 +111,8 @@ fn push_body(out: &mut Vec<u8>, words: &str) -> Result<(), Fail> {
         "down" => Ok(out.extend_from_slice(&[0, 5])?),
         "gone" => {
             out.extend_from_slice(&[0, 3])?;
-            push_byte(out, second)?;
-            push_number(out, last)
+            push_number(out, second, 1)?;
+            push_number(out, last, 8)
         }
         "heard" => {
             out.extend_from_slice(&[0, 2])?;

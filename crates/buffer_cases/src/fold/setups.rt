@@ -1,10 +1,10 @@
 //! What a bouncer that is set up in another way than plainly answers.
 use crate::fold::folded::{answered, answered_in_one_run, check_lines};
 use crate::fold::setup_cases::{CASES, RUNS};
+use crate::made::{name, names};
 use buffer_commands::{Options, Setup};
 use buffer_lines::Offset;
 use buffer_machine::BufferMachine;
-use irc_line::Name;
 use std::alloc::Global;
 use std::test::Fail;
 
@@ -36,18 +36,6 @@ pub const PLAIN: Case<'static> = Case {
     bodies: &[],
     want: &[],
 };
-
-fn name(alloc: Global, bytes: &[u8]) -> Result<Name, Fail> {
-    Ok(Name::from_bytes(Vec::from_slice(alloc, bytes)?).ok_or("no name")?)
-}
-
-fn names(alloc: Global, all: &[&[u8]]) -> Result<Vec<Name>, Fail> {
-    let mut names = Vec::new(alloc);
-    for bytes in all {
-        names.push(name(alloc, bytes)?)?;
-    }
-    Ok(names)
-}
 
 impl<'a> Case<'a> {
     fn options(&self) -> Result<Options, Fail> {

@@ -1,5 +1,5 @@
 //! What lines say, by examples.
-use crate::line::made::{filled, filled_to, name, text};
+use crate::made::{filled_to, name, text};
 use irc_line::{Line, LineFault, Name, Text, write_parts};
 use std::alloc::{AllocError, Global};
 use std::test::Fail;
@@ -103,7 +103,7 @@ fn fault(alloc: Global, content: &[u8]) -> Option<LineFault> {
 
 /// Whether a content of so many bytes, letters behind these, is too long.
 fn is_too_long(alloc: Global, front: &[u8], len: usize) -> Result<bool, AllocError> {
-    let content = filled(alloc, front, len)?;
+    let content = filled_to(alloc, front, len, b"")?;
     Ok(fault(alloc, &content) == Some(LineFault::TooLong))
 }
 
@@ -133,48 +133,38 @@ fn is_content_cut(alloc: Global, content: &[u8], want: &[u8]) -> Result<bool, Li
 
 /// Whether the longest line is of 511 bytes, of which the last is cut off.
 fn is_cut_by_one(alloc: Global) -> Result<bool, LineFault> {
-    let content = filled(alloc, b"PRIVMSG #x :", 511)?;
+    let content = filled_to(alloc, b"PRIVMSG #x :", 511, b"")?;
     let want = filled_to(alloc, b"before PRIVMSG #x :", 7 + 510, b"\r\n")?;
     is_content_cut(alloc, &content, &want)
 }
 
-/// Adds what a line says of itself: its prefix, its command, how many parameters it has and all of them, and
-/// those at the places 0, 1 and 2, with a LF behind each.
-fn tell_parts(out: &mut Vec<u8>, line: &Line) -> Result<(), AllocError> {
-    if let Some(prefix) = line.prefix() {
-        tell(out, prefix)?;
+/// Whether a line has this prefix.
+fn has_prefix(line: &Line, want: &[u8]) -> bool {
+    match line.prefix() {
+        Some(prefix) => prefix == want,
+        None => false,
     }
-    tell(out, line.command())?;
-    if line.parameter_count() == 2 && line.parameters().len() == 2 {
-        tell(out, b"two")?;
-    }
-    tell(out, line.parameter(0))?;
-    tell(out, line.parameter(1))?;
-    tell(out, line.parameter(2))
 }
 
-fn tell(out: &mut Vec<u8>, part: &[u8]) -> Result<(), AllocError> {
-    out.extend_from_slice(part)?;
-    out.push(b'\n')?;
-    Ok(())
-}
-
-/// Whether this is told of a line.
-fn is_told(alloc: Global, line: &Line, want: &[u8]) -> Result<bool, AllocError> {
-    let mut out = Vec::new(alloc);
-    tell_parts(&mut out, line)?;
-    Ok(out.as_slice() == want)
+/// Whether a line has this command and two parameters, and none at the place 2.
+fn has_two(line: &Line, command: &[u8], first: &[u8], second: &[u8]) -> bool {
+    line.command() == command
+        && line.parameter_count() == 2
+        && line.parameters().len() == 2
+        && line.parameter(0) == first
+        && line.parameter(1) == second
+        && line.parameter(2) == b"".as_slice()
 }
 
 fn copied(alloc: Global, line: &Line) -> Result<Line, AllocError> {
     line.copy(alloc)
 }
 
-/// Whether this is told of the copy of the line of a content.
-fn has_parts(alloc: Global, content: &[u8], want: &[u8]) -> Result<bool, LineFault> {
-    let line = parsed(alloc, content)?;
+/// Whether the copy of a line says the parts of that line.
+fn has_parts(alloc: Global) -> Result<bool, LineFault> {
+    let line = parsed(alloc, b":WiZ!jto@tolsun.oulu.fi nick Kilroy :")?;
     let copy = copied(alloc, &line)?;
-    Ok(is_told(alloc, &copy, want)?)
+    Ok(has_prefix(&copy, b"WiZ!jto@tolsun.oulu.fi") && has_two(&copy, b"NICK", b"Kilroy", b""))
 }
 
 /// A message to this name with this text.
@@ -183,7 +173,7 @@ fn message(alloc: Global, target: &Name, text: &Text) -> Result<Line, AllocError
 }
 
 /// Whether a message to this name with this text is spelled so.
-fn is_message(alloc: Global, target: &str, bytes: &str, want: &[u8]) -> Result<bool, Fail> {
+fn is_message(alloc: Global, target: &[u8], bytes: &[u8], want: &[u8]) -> Result<bool, Fail> {
     let target = name(alloc, target)?;
     let text = text(alloc, bytes)?;
     let line = message(alloc, &target, &text)?;
@@ -201,9 +191,8 @@ fn is_written(alloc: Global) -> Result<bool, AllocError> {
 fn a_line_says_its_parts(rt: HostRuntime) -> Result<(), Fail> {
     let alloc = rt.alloc();
     assert!(rt; is_cut_by_one(alloc)?);
-    let want = b"WiZ!jto@tolsun.oulu.fi\nNICK\ntwo\nKilroy\n\n\n";
-    assert!(rt; has_parts(alloc, b":WiZ!jto@tolsun.oulu.fi nick Kilroy :", want)?);
-    assert!(rt; is_message(alloc, "#x", "hi", b":me!bouncer@local PRIVMSG #x :hi")?);
+    assert!(rt; has_parts(alloc)?);
+    assert!(rt; is_message(alloc, b"#x", b"hi", b":me!bouncer@local PRIVMSG #x :hi")?);
     assert!(rt; is_written(alloc)?);
     Ok(())
 }

@@ -1,5 +1,5 @@
 //! Names and texts, by examples.
-use crate::line::made::{filled, name, text};
+use crate::made::{filled_to, name, text};
 use irc_line::{
     Name, Text, compare_names, fold_name, is_action, is_channel_name, is_name_below, is_same_name,
 };
@@ -66,7 +66,7 @@ fn names_have_limits(rt: HostRuntime) -> Result<(), Fail> {
 
 /// Whether these bytes and letters behind them, so many in all, are a text.
 fn is_text(alloc: Global, front: &[u8], len: usize) -> Result<bool, AllocError> {
-    Ok(Text::from_bytes(filled(alloc, front, len)?).is_some())
+    Ok(Text::from_bytes(filled_to(alloc, front, len, b"")?).is_some())
 }
 
 fn is_folded(alloc: Global, name: &[u8], want: &[u8]) -> Result<bool, AllocError> {
@@ -74,13 +74,13 @@ fn is_folded(alloc: Global, name: &[u8], want: &[u8]) -> Result<bool, AllocError
 }
 
 /// Whether the copy of this name is a channel's.
-fn is_copied_channel(alloc: Global, bytes: &str) -> Result<bool, Fail> {
+fn is_copied_channel(alloc: Global, bytes: &[u8]) -> Result<bool, Fail> {
     Ok(name(alloc, bytes)?.copy(alloc)?.is_channel())
 }
 
 /// Whether the copy of the text of these bytes is of them.
-fn is_copied_text(alloc: Global, bytes: &str) -> Result<bool, Fail> {
-    Ok(text(alloc, bytes)?.copy(alloc)?.as_bytes() == bytes.as_bytes())
+fn is_copied_text(alloc: Global, bytes: &[u8]) -> Result<bool, Fail> {
+    Ok(text(alloc, bytes)?.copy(alloc)?.as_bytes() == bytes)
 }
 
 #[test]
@@ -89,6 +89,6 @@ fn texts_have_limits_and_names_fold(rt: HostRuntime) -> Result<(), Fail> {
     assert!(rt; is_text(alloc, b"a", 510)? && !is_text(alloc, b"a", 511)?);
     assert!(rt; !is_text(alloc, b"two\nlines", 9)?);
     assert!(rt; is_folded(alloc, b"A[]\\~Z@a{}|^_`", b"a{}|^z@a{}|^_`")?);
-    assert!(rt; is_copied_channel(alloc, "#x")? && is_copied_text(alloc, "hi")?);
+    assert!(rt; is_copied_channel(alloc, b"#x")? && is_copied_text(alloc, b"hi")?);
     Ok(())
 }

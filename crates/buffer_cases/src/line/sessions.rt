@@ -1,5 +1,5 @@
 //! Sessions by examples.
-use crate::line::made::{name, text};
+use crate::made::{name, text};
 use irc_line::{Line, Name, Text};
 use std::alloc::{AllocError, Global};
 use std::test::Fail;
@@ -16,7 +16,7 @@ fn began(
 
 /// An uplink without a password that was just made.
 pub fn new_uplink(alloc: Global, nick: &str) -> Result<Uplink, Fail> {
-    let (uplink, _bytes) = began(alloc, name(alloc, nick)?, None)?;
+    let (uplink, _bytes) = began(alloc, name(alloc, nick.as_bytes())?, None)?;
     Ok(uplink)
 }
 
@@ -151,7 +151,7 @@ const LONG_NICKS: Session = Session {
 fn a_session_is_opened_however_its_bytes_are_cut(rt: HostRuntime) -> Result<(), Fail> {
     let alloc = rt.alloc();
     for len in 1..OPENED.bytes.len() + 1 {
-        assert!(rt; goes_so(alloc, &OPENED, len)?, "{len}");
+        assert!(rt; goes_so(alloc, &OPENED, len)?);
     }
     assert!(rt; goes_so(alloc, &NICKS, 7)?);
     assert!(rt; goes_so(alloc, &LONG_NICKS, 1000)?);
@@ -160,13 +160,13 @@ fn a_session_is_opened_however_its_bytes_are_cut(rt: HostRuntime) -> Result<(), 
 
 /// Whether an uplink of nick `me` with this password, or none, writes these bytes first.
 fn is_first(alloc: Global, password: Option<&Text>, want: &str) -> Result<bool, Fail> {
-    let (_uplink, first) = began(alloc, name(alloc, "me")?, password)?;
+    let (_uplink, first) = began(alloc, name(alloc, b"me")?, password)?;
     Ok(first.as_slice() == want.as_bytes())
 }
 
 /// Whether an uplink of nick `me` with a password writes these bytes first.
 fn is_first_with(alloc: Global, password: &str, want: &str) -> Result<bool, Fail> {
-    is_first(alloc, Some(&text(alloc, password)?), want)
+    is_first(alloc, Some(&text(alloc, password.as_bytes())?), want)
 }
 
 /// Passwords, and the bytes that are written first.
@@ -187,56 +187,46 @@ fn a_password_a_nick_and_a_user_come_first(rt: HostRuntime) -> Result<(), Fail> 
     Ok(())
 }
 
-/// Lines behind the one that opens a session, with all that is given as words and what is written.
+/// The line that opens a session and another, with all that is given as words and what is written.
 const LINES: &[(&str, &str, &str)] = &[
     (
-        ":s 001 me :Hello",
+        "001\n:s 001 me :Hello\r\n",
         "opened\nheard 001\nheard :s 001 me Hello\n",
         "",
     ),
-    ("ping a b", "opened\nheard 001\n", "PONG a\r\n"),
-    (":s PING ::a", "opened\nheard 001\n", "PONG ::a\r\n"),
-    ("PING", "opened\nheard 001\n", ""),
-    ("PONG x", "opened\nheard 001\nheard PONG x\n", ""),
+    ("001\nping a b\r\n", "opened\nheard 001\n", "PONG a\r\n"),
     (
-        ":s 433 * me :In use",
+        "001\n:s PING ::a\r\n",
+        "opened\nheard 001\n",
+        "PONG ::a\r\n",
+    ),
+    ("001\nPING\r\n", "opened\nheard 001\n", ""),
+    ("001\nPONG x\r\n", "opened\nheard 001\nheard PONG x\n", ""),
+    (
+        "001\n:s 433 * me :In use\r\n",
         "opened\nheard 001\nheard :s 433 * me :In use\n",
         "",
     ),
     (
-        "ERROR :Closing Link",
+        "001\nERROR :Closing Link\r\n",
         "opened\nheard 001\nheard ERROR :Closing Link\n",
         "",
     ),
-    ("", "opened\nheard 001\n", ""),
-    (":s", "opened\nheard 001\n", ""),
-    ("PRIVMSG \r #x", "opened\nheard 001\n", ""),
+    ("001\n\r\n", "opened\nheard 001\n", ""),
+    ("001\n:s\r\n", "opened\nheard 001\n", ""),
+    ("001\nPRIVMSG \r #x\r\n", "opened\nheard 001\n", ""),
 ];
-
-/// Opens the session and feeds the line.
-fn feed_line(uplink: &mut Uplink, told: &mut Told, line: &str) -> Result<(), AllocError> {
-    told.feed(uplink, b"001\n")?;
-    told.feed(uplink, line.as_bytes())?;
-    told.feed(uplink, b"\r\n")
-}
-
-/// What is told from its first bytes on of a session that is open, and then fed a line.
-fn told_when_open(alloc: Global, line: &str) -> Result<Told, Fail> {
-    let mut uplink = new_uplink(alloc, "me")?;
-    let mut told = Told::nothing(alloc);
-    feed_line(&mut uplink, &mut told, line)?;
-    Ok(told)
-}
-
-/// Whether this is told of it.
-fn is_heard(alloc: Global, line: &str, inputs: &str, reply: &str) -> Result<bool, Fail> {
-    Ok(told_when_open(alloc, line)?.is(inputs, reply))
-}
 
 #[test]
 fn an_open_session_hears_all_but_pings_and_what_is_no_line(rt: HostRuntime) -> Result<(), Fail> {
-    for (line, inputs, reply) in LINES {
-        assert!(rt; is_heard(rt.alloc(), line, inputs, reply)?);
+    for (bytes, inputs, reply) in LINES {
+        let session = Session {
+            nick: "me",
+            bytes: *bytes,
+            inputs: *inputs,
+            reply: *reply,
+        };
+        assert!(rt; goes_so(rt.alloc(), &session, 4)?);
     }
     Ok(())
 }

@@ -1,5 +1,5 @@
 //! How streams are split, by examples.
-use crate::line::made::filled_to;
+use crate::made::filled_to;
 use irc_line::{Item, LineFault, Splitter};
 use std::alloc::{AllocError, Global};
 use std::process::Abort;
@@ -63,7 +63,7 @@ fn check_cuts(rt: &impl Abort, alloc: Global, bytes: &[u8], want: &[u8]) -> Resu
     assert!(rt; is_told(alloc, &[bytes], want)?);
     for cut in 0..bytes.len() {
         let (front, rest) = bytes.split_at(cut);
-        assert!(rt; is_told(alloc, &[front, rest], want)?, "{cut}");
+        assert!(rt; is_told(alloc, &[front, rest], want)?);
     }
     assert!(rt; is_told_by_byte(alloc, bytes, want)?);
     Ok(())

@@ -1,20 +1,10 @@
 //! How values are spelled, by examples.
-use crate::line::made::filled;
+use crate::made::{fault_of, filled_to, is_shown, is_spelled};
 use irc_line::{Line, Name, Text};
 use std::alloc::Global;
-use std::fmt::Display;
 use std::process::Abort;
 use std::test::Fail;
 use wire_bytes::{Mark, Moment, Number, Origin, SessionId, Wire, WireFault, take_u16};
-
-/// Whether a value is spelled so.
-fn is_spelled<W: Wire>(alloc: Global, value: &W, spelling: &[u8]) -> Result<bool, WireFault>
-    requires { W.fits value.now }
-{
-    let mut out = Vec::new(alloc);
-    value.put(&mut out)?;
-    Ok(out.as_slice() == spelling)
-}
 
 /// Whether this value stands at the front of an input, in so many bytes, and is as its copy.
 fn is_read<W: Wire + PartialEq>(
@@ -37,12 +27,6 @@ fn is_spelled_again<W: Wire>(
     let mut out = Vec::new(alloc);
     value.put(&mut out)?;
     Ok(out.as_slice() == spelling && len == spelling.len())
-}
-
-/// Whether a value is printed so.
-fn is_shown<V: Display>(alloc: Global, value: &V, want: &str) -> Result<bool, Fail> {
-    let shown = format!(in alloc; "{value}")?;
-    Ok(shown.as_str() == want)
 }
 
 /// The value is spelled so, and its spelling is read as the value.
@@ -118,18 +102,13 @@ fn values_say_their_numbers(rt: HostRuntime) -> Result<(), Fail> {
     Ok(())
 }
 
-/// What is wrong with an input, if no value is at its front.
-fn fault<W: Wire>(alloc: Global, input: &[u8]) -> Option<WireFault> {
-    W::take(alloc, input).err()
-}
-
 /// Inputs without a value at their front, and what is wrong with each.
 type Faults = &'static [(&'static [u8], WireFault)];
 
 /// Each of these inputs is refused so.
 fn check_faults<W: Wire>(rt: &impl Abort, alloc: Global, cases: Faults) {
     for (input, want) in cases {
-        assert!(rt; fault::<W>(alloc, input) == Some(*want));
+        assert!(rt; fault_of::<W>(alloc, input) == Some(*want));
     }
 }
 
@@ -223,8 +202,8 @@ fn names_and_lines_are_read(rt: HostRuntime) -> Result<(), Fail> {
 
 /// Whether a text of 511 bytes is refused so in so many bytes.
 fn is_511_refused(alloc: Global, len: usize, want: WireFault) -> Result<bool, WireFault> {
-    let input = filled(alloc, &[1, 255], len)?;
-    Ok(input.len() == len && fault::<Text>(alloc, &input) == Some(want))
+    let input = filled_to(alloc, &[1, 255], len, b"")?;
+    Ok(input.len() == len && fault_of::<Text>(alloc, &input) == Some(want))
 }
 
 /// How many bytes the text at the front of an input has.
@@ -235,8 +214,8 @@ fn text_len(alloc: Global, input: &[u8]) -> Result<usize, WireFault> {
 
 /// Whether the text of 510 bytes at the front of 513 bytes is read, and spelled again.
 fn is_510_read(alloc: Global) -> Result<bool, WireFault> {
-    let input = filled(alloc, &[1, 254], 513)?;
-    let spelling = filled(alloc, &[1, 254], 512)?;
+    let input = filled_to(alloc, &[1, 254], 513, b"")?;
+    let spelling = filled_to(alloc, &[1, 254], 512, b"")?;
     Ok(text_len(alloc, &input)? == 510 && is_spelled_again::<Text>(alloc, &input, &spelling)?)
 }
 

@@ -1,6 +1,7 @@
 //! Bodies as bytes, and who may bring them, by examples.
 ghost use Rattle.std.specs.Prelude.{◌<◌};
 
+use crate::made::check_bytes;
 use bouncer_tower::Tower;
 use machine_laws::{Hosted, Source};
 use std::alloc::{AllocError, Global};
@@ -53,10 +54,6 @@ pub fn spelled<W: Wire>(alloc: Global, value: W) -> Result<Vec<u8>, AllocError>
     Ok(out)
 }
 
-pub fn check_bytes(rt: &impl Abort, told: &[u8], wanted: &[u8]) {
-    assert_eq!(rt; told, wanted);
-}
-
 /// The client says `hi` by the request of this number.
 pub fn say<M: Hosted>(alloc: Global, number: u64) -> Result<M::Command, Fail>
     requires { number < 2000 }
@@ -87,17 +84,44 @@ fn check<M: Hosted>(
     Ok(())
 }
 
+/// A body that a machine makes by itself.
+#[derive(Clone, Copy)]
+enum Made {
+    Opened,
+    Shut,
+    Claim,
+    Blank,
+    Mark,
+    Gone,
+}
+
+fn body_of<M: Hosted>(made: Made) -> M::Command {
+    match made {
+        Made::Opened => M::opened(SessionId::new(1, 1)),
+        Made::Shut => M::shut(SessionId::new(1, 1)),
+        Made::Claim => M::claim(SessionId::new(1, 1), Number::new(1)),
+        Made::Blank => M::blank(),
+        Made::Mark => M::mark(mark_of(1)),
+        Made::Gone => M::node_gone(2, Number::new(5)),
+    }
+}
+
+/// The bodies, and the bytes of each for the tower.
+const MADE: &[(Made, &[u8])] = &[
+    (Made::Opened, OPENED),
+    (Made::Shut, SHUT),
+    (Made::Claim, CLAIM),
+    (Made::Blank, BLANK),
+    (Made::Mark, MARK),
+    (Made::Gone, GONE),
+];
+
 /// The bodies that a machine makes are spelled as they are for the tower.
 fn check_made<M: Hosted>(rt: &impl Abort, alloc: Global) -> Result<(), Fail> {
-    let id = SessionId::new(1, 1);
-    check::<M>(rt, alloc, M::opened(id), OPENED)?;
-    check::<M>(rt, alloc, M::shut(id), SHUT)?;
-    check::<M>(rt, alloc, M::claim(id, Number::new(1)), CLAIM)?;
-    check::<M>(rt, alloc, M::blank(), BLANK)?;
-    check::<M>(rt, alloc, M::mark(mark_of(1)), MARK)?;
-    check::<M>(rt, alloc, M::node_gone(2, Number::new(5)), GONE)?;
-    check::<M>(rt, alloc, say::<M>(alloc, 2)?, SAY)?;
-    Ok(())
+    for (made, wanted) in MADE {
+        check::<M>(rt, alloc, body_of::<M>(*made), wanted)?;
+    }
+    Ok(check::<M>(rt, alloc, say::<M>(alloc, 2)?, SAY)?)
 }
 
 #[test]
@@ -117,11 +141,16 @@ fn source_of_mark<M: Hosted>(node: u8) -> Source {
 
 /// The bodies have the sources that they have for the tower.
 fn check_sources<M: Hosted>(rt: &impl Abort, alloc: Global) -> Result<(), Fail> {
-    assert!(rt; source_of::<M>(alloc, ATTACH)? == Source::Client(Origin::new(1, 1, 1)));
-    assert!(rt; source_of::<M>(alloc, GONE)? == Source::Node);
-    assert!(rt; source_of::<M>(alloc, SHUT)? == Source::Leader);
-    assert!(rt; source_of::<M>(alloc, BLANK)? == Source::Leader);
-    assert!(rt; source_of::<M>(alloc, MARK)? == Source::Run(1, 1));
+    let sources = [
+        (ATTACH, Source::Client(Origin::new(1, 1, 1))),
+        (GONE, Source::Node),
+        (SHUT, Source::Leader),
+        (BLANK, Source::Leader),
+        (MARK, Source::Run(1, 1)),
+    ];
+    for (bytes, want) in sources.iter() {
+        assert!(rt; source_of::<M>(alloc, *bytes)? == *want);
+    }
     assert!(rt; source_of_mark::<M>(9) == Source::Run(9, 1));
     Ok(())
 }

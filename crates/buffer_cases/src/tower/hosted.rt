@@ -1,5 +1,6 @@
 //! What a node asks of the tower that it hosts, by examples.
-use crate::tower::bodies::{ATTACH, CLAIM, HEARD, OPENED, SAY, check_bytes, taken};
+use crate::made::check_bytes;
+use crate::tower::bodies::{ATTACH, CLAIM, HEARD, OPENED, SAY, taken};
 use crate::tower::told::{Told, machine_after};
 use bouncer_tower::Tower;
 use buffer_commands::Setup;
@@ -12,24 +13,24 @@ const PLAYED: &[u8] = b":***!bouncer@local PRIVMSG #x :Buffer Playback...\n\
     :a!b@c PRIVMSG #x :[22:13:20] w\n\
     :***!bouncer@local PRIVMSG #x :Playback Complete.\n";
 
-/// The number of the line that is to be claimed next after these bodies.
-fn claim_after<M: Told>(
+/// Whether this is the number of the line that is to be claimed next after these bodies.
+fn is_next_claim<M: Told>(
     alloc: Global,
     setup: M::Setup,
     bodies: &[&[u8]],
-) -> Result<Option<Number>, Fail> {
+    want: Option<Number>,
+) -> Result<bool, Fail> {
     let machine = machine_after::<M>(alloc, setup, bodies)?;
-    Ok(machine.next_claim())
+    Ok(machine.next_claim() == want)
 }
 
 #[test]
 fn the_next_claim_is_of_the_first_line_that_waits(rt: HostRuntime) -> Result<(), Fail> {
     let alloc = rt.alloc();
     let bodies = [OPENED, ATTACH, SAY, CLAIM];
-    let waiting = claim_after::<Tower>(alloc, Setup::plain(alloc)?, &bodies[..3])?;
-    assert_eq!(rt; waiting, Some(Number::new(1)));
-    let claimed = claim_after::<Tower>(alloc, Setup::plain(alloc)?, &bodies)?;
-    assert_eq!(rt; claimed, None);
+    let first = Some(Number::new(1));
+    assert!(rt; is_next_claim::<Tower>(alloc, Setup::plain(alloc)?, &bodies[..3], first)?);
+    assert!(rt; is_next_claim::<Tower>(alloc, Setup::plain(alloc)?, &bodies, None)?);
     Ok(())
 }
 

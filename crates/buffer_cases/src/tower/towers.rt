@@ -1,5 +1,6 @@
 //! What a tower answers, by examples, whose bodies are given by their bytes.
-use crate::tower::bodies::{ATTACH, CLAIM, HEARD, OPENED, SAY, SHUT, check_bytes, say, taken};
+use crate::made::check_bytes;
+use crate::tower::bodies::{ATTACH, CLAIM, HEARD, OPENED, SAY, SHUT, say, taken};
 use crate::tower::told::{Told, Word, come_all};
 use bouncer_tower::Tower;
 use buffer_commands::Setup;

@@ -1,7 +1,8 @@
-//! Names, texts and spellings of examples.
+//! Names, texts and bytes of examples, and how they are compared.
 use buffer_lines::Shown;
-use irc_line::{Line, Name, Text};
+use irc_line::{Line, LineFault, Name, Text};
 use std::alloc::{AllocError, Global};
+use std::fmt::Display;
 use std::process::Abort;
 use std::test::Fail;
 use wire_bytes::{Wire, WireFault};
@@ -22,8 +23,23 @@ pub fn text(alloc: Global, bytes: &[u8]) -> Result<Text, Fail> {
     Ok(Text::from_bytes(Vec::from_slice(alloc, bytes)?).ok_or("no text")?)
 }
 
+/// These bytes and letters behind them, so many in all, and an end.
+pub fn filled_to(
+    alloc: Global,
+    front: &[u8],
+    len: usize,
+    end: &[u8],
+) -> Result<Vec<u8>, AllocError> {
+    let mut bytes = Vec::from_slice(alloc, front)?;
+    for _ in front.len()..len {
+        bytes.push(b'a')?;
+    }
+    bytes.extend_from_slice(end)?;
+    Ok(bytes)
+}
+
 /// A line as it is shown.
-pub fn shown(alloc: Global, line: &[u8]) -> Result<Shown, Fail> {
+pub fn shown(alloc: Global, line: &[u8]) -> Result<Shown, LineFault> {
     let line = Line::parse(alloc, line)?;
     Ok(Shown::of_line(alloc, &line)?)
 }
@@ -36,6 +52,11 @@ pub fn push_line(out: &mut Vec<u8>, line: &[u8]) -> Result<(), AllocError> {
 
 pub fn check_bytes(rt: &impl Abort, told: &[u8], wanted: &[u8]) {
     assert_eq!(rt; told, wanted);
+}
+
+/// The value at the front of bytes, and in how many bytes it stands there.
+pub fn taken<W: Wire>(alloc: Global, bytes: &[u8]) -> Result<(W, usize), WireFault> {
+    W::take(alloc, bytes)
 }
 
 /// Why these bytes are no value of a type.
@@ -54,4 +75,10 @@ pub fn is_spelled<W: Wire>(alloc: Global, value: &W, bytes: &[u8]) -> Result<boo
 
 fn is_same(told: &[u8], wanted: &[u8]) -> bool {
     told == wanted
+}
+
+/// Whether a value is printed so.
+pub fn is_shown<V: Display>(alloc: Global, value: &V, want: &str) -> Result<bool, AllocError> {
+    let shown = format!(in alloc; "{value}")?;
+    Ok(shown.as_str() == want)
 }
