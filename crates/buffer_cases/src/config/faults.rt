@@ -1,30 +1,44 @@
 //! What is told of a bad configuration.
+use crate::made::is_shown;
 use bouncer_config::parse_config;
-use std::alloc::Global;
+use std::alloc::{AllocError, Global};
+use std::process::Abort;
 use std::test::Fail;
 
-/// What is told of a text, or `good`.
-fn told(alloc: Global, text: &[u8]) -> Result<String, Fail> {
+/// Whether this is told of a text, `good` of one without a fault.
+fn is_told(alloc: Global, text: &[u8], want: &str) -> Result<bool, AllocError> {
     match parse_config(alloc, text) {
-        Ok(_) => Ok(format!(in alloc; "good")?),
-        Err(fault) => Ok(format!(in alloc; "{fault}")?),
+        Ok(_) => Ok(want == "good"),
+        Err(fault) => is_shown(alloc, &fault, want),
     }
 }
 
-/// What is told of the least configuration with further lines, from line 6 on.
-fn told_with(alloc: Global, lines: &str) -> Result<String, Fail> {
-    let text = format!(in alloc;
-        "nick = \"me\"\npassword = \"pass\"\nupstream = \"127.0.0.1:6667\"\nstore = \"store\"\nlisten = [\"127.0.0.1:1\", \"127.0.0.1:2\", \"127.0.0.1:3\"]\n{lines}"
-    )?;
-    told(alloc, text.as_bytes())
+/// The least configuration but for its addresses to listen at, in line 5.
+const LISTENING: &str =
+    "nick = \"me\"\npassword = \"pass\"\nupstream = \"127.0.0.1:6667\"\nstore = \"store\"\nlisten = ";
+
+/// The least configuration, in five lines.
+const LEAST: &str =
+    "nick = \"me\"\npassword = \"pass\"\nupstream = \"127.0.0.1:6667\"\nstore = \"store\"\nlisten = [\"127.0.0.1:1\", \"127.0.0.1:2\", \"127.0.0.1:3\"]\n";
+
+/// Whether this is told of a text behind another.
+fn is_told_behind(alloc: Global, front: &str, text: &str, want: &str) -> Result<bool, AllocError> {
+    let mut whole = Vec::from_slice(alloc, front.as_bytes())?;
+    whole.extend_from_slice(text.as_bytes())?;
+    is_told(alloc, &whole, want)
 }
 
-/// What is told of the least configuration but for its addresses to listen at, in line 5.
-fn told_listening(alloc: Global, listen: &str) -> Result<String, Fail> {
-    let text = format!(in alloc;
-        "nick = \"me\"\npassword = \"pass\"\nupstream = \"127.0.0.1:6667\"\nstore = \"store\"\nlisten = {listen}\n"
-    )?;
-    told(alloc, text.as_bytes())
+/// This is told of each text behind another.
+fn check_told(
+    rt: &impl Abort,
+    alloc: Global,
+    front: &str,
+    cases: &[(&str, &str)],
+) -> Result<(), Fail> {
+    for (text, want) in cases {
+        assert!(rt; is_told_behind(alloc, front, text, want)?);
+    }
+    Ok(())
 }
 
 /// Texts that are no TOML, and what is told of each.
@@ -38,7 +52,7 @@ const NO_TOML: &[(&[u8], &str)] = &[
 #[test]
 fn a_text_that_is_no_toml_is_refused_with_its_line(rt: HostRuntime) -> Result<(), Fail> {
     for (text, want) in NO_TOML {
-        assert!(rt; told(rt.alloc(), text)?.as_str() == *want);
+        assert!(rt; is_told(rt.alloc(), text, want)?);
     }
     Ok(())
 }
@@ -72,39 +86,33 @@ const NEEDED: &[(&str, &str)] = &[
 
 #[test]
 fn needed_keys_are_asked_for_and_judged(rt: HostRuntime) -> Result<(), Fail> {
-    for (text, want) in NEEDED {
-        assert!(rt; told(rt.alloc(), text.as_bytes())?.as_str() == *want);
-    }
-    Ok(())
+    check_told(&rt, rt.alloc(), "", NEEDED)
 }
 
 /// Addresses to listen at, and what is told of each.
 const LISTEN: &[(&str, &str)] = &[
     (
-        "[\"127.0.0.1:1\", \"127.0.0.1:2\"]",
+        "[\"127.0.0.1:1\", \"127.0.0.1:2\"]\n",
         "5: listen: needs three, five or seven addresses",
     ),
-    ("\"127.0.0.1:1\"", "5: listen: needs a list of texts"),
+    ("\"127.0.0.1:1\"\n", "5: listen: needs a list of texts"),
     (
-        "[\"127.0.0.1:1\", \"127.0.0.1:2\", \"localhost:3\"]",
+        "[\"127.0.0.1:1\", \"127.0.0.1:2\", \"localhost:3\"]\n",
         "5: listen: needs addresses 127.0.0.1:PORT",
     ),
     (
-        "[\"127.0.0.1:1\", \"127.0.0.1:2\", \"127.0.0.1:1\"]",
+        "[\"127.0.0.1:1\", \"127.0.0.1:2\", \"127.0.0.1:1\"]\n",
         "5: listen: needs addresses that differ, and none of upstream's",
     ),
     (
-        "[\"127.0.0.1:1\", \"127.0.0.1:2\", \"127.0.0.1:6667\"]",
+        "[\"127.0.0.1:1\", \"127.0.0.1:2\", \"127.0.0.1:6667\"]\n",
         "5: listen: needs addresses that differ, and none of upstream's",
     ),
 ];
 
 #[test]
 fn addresses_to_listen_at_are_as_many_as_a_group_has(rt: HostRuntime) -> Result<(), Fail> {
-    for (listen, want) in LISTEN {
-        assert!(rt; told_listening(rt.alloc(), listen)?.as_str() == *want);
-    }
-    Ok(())
+    check_told(&rt, rt.alloc(), LISTENING, LISTEN)
 }
 
 /// Further lines with values, and what is told of each.
@@ -140,10 +148,7 @@ const RANGES: &[(&str, &str)] = &[
 
 #[test]
 fn values_out_of_range_are_refused(rt: HostRuntime) -> Result<(), Fail> {
-    for (lines, want) in RANGES {
-        assert!(rt; told_with(rt.alloc(), lines)?.as_str() == *want);
-    }
-    Ok(())
+    check_told(&rt, rt.alloc(), LEAST, RANGES)
 }
 
 /// Further lines with texts and channels, and what is told of each.
@@ -166,8 +171,5 @@ const OPTIONAL: &[(&str, &str)] = &[
 
 #[test]
 fn optional_texts_and_channels_are_judged(rt: HostRuntime) -> Result<(), Fail> {
-    for (lines, want) in OPTIONAL {
-        assert!(rt; told_with(rt.alloc(), lines)?.as_str() == *want);
-    }
-    Ok(())
+    check_told(&rt, rt.alloc(), LEAST, OPTIONAL)
 }

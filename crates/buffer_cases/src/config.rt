@@ -1,0 +1,3 @@
+//! Configurations: one with every key, the least one, and each fault.
+mod faults;
+mod whole;
