@@ -10,9 +10,10 @@ use crate::buffers::Buffers;
 use crate::channel_actions::{detach, join, part, reattach};
 use crate::clients::Clients;
 use crate::saying::say;
-use crate::showing::{ask_for_all_names, close_all, just, show_channels, show_queries};
+use crate::showing::{ask_for_all_names, close_all, show_channels, show_queries};
 use crate::target_actions::{clear, clear_kinds, play, resize};
 use buffer_commands::{Action, Effect, Setup, WireLine};
+use machine_laws::single;
 use std::alloc::{AllocError, Global};
 use wire_bytes::{Moment, Origin};
 
@@ -51,7 +52,7 @@ pub fn act(
         Action::ClearAll if attached => clear_kinds(alloc, buffers, origin, true, true),
         Action::SetBuffer(name, size) if attached => resize(alloc, buffers, origin, name, *size),
         Action::Pass(line) if attached => pass(alloc, origin, line),
-        _ => just(alloc, Effect::Close(origin)),
+        _ => single(alloc, Effect::Close(origin)),
     }
 }
 
@@ -157,5 +158,5 @@ fn pass(alloc: Global, origin: Origin, line: &WireLine) -> Result<Vec<Effect>, A
     ensures { IfOk result (λ v. v.items ≡ Effect.Send origin line.now ∷ []) }
 {
     let line = line.line().copy(alloc)?;
-    just(alloc, Effect::Send(origin, line))
+    single(alloc, Effect::Send(origin, line))
 }

@@ -8,11 +8,12 @@ ghost use Rattle.buffer_machine.specs.Steps.{answers_again, is_detached, is_join
 use crate::buffers::Buffers;
 use crate::channel_changes::{attach_again, let_channel_go};
 use crate::message::{ChannelWord, NO_SUCH_TARGET, bare_channel, own_channel};
-use crate::showing::{just, show_lines_to_all, tell};
+use crate::showing::{show_lines_to_all, tell};
 use buffer_commands::{Effect, Setup};
 use buffer_lines::Shown;
 use buffer_targets::Channel;
 use irc_line::Name;
+use machine_laws::single;
 use std::alloc::{AllocError, Global};
 use wire_bytes::Origin;
 
@@ -260,5 +261,5 @@ fn send(
         Effect.Send origin (bare (word_bytes word) (channel.now ∷ [])) ∷ []) }
 {
     let line = bare_channel(alloc, word, channel)?;
-    just(alloc, Effect::Send(origin, line))
+    single(alloc, Effect::Send(origin, line))
 }

@@ -8,11 +8,12 @@ ghost use Rattle.buffer_machine.specs.Steps.{HasPlace, is_detached, others, stor
 use crate::buffers::Buffers;
 use crate::lines::channel_of;
 use crate::message::{bare_message, own_message};
-use crate::showing::{just, show_to_others};
+use crate::showing::show_to_others;
 use crate::storing::store;
 use buffer_commands::{Effect, Setup, Verb};
 use buffer_lines::Shown;
 use irc_line::{Line, Name, Text};
+use machine_laws::single;
 use std::alloc::{AllocError, Global};
 use wire_bytes::{Moment, Origin};
 
@@ -34,7 +35,7 @@ pub fn say(
 {
     let sent = bare_message(alloc, verb, name, text)?;
     if !name.is_channel() {
-        return just(alloc, Effect::Send(origin, sent));
+        return single(alloc, Effect::Send(origin, sent));
     }
     let line = own_message(alloc, &buffers.nick, verb, name, text)?;
     let mut effects = share(alloc, setup, buffers, origin, at, line)?;

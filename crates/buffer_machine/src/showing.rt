@@ -8,17 +8,9 @@ use buffer_commands::Effect;
 use buffer_lines::{Offset, Shown};
 use buffer_targets::{Channel, Target};
 use irc_line::Name;
+use machine_laws::single;
 use std::alloc::{AllocError, Global};
 use wire_bytes::{Copied, Origin};
-
-/// This effect alone.
-pub fn just(alloc: Global, effect: Effect) -> Result<Vec<Effect>, AllocError>
-    ensures { IfOk result (λ v. v.items ≡ effect ∷ []) }
-{
-    let mut effects = Vec::new(alloc);
-    effects.push(effect)?;
-    Ok(effects)
-}
 
 /// The bouncer's own answer to a client, and nothing else.
 pub fn tell(
@@ -30,7 +22,7 @@ pub fn tell(
     ensures { IfOk result (λ v. v.items ≡ status nick.now origin text.now) }
 {
     let status = status_line(alloc, nick, text)?;
-    just(alloc, Effect::Show(origin, status))
+    single(alloc, Effect::Show(origin, status))
 }
 
 /// A client is shown a target.
