@@ -1,4 +1,3 @@
-//! What is read and written: setups as bytes, records as text, inputs read whole.
-mod inputs;
+//! What is read and written: setups as bytes, records as text.
 mod record_files;
 mod setups;

@@ -65,13 +65,6 @@ fn committed(alloc: Global, terms: &[u8]) -> Result<Option<u64>, Fail> {
     })
 }
 
-#[test]
-fn an_entry_of_an_older_term_is_not_committed_by_counting(rt: HostRuntime) -> Result<(), Fail> {
-    assert!(rt; committed(rt.alloc(), &[1])? == None);
-    assert!(rt; committed(rt.alloc(), &[3])? == Some(1));
-    Ok(())
-}
-
 /// What a step leaves: how many entries stay and how many follow them, and its commit.
 fn left(step: &Step<u8>) -> (u64, usize, u64) {
     let commit = step.standing.commit.value();
@@ -128,15 +121,6 @@ fn check_refused(rt: &impl Abort, step: &Step<u8>) {
     assert!(rt; answered(&step.messages) == Some((2, false, 3)));
 }
 
-/// Entries of the leader take the place of others, and those behind another term are refused.
-#[test]
-fn entries_are_taken_or_refused(rt: HostRuntime) -> Result<(), Fail> {
-    let follower = Position::Follower(None);
-    check_taken(&rt, &appended(rt.alloc(), Position::Candidate, 2)?);
-    check_refused(&rt, &appended(rt.alloc(), follower, 3)?);
-    Ok(())
-}
-
 /// Node 1 of a group of five in term 3, with the votes of nodes 1 and 2.
 fn candidate() -> Result<Standing, Fail> {
     let candidate = standing(Position::Candidate)?;
@@ -155,12 +139,6 @@ fn elected(alloc: Global) -> Result<Step<u8>, Fail> {
 fn check_elected(rt: &impl Abort, step: &Step<u8>) {
     assert!(rt; role(step) == Role::Leader);
     assert!(rt; left(step) == (1, 1, 0));
-}
-
-#[test]
-fn the_vote_that_elects_appends_a_blank_body(rt: HostRuntime) -> Result<(), Fail> {
-    check_elected(&rt, &elected(rt.alloc())?);
-    Ok(())
 }
 
 /// A leader of a group of five in term 3 by these votes, over an empty log, once the blank body stands.
@@ -193,23 +171,23 @@ fn answered_by(alloc: Global, state: NodeState<u8>, node: u8) -> Result<NodeStat
     Ok(NodeState { standing, log })
 }
 
-/// The commit of the leader once node 2 answered so.
-fn committed_once(alloc: Global) -> Result<u64, Fail> {
+/// The commit of the leader once node 2 answered so, and maybe node 3 too.
+fn committed_by(alloc: Global, both: bool) -> Result<u64, Fail> {
     let once = answered_by(alloc, leader(alloc)?, 2)?;
+    if both {
+        let twice = answered_by(alloc, once, 3)?;
+        return Ok(twice.standing.commit.value());
+    }
     Ok(once.standing.commit.value())
 }
 
-/// The same once node 3 did too.
-fn committed_twice(alloc: Global) -> Result<u64, Fail> {
-    let once = answered_by(alloc, leader(alloc)?, 2)?;
-    let twice = answered_by(alloc, once, 3)?;
-    Ok(twice.standing.commit.value())
-}
-
+/// An entry of an older term is not committed by counting, and a third log of five commits.
 #[test]
-fn a_third_log_of_five_commits(rt: HostRuntime) -> Result<(), Fail> {
-    assert!(rt; committed_once(rt.alloc())? == 0);
-    assert!(rt; committed_twice(rt.alloc())? == 1);
+fn what_most_logs_have_is_committed(rt: HostRuntime) -> Result<(), Fail> {
+    assert!(rt; committed(rt.alloc(), &[1])? == None);
+    assert!(rt; committed(rt.alloc(), &[3])? == Some(1));
+    assert!(rt; committed_by(rt.alloc(), false)? == 0);
+    assert!(rt; committed_by(rt.alloc(), true)? == 1);
     Ok(())
 }
 
@@ -232,12 +210,6 @@ fn sends_to_all(alloc: Global) -> Result<bool, Fail> {
     let step = beat(alloc, leader.standing, &leader.log, NodeId::new(1))?;
     let nodes = appended_to(alloc, &step.messages)?;
     Ok(nodes.as_slice() == [2, 3, 4, 5].as_slice())
-}
-
-#[test]
-fn a_leader_sends_its_entries_to_all_others(rt: HostRuntime) -> Result<(), Fail> {
-    assert!(rt; sends_to_all(rt.alloc())?);
-    Ok(())
 }
 
 /// To whom a body is sent, where one message is.
@@ -273,8 +245,21 @@ fn check_bodies(rt: &impl Abort, leads: &Step<u8>, follows: &Step<u8>) {
     assert!(rt; forwarded_to(&follows.messages) == Some((4, 7)));
 }
 
+/// Entries of the leader take the place of others, and those behind another term are refused.
 #[test]
-fn a_body_goes_behind_the_log_of_the_leader(rt: HostRuntime) -> Result<(), Fail> {
+fn entries_are_taken_or_refused(rt: HostRuntime) -> Result<(), Fail> {
+    let follower = Position::Follower(None);
+    check_taken(&rt, &appended(rt.alloc(), Position::Candidate, 2)?);
+    check_refused(&rt, &appended(rt.alloc(), follower, 3)?);
+    Ok(())
+}
+
+/// The vote that elects appends a blank body, a leader sends its entries to all others, and a body goes behind
+/// its log.
+#[test]
+fn a_leader_appends_and_sends(rt: HostRuntime) -> Result<(), Fail> {
+    check_elected(&rt, &elected(rt.alloc())?);
+    assert!(rt; sends_to_all(rt.alloc())?);
     check_bodies(&rt, &forwarded(rt.alloc())?, &asked(rt.alloc())?);
     Ok(())
 }

@@ -34,13 +34,14 @@ fn follower(alloc: Global) -> Result<NodeState<u8>, Fail> {
     Ok(NodeState { standing, log })
 }
 
-/// What node 1 answers to a request of term 3 from node 4, whose log ends so, and its vote then.
+/// What the follower, as node 1, answers to a request of term 3 from node 4, whose log ends so, and its vote
+/// then.
 fn asked(
     alloc: Global,
-    state: &NodeState<u8>,
     last_index: u8,
     last_term: u8,
-) -> Result<Option<(bool, Option<u8>)>, AllocError> {
+) -> Result<Option<(bool, Option<u8>)>, Fail> {
+    let state = follower(alloc)?;
     let term = Number::new(3);
     let standing = state.raised(term);
     let (id, from) = (NodeId::new(1), NodeId::new(4));
@@ -76,25 +77,6 @@ fn asked_by(alloc: Global, messages: &[Message<u8>]) -> Result<Vec<u8>, AllocErr
     Ok(nodes)
 }
 
-/// The same of that follower.
-fn asked_follower(
-    alloc: Global,
-    last_index: u8,
-    last_term: u8,
-) -> Result<Option<(bool, Option<u8>)>, Fail> {
-    let state = follower(alloc)?;
-    Ok(asked(alloc, &state, last_index, last_term)?)
-}
-
-/// A longer log of an older term and a shorter one of the same term get no vote, and one as up to date does.
-#[test]
-fn a_log_as_up_to_date_gets_the_vote(rt: HostRuntime) -> Result<(), Fail> {
-    assert!(rt; asked_follower(rt.alloc(), 5, 1)? == Some((false, None)));
-    assert!(rt; asked_follower(rt.alloc(), 2, 2)? == Some((false, None)));
-    assert!(rt; asked_follower(rt.alloc(), 3, 2)? == Some((true, Some(4))));
-    Ok(())
-}
-
 /// The term and the vote of a step.
 fn voted(step: &Step<u8>) -> (u64, Option<u8>) {
     let vote = match step.standing.vote {
@@ -104,21 +86,16 @@ fn voted(step: &Step<u8>) -> (u64, Option<u8>) {
     (step.standing.term.value(), vote)
 }
 
-/// What the follower does as node 1 when it begins an election.
-fn begun(alloc: Global) -> Result<Step<u8>, Fail> {
-    let state = follower(alloc)?;
-    Ok(begin(alloc, state.standing, &state.log, NodeId::new(1))?)
-}
-
 /// Whether requests for a vote go to nodes 2 to 5, by a node that voted for itself in term 3.
 fn asks_all(alloc: Global, step: &Step<u8>) -> Result<bool, AllocError> {
     let nodes = asked_by(alloc, &step.messages)?;
     Ok(voted(step) == (3, Some(1)) && nodes.as_slice() == [2, 3, 4, 5].as_slice())
 }
 
-/// Whether the follower does so when it begins an election.
+/// Whether the follower does so as node 1 when it begins an election.
 fn begins(alloc: Global) -> Result<bool, Fail> {
-    let step = begun(alloc)?;
+    let state = follower(alloc)?;
+    let step = begin(alloc, state.standing, &state.log, NodeId::new(1))?;
     Ok(asks_all(alloc, &step)?)
 }
 
@@ -140,8 +117,13 @@ fn elected(alloc: Global, voters: &[u8]) -> Result<Role, Fail> {
     Ok(voted_for(step.standing, &state.log, voters))
 }
 
+/// A longer log of an older term and a shorter one of the same term get no vote, one as up to date does. An
+/// election asks all others, and counts each vote once.
 #[test]
-fn an_election_asks_all_others_and_counts_each_once(rt: HostRuntime) -> Result<(), Fail> {
+fn votes_are_given_asked_for_and_counted(rt: HostRuntime) -> Result<(), Fail> {
+    assert!(rt; asked(rt.alloc(), 5, 1)? == Some((false, None)));
+    assert!(rt; asked(rt.alloc(), 2, 2)? == Some((false, None)));
+    assert!(rt; asked(rt.alloc(), 3, 2)? == Some((true, Some(4))));
     assert!(rt; begins(rt.alloc())?);
     assert!(rt; elected(rt.alloc(), &[2, 2])? == Role::Candidate);
     assert!(rt; elected(rt.alloc(), &[2, 2, 4])? == Role::Leader);

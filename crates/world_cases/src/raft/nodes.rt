@@ -2,7 +2,7 @@
 use crate::raft::failing::Failing;
 use node_steps::Refusal;
 use raft_log::{GroupSize, Kind, Message, NodeId};
-use raft_node::{Cause, Input, Node, NodeFault, Output};
+use raft_node::{Cause, Input, Node, NodeFault};
 use stable_store::{MemoryStore, Stable};
 use std::alloc::{AllocError, Global};
 use std::process::Abort;
@@ -20,22 +20,14 @@ fn started<S: Stable<u8>>(alloc: Global, store: S) -> Result<Node<Toy, S>, NodeF
     }
 }
 
-/// What happens to a node.
-fn step<S: Stable<u8>>(
-    node: &mut Node<Toy, S>,
-    input: Input<u8, u8>,
-) -> Result<Output<u8, u8>, NodeFault> {
-    node.step(input)
-}
-
 /// The fault of a step, if it is one.
 fn fault<S: Stable<u8>>(node: &mut Node<Toy, S>, input: Input<u8, u8>) -> Option<NodeFault> {
-    step(node, input).err()
+    node.step(input).err()
 }
 
 /// What happens to a node, whatever comes out.
 fn go(node: &mut ToyNode, input: Input<u8, u8>) -> Result<(), Fail> {
-    let _output = step(node, input)?;
+    let _output = node.step(input)?;
     Ok(())
 }
 
@@ -94,13 +86,14 @@ fn places(node: &ToyNode) -> (u64, u64) {
 
 /// Whether the messages of a step go to nodes 2 and 3.
 fn asks_both(node: &mut ToyNode, input: Input<u8, u8>) -> Result<bool, NodeFault> {
-    let output = step(node, input)?;
+    let output = node.step(input)?;
     Ok(match output.messages.as_slice() {
         [one, other] => one.to == 2 && other.to == 3,
         _ => false,
     })
 }
 
+/// It follows, and asks the others for their votes.
 fn check_first_run(rt: &impl Abort, node: &mut ToyNode) -> Result<(), Fail> {
     assert!(rt; saved(node) == (1, 0, 0, 0) && places(node) == (0, 0));
     assert!(rt; node.id().value() == 1 && node.down() == None && node.next_claim() == None);
@@ -110,13 +103,9 @@ fn check_first_run(rt: &impl Abort, node: &mut ToyNode) -> Result<(), Fail> {
     Ok(())
 }
 
-#[test]
-fn a_first_run_follows_and_asks_the_others_for_their_votes(rt: HostRuntime) -> Result<(), Fail> {
-    check_first_run(&rt, &mut first_run(rt.alloc())?)
-}
-
 const BAD_ORIGIN: NodeFault = NodeFault::Refused(Refusal::BadOrigin);
 
+/// It appends a blank, and is as it was after a refusal.
 fn check_leader(rt: &impl Abort, node: &mut ToyNode) -> Result<(), Fail> {
     elect(node)?;
     assert!(rt; saved(node) == (1, 1, 1, 1));
@@ -127,14 +116,9 @@ fn check_leader(rt: &impl Abort, node: &mut ToyNode) -> Result<(), Fail> {
     Ok(())
 }
 
-#[test]
-fn a_leader_appends_a_blank_and_is_as_it_was_after_a_refusal(rt: HostRuntime) -> Result<(), Fail> {
-    check_leader(&rt, &mut first_run(rt.alloc())?)
-}
-
 /// Whether the next step of the machine is at this place, with these effects.
 fn applies(node: &mut ToyNode, place: u64, effects: &[u8]) -> Result<bool, NodeFault> {
-    let output = step(node, Input::Apply)?;
+    let output = node.step(Input::Apply)?;
     Ok(output.place.value() == place && output.effects.as_slice() == effects)
 }
 
@@ -150,6 +134,7 @@ fn is_behind(node: &ToyNode, wanted: u64, place: u8) -> bool {
     node.look(&0, wanted).err() == Some(behind)
 }
 
+/// What a majority has is applied place by place, and played.
 fn check_applied(rt: &impl Abort, node: &mut ToyNode) -> Result<(), Fail> {
     commit(node)?;
     assert!(rt; places(node) == (2, 0) && node.committed().len() == 2);
@@ -159,11 +144,6 @@ fn check_applied(rt: &impl Abort, node: &mut ToyNode) -> Result<(), Fail> {
     assert!(rt; applies(node, 0, &[])?);
     assert!(rt; places(node) == (2, 2));
     Ok(())
-}
-
-#[test]
-fn what_a_majority_has_is_applied_place_by_place_and_played(rt: HostRuntime) -> Result<(), Fail> {
-    check_applied(&rt, &mut first_run(rt.alloc())?)
 }
 
 const STORE_FAILED: NodeFault = NodeFault::Down(Cause::Store);
@@ -191,6 +171,7 @@ fn a_node_whose_store_fails_is_down_and_shows_the_state_from_before(
     Ok(())
 }
 
+/// A restart keeps what was saved alone.
 fn check_restart(rt: &impl Abort, node: &mut ToyNode) -> Result<(), Fail> {
     commit(node)?;
     go(node, Input::Apply)?;
@@ -203,7 +184,10 @@ fn check_restart(rt: &impl Abort, node: &mut ToyNode) -> Result<(), Fail> {
 }
 
 #[test]
-fn a_restart_keeps_what_was_saved_alone(rt: HostRuntime) -> Result<(), Fail> {
+fn a_node_is_elected_agrees_applies_and_starts_again(rt: HostRuntime) -> Result<(), Fail> {
+    check_first_run(&rt, &mut first_run(rt.alloc())?)?;
+    check_leader(&rt, &mut first_run(rt.alloc())?)?;
+    check_applied(&rt, &mut first_run(rt.alloc())?)?;
     check_restart(&rt, &mut first_run(rt.alloc())?)
 }
 

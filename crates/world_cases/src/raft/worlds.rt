@@ -5,7 +5,7 @@ use std::process::Abort;
 use std::test::Fail;
 use toy_machine::Toy;
 use world_events::{Event, Input};
-use world_run::{Outcome, World, WorldFault};
+use world_run::{Outcome, World};
 
 type Events = Vec<Event<u8, u8, u8>>;
 
@@ -13,38 +13,31 @@ fn add(events: &mut Events, input: Input<u8, u8, u8>) -> Result<(), AllocError> 
     Ok(events.push(Event::Does(input))?)
 }
 
-/// Node 1 of three is elected by node 2, and the body 7 of its client is asked for.
-fn election(alloc: Global) -> Result<Events, AllocError> {
+/// Node 1 of three is elected by node 2, the body 7 of its client is asked for, node 2 takes what the leader
+/// has, and the leader applies it. It may stop then, and is to apply one more entry.
+fn agreement(alloc: Global, stops: bool) -> Result<Events, AllocError> {
     let (one, two) = (NodeId::new(1), NodeId::new(2));
     let mut events = Vec::new(alloc);
     add(&mut events, Input::Timeout(one))?;
     add(&mut events, Input::Deliver(one, 1))?;
     add(&mut events, Input::Deliver(two, 1))?;
     add(&mut events, Input::Ask(one, 7))?;
-    Ok(events)
-}
-
-/// Node 2 takes what the leader has, and the leader applies it.
-fn agreement(alloc: Global) -> Result<Events, AllocError> {
-    let (one, two) = (NodeId::new(1), NodeId::new(2));
-    let mut events = election(alloc)?;
     add(&mut events, Input::Beat(one))?;
     add(&mut events, Input::Deliver(one, 3))?;
     add(&mut events, Input::Deliver(two, 2))?;
     add(&mut events, Input::Apply(one))?;
     add(&mut events, Input::Apply(one))?;
+    if stops {
+        events.push(Event::Restart(one))?;
+        add(&mut events, Input::Apply(one))?;
+    }
     Ok(events)
 }
 
-/// The places that were applied, and how many effects left at each.
-fn left(alloc: Global, outs: &[Outcome<u8, u8>]) -> Result<Vec<(u64, usize)>, AllocError> {
-    let mut all = Vec::new(alloc);
-    for out in outs {
-        if let Outcome::Left { place, effects } = out {
-            all.push((place.value(), effects.len()))?;
-        }
-    }
-    Ok(all)
+/// The world of three nodes after that.
+fn agreed(alloc: Global, stops: bool) -> Result<World<Toy>, Fail> {
+    let events = agreement(alloc, stops)?;
+    Ok(World::<Toy>::run(alloc, 3, &0, &events)?)
 }
 
 /// How many entries the node of a number commits.
@@ -63,81 +56,42 @@ fn role(world: &World<Toy>, node: u8) -> Option<Role> {
     }
 }
 
-/// The world of three nodes after these events.
-fn ran(alloc: Global, events: &[Event<u8, u8, u8>]) -> Result<World<Toy>, WorldFault> {
-    World::<Toy>::run(alloc, 3, &0, events)
-}
-
-/// The same after the agreement.
-fn agreed(alloc: Global) -> Result<World<Toy>, Fail> {
-    let events = agreement(alloc)?;
-    Ok(ran(alloc, &events)?)
-}
-
-fn check_agreed(rt: &impl Abort, alloc: Global, world: &World<Toy>) -> Result<(), Fail> {
+/// The leader commits first, no other node is there, and a machine without lines hands none.
+fn check_agreed(rt: &impl Abort, alloc: Global, world: &World<Toy>) -> Result<(), AllocError> {
     assert!(rt; world.size() == 3);
     assert!(rt; role(world, 1) == Some(Role::Leader));
     assert!(rt; role(world, 3) == Some(Role::Follower));
     assert!(rt; role(world, 4) == None);
     assert!(rt; committed(world, 1) == Some(2) && committed(world, 2) == Some(0));
     assert!(rt; committed(world, 4) == None);
-    assert!(rt; hands_nothing(alloc, world)?);
-    Ok(())
-}
-
-/// Whether no line is handed, by a machine without lines.
-fn hands_nothing(alloc: Global, world: &World<Toy>) -> Result<bool, AllocError> {
     let handed = world.handed(alloc)?;
-    Ok(handed.is_empty())
-}
-
-/// The leader commits first, no other node is there, and each is as the events left it.
-#[test]
-fn each_node_is_as_the_events_left_it(rt: HostRuntime) -> Result<(), Fail> {
-    check_agreed(&rt, rt.alloc(), &agreed(rt.alloc())?)
-}
-
-/// The places that were applied, and how many effects left at each, after these events.
-fn left_after(alloc: Global, events: &[Event<u8, u8, u8>]) -> Result<Vec<(u64, usize)>, Fail> {
-    let world = ran(alloc, events)?;
-    Ok(left(alloc, world.outputs())?)
-}
-
-/// Whether these left after the agreement.
-fn leaves(alloc: Global, want: &[(u64, usize)]) -> Result<bool, Fail> {
-    let events = agreement(alloc)?;
-    Ok(left_after(alloc, &events)?.as_slice() == want)
-}
-
-/// Node 1 stops after the agreement, and is to apply one more entry.
-fn stopped(alloc: Global) -> Result<Events, AllocError> {
-    let mut events = agreement(alloc)?;
-    events.push(Event::Restart(NodeId::new(1)))?;
-    add(&mut events, Input::Apply(NodeId::new(1)))?;
-    Ok(events)
-}
-
-/// How much left after that.
-fn left_when_stopped(alloc: Global) -> Result<usize, Fail> {
-    let events = stopped(alloc)?;
-    Ok(left_after(alloc, &events)?.len())
-}
-
-#[test]
-fn what_a_majority_has_leaves_at_its_node_and_a_stopped_one_applies_nothing(
-    rt: HostRuntime,
-) -> Result<(), Fail> {
-    assert!(rt; leaves(rt.alloc(), &[(1, 0), (2, 1)])?);
-    assert!(rt; left_when_stopped(rt.alloc())? == 2);
+    assert!(rt; handed.is_empty());
     Ok(())
 }
 
-/// The fault of a world of four nodes.
-fn fault_of_four(alloc: Global) -> Option<WorldFault> {
-    World::<Toy>::run(alloc, 4, &0, &[]).err()
+/// The places that were applied are these, with so many effects that left at each.
+fn check_left(
+    rt: &impl Abort,
+    alloc: Global,
+    outs: &[Outcome<u8, u8>],
+    wanted: &[(u64, usize)],
+) -> Result<(), AllocError> {
+    let mut left = Vec::new(alloc);
+    for out in outs {
+        if let Outcome::Left { place, effects } = out {
+            left.push((place.value(), effects.len()))?;
+        }
+    }
+    assert!(rt; left.as_slice() == wanted);
+    Ok(())
 }
 
+/// Each node is as the events left it, what a majority has leaves at its node, and a stopped one applies nothing.
 #[test]
-fn no_group_has_four_nodes(rt: HostRuntime) {
-    assert!(rt; fault_of_four(rt.alloc()) == Some(WorldFault::Refused(4)));
+fn a_world_is_as_its_events_left_it(rt: HostRuntime) -> Result<(), Fail> {
+    let (alloc, left) = (rt.alloc(), [(1, 0), (2, 1)]);
+    let world = agreed(alloc, false)?;
+    check_agreed(&rt, alloc, &world)?;
+    check_left(&rt, alloc, world.outputs(), &left)?;
+    Ok(check_left(&rt, alloc, agreed(alloc, true)?.outputs(), &left)?)
 }

@@ -15,43 +15,24 @@ const PLAIN: &[u8] = &[
 /// The nick `n`, no channel, 500 and 0 lines, 1 query, nothing on, and 1,439 minutes behind UTC.
 const OTHER: &[u8] = &[0, 1, b'n', 0, 1, 244, 0, 0, 1, 0, 0, 0, 0, 0];
 
-/// What is read at the front of these bytes, spelled again, and how long it is.
-fn read_and_spelled(alloc: Global, bytes: &[u8]) -> Result<(Vec<u8>, usize), WireFault> {
+/// Whether a setup is spelled so.
+fn is_spelled(alloc: Global, setup: &Setup, bytes: &[u8]) -> Result<bool, AllocError> {
+    let mut out = Vec::new(alloc);
+    put_setup(&mut out, setup)?;
+    Ok(out.as_slice() == bytes)
+}
+
+/// Whether so many bytes are read as a setup that is spelled so.
+fn is_read(alloc: Global, bytes: &[u8], wanted: usize) -> Result<bool, WireFault> {
     let (setup, len) = WireSetup::take(alloc, bytes)?;
     setup.fits();
     let mut out = Vec::new(alloc);
     setup.put(&mut out)?;
-    Ok((out, len))
+    Ok(len == wanted && out.as_slice() == bytes)
 }
 
-/// Why nothing is read at the front of these bytes.
-fn fault(alloc: Global, bytes: &[u8]) -> Option<WireFault> {
-    match WireSetup::take(alloc, bytes) {
-        Ok(_) => None,
-        Err(fault) => Some(fault),
-    }
-}
-
-fn name(alloc: Global, bytes: &[u8]) -> Result<Name, Fail> {
-    Ok(Name::from_bytes(Vec::from_slice(alloc, bytes)?).ok_or("no name")?)
-}
-
-/// The spelling of a setup.
-fn spelled(alloc: Global, setup: &Setup) -> Result<Vec<u8>, AllocError> {
-    let mut out = Vec::new(alloc);
-    put_setup(&mut out, setup)?;
-    Ok(out)
-}
-
-#[test]
-fn the_plain_setup_has_its_bytes(rt: HostRuntime) -> Result<(), Fail> {
-    let plain = Setup::plain(rt.alloc())?;
-    assert!(rt; spelled(rt.alloc(), &plain)?.as_slice() == PLAIN);
-    Ok(())
-}
-
-#[test]
-fn another_setup_has_its_bytes(rt: HostRuntime) -> Result<(), Fail> {
+/// The setup of the other bytes.
+fn other(alloc: Global) -> Result<Setup, Fail> {
     let options = Options {
         channel_size: 500,
         query_size: 0,
@@ -61,56 +42,52 @@ fn another_setup_has_its_bytes(rt: HostRuntime) -> Result<(), Fail> {
         many_clients: false,
         offset: Offset::new(0),
     };
-    let nick = name(rt.alloc(), b"n")?;
-    let setup = Setup::new(nick, Vec::new(rt.alloc()), options).map_err(|_| "setup")?;
-    assert!(rt; spelled(rt.alloc(), &setup)?.as_slice() == OTHER);
-    Ok(())
+    let nick = Name::from_bytes(Vec::from_slice(alloc, b"n")?).ok_or("no name")?;
+    Ok(Setup::new(nick, Vec::new(alloc), options).map_err(|_| "setup")?)
 }
 
 #[test]
-fn what_is_read_is_spelled_so(rt: HostRuntime) -> Result<(), Fail> {
-    let (plain, len) = read_and_spelled(rt.alloc(), PLAIN)?;
-    assert!(rt; plain.as_slice() == PLAIN && len == 19);
-    let (other, len) = read_and_spelled(rt.alloc(), OTHER)?;
-    assert!(rt; other.as_slice() == OTHER && len == 14);
+fn setups_have_their_bytes_and_are_read_from_them(rt: HostRuntime) -> Result<(), Fail> {
+    let alloc = rt.alloc();
+    assert!(rt; is_spelled(alloc, &Setup::plain(alloc)?, PLAIN)?);
+    assert!(rt; is_spelled(alloc, &other(alloc)?, OTHER)?);
+    assert!(rt; is_read(alloc, PLAIN, 19)?);
+    assert!(rt; is_read(alloc, OTHER, 14)?);
     Ok(())
 }
 
-/// A nick, and so many channels of one byte each behind it.
-fn with_channels(alloc: Global, count: u8, names: &[u8]) -> Result<Vec<u8>, AllocError> {
-    let mut bytes = vec![in alloc; 0, 1, b'n', count]?;
-    for byte in names {
-        bytes.extend_from_slice(&[0, 2, b'#', *byte])?;
+/// Fronts of setups, and why none is read: three channels out of order and two of one name, each field past
+/// its limits, a name that is no channel's, an offset past a day, and a setup that is cut.
+const FAULTS: &[(&[u8], WireFault)] = &[
+    (
+        &[0, 1, b'n', 3, 0, 2, b'#', b'a', 0, 2, b'#', b'c', 0, 2, b'#', b'B'],
+        WireFault::Bad(12),
+    ),
+    (&[0, 1, b'n', 2, 0, 2, b'#', b'a', 0, 2, b'#', b'A'], WireFault::Bad(8)),
+    (&[0, 1, b'n', 101], WireFault::Bad(3)),
+    (&[0, 1, b'n', 0, 1, 245], WireFault::Bad(4)),
+    (&[0, 1, b'n', 0, 0, 0, 1, 245], WireFault::Bad(6)),
+    (&[0, 1, b'n', 0, 0, 0, 0, 0, 51], WireFault::Bad(8)),
+    (&[0, 1, b'n', 1, 0, 1, b'x'], WireFault::Bad(4)),
+    (&[0, 1, b'n', 0, 0, 0, 0, 0, 1, 0, 0, 0, 11, 63], WireFault::Bad(12)),
+    (&[0, 1, b'n', 0, 1, 244, 0, 0, 1, 0, 0, 0, 0], WireFault::Short),
+];
+
+/// Three channels in rising order.
+const CHANNELS: &[u8] = &[
+    0, 1, b'n', 3, 0, 2, b'#', b'a', 0, 2, b'#', b'B', 0, 2, b'#', b'c', 1, 244, 0, 0, 1, 0, 0, 0,
+    0, 0,
+];
+
+/// Why nothing is read at the front of these bytes.
+fn fault(alloc: Global, bytes: &[u8]) -> Option<WireFault> {
+    WireSetup::take(alloc, bytes).err()
+}
+
+#[test]
+fn a_field_past_its_limits_is_refused_at_its_place(rt: HostRuntime) {
+    assert!(rt; fault(rt.alloc(), CHANNELS) == None);
+    for (bytes, wanted) in FAULTS {
+        assert!(rt; fault(rt.alloc(), bytes) == Some(*wanted));
     }
-    bytes.extend_from_slice(&OTHER[4..])?;
-    Ok(bytes)
-}
-
-#[test]
-fn channels_stand_in_rising_order(rt: HostRuntime) -> Result<(), Fail> {
-    let alloc = rt.alloc();
-    assert!(rt; fault(alloc, &with_channels(alloc, 3, b"aBc")?) == None);
-    assert!(rt; fault(alloc, &with_channels(alloc, 3, b"acB")?) == Some(WireFault::Bad(12)));
-    assert!(rt; fault(alloc, &with_channels(alloc, 2, b"aA")?) == Some(WireFault::Bad(8)));
-    Ok(())
-}
-
-#[test]
-fn a_field_past_its_limits_is_refused_at_its_place(rt: HostRuntime) -> Result<(), Fail> {
-    let alloc = rt.alloc();
-    assert!(rt; fault(alloc, &[0, 1, b'n', 101]) == Some(WireFault::Bad(3)));
-    assert!(rt; fault(alloc, &[0, 1, b'n', 0, 1, 245]) == Some(WireFault::Bad(4)));
-    assert!(rt; fault(alloc, &[0, 1, b'n', 0, 0, 0, 1, 245]) == Some(WireFault::Bad(6)));
-    assert!(rt; fault(alloc, &[0, 1, b'n', 0, 0, 0, 0, 0, 51]) == Some(WireFault::Bad(8)));
-    assert!(rt; fault(alloc, &[0, 1, b'n', 1, 0, 1, b'x']) == Some(WireFault::Bad(4)));
-    Ok(())
-}
-
-#[test]
-fn an_offset_past_a_day_is_refused(rt: HostRuntime) -> Result<(), Fail> {
-    let alloc = rt.alloc();
-    let past = &[0, 1, b'n', 0, 0, 0, 0, 0, 1, 0, 0, 0, 11, 63];
-    assert!(rt; fault(alloc, past) == Some(WireFault::Bad(12)));
-    assert!(rt; fault(alloc, &OTHER[..13]) == Some(WireFault::Short));
-    Ok(())
 }

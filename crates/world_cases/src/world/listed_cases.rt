@@ -1,279 +1,256 @@
-//! Lists of events with answers of their own in tests/worlds/cases.
-use crate::world::agreeing::Listed;
-
-pub const CASES: &[Listed] = &[
+//! Lists of events with answers of their own in tests/worlds/cases, each for a group of so many nodes.
+pub const CASES: &[(u8, &str)] = &[
     // case 008
-    Listed {
-        size: 3,
-        events: &[
-            "timeout 3;timeout 3;timeout 3;deliver 3 1;deliver 3 5;deliver 1 2;opened 3",
-            "ask 1 0101000000000000000100000000000000010000000000000001000000006553f13d01",
-            "ask 3 0103000000000000000100000000000000020000000000000001000000006553f17a01;beat 3",
-            "deliver 3 7;deliver 1 3;beat 3;deliver 3 9;deliver 1 4;look 2 0 a;apply 3;apply 3",
-            "apply 3",
-        ],
-    },
+    (
+        3,
+        "\
+         timeout 3\ntimeout 3\ntimeout 3\ndeliver 3 1\ndeliver 3 5\ndeliver 1 2\nopened 3\n\
+         ask 1 0101000000000000000100000000000000010000000000000001000000006553f13d01\n\
+         ask 3 0103000000000000000100000000000000020000000000000001000000006553f17a01\nbeat 3\n\
+         deliver 3 7\ndeliver 1 3\nbeat 3\ndeliver 3 9\ndeliver 1 4\nlook 2 0 a\napply 3\napply 3\n\
+         apply 3\n",
+    ),
     // case 015
-    Listed {
-        size: 3,
-        events: &[
-            "timeout 3;timeout 3;deliver 3 1;deliver 3 2;deliver 3 3;deliver 1 1;deliver 2 1",
-            "deliver 1 2;deliver 3 4;opened 3;heard 3 1700000001 :s 332 me #x topic;deliver 3 1",
-            "beat 3;deliver 3 5;beat 3;deliver 3 6;deliver 3 7;deliver 1 4;deliver 2 3",
-            "deliver 1 5;apply 3;apply 3;beat 3;deliver 3 8;deliver 3 9;deliver 3 10;deliver 2 4",
-            "deliver 1 6;deliver 2 5",
-        ],
-    },
+    (
+        3,
+        "\
+         timeout 3\ntimeout 3\ndeliver 3 1\ndeliver 3 2\ndeliver 3 3\ndeliver 1 1\ndeliver 2 1\n\
+         deliver 1 2\ndeliver 3 4\nopened 3\nheard 3 1700000001 :s 332 me #x topic\ndeliver 3 1\n\
+         beat 3\ndeliver 3 5\nbeat 3\ndeliver 3 6\ndeliver 3 7\ndeliver 1 4\ndeliver 2 3\n\
+         deliver 1 5\napply 3\napply 3\nbeat 3\ndeliver 3 8\ndeliver 3 9\ndeliver 3 10\n\
+         deliver 2 4\ndeliver 1 6\ndeliver 2 5\n",
+    ),
     // case 067
-    Listed {
-        size: 3,
-        events: &[
-            "timeout 1;deliver 1 2;timeout 3;deliver 3 3;deliver 3 2;deliver 2 1;deliver 1 3",
-            "ask 3 030300000000000000010000000000000001;beat 3;deliver 3 4;deliver 1 4",
-            "deliver 3 5;deliver 2 2;beat 3;deliver 3 7;deliver 2 3;deliver 3 6;deliver 1 5",
-            "apply 3;apply 3;look 3 0 #x;look 3 0 #y;look 3 0 bob;apply 1;apply 1;look 1 0 #x",
-            "look 1 0 #y;look 1 0 bob;apply 2;apply 2;look 2 0 #x;look 2 0 #y;look 2 0 bob",
-        ],
-    },
+    (
+        3,
+        "\
+         timeout 1\ndeliver 1 2\ntimeout 3\ndeliver 3 3\ndeliver 3 2\ndeliver 2 1\ndeliver 1 3\n\
+         ask 3 030300000000000000010000000000000001\nbeat 3\ndeliver 3 4\ndeliver 1 4\n\
+         deliver 3 5\ndeliver 2 2\nbeat 3\ndeliver 3 7\ndeliver 2 3\ndeliver 3 6\ndeliver 1 5\n\
+         apply 3\napply 3\nlook 3 0 #x\nlook 3 0 #y\nlook 3 0 bob\napply 1\napply 1\nlook 1 0 #x\n\
+         look 1 0 #y\nlook 1 0 bob\napply 2\napply 2\nlook 2 0 #x\nlook 2 0 #y\nlook 2 0 bob\n",
+    ),
     // case 047
-    Listed {
-        size: 3,
-        events: &[
-            "timeout 2;deliver 2 1;deliver 1 1;deliver 2 2;deliver 3 1;opened 2",
-            "ask 2 0102000000000000000100000000000000010000000000000001000000006553f10001",
-            "ask 2 0102000000000000000100000000000000010000000000000002000000006553f100050002266c",
-            "beat 2;deliver 2 4;deliver 3 2;deliver 2 3;deliver 1 2;beat 2;deliver 2 5",
-            "deliver 1 3;apply 2;apply 2;apply 2;apply 2;claim 2;claim 2;beat 2;deliver 2 7",
-            "deliver 1 4;apply 2;apply 2;beat 2;deliver 2 10",
-        ],
-    },
+    (
+        3,
+        "\
+         timeout 2\ndeliver 2 1\ndeliver 1 1\ndeliver 2 2\ndeliver 3 1\nopened 2\n\
+         ask 2 0102000000000000000100000000000000010000000000000001000000006553f10001\n\
+         ask 2 0102000000000000000100000000000000010000000000000002000000006553f100050002266c\n\
+         beat 2\ndeliver 2 4\ndeliver 3 2\ndeliver 2 3\ndeliver 1 2\nbeat 2\ndeliver 2 5\n\
+         deliver 1 3\napply 2\napply 2\napply 2\napply 2\nclaim 2\nclaim 2\nbeat 2\ndeliver 2 7\n\
+         deliver 1 4\napply 2\napply 2\nbeat 2\ndeliver 2 10\n",
+    ),
     // case 023
-    Listed {
-        size: 3,
-        events: &[
-            "timeout 1;timeout 1;deliver 1 2;deliver 1 3;deliver 1 4;deliver 3 1;deliver 2 1",
-            "opened 1;heard 1 1700000061 :me!u@h KICK #x other x",
-            "ask 2 0102000000000000000100000000000000010000000000000001000000006553f13d01;beat 1",
-            "deliver 1 5;deliver 2 2;deliver 1 6;deliver 3 3;beat 1;deliver 1 7;deliver 2 3",
-            "deliver 1 8;deliver 3 4;apply 1;apply 1;apply 1;look 1 3 &local;heard 1 1 A b ::c",
-            "ask 3 0103000000000000000100000000000000010000000000000001000000006553f13e01",
-            "deliver 3 5",
-        ],
-    },
+    (
+        3,
+        "\
+         timeout 1\ntimeout 1\ndeliver 1 2\ndeliver 1 3\ndeliver 1 4\ndeliver 3 1\ndeliver 2 1\n\
+         opened 1\nheard 1 1700000061 :me!u@h KICK #x other x\n\
+         ask 2 0102000000000000000100000000000000010000000000000001000000006553f13d01\nbeat 1\n\
+         deliver 1 5\ndeliver 2 2\ndeliver 1 6\ndeliver 3 3\nbeat 1\ndeliver 1 7\ndeliver 2 3\n\
+         deliver 1 8\ndeliver 3 4\napply 1\napply 1\napply 1\nlook 1 3 &local\nheard 1 1 A b ::c\n\
+         ask 3 0103000000000000000100000000000000010000000000000001000000006553f13e01\n\
+         deliver 3 5\n",
+    ),
     // case 079
-    Listed {
-        size: 3,
-        events: &[
-            "timeout 3;timeout 2;deliver 2 1;deliver 1 1;deliver 2 2;deliver 3 3;opened 2",
-            "ask 1 0101000000000000000100000000000000010000000000000001000000006553f10001;beat 2",
-            "deliver 2 3;deliver 1 2;deliver 2 4;deliver 3 4;beat 2;deliver 2 5;deliver 1 3",
-            "deliver 2 6;deliver 3 5;apply 2;apply 2;claim 2;claim 2;beat 2;deliver 2 8",
-            "deliver 3 6;deliver 2 7;deliver 1 4;ask 2 030200000000000000010000000000000001",
-            "ask 3 0103000000000000000100000000000000020000000000000001000000006553f13c01",
-        ],
-    },
+    (
+        3,
+        "\
+         timeout 3\ntimeout 2\ndeliver 2 1\ndeliver 1 1\ndeliver 2 2\ndeliver 3 3\nopened 2\n\
+         ask 1 0101000000000000000100000000000000010000000000000001000000006553f10001\nbeat 2\n\
+         deliver 2 3\ndeliver 1 2\ndeliver 2 4\ndeliver 3 4\nbeat 2\ndeliver 2 5\ndeliver 1 3\n\
+         deliver 2 6\ndeliver 3 5\napply 2\napply 2\nclaim 2\nclaim 2\nbeat 2\ndeliver 2 8\n\
+         deliver 3 6\ndeliver 2 7\ndeliver 1 4\nask 2 030200000000000000010000000000000001\n\
+         ask 3 0103000000000000000100000000000000020000000000000001000000006553f13c01\n",
+    ),
     // case 076
-    Listed {
-        size: 5,
-        events: &[
-            "timeout 3;deliver 3 1;deliver 1 1;deliver 3 2;deliver 2 1;deliver 3 3;deliver 4 1",
-            "deliver 3 4;deliver 5 1;opened 3",
-            "ask 2 0102000000000000000100000000000000010000000000000001000000006553f10001;beat 3",
-            "deliver 3 7;deliver 4 2;deliver 3 8;deliver 5 2;deliver 3 6;deliver 2 2;beat 3",
-            "deliver 3 12;deliver 5 3;deliver 3 10;deliver 2 3;deliver 3 11;deliver 4 3",
-            "deliver 3 5;deliver 3 9;deliver 1 2;deliver 1 3;apply 3;apply 3;claim 3;beat 3",
-            "deliver 3 13;deliver 1 4;deliver 3 14;deliver 2 4",
-        ],
-    },
+    (
+        5,
+        "\
+         timeout 3\ndeliver 3 1\ndeliver 1 1\ndeliver 3 2\ndeliver 2 1\ndeliver 3 3\ndeliver 4 1\n\
+         deliver 3 4\ndeliver 5 1\nopened 3\n\
+         ask 2 0102000000000000000100000000000000010000000000000001000000006553f10001\nbeat 3\n\
+         deliver 3 7\ndeliver 4 2\ndeliver 3 8\ndeliver 5 2\ndeliver 3 6\ndeliver 2 2\nbeat 3\n\
+         deliver 3 12\ndeliver 5 3\ndeliver 3 10\ndeliver 2 3\ndeliver 3 11\ndeliver 4 3\n\
+         deliver 3 5\ndeliver 3 9\ndeliver 1 2\ndeliver 1 3\napply 3\napply 3\nclaim 3\nbeat 3\n\
+         deliver 3 13\ndeliver 1 4\ndeliver 3 14\ndeliver 2 4\n",
+    ),
     // case 039
-    Listed {
-        size: 3,
-        events: &[
-            "timeout 3;timeout 3;deliver 3 1;deliver 3 2;deliver 3 3;deliver 1 2;timeout 2",
-            "timeout 2;deliver 2 3;deliver 2 5;deliver 2 2;deliver 2 4;deliver 3 5;deliver 3 6",
-            "deliver 1 3;deliver 1 4;ask 2 030200000000000000010000000000000001;beat 2",
-            "deliver 2 7;deliver 3 7;deliver 2 6;deliver 1 5;beat 2;deliver 2 8;deliver 1 6",
-            "deliver 2 9;deliver 3 8;apply 3;apply 3;look 3 0 #x;look 3 0 #y;look 3 0 bob;apply 1",
-            "apply 1;look 1 0 #y;look 1 0 #y;look 1 0 bob;apply 2;apply 2;look 2 0 #x",
-            "look 2 0 &local;look 2 0 bob",
-        ],
-    },
+    (
+        3,
+        "\
+         timeout 3\ntimeout 3\ndeliver 3 1\ndeliver 3 2\ndeliver 3 3\ndeliver 1 2\ntimeout 2\n\
+         timeout 2\ndeliver 2 3\ndeliver 2 5\ndeliver 2 2\ndeliver 2 4\ndeliver 3 5\ndeliver 3 6\n\
+         deliver 1 3\ndeliver 1 4\nask 2 030200000000000000010000000000000001\nbeat 2\n\
+         deliver 2 7\ndeliver 3 7\ndeliver 2 6\ndeliver 1 5\nbeat 2\ndeliver 2 8\ndeliver 1 6\n\
+         deliver 2 9\ndeliver 3 8\napply 3\napply 3\nlook 3 0 #x\nlook 3 0 #y\nlook 3 0 bob\n\
+         apply 1\napply 1\nlook 1 0 #y\nlook 1 0 #y\nlook 1 0 bob\napply 2\napply 2\nlook 2 0 #x\n\
+         look 2 0 &local\nlook 2 0 bob\n",
+    ),
     // case 029
-    Listed {
-        size: 3,
-        events: &[
-            "timeout 3;stop before deliver 3 1;deliver 3 2;deliver 2 1",
-            "ask 3 030300000000000000010000000000000001;beat 3;deliver 3 3;deliver 1 1",
-            "deliver 3 4;deliver 2 2;beat 3;deliver 3 6;deliver 2 3;deliver 3 5;deliver 1 2",
-            "beat 3;deliver 3 7;deliver 1 3;deliver 3 8;deliver 2 4;beat 3;deliver 3 10",
-            "deliver 2 5;deliver 3 9;deliver 1 4;beat 3;deliver 3 11;stop before deliver 1 5",
-            "deliver 3 12;deliver 2 6;beat 3;look 3 0 #x;look 3 0 #y;look 3 0 bob;apply 1;apply 1",
-            "look 1 0 #x;look 1 0 #y;look 1 0 bob;apply 2;apply 2;look 2 0 A{;look 2 0 #y",
-            "look 2 0 bob",
-        ],
-    },
+    (
+        3,
+        "\
+         timeout 3\nstop before deliver 3 1\ndeliver 3 2\ndeliver 2 1\n\
+         ask 3 030300000000000000010000000000000001\nbeat 3\ndeliver 3 3\ndeliver 1 1\n\
+         deliver 3 4\ndeliver 2 2\nbeat 3\ndeliver 3 6\ndeliver 2 3\ndeliver 3 5\ndeliver 1 2\n\
+         beat 3\ndeliver 3 7\ndeliver 1 3\ndeliver 3 8\ndeliver 2 4\nbeat 3\ndeliver 3 10\n\
+         deliver 2 5\ndeliver 3 9\ndeliver 1 4\nbeat 3\ndeliver 3 11\nstop before deliver 1 5\n\
+         deliver 3 12\ndeliver 2 6\nbeat 3\nlook 3 0 #x\nlook 3 0 #y\nlook 3 0 bob\napply 1\n\
+         apply 1\nlook 1 0 #x\nlook 1 0 #y\nlook 1 0 bob\napply 2\napply 2\nlook 2 0 A{\n\
+         look 2 0 #y\nlook 2 0 bob\n",
+    ),
     // case 055
-    Listed {
-        size: 3,
-        events: &[
-            "timeout 2;deliver 2 1;timeout 2;deliver 2 3;deliver 1 1;deliver 1 2;deliver 2 2",
-            "deliver 2 4;deliver 3 1;deliver 3 2;opened 2",
-            "ask 2 0102000000000000000100000000000000010000000000000001000000006553f10001",
-            "ask 2 0102000000000000000100000000000000010000000000000002000000006553f10003000002237800066c696e652032",
-            "beat 2;deliver 2 5;deliver 1 3;beat 2;deliver 2 7;deliver 1 4;apply 2;apply 2",
-            "apply 2;apply 2;claim 2;claim 2;beat 2;deliver 2 6;deliver 2 8;deliver 2 10",
-            "deliver 3 3;deliver 3 4;deliver 3 5;apply 2;apply 2;claim 2;claim 2;beat 2",
-            "deliver 2 12;deliver 3 6",
-        ],
-    },
+    (
+        3,
+        "\
+         timeout 2\ndeliver 2 1\ntimeout 2\ndeliver 2 3\ndeliver 1 1\ndeliver 1 2\ndeliver 2 2\n\
+         deliver 2 4\ndeliver 3 1\ndeliver 3 2\nopened 2\n\
+         ask 2 0102000000000000000100000000000000010000000000000001000000006553f10001\n\
+         ask 2 0102000000000000000100000000000000010000000000000002000000006553f10003000002237800066c696e652032\n\
+         beat 2\ndeliver 2 5\ndeliver 1 3\nbeat 2\ndeliver 2 7\ndeliver 1 4\napply 2\napply 2\n\
+         apply 2\napply 2\nclaim 2\nclaim 2\nbeat 2\ndeliver 2 6\ndeliver 2 8\ndeliver 2 10\n\
+         deliver 3 3\ndeliver 3 4\ndeliver 3 5\napply 2\napply 2\nclaim 2\nclaim 2\nbeat 2\n\
+         deliver 2 12\ndeliver 3 6\n",
+    ),
     // case 095
-    Listed {
-        size: 5,
-        events: &[
-            "timeout 1;deliver 1 1;deliver 1 3;timeout 4;deliver 4 2;deliver 1 5;deliver 4 3",
-            "deliver 2 2;deliver 4 4;deliver 3 1;deliver 4 5;deliver 5 1;opened 4",
-            "ask 4 0104000000000000000100000000000000010000000000000001000000006553f10001",
-            "ask 4 0104000000000000000100000000000000010000000000000002000000006553f10003000002237800066c696e652032",
-            "beat 4;deliver 4 8;deliver 3 2;deliver 4 7;deliver 2 3;beat 4;deliver 4 11",
-            "deliver 2 4;deliver 4 12;deliver 3 3;deliver 4 6;deliver 4 10;deliver 1 6",
-            "deliver 1 7;apply 4;apply 4;apply 4;apply 4;claim 4;beat 4;deliver 4 16;deliver 3 4",
-        ],
-    },
+    (
+        5,
+        "\
+         timeout 1\ndeliver 1 1\ndeliver 1 3\ntimeout 4\ndeliver 4 2\ndeliver 1 5\ndeliver 4 3\n\
+         deliver 2 2\ndeliver 4 4\ndeliver 3 1\ndeliver 4 5\ndeliver 5 1\nopened 4\n\
+         ask 4 0104000000000000000100000000000000010000000000000001000000006553f10001\n\
+         ask 4 0104000000000000000100000000000000010000000000000002000000006553f10003000002237800066c696e652032\n\
+         beat 4\ndeliver 4 8\ndeliver 3 2\ndeliver 4 7\ndeliver 2 3\nbeat 4\ndeliver 4 11\n\
+         deliver 2 4\ndeliver 4 12\ndeliver 3 3\ndeliver 4 6\ndeliver 4 10\ndeliver 1 6\n\
+         deliver 1 7\napply 4\napply 4\napply 4\napply 4\nclaim 4\nbeat 4\ndeliver 4 16\n\
+         deliver 3 4\n",
+    ),
     // case 018
-    Listed {
-        size: 5,
-        events: &[
-            "ask 3 0103000000000000000100000000000000010000000000000001000000006553f10101",
-            "look 1 0 #x;look 4 1 #X;timeout 1;deliver 1 2;deliver 1 1;deliver 1 3;deliver 1 4",
-            "deliver 3 1;deliver 2 1;deliver 4 1;deliver 5 1;opened 1",
-            "heard 1 1700000062 :bob!b@c PRIVMSG me :psst",
-            "heard 1 1700000063 :a!b@c PRIVMSG #y :w59;beat 1;deliver 1 6;deliver 3 2;deliver 1 5",
-            "deliver 2 2;beat 1;deliver 1 8;deliver 1 12;deliver 5 2;deliver 5 3;deliver 1 10",
-            "deliver 3 3;apply 3;apply 3;apply 3;apply 3;look 3 0 #X;look 4 0 #x;apply 1;apply 1",
-            "apply 1;apply 1;look 1 4 #y;look 1 0 a;apply 5;apply 5;apply 5;apply 5;look 5 4 #y",
-            "deliver 5 1",
-        ],
-    },
+    (
+        5,
+        "\
+         ask 3 0103000000000000000100000000000000010000000000000001000000006553f10101\n\
+         look 1 0 #x\nlook 4 1 #X\ntimeout 1\ndeliver 1 2\ndeliver 1 1\ndeliver 1 3\ndeliver 1 4\n\
+         deliver 3 1\ndeliver 2 1\ndeliver 4 1\ndeliver 5 1\nopened 1\n\
+         heard 1 1700000062 :bob!b@c PRIVMSG me :psst\nheard 1 1700000063 :a!b@c PRIVMSG #y :w59\n\
+         beat 1\ndeliver 1 6\ndeliver 3 2\ndeliver 1 5\ndeliver 2 2\nbeat 1\ndeliver 1 8\n\
+         deliver 1 12\ndeliver 5 2\ndeliver 5 3\ndeliver 1 10\ndeliver 3 3\napply 3\napply 3\n\
+         apply 3\napply 3\nlook 3 0 #X\nlook 4 0 #x\napply 1\napply 1\napply 1\napply 1\n\
+         look 1 4 #y\nlook 1 0 a\napply 5\napply 5\napply 5\napply 5\nlook 5 4 #y\ndeliver 5 1\n",
+    ),
     // case 104
-    Listed {
-        size: 5,
-        events: &[
-            "timeout 3;timeout 3;deliver 3 1;deliver 3 2;deliver 3 3;deliver 3 4;deliver 3 5",
-            "deliver 3 6;deliver 3 7;deliver 3 8;deliver 1 1;deliver 2 1;deliver 4 1;deliver 5 1",
-            "deliver 1 2;deliver 2 2;deliver 4 2;deliver 5 2;opened 3",
-            "ask 3 0103000000000000000100000000000000010000000000000001000000006553f10001;beat 3",
-            "deliver 3 12;deliver 5 3;deliver 3 10;deliver 2 3;deliver 3 9;deliver 1 3;beat 3",
-            "deliver 3 11;deliver 3 15;deliver 4 3;deliver 4 4;deliver 3 14;deliver 2 4",
-            "deliver 3 13;deliver 1 4;deliver 3 16;deliver 5 4;apply 3;apply 3;apply 3;claim 3",
-            "claim 3;closed 3;beat 3;deliver 3 17;stop before deliver 1 5;opened 3;claim 3",
-        ],
-    },
+    (
+        5,
+        "\
+         timeout 3\ntimeout 3\ndeliver 3 1\ndeliver 3 2\ndeliver 3 3\ndeliver 3 4\ndeliver 3 5\n\
+         deliver 3 6\ndeliver 3 7\ndeliver 3 8\ndeliver 1 1\ndeliver 2 1\ndeliver 4 1\n\
+         deliver 5 1\ndeliver 1 2\ndeliver 2 2\ndeliver 4 2\ndeliver 5 2\nopened 3\n\
+         ask 3 0103000000000000000100000000000000010000000000000001000000006553f10001\nbeat 3\n\
+         deliver 3 12\ndeliver 5 3\ndeliver 3 10\ndeliver 2 3\ndeliver 3 9\ndeliver 1 3\nbeat 3\n\
+         deliver 3 11\ndeliver 3 15\ndeliver 4 3\ndeliver 4 4\ndeliver 3 14\ndeliver 2 4\n\
+         deliver 3 13\ndeliver 1 4\ndeliver 3 16\ndeliver 5 4\napply 3\napply 3\napply 3\nclaim 3\n\
+         claim 3\nclosed 3\nbeat 3\ndeliver 3 17\nstop before deliver 1 5\nopened 3\nclaim 3\n",
+    ),
     // case 096
-    Listed {
-        size: 5,
-        events: &[
-            "timeout 3;deliver 3 2;deliver 3 3;deliver 3 1;deliver 3 4;deliver 2 1;deliver 4 1",
-            "deliver 1 1;deliver 5 1;ask 3 030300000000000000010000000000000001;beat 3",
-            "deliver 3 5;deliver 1 2;deliver 3 6;deliver 2 2;deliver 3 8;deliver 5 2;deliver 3 7",
-            "deliver 4 2;beat 3;deliver 3 0;deliver 5 3;deliver 3 9;deliver 1 3;deliver 3 10",
-            "deliver 2 3;deliver 3 11;deliver 4 3;apply 5;apply 5;look 5 0 #x;look 5 0 carol",
-            "look 5 0 A{;apply 4;apply 4;look 4 0 #x;look 4 0 A{;look 4 0 bob;apply 3;apply 3",
-            "look 3 0 #x;look 3 0 #y;look 3 0 bob;apply 1;apply 1;look 1 0 #x;look 1 0 #y",
-            "look 1 0 bob;apply 2;apply 2;look 2 0 #x;look 2 0 A{;look 2 0 A{",
-        ],
-    },
+    (
+        5,
+        "\
+         timeout 3\ndeliver 3 2\ndeliver 3 3\ndeliver 3 1\ndeliver 3 4\ndeliver 2 1\ndeliver 4 1\n\
+         deliver 1 1\ndeliver 5 1\nask 3 030300000000000000010000000000000001\nbeat 3\n\
+         deliver 3 5\ndeliver 1 2\ndeliver 3 6\ndeliver 2 2\ndeliver 3 8\ndeliver 5 2\n\
+         deliver 3 7\ndeliver 4 2\nbeat 3\ndeliver 3 0\ndeliver 5 3\ndeliver 3 9\ndeliver 1 3\n\
+         deliver 3 10\ndeliver 2 3\ndeliver 3 11\ndeliver 4 3\napply 5\napply 5\nlook 5 0 #x\n\
+         look 5 0 carol\nlook 5 0 A{\napply 4\napply 4\nlook 4 0 #x\nlook 4 0 A{\nlook 4 0 bob\n\
+         apply 3\napply 3\nlook 3 0 #x\nlook 3 0 #y\nlook 3 0 bob\napply 1\napply 1\nlook 1 0 #x\n\
+         look 1 0 #y\nlook 1 0 bob\napply 2\napply 2\nlook 2 0 #x\nlook 2 0 A{\nlook 2 0 A{\n",
+    ),
     // case 012
-    Listed {
-        size: 3,
-        events: &[
-            "timeout 2;deliver 2 2;beat 3;opened 3;heard 3 1700000001 :a!b@c PRIVMSG #x :one",
-            "timeout 3;deliver 3 2;deliver 3 3;deliver 1 1;deliver 2 3",
-            "ask 3 030300000000000000010000000000000001;beat 3;deliver 3 4;deliver 1 2",
-            "deliver 3 5;deliver 2 4;beat 3",
-            "ask 7 01071000000000000000100000000000000010000000000000000000003a3529440001",
-            "deliver 3 7;deliver 2 5;deliver 3 6;deliver 1 3;beat 3;deliver 3 8;deliver 1 4",
-            "deliver 3 9;deliver 2 6;apply 1;apply 1;look 1 0 #x;look 1 0 #y;look 1 0 bob;apply 2",
-            "apply 2;look 2 0 #x;look 2 0 #y;look 2 0 bob;apply 3;apply 3;look 3 0 a[;look 3 0 #y",
-            "look 3 0 nnnnnnnnnnnnnnnnnnnnnnnnnnnnnnnnnnnnnnnnnnnnnnnnnnnnnnnnnnnnnnnn",
-        ],
-    },
+    (
+        3,
+        "\
+         timeout 2\ndeliver 2 2\nbeat 3\nopened 3\nheard 3 1700000001 :a!b@c PRIVMSG #x :one\n\
+         timeout 3\ndeliver 3 2\ndeliver 3 3\ndeliver 1 1\ndeliver 2 3\n\
+         ask 3 030300000000000000010000000000000001\nbeat 3\ndeliver 3 4\ndeliver 1 2\n\
+         deliver 3 5\ndeliver 2 4\nbeat 3\n\
+         ask 7 01071000000000000000100000000000000010000000000000000000003a3529440001\n\
+         deliver 3 7\ndeliver 2 5\ndeliver 3 6\ndeliver 1 3\nbeat 3\ndeliver 3 8\ndeliver 1 4\n\
+         deliver 3 9\ndeliver 2 6\napply 1\napply 1\nlook 1 0 #x\nlook 1 0 #y\nlook 1 0 bob\n\
+         apply 2\napply 2\nlook 2 0 #x\nlook 2 0 #y\nlook 2 0 bob\napply 3\napply 3\nlook 3 0 a[\n\
+         look 3 0 #y\nlook 3 0 nnnnnnnnnnnnnnnnnnnnnnnnnnnnnnnnnnnnnnnnnnnnnnnnnnnnnnnnnnnnnnnn\n",
+    ),
     // case 004
-    Listed {
-        size: 3,
-        events: &[
-            "timeout 1",
-            "ask 1 0103000000000000000100000000000000000000000000000001000000006553f10101",
-            "ask 3 0103000000000000000100000000000000010000000000000002000000006553ff1101",
-            "ask 2 00000003020000000000000004;opened 2;claim 2;beat 1;timeout 2;timeout 2",
-            "timeout 2;deliver 2 1;deliver 2 3;deliver 2 5;deliver 1 3;deliver 1 4;deliver 1 5",
-            "deliver 2 2;deliver 2 4;deliver 2 6;deliver 3 1;deliver 3 2;deliver 3 3;opened 2",
-            "ask 2 0102000000000000000100000000000000010000000000000001000000006553ff1101;beat 2",
-            "deliver 2 7;deliver 1 6;deliver 2 8;deliver 3 4;beat 2;deliver 2 9;deliver 1 7",
-            "deliver 2 10;deliver 3 5;apply 2;apply 2;apply 2;claim 2;beat 2;deliver 2 11",
-            "deliver 1 8;closed 2",
-        ],
-    },
+    (
+        3,
+        "\
+         timeout 1\nask 1 0103000000000000000100000000000000000000000000000001000000006553f10101\n\
+         ask 3 0103000000000000000100000000000000010000000000000002000000006553ff1101\n\
+         ask 2 00000003020000000000000004\nopened 2\nclaim 2\nbeat 1\ntimeout 2\ntimeout 2\n\
+         timeout 2\ndeliver 2 1\ndeliver 2 3\ndeliver 2 5\ndeliver 1 3\ndeliver 1 4\ndeliver 1 5\n\
+         deliver 2 2\ndeliver 2 4\ndeliver 2 6\ndeliver 3 1\ndeliver 3 2\ndeliver 3 3\nopened 2\n\
+         ask 2 0102000000000000000100000000000000010000000000000001000000006553ff1101\nbeat 2\n\
+         deliver 2 7\ndeliver 1 6\ndeliver 2 8\ndeliver 3 4\nbeat 2\ndeliver 2 9\ndeliver 1 7\n\
+         deliver 2 10\ndeliver 3 5\napply 2\napply 2\napply 2\nclaim 2\nbeat 2\ndeliver 2 11\n\
+         deliver 1 8\nclosed 2\n",
+    ),
     // case 057
-    Listed {
-        size: 3,
-        events: &[
-            "timeout 1;deliver 1 2;deliver 3 1;ask 1 00000003030000000000000002;opened 2",
-            "heard 2 1700000001 :a!b@c NOTICE #x :two",
-            "ask 1 0101000000000000000100000000000000010000000000000001000000006553f10201;beat 1",
-            "deliver 1 3;deliver 2 1;opened 1",
-            "ask 3 0103000000000000000100000000000000010000000000000001000000006553f10201",
-            "ask 3 0103000000000000000100000000000000010000000000000002000000006553f1030400022378",
-            "beat 1;deliver 1 5;deliver 2 2;deliver 1 4;deliver 1 6;deliver 3 2;deliver 3 3",
-            "beat 1;deliver 1 7;deliver 2 3;look 1 4 #y;apply 3;apply 3;apply 3;look 3 3 a",
-            "ask 1 0101000000000000000100000000000000010000000000000001000000006553f13f01",
-            "opened 2;heard 2 1700000064 :me!u@h NICK you",
-        ],
-    },
+    (
+        3,
+        "\
+         timeout 1\ndeliver 1 2\ndeliver 3 1\nask 1 00000003030000000000000002\nopened 2\n\
+         heard 2 1700000001 :a!b@c NOTICE #x :two\n\
+         ask 1 0101000000000000000100000000000000010000000000000001000000006553f10201\nbeat 1\n\
+         deliver 1 3\ndeliver 2 1\nopened 1\n\
+         ask 3 0103000000000000000100000000000000010000000000000001000000006553f10201\n\
+         ask 3 0103000000000000000100000000000000010000000000000002000000006553f1030400022378\n\
+         beat 1\ndeliver 1 5\ndeliver 2 2\ndeliver 1 4\ndeliver 1 6\ndeliver 3 2\ndeliver 3 3\n\
+         beat 1\ndeliver 1 7\ndeliver 2 3\nlook 1 4 #y\napply 3\napply 3\napply 3\nlook 3 3 a\n\
+         ask 1 0101000000000000000100000000000000010000000000000001000000006553f13f01\nopened 2\n\
+         heard 2 1700000064 :me!u@h NICK you\n",
+    ),
     // case 042
-    Listed {
-        size: 5,
-        events: &[
-            "timeout 1;deliver 1 1;deliver 1 2;deliver 1 3;deliver 2 1;deliver 3 1;deliver 4 1",
-            "opened 1;heard 1 1700000061 :a!b@c PRIVMSG #x :w53",
-            "ask 5 0105000000000000000100000000000000020000000000000001000000006553f13e01",
-            "ask 1 0101000000000000000100000000000000010000000000000001000000006553f13e01",
-            "heard 1 1700000062 :a!b@c NOTICE #x :two;beat 1;deliver 1 5;deliver 2 2;deliver 1 6",
-            "deliver 3 2;deliver 1 8;deliver 5 1;deliver 1 7;deliver 4 2;beat 1;deliver 1 10",
-            "deliver 3 3;deliver 1 12;deliver 5 2;apply 5;apply 5;apply 5;apply 5;apply 5",
-            "look 5 0 #X;apply 3;apply 3;apply 3;apply 3;apply 3;look 3 5 a;look 3 5 #y",
-            "look 2 0 carol;apply 1;apply 1;apply 1;apply 1;apply 1;look 1 5 #X;look 4 0 #x",
-        ],
-    },
+    (
+        5,
+        "\
+         timeout 1\ndeliver 1 1\ndeliver 1 2\ndeliver 1 3\ndeliver 2 1\ndeliver 3 1\ndeliver 4 1\n\
+         opened 1\nheard 1 1700000061 :a!b@c PRIVMSG #x :w53\n\
+         ask 5 0105000000000000000100000000000000020000000000000001000000006553f13e01\n\
+         ask 1 0101000000000000000100000000000000010000000000000001000000006553f13e01\n\
+         heard 1 1700000062 :a!b@c NOTICE #x :two\nbeat 1\ndeliver 1 5\ndeliver 2 2\ndeliver 1 6\n\
+         deliver 3 2\ndeliver 1 8\ndeliver 5 1\ndeliver 1 7\ndeliver 4 2\nbeat 1\ndeliver 1 10\n\
+         deliver 3 3\ndeliver 1 12\ndeliver 5 2\napply 5\napply 5\napply 5\napply 5\napply 5\n\
+         look 5 0 #X\napply 3\napply 3\napply 3\napply 3\napply 3\nlook 3 5 a\nlook 3 5 #y\n\
+         look 2 0 carol\napply 1\napply 1\napply 1\napply 1\napply 1\nlook 1 5 #X\nlook 4 0 #x\n",
+    ),
     // case 052
-    Listed {
-        size: 3,
-        events: &[
-            "timeout 2;timeout 2;timeout 2;deliver 2 1;deliver 2 2;deliver 2 3;deliver 2 4",
-            "deliver 2 5;deliver 2 6;deliver 1 1;deliver 3 1;deliver 1 2;deliver 3 2;deliver 1 3",
-            "deliver 3 3;opened 2",
-            "ask 2 0102000000000000000100000000000000010000000000000001000000006553f10001",
-            "ask 2 0102000000000000000100000000000000010000000000000002000000006553f100070004237b417d",
-            "ask 2 0102000000000000000100000000000000010000000000000003000000006553f100040004236e6577",
-            "beat 2;deliver 2 8;deliver 3 4;deliver 2 7;deliver 1 4;beat 2;deliver 2 10",
-            "deliver 3 5;deliver 2 9;deliver 1 5;apply 2;apply 2;claim 2;claim 2;beat 2",
-            "deliver 2 11;deliver 1 6;apply 2;apply 2;apply 2;heard 2 1700000001 :s 403 me #x No",
-            "deliver 2 12",
-        ],
-    },
+    (
+        3,
+        "\
+         timeout 2\ntimeout 2\ntimeout 2\ndeliver 2 1\ndeliver 2 2\ndeliver 2 3\ndeliver 2 4\n\
+         deliver 2 5\ndeliver 2 6\ndeliver 1 1\ndeliver 3 1\ndeliver 1 2\ndeliver 3 2\n\
+         deliver 1 3\ndeliver 3 3\nopened 2\n\
+         ask 2 0102000000000000000100000000000000010000000000000001000000006553f10001\n\
+         ask 2 0102000000000000000100000000000000010000000000000002000000006553f100070004237b417d\n\
+         ask 2 0102000000000000000100000000000000010000000000000003000000006553f100040004236e6577\n\
+         beat 2\ndeliver 2 8\ndeliver 3 4\ndeliver 2 7\ndeliver 1 4\nbeat 2\ndeliver 2 10\n\
+         deliver 3 5\ndeliver 2 9\ndeliver 1 5\napply 2\napply 2\nclaim 2\nclaim 2\nbeat 2\n\
+         deliver 2 11\ndeliver 1 6\napply 2\napply 2\napply 2\nheard 2 1700000001 :s 403 me #x No\n\
+         deliver 2 12\n",
+    ),
     // case 007
-    Listed {
-        size: 7,
-        events: &[
-            "timeout 2;deliver 2 2;deliver 2 3;deliver 2 4;deliver 2 5;deliver 3 1;deliver 4 1",
-            "deliver 5 1;deliver 6 1;opened 2",
-            "ask 2 0102000000000000000100000000000000010000000000000001000000006553f10001;beat 2",
-            "deliver 2 9;deliver 4 2;deliver 2 11;deliver 6 2;deliver 2 10;deliver 5 2",
-            "deliver 2 7;deliver 1 1;beat 2;deliver 2 17;deliver 6 3;deliver 2 13;deliver 1 2",
-            "deliver 2 15;deliver 4 3;apply 2;apply 2;apply 2;claim 2;closed 2;beat 2;deliver 2 8",
-            "deliver 2 12;deliver 2 14;deliver 2 16;deliver 2 18;deliver 2 19;deliver 2 20",
-            "deliver 2 21;deliver 2 22;deliver 2 23;deliver 2 24;deliver 3 2;deliver 7 1",
-            "deliver 3 3;deliver 5 3;deliver 7 2;deliver 1 3;deliver 3 4;deliver 5 4;deliver 6 4",
-            "deliver 7 3;apply 2;apply 2",
-        ],
-    },
+    (
+        7,
+        "\
+         timeout 2\ndeliver 2 2\ndeliver 2 3\ndeliver 2 4\ndeliver 2 5\ndeliver 3 1\ndeliver 4 1\n\
+         deliver 5 1\ndeliver 6 1\nopened 2\n\
+         ask 2 0102000000000000000100000000000000010000000000000001000000006553f10001\nbeat 2\n\
+         deliver 2 9\ndeliver 4 2\ndeliver 2 11\ndeliver 6 2\ndeliver 2 10\ndeliver 5 2\n\
+         deliver 2 7\ndeliver 1 1\nbeat 2\ndeliver 2 17\ndeliver 6 3\ndeliver 2 13\ndeliver 1 2\n\
+         deliver 2 15\ndeliver 4 3\napply 2\napply 2\napply 2\nclaim 2\nclosed 2\nbeat 2\n\
+         deliver 2 8\ndeliver 2 12\ndeliver 2 14\ndeliver 2 16\ndeliver 2 18\ndeliver 2 19\n\
+         deliver 2 20\ndeliver 2 21\ndeliver 2 22\ndeliver 2 23\ndeliver 2 24\ndeliver 3 2\n\
+         deliver 7 1\ndeliver 3 3\ndeliver 5 3\ndeliver 7 2\ndeliver 1 3\ndeliver 3 4\n\
+         deliver 5 4\ndeliver 6 4\ndeliver 7 3\napply 2\napply 2\n",
+    ),
 ];
