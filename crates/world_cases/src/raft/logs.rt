@@ -31,49 +31,35 @@ fn log_of(alloc: Global, terms: &[u8]) -> Result<Log<u8>, AllocError> {
     Ok(log)
 }
 
-fn terms_of(alloc: Global, log: &Log<u8>) -> Result<Vec<u64>, AllocError> {
-    let mut terms = Vec::new(alloc);
-    for entry in log.entries() {
-        terms.push(entry.term.value())?;
-    }
-    Ok(terms)
-}
-
 /// Whether a log is of these terms.
-fn has_terms(alloc: Global, log: &Log<u8>, terms: &[u64]) -> Result<bool, AllocError> {
-    Ok(terms_of(alloc, log)?.as_slice() == terms)
-}
-
-/// An entry of this term comes behind a place of a log that has the place.
-fn repair(alloc: Global, log: &mut Log<u8>, prev: u8, term: u8) -> Result<(), AllocError> {
-    let prev = place(prev);
-    let entries = vec![in alloc; entry(term, 0)]?;
-    if prev <= log.len() {
-        log.repair(prev, entries)?;
+fn has_terms(log: &Log<u8>, terms: &[u64]) -> bool {
+    let mut place = 0;
+    for entry in log.entries() {
+        if place >= terms.len() || entry.term.value() != terms[place] {
+            return false;
+        }
+        place += 1;
     }
-    Ok(())
+    place == terms.len()
 }
 
-/// Whether a log of terms 1, 1, 2 has these terms after that.
+/// Whether a log of terms 1, 1, 2 has these terms once an entry of this term came behind a place of it.
 fn is_repaired(alloc: Global, prev: u8, term: u8, terms: &[u64]) -> Result<bool, AllocError> {
     let mut log = log_of(alloc, &[1, 1, 2])?;
-    repair(alloc, &mut log, prev, term)?;
-    has_terms(alloc, &log, terms)
+    let entries = vec![in alloc; entry(term, 0)]?;
+    if place(prev) <= log.len() {
+        log.repair(place(prev), entries)?;
+    }
+    Ok(has_terms(&log, terms))
 }
 
-/// Entries of terms 3 and 4 take the place of what stands behind place 2.
-fn replace(log: &mut Log<u8>) -> Result<(), AllocError> {
+/// Whether it has these terms once entries of terms 3 and 4 took the place of what stood behind place 2.
+fn is_replaced(alloc: Global, terms: &[u64]) -> Result<bool, AllocError> {
+    let mut log = log_of(alloc, &[1, 1, 2])?;
     if place(2) <= log.len() {
         log.replace_from(place(2), &[entry(3, 0), entry(4, 0)])?;
     }
-    Ok(())
-}
-
-/// Whether a log of terms 1, 1, 2 has these terms after that.
-fn is_replaced(alloc: Global, terms: &[u64]) -> Result<bool, AllocError> {
-    let mut log = log_of(alloc, &[1, 1, 2])?;
-    replace(&mut log)?;
-    has_terms(alloc, &log, terms)
+    Ok(has_terms(&log, terms))
 }
 
 /// An append that stands already changes nothing, a conflict goes with all behind it, a missing entry is added, and
@@ -113,14 +99,6 @@ fn is_copied(alloc: Global) -> Result<bool, AllocError> {
     Ok(is_it(&copy))
 }
 
-#[test]
-fn an_entry_is_its_term_and_its_body_behind_a_length(rt: HostRuntime) -> Result<(), Fail> {
-    assert!(rt; is_spelled(rt.alloc(), ENTRY)?);
-    assert!(rt; is_read(rt.alloc(), ENTRY, 13)?);
-    assert!(rt; is_copied(rt.alloc())?);
-    Ok(())
-}
-
 /// Inputs with a length of 2, whole and cut, one of 65,537, and a term past the limit, and what is wrong
 /// with each.
 const FAULTS: &[(&[u8], WireFault)] = &[
@@ -147,34 +125,31 @@ fn a_field_of_an_entry_is_refused_at_its_place(rt: HostRuntime) {
     }
 }
 
-/// Of a log of terms 1, 1, 2.
-fn check_up_to_date(rt: &impl Abort, log: &Log<u8>) {
+/// Of a log of terms 1, 1, 2, beside entries of terms 1, 3.
+fn check_log(rt: &impl Abort, log: &Log<u8>, entries: &[Entry<u8>]) {
     assert!(rt; !log.up_to_date(place(5), Number::new(1)));
     assert!(rt; !log.up_to_date(place(2), Number::new(2)));
     assert!(rt; log.up_to_date(place(3), Number::new(2)));
     assert!(rt; log.up_to_date(place(1), Number::new(3)));
     let (index, term) = log.last();
     assert!(rt; index.value() == 3 && term.value() == 2);
+    if place(2) <= log.len() && !entries.is_empty() {
+        assert!(rt; log.standing(place(1), entries) == 1);
+        assert!(rt; log.conflicts_within(place(1), entries, 2));
+        assert!(rt; !log.conflicts_within(place(1), entries, 1));
+        assert!(rt; !log.conflicts_within(place(1), &entries[..1], 2));
+    }
 }
 
-/// Of a log of terms 1, 2.
-fn check_agrees(rt: &impl Abort, log: &Log<u8>) {
+/// Of a log of terms 1, 2, with which its copy agrees at place 1.
+fn check_copied(rt: &impl Abort, alloc: Global, log: &Log<u8>) -> Result<(), Fail> {
     assert!(rt; log.agrees_at(place(0), Number::new(0)));
     assert!(rt; log.agrees_at(place(0), Number::new(7)));
     assert!(rt; log.agrees_at(place(2), Number::new(2)));
     assert!(rt; !log.agrees_at(place(1), Number::new(2)));
     assert!(rt; !log.agrees_at(place(3), Number::new(2)));
-}
-
-/// Whether the copy of a log of terms 1, 2 agrees with it at place 1.
-fn does_copy_agree(alloc: Global, log: &Log<u8>) -> Result<bool, AllocError> {
     let copy = log.copy(alloc)?;
-    Ok(copy.agrees_at(place(1), Number::new(1)))
-}
-
-fn check_copied(rt: &impl Abort, alloc: Global, log: &Log<u8>) -> Result<(), Fail> {
-    check_agrees(rt, log);
-    assert!(rt; does_copy_agree(alloc, log)?);
+    assert!(rt; copy.agrees_at(place(1), Number::new(1)));
     Ok(())
 }
 
@@ -210,25 +185,9 @@ fn check_looked_at(rt: &impl Abort, log: &Log<u8>) -> Result<(), Fail> {
     Ok(())
 }
 
-/// Of a log of terms 1, 1, 2 and entries of terms 1, 3.
-fn check_compared(rt: &impl Abort, log: &Log<u8>, entries: &[Entry<u8>]) {
-    if place(2) <= log.len() && !entries.is_empty() {
-        assert!(rt; log.standing(place(1), entries) == 1);
-        assert!(rt; log.conflicts_within(place(1), entries, 2));
-        assert!(rt; !log.conflicts_within(place(1), entries, 1));
-        assert!(rt; !log.conflicts_within(place(1), &entries[..1], 2));
-    }
-}
-
-/// Of a log of terms 1, 1, 2.
-fn check_log(rt: &impl Abort, log: &Log<u8>) {
-    check_up_to_date(rt, log);
-    check_compared(rt, log, &[entry(1, 0), entry(3, 0)]);
-}
-
 #[test]
 fn logs_are_compared_copied_and_looked_at(rt: HostRuntime) -> Result<(), Fail> {
-    check_log(&rt, &log_of(rt.alloc(), &[1, 1, 2])?);
+    check_log(&rt, &log_of(rt.alloc(), &[1, 1, 2])?, &[entry(1, 0), entry(3, 0)]);
     check_copied(&rt, rt.alloc(), &log_of(rt.alloc(), &[1, 2])?)?;
     check_looked_at(&rt, &looked_at(rt.alloc())?)
 }
@@ -269,8 +228,12 @@ fn is_message_copied(alloc: Global) -> Result<bool, AllocError> {
     Ok(is_append(&copy))
 }
 
+/// An entry is its term, and its body behind a length; a message is copied with its entries.
 #[test]
-fn a_message_is_copied_with_its_entries(rt: HostRuntime) -> Result<(), Fail> {
+fn entries_are_spelled_and_messages_copied(rt: HostRuntime) -> Result<(), Fail> {
+    assert!(rt; is_spelled(rt.alloc(), ENTRY)?);
+    assert!(rt; is_read(rt.alloc(), ENTRY, 13)?);
+    assert!(rt; is_copied(rt.alloc())?);
     assert!(rt; is_message_copied(rt.alloc())?);
     assert!(rt; NodeId::new(7).value() == 7 && NodeId::new(1) != NodeId::new(2));
     Ok(())

@@ -53,11 +53,6 @@ fn live() -> Live {
     }
 }
 
-/// A leader that holds it.
-fn holder() -> Result<Standing, Fail> {
-    standing(Position::Leader(Some(live())))
-}
-
 /// A log of three entries.
 fn log(alloc: Global) -> Result<Log<u8>, AllocError> {
     let mut log = Log::new(alloc);
@@ -82,15 +77,6 @@ fn refusal(outcome: &Result<Step<u8>, Unprepared>) -> Option<Refusal> {
         Err(Unprepared::Refused(refusal)) => Some(*refusal),
         _ => None,
     }
-}
-
-/// The term and the body of each entry that a step adds.
-fn added(alloc: Global, step: &Step<u8>) -> Result<Vec<(u64, u8)>, AllocError> {
-    let mut all = Vec::new(alloc);
-    for entry in &step.entries {
-        all.push((entry.term.value(), *entry.body.get()))?;
-    }
-    Ok(all)
 }
 
 /// The session after a step: its attempt, and the number of its next line.
@@ -124,23 +110,12 @@ fn asked(alloc: Global, step: &Step<u8>) -> Result<Vec<u8>, AllocError> {
     Ok(nodes)
 }
 
-/// What comes of a timeout of a follower.
-fn timed_out(alloc: Global) -> Result<Step<u8>, Fail> {
+/// Whether a follower's timeout asks nodes 2 and 3 for their votes, in term 5.
+fn asks_others(alloc: Global) -> Result<bool, Fail> {
     let standing = standing(Position::Follower(None))?;
-    prepared(on_timeout(alloc, standing, &log(alloc)?, NodeId::new(1)))
-}
-
-/// Whether a step asks nodes 2 and 3 for their votes, in term 5.
-fn asks_others(alloc: Global, step: &Step<u8>) -> Result<bool, AllocError> {
-    let nodes = asked(alloc, step)?;
-    Ok(voted(step) == (5, Some(1)) && nodes.as_slice() == [2, 3].as_slice())
-}
-
-#[test]
-fn a_timeout_asks_the_others_for_their_votes(rt: HostRuntime) -> Result<(), Fail> {
-    let step = timed_out(rt.alloc())?;
-    assert!(rt; asks_others(rt.alloc(), &step)?);
-    Ok(())
+    let step = prepared(on_timeout(alloc, standing, &log(alloc)?, NodeId::new(1)))?;
+    let nodes = asked(alloc, &step)?;
+    Ok(voted(&step) == (5, Some(1)) && nodes.as_slice() == [2, 3].as_slice())
 }
 
 /// What comes of an ask at node 1.
@@ -174,26 +149,15 @@ fn appended(alloc: Global) -> Result<Step<u8>, Fail> {
     prepared(on_ask(alloc, leader, &log(alloc)?, id, source, body()))
 }
 
-/// Whether a step leaves this session and adds an entry of term 4 with this body.
-fn leaves(
-    alloc: Global,
-    step: &Step<u8>,
-    live: Option<(u64, u64)>,
-    body: u8,
-) -> Result<bool, AllocError> {
-    let entries = added(alloc, step)?;
-    Ok(session(step) == live && entries.as_slice() == [(4, body)].as_slice())
-}
-
-fn check_step(
-    rt: &impl Abort,
-    alloc: Global,
-    step: &Step<u8>,
-    live: Option<(u64, u64)>,
-    body: u8,
-) -> Result<(), Fail> {
-    assert!(rt; leaves(alloc, step, live, body)?);
-    Ok(())
+/// A step leaves this session and adds an entry of term 4 with this body.
+fn check_step(rt: &impl Abort, step: &Step<u8>, live: Option<(u64, u64)>, body: u8) {
+    assert!(rt; session(step) == live);
+    assert!(rt;
+        match step.entries.as_slice() {
+            [entry] => entry.term.value() == 4 && *entry.body.get() == body,
+            _ => false,
+        }
+    );
 }
 
 /// What comes of an opening at a leader.
@@ -204,7 +168,7 @@ fn opened(alloc: Global) -> Result<Step<u8>, Fail> {
 
 /// What comes of the end of the session.
 fn closed(alloc: Global) -> Result<Step<u8>, Fail> {
-    prepared(on_closed::<Toy>(alloc, holder()?, &log(alloc)?))
+    prepared(on_closed::<Toy>(alloc, standing(Position::Leader(Some(live())))?, &log(alloc)?))
 }
 
 /// What comes of a line of the session.
@@ -220,7 +184,7 @@ fn heard(alloc: Global) -> Result<Step<u8>, Fail> {
 /// What comes of a claim of the session.
 fn claimed(alloc: Global) -> Result<Step<u8>, Fail> {
     let claim = Some(number(1));
-    prepared(on_claim::<Toy>(alloc, holder()?, &log(alloc)?, claim))
+    prepared(on_claim::<Toy>(alloc, standing(Position::Leader(Some(live())))?, &log(alloc)?, claim))
 }
 
 /// A leader appends what is asked, opens the session of its next attempt, shuts one that ends, and counts a line, but not
@@ -228,11 +192,12 @@ fn claimed(alloc: Global) -> Result<Step<u8>, Fail> {
 #[test]
 fn a_leader_appends_what_is_asked_and_what_its_session_brings(rt: HostRuntime) -> Result<(), Fail> {
     let alloc = rt.alloc();
-    check_step(&rt, alloc, &appended(alloc)?, None, 9)?;
-    check_step(&rt, alloc, &opened(alloc)?, Some((2, 1)), 1)?;
-    check_step(&rt, alloc, &closed(alloc)?, None, 2)?;
-    check_step(&rt, alloc, &heard(alloc)?, Some((1, 4)), 3)?;
-    check_step(&rt, alloc, &claimed(alloc)?, Some((1, 3)), 4)
+    check_step(&rt, &appended(alloc)?, None, 9);
+    check_step(&rt, &opened(alloc)?, Some((2, 1)), 1);
+    check_step(&rt, &closed(alloc)?, None, 2);
+    check_step(&rt, &heard(alloc)?, Some((1, 4)), 3);
+    check_step(&rt, &claimed(alloc)?, Some((1, 3)), 4);
+    Ok(())
 }
 
 /// What comes of a request for a vote of term 5, from node 2.
@@ -255,10 +220,11 @@ fn requested(alloc: Global, to: u8) -> Result<(u64, Option<u8>), Fail> {
     Ok(voted(&step))
 }
 
+/// A timeout asks the others for their votes; a request of a larger term gets the vote, and one to another node
+/// nothing.
 #[test]
-fn a_request_of_a_larger_term_gets_the_vote_and_one_to_another_node_nothing(
-    rt: HostRuntime,
-) -> Result<(), Fail> {
+fn votes_are_asked_for_and_given(rt: HostRuntime) -> Result<(), Fail> {
+    assert!(rt; asks_others(rt.alloc())?);
     assert!(rt; requested(rt.alloc(), 1)? == (5, Some(2)));
     assert!(rt; requested(rt.alloc(), 3)? == (4, None));
     Ok(())
