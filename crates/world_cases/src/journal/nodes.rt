@@ -205,7 +205,7 @@ fn check_stopped(
 }
 
 #[test]
-fn a_follower_that_stops_while_it_saves_entries_has_all_or_none_and_does_not_answer(
+fn a_follower_has_all_entries_or_none_and_answers_once_they_are_saved(
     rt: HostRuntime,
 ) -> Result<(), Fail> {
     // whether each kind of image has the entries, by how many of the four calls passed
@@ -218,11 +218,7 @@ fn a_follower_that_stops_while_it_saves_entries_has_all_or_none_and_does_not_ans
     for passed in 0..4 {
         check_stopped(&rt, rt.alloc(), passed, &taken[passed])?;
     }
-    Ok(())
-}
-
-#[test]
-fn a_follower_answers_once_its_entries_are_saved(rt: HostRuntime) -> Result<(), Fail> {
+    // all four passed
     let mut disk = empty(rt.alloc(), Fails::From(15))?;
     assert!(rt; answered(rt.alloc(), &mut disk) == Ok(true));
     assert!(rt; leaves(rt.alloc(), &disk, Unsynced::Overwritten(255), SAVED[3])?);

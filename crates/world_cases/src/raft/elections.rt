@@ -36,11 +36,7 @@ fn follower(alloc: Global) -> Result<NodeState<u8>, Fail> {
 
 /// What the follower, as node 1, answers to a request of term 3 from node 4, whose log ends so, and its vote
 /// then.
-fn asked(
-    alloc: Global,
-    last_index: u8,
-    last_term: u8,
-) -> Result<Option<(bool, Option<u8>)>, Fail> {
+fn asked(alloc: Global, last_index: u8, last_term: u8) -> Result<Option<(bool, Option<u8>)>, Fail> {
     let state = follower(alloc)?;
     let term = Number::new(3);
     let standing = state.raised(term);

@@ -187,7 +187,11 @@ fn check_looked_at(rt: &impl Abort, log: &Log<u8>) -> Result<(), Fail> {
 
 #[test]
 fn logs_are_compared_copied_and_looked_at(rt: HostRuntime) -> Result<(), Fail> {
-    check_log(&rt, &log_of(rt.alloc(), &[1, 1, 2])?, &[entry(1, 0), entry(3, 0)]);
+    check_log(
+        &rt,
+        &log_of(rt.alloc(), &[1, 1, 2])?,
+        &[entry(1, 0), entry(3, 0)],
+    );
     check_copied(&rt, rt.alloc(), &log_of(rt.alloc(), &[1, 2])?)?;
     check_looked_at(&rt, &looked_at(rt.alloc())?)
 }

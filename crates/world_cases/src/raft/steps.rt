@@ -168,7 +168,11 @@ fn opened(alloc: Global) -> Result<Step<u8>, Fail> {
 
 /// What comes of the end of the session.
 fn closed(alloc: Global) -> Result<Step<u8>, Fail> {
-    prepared(on_closed::<Toy>(alloc, standing(Position::Leader(Some(live())))?, &log(alloc)?))
+    prepared(on_closed::<Toy>(
+        alloc,
+        standing(Position::Leader(Some(live())))?,
+        &log(alloc)?,
+    ))
 }
 
 /// What comes of a line of the session.
@@ -184,7 +188,12 @@ fn heard(alloc: Global) -> Result<Step<u8>, Fail> {
 /// What comes of a claim of the session.
 fn claimed(alloc: Global) -> Result<Step<u8>, Fail> {
     let claim = Some(number(1));
-    prepared(on_claim::<Toy>(alloc, standing(Position::Leader(Some(live())))?, &log(alloc)?, claim))
+    prepared(on_claim::<Toy>(
+        alloc,
+        standing(Position::Leader(Some(live())))?,
+        &log(alloc)?,
+        claim,
+    ))
 }
 
 /// A leader appends what is asked, opens the session of its next attempt, shuts one that ends, and counts a line, but not

@@ -60,17 +60,28 @@ fn setups_have_their_bytes_and_are_read_from_them(rt: HostRuntime) -> Result<(),
 /// its limits, a name that is no channel's, an offset past a day, and a setup that is cut.
 const FAULTS: &[(&[u8], WireFault)] = &[
     (
-        &[0, 1, b'n', 3, 0, 2, b'#', b'a', 0, 2, b'#', b'c', 0, 2, b'#', b'B'],
+        &[
+            0, 1, b'n', 3, 0, 2, b'#', b'a', 0, 2, b'#', b'c', 0, 2, b'#', b'B',
+        ],
         WireFault::Bad(12),
     ),
-    (&[0, 1, b'n', 2, 0, 2, b'#', b'a', 0, 2, b'#', b'A'], WireFault::Bad(8)),
+    (
+        &[0, 1, b'n', 2, 0, 2, b'#', b'a', 0, 2, b'#', b'A'],
+        WireFault::Bad(8),
+    ),
     (&[0, 1, b'n', 101], WireFault::Bad(3)),
     (&[0, 1, b'n', 0, 1, 245], WireFault::Bad(4)),
     (&[0, 1, b'n', 0, 0, 0, 1, 245], WireFault::Bad(6)),
     (&[0, 1, b'n', 0, 0, 0, 0, 0, 51], WireFault::Bad(8)),
     (&[0, 1, b'n', 1, 0, 1, b'x'], WireFault::Bad(4)),
-    (&[0, 1, b'n', 0, 0, 0, 0, 0, 1, 0, 0, 0, 11, 63], WireFault::Bad(12)),
-    (&[0, 1, b'n', 0, 1, 244, 0, 0, 1, 0, 0, 0, 0], WireFault::Short),
+    (
+        &[0, 1, b'n', 0, 0, 0, 0, 0, 1, 0, 0, 0, 11, 63],
+        WireFault::Bad(12),
+    ),
+    (
+        &[0, 1, b'n', 0, 1, 244, 0, 0, 1, 0, 0, 0, 0],
+        WireFault::Short,
+    ),
 ];
 
 /// Three channels in rising order.

@@ -120,30 +120,36 @@ fn begun(alloc: Global) -> Result<MemoryDisk, Fail> {
     Ok(begun)
 }
 
+fn check_made(rt: &impl Abort, alloc: Global, store: &JournalStore<u8, MemoryDisk>) {
+    assert!(rt; store.failures() == 0);
+    check_new(rt, alloc, store.disk().bytes());
+}
+
 /// The bytes are a header and a closed gate, and stand for nothing.
 fn check_new(rt: &impl Abort, alloc: Global, bytes: &[u8]) {
     check_bytes(rt, bytes, b"RBSTOR01\0");
     assert!(rt; found(alloc, bytes) == Ok((0, 0, 0, 0)));
 }
 
+/// A new journal is a header and a closed gate, and a change a record behind an open one.
 #[test]
-fn a_new_journal_is_a_header_and_a_closed_gate(rt: HostRuntime) -> Result<(), Fail> {
-    let store = made(rt.alloc())?;
-    assert!(rt; store.failures() == 0);
-    check_new(&rt, rt.alloc(), store.disk().bytes());
-    let begun = begun(rt.alloc())?;
-    check_new(&rt, rt.alloc(), begun.bytes());
+fn a_change_is_a_record_behind_an_open_gate(rt: HostRuntime) -> Result<(), Fail> {
+    let alloc = rt.alloc();
+    check_made(&rt, alloc, &made(alloc)?);
+    check_new(&rt, alloc, begun(alloc)?.bytes());
+    check_bytes(&rt, booted(alloc)?.disk().bytes(), &BOOT);
+    check_bytes(&rt, voted(alloc)?.into_disk().bytes(), &VOTE);
     Ok(())
 }
 
-#[test]
-fn a_change_is_a_record_behind_an_open_gate(rt: HostRuntime) -> Result<(), Fail> {
-    let store = booted(rt.alloc())?;
-    check_bytes(&rt, store.disk().bytes(), &BOOT);
-    let disk = voted(rt.alloc())?.into_disk();
-    check_bytes(&rt, disk.bytes(), &VOTE);
-    Ok(())
-}
+const OTHERS: &[(&[u8], StoreFault)] = &[
+    (b"", StoreFault::NotAStore),
+    (b"RBSTOR01", StoreFault::NotAStore),
+    (b"RBSTOS01\0", StoreFault::NotAStore),
+    (b"rbstor02\0", StoreFault::NotAStore),
+    (b"RBSTOR02\0", StoreFault::Version),
+    (b"RBSTOR01\x01", StoreFault::Damaged(8)),
+];
 
 #[test]
 fn a_file_stands_for_its_records_up_to_a_closed_gate(rt: HostRuntime) {
@@ -159,10 +165,14 @@ fn a_file_stands_for_its_records_up_to_a_closed_gate(rt: HostRuntime) {
     file[8] = 0;
     assert!(rt; found(alloc, &file) == Ok((0, 0, 0, 0)));
     assert!(rt; found(alloc, &file[..20]) == Ok((0, 0, 0, 0)));
+    // another file is no store, or of another version
+    for (file, fault) in OTHERS {
+        assert!(rt; found(alloc, file) == Err(*fault));
+    }
 }
 
 #[test]
-fn a_record_that_does_not_fit_is_damage_at_its_gate(rt: HostRuntime) {
+fn a_record_that_does_not_fit_or_follow_is_damage_at_its_gate(rt: HostRuntime) {
     let alloc = rt.alloc();
     assert!(rt; found(alloc, &BOOT[..20]) == Err(StoreFault::Damaged(8)));
     assert!(rt; found(alloc, &BOOT[..40]) == Err(StoreFault::Damaged(8)));
@@ -175,12 +185,8 @@ fn a_record_that_does_not_fit_is_damage_at_its_gate(rt: HostRuntime) {
     let mut file = VOTE;
     file[12] = 28;
     assert!(rt; found(alloc, &file) == Err(StoreFault::Damaged(8)));
-}
-
-#[test]
-fn a_change_that_may_not_follow_is_damage_at_its_gate(rt: HostRuntime) {
-    let alloc = rt.alloc();
-    let mut file = VOTE;
+    // a change that may not follow
+    file[12] = 27;
     file[20] = 2;
     assert!(rt; found(alloc, &file) == Err(StoreFault::Damaged(40)));
     file[20] = 1;
@@ -192,17 +198,6 @@ fn a_change_that_may_not_follow_is_damage_at_its_gate(rt: HostRuntime) {
     file[61] = 2;
     file[69] = 1;
     assert!(rt; found(alloc, &file) == Err(StoreFault::Damaged(40)));
-}
-
-#[test]
-fn another_file_is_no_store_or_of_another_version(rt: HostRuntime) {
-    let alloc = rt.alloc();
-    assert!(rt; found(alloc, b"") == Err(StoreFault::NotAStore));
-    assert!(rt; found(alloc, b"RBSTOR01") == Err(StoreFault::NotAStore));
-    assert!(rt; found(alloc, b"RBSTOS01\0") == Err(StoreFault::NotAStore));
-    assert!(rt; found(alloc, b"rbstor02\0") == Err(StoreFault::NotAStore));
-    assert!(rt; found(alloc, b"RBSTOR02\0") == Err(StoreFault::Version));
-    assert!(rt; found(alloc, b"RBSTOR01\x01") == Err(StoreFault::Damaged(8)));
 }
 
 /// A store in which entries of the bodies 5 and 6 follow, of which 7 takes the place of the last.

@@ -53,7 +53,11 @@ type Parts = (u64, u64, Option<u8>, u64, usize);
 fn read(alloc: Global, input: &[u8]) -> Result<(usize, Parts), WireFault> {
     let (change, len) = Change::<u8>::take(alloc, input)?;
     let copy = change.copy(alloc)?;
-    let (boot, term, keep) = (copy.boot().value(), copy.term().value(), copy.keep().value());
+    let (boot, term, keep) = (
+        copy.boot().value(),
+        copy.term().value(),
+        copy.keep().value(),
+    );
     Ok((len, (boot, term, copy.vote(), keep, copy.entries().len())))
 }
 
