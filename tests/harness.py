@@ -146,9 +146,11 @@ class Bouncer:
                 client.close()
 
 
-def said(*words):
-    """What the program answers to these words: the exit code, and the lines of its output and of its errors."""
-    done = subprocess.run([PROGRAM, *words], stdin=subprocess.DEVNULL, capture_output=True, timeout=LONGEST, text=True)
+def said(*words, folder=None):
+    """What the program answers to these words, in a folder: the exit code, and the lines of its output and of its errors."""
+    done = subprocess.run(
+        [PROGRAM, *words], stdin=subprocess.DEVNULL, capture_output=True, timeout=LONGEST, text=True, cwd=folder
+    )
     return done.returncode, done.stdout.splitlines(), done.stderr.splitlines()
 
 

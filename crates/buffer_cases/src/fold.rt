@@ -1,8 +1,6 @@
-//! Folds, as text, and buffers that are set up otherwise than plainly.
+//! Folds by readers and writers that fail, and buffers that are set up otherwise than plainly.
 mod faulty;
 mod folded;
-mod folds;
-mod kept;
 mod said;
 mod setup_cases;
 mod setups;

@@ -54,9 +54,10 @@ pub fn check_bytes(rt: &impl Abort, told: &[u8], wanted: &[u8]) {
     assert_eq!(rt; told, wanted);
 }
 
-/// The value at the front of bytes, and in how many bytes it stands there.
-pub fn taken<W: Wire>(alloc: Global, bytes: &[u8]) -> Result<(W, usize), WireFault> {
-    W::take(alloc, bytes)
+/// The value at the front of bytes.
+pub fn taken<W: Wire>(alloc: Global, bytes: &[u8]) -> Result<W, WireFault> {
+    let (value, _) = W::take(alloc, bytes)?;
+    Ok(value)
 }
 
 /// Why these bytes are no value of a type.
@@ -70,11 +71,25 @@ pub fn is_spelled<W: Wire>(alloc: Global, value: &W, bytes: &[u8]) -> Result<boo
 {
     let mut out = Vec::new(alloc);
     value.put(&mut out)?;
-    Ok(is_same(&out, bytes))
+    Ok(out.as_slice() == bytes)
 }
 
-fn is_same(told: &[u8], wanted: &[u8]) -> bool {
-    told == wanted
+/// Whether a value is spelled so, and its copy too.
+pub fn is_copied_so<W: Wire>(alloc: Global, value: &W, bytes: &[u8]) -> Result<bool, AllocError>
+    requires { W.fits value.now }
+{
+    let copy = value.copy(alloc)?;
+    Ok(is_spelled(alloc, &copy, bytes)? && is_spelled(alloc, value, bytes)?)
+}
+
+/// Whether the value at the front of an input is spelled so again, and its copy too, and the input is read so far.
+pub fn is_spelled_again<W: Wire>(
+    alloc: Global,
+    input: &[u8],
+    spelling: &[u8],
+) -> Result<bool, WireFault> {
+    let (value, len) = W::take(alloc, input)?;
+    Ok(len == spelling.len() && is_copied_so(alloc, &value, spelling)?)
 }
 
 /// Whether a value is printed so.

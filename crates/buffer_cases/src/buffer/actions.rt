@@ -1,10 +1,9 @@
 //! Actions as bytes, by examples.
-use crate::made::{check_bytes, fault_of, is_spelled, name, taken, text};
+use crate::made::{fault_of, is_copied_so, is_spelled_again, name, taken, text};
 use buffer_commands::{Action, BufferSize, ChannelName, Verb};
 use std::alloc::{AllocError, Global};
-use std::process::Abort;
 use std::test::Fail;
-use wire_bytes::{Copied, Wire, WireFault};
+use wire_bytes::{Copied, WireFault};
 
 fn kind(action: &Action) -> &'static str {
     match action {
@@ -26,22 +25,9 @@ fn kind(action: &Action) -> &'static str {
     }
 }
 
-/// Whether an action is spelled so.
-fn is_action(alloc: Global, action: &Action, bytes: &[u8]) -> Result<bool, AllocError> {
-    action.fits();
-    is_spelled(alloc, action, bytes)
-}
-
-/// Whether an action is spelled so, and its copy too.
-fn is_copied_so(alloc: Global, action: &Action, bytes: &[u8]) -> Result<bool, AllocError> {
-    let copy = action.copy(alloc)?;
-    Ok(is_action(alloc, &copy, bytes)? && is_action(alloc, action, bytes)?)
-}
-
-/// Whether these bytes are an action of this kind, all of them, and it and its copy are spelled so.
 fn is_of_kind(alloc: Global, bytes: &[u8], want: &str) -> Result<bool, WireFault> {
-    let (action, len) = taken::<Action>(alloc, bytes)?;
-    Ok(len == bytes.len() && kind(&action) == want && is_copied_so(alloc, &action, bytes)?)
+    let action = taken::<Action>(alloc, bytes)?;
+    Ok(kind(&action) == want)
 }
 
 /// Bytes and the kind of the action that they are.
@@ -64,18 +50,20 @@ const SPELLED: &[(&[u8], &str)] = &[
     (b"\x0e\0\x06WHO #x", "pass"),
 ];
 
-#[test]
-fn actions_are_spelled(rt: HostRuntime) -> Result<(), Fail> {
+/// Whether the bytes are actions of these kinds, all of them, and each is spelled so, and its copy too.
+fn are_read(alloc: Global) -> Result<bool, WireFault> {
     for (bytes, want) in SPELLED {
-        assert!(rt; is_of_kind(rt.alloc(), bytes, want)?);
+        if !is_of_kind(alloc, bytes, want)? || !is_spelled_again::<Action>(alloc, bytes, bytes)? {
+            return Ok(false);
+        }
     }
-    Ok(())
+    Ok(true)
 }
 
-/// An action that was made is spelled so, and its copy too.
-fn check_made(rt: &impl Abort, alloc: Global, action: Action, bytes: &[u8]) -> Result<(), Fail> {
-    assert!(rt; is_copied_so(alloc, &action, bytes)?);
-    Ok(())
+/// Whether an action that was made is spelled so, and its copy too.
+fn is_made(alloc: Global, action: Action, bytes: &[u8]) -> Result<bool, AllocError> {
+    action.fits();
+    is_copied_so(alloc, &action, bytes)
 }
 
 fn channel(alloc: Global, bytes: &[u8]) -> Result<ChannelName, Fail> {
@@ -84,25 +72,6 @@ fn channel(alloc: Global, bytes: &[u8]) -> Result<ChannelName, Fail> {
 
 fn notice(alloc: Global) -> Result<Action, Fail> {
     Ok(Action::Say(Verb::Notice, name(alloc, b"bob")?, text(alloc, b"hi")?))
-}
-
-#[test]
-fn made_actions_are_spelled(rt: HostRuntime) -> Result<(), Fail> {
-    let alloc = rt.alloc();
-    check_made(&rt, alloc, Action::Attach, b"\x01")?;
-    check_made(&rt, alloc, Action::Leave, b"\x02")?;
-    check_made(&rt, alloc, Action::ClearChannels, b"\x0a")?;
-    check_made(&rt, alloc, Action::ClearQueries, b"\x0b")?;
-    check_made(&rt, alloc, Action::ClearAll, b"\x0c")?;
-    check_made(&rt, alloc, notice(alloc)?, b"\x03\x01\0\x03bob\0\x02hi")?;
-    let set = Action::SetBuffer(name(alloc, b"#x")?, BufferSize::new(500));
-    check_made(&rt, alloc, set, b"\x0d\0\x02#x\x01\xf4")?;
-    check_made(
-        &rt,
-        alloc,
-        Action::Join(channel(alloc, b"#x")?),
-        b"\x04\0\x02#x",
-    )
 }
 
 /// Bytes that are no action, and what is wrong with them.
@@ -126,28 +95,34 @@ const FAULTS: &[(&[u8], WireFault)] = &[
     (b"\x0e\0\x06WHO", WireFault::Short),
 ];
 
-#[test]
-fn an_action_is_refused_at_a_field_or_short(rt: HostRuntime) {
-    for (bytes, want) in FAULTS {
-        assert!(rt; fault_of::<Action>(rt.alloc(), bytes) == Some(*want));
-    }
-}
-
 fn is_channel(alloc: Global, bytes: &[u8]) -> Result<bool, Fail> {
     let name = name(alloc, bytes)?;
     Ok(ChannelName::from_name(name).is_some())
 }
 
-/// The name of a copy of a channel's name.
-fn copied(alloc: Global, bytes: &[u8]) -> Result<Vec<u8>, Fail> {
+/// Whether the copy of a channel's name is of these bytes.
+fn is_copied_channel(alloc: Global, bytes: &[u8]) -> Result<bool, Fail> {
     let copy = channel(alloc, bytes)?.copy(alloc)?;
-    Ok(copy.name().as_bytes().to_vec(alloc)?)
+    Ok(copy.name().as_bytes() == bytes)
 }
 
 #[test]
-fn a_nick_is_no_channel(rt: HostRuntime) -> Result<(), Fail> {
-    assert!(rt; !is_channel(rt.alloc(), b"bob")?);
-    check_bytes(&rt, &copied(rt.alloc(), b"#x")?, b"#x");
+fn an_action_has_one_spelling(rt: HostRuntime) -> Result<(), Fail> {
+    let alloc = rt.alloc();
+    assert!(rt; are_read(alloc)?);
+    assert!(rt; is_made(alloc, Action::Attach, b"\x01")?);
+    assert!(rt; is_made(alloc, Action::Leave, b"\x02")?);
+    assert!(rt; is_made(alloc, Action::ClearChannels, b"\x0a")?);
+    assert!(rt; is_made(alloc, Action::ClearQueries, b"\x0b")?);
+    assert!(rt; is_made(alloc, Action::ClearAll, b"\x0c")?);
+    assert!(rt; is_made(alloc, notice(alloc)?, b"\x03\x01\0\x03bob\0\x02hi")?);
+    let set = Action::SetBuffer(name(alloc, b"#x")?, BufferSize::new(500));
+    assert!(rt; is_made(alloc, set, b"\x0d\0\x02#x\x01\xf4")?);
+    assert!(rt; is_made(alloc, Action::Join(channel(alloc, b"#x")?), b"\x04\0\x02#x")?);
+    for (bytes, want) in FAULTS {
+        assert!(rt; fault_of::<Action>(alloc, bytes) == Some(*want));
+    }
+    assert!(rt; !is_channel(alloc, b"bob")? && is_copied_channel(alloc, b"#x")?);
     assert_eq!(rt; BufferSize::new(65535).lines(), 65535);
     Ok(())
 }

@@ -1,23 +1,14 @@
 //! What is kept and shown, by examples.
-use crate::made::name;
+use crate::made::{name, taken};
 use buffer_commands::{Command, Setup};
-use buffer_machine::{
-    BufferMachine, a_detached_channel_is_not_shown, no_target_keeps_more_than_its_size,
-    playing_leaves_nothing, who_is_not_attached_changes_nothing,
-};
+use buffer_machine::BufferMachine;
 use machine_laws::Machine;
 use std::alloc::Global;
 use std::process::Abort;
 use std::test::Fail;
-use wire_bytes::{Wire, WireFault};
 
 /// A message to the channel `#x`, 1,700,000,000 seconds after 1970.
 const MESSAGE: &[u8] = b"\x02\0\0\0\0\x65\x53\xf1\0\0\x15:a!b@c PRIVMSG #x :hi";
-
-fn command(alloc: Global, bytes: &[u8]) -> Result<Command, WireFault> {
-    let (command, _) = Command::take(alloc, bytes)?;
-    Ok(command)
-}
 
 /// The machine of the plain setup after a command.
 fn machine_after(alloc: Global, bytes: &[u8]) -> Result<BufferMachine, Fail> {
@@ -27,7 +18,7 @@ fn machine_after(alloc: Global, bytes: &[u8]) -> Result<BufferMachine, Fail> {
 }
 
 fn apply(alloc: Global, machine: &mut BufferMachine, bytes: &[u8]) -> Result<(), Fail> {
-    let command = command(alloc, bytes)?;
+    let command = taken::<Command>(alloc, bytes)?;
     machine.apply(1, &command)?;
     Ok(())
 }
@@ -49,13 +40,4 @@ fn check(rt: &impl Abort, alloc: Global, machine: &BufferMachine) -> Result<(), 
 fn shows_what_is_kept_and_who_it_is(rt: HostRuntime) -> Result<(), Fail> {
     let machine = machine_after(rt.alloc(), MESSAGE)?;
     check(&rt, rt.alloc(), &machine)
-}
-
-#[test]
-fn the_laws_can_be_called(_rt: HostRuntime) -> Result<(), Fail> {
-    no_target_keeps_more_than_its_size();
-    a_detached_channel_is_not_shown();
-    playing_leaves_nothing();
-    who_is_not_attached_changes_nothing();
-    Ok(())
 }

@@ -1,11 +1,12 @@
 //! Commands as bytes, and the lines that they hold, by examples.
-use crate::made::{fault_of, filled_to, is_spelled, name, taken, text};
+use crate::made::{
+    fault_of, filled_to, is_copied_so, is_spelled_again, name, taken, text,
+};
 use buffer_commands::{Action, Command, WireLine};
 use irc_line::Line;
 use std::alloc::{AllocError, Global};
-use std::process::Abort;
 use std::test::Fail;
-use wire_bytes::{Copied, Moment, Number, Origin, Wire, WireFault};
+use wire_bytes::{Moment, Number, Origin, WireFault};
 
 fn kind(command: &Command) -> &'static str {
     match command {
@@ -17,31 +18,9 @@ fn kind(command: &Command) -> &'static str {
     }
 }
 
-/// Whether a command is spelled so.
-fn is_command(alloc: Global, command: &Command, bytes: &[u8]) -> Result<bool, AllocError> {
-    command.fits();
-    is_spelled(alloc, command, bytes)
-}
-
-fn copied(alloc: Global, command: &Command) -> Result<Command, AllocError> {
-    command.copy(alloc)
-}
-
-/// Whether the copy of a command is spelled so.
-fn is_copy_so(alloc: Global, command: &Command, bytes: &[u8]) -> Result<bool, AllocError> {
-    let copy = copied(alloc, command)?;
-    is_command(alloc, &copy, bytes)
-}
-
-/// Whether a command is spelled so, and its copy too.
-fn is_copied_so(alloc: Global, command: &Command, bytes: &[u8]) -> Result<bool, AllocError> {
-    Ok(is_copy_so(alloc, command, bytes)? && is_command(alloc, command, bytes)?)
-}
-
-/// Whether these bytes are a command of this kind, all of them, and it and its copy are spelled so.
 fn is_of_kind(alloc: Global, bytes: &[u8], want: &str) -> Result<bool, WireFault> {
-    let (command, len) = taken::<Command>(alloc, bytes)?;
-    Ok(len == bytes.len() && kind(&command) == want && is_copied_so(alloc, &command, bytes)?)
+    let command = taken::<Command>(alloc, bytes)?;
+    Ok(kind(&command) == want)
 }
 
 /// The client 1.2.3 leaves, 1,700,000,000 seconds after 1970.
@@ -62,27 +41,20 @@ const SPELLED: &[(&[u8], &str)] = &[
     (b"\x05", "down"),
 ];
 
-#[test]
-fn commands_are_spelled(rt: HostRuntime) -> Result<(), Fail> {
+/// Whether the bytes are commands of these kinds, all of them, and each is spelled so, and its copy too.
+fn are_read(alloc: Global) -> Result<bool, WireFault> {
     for (bytes, want) in SPELLED {
-        assert!(rt; is_of_kind(rt.alloc(), bytes, want)?);
+        if !is_of_kind(alloc, bytes, want)? || !is_spelled_again::<Command>(alloc, bytes, bytes)? {
+            return Ok(false);
+        }
     }
-    Ok(())
+    Ok(true)
 }
 
-/// A command that was made is spelled so, and its copy too.
-fn check_made(rt: &impl Abort, alloc: Global, command: Command, bytes: &[u8]) -> Result<(), Fail> {
-    assert!(rt; is_copied_so(alloc, &command, bytes)?);
-    Ok(())
-}
-
-#[test]
-fn made_commands_are_spelled(rt: HostRuntime) -> Result<(), Fail> {
-    let at = Moment::new(1_700_000_000);
-    let leaves = Command::Client(Origin::new(1, 2, 3), at, Action::Leave);
-    check_made(&rt, rt.alloc(), leaves, LEAVES)?;
-    let gone = Command::NodeGone(2, Number::new(5));
-    check_made(&rt, rt.alloc(), gone, GONE)
+/// Whether a command that was made is spelled so, and its copy too.
+fn is_made(alloc: Global, command: Command, bytes: &[u8]) -> Result<bool, AllocError> {
+    command.fits();
+    is_copied_so(alloc, &command, bytes)
 }
 
 /// Bytes that are no command, and what is wrong with them.
@@ -96,13 +68,6 @@ const FAULTS: &[(&[u8], WireFault)] = &[
     (b"\x03\x02\x10\0\0\0\0\0\0\x01", WireFault::Bad(2)),
     (b"\x03\x02\0\0", WireFault::Short),
 ];
-
-#[test]
-fn fields_of_a_command_are_refused_at_their_place(rt: HostRuntime) {
-    for (bytes, want) in FAULTS {
-        assert!(rt; fault_of::<Command>(rt.alloc(), bytes) == Some(*want));
-    }
-}
 
 /// A line of so many bytes.
 fn line_of(alloc: Global, len: usize) -> Result<Line, Fail> {
@@ -121,8 +86,17 @@ fn is_wire_line(line: Line) -> bool {
 }
 
 #[test]
-fn a_line_past_511_bytes_is_no_wire_line(rt: HostRuntime) -> Result<(), Fail> {
-    assert!(rt; !is_wire_line(long_message(rt.alloc())?));
-    assert!(rt; is_wire_line(line_of(rt.alloc(), 511)?));
+fn a_command_has_one_spelling(rt: HostRuntime) -> Result<(), Fail> {
+    let alloc = rt.alloc();
+    assert!(rt; are_read(alloc)?);
+    let at = Moment::new(1_700_000_000);
+    let leaves = Command::Client(Origin::new(1, 2, 3), at, Action::Leave);
+    assert!(rt; is_made(alloc, leaves, LEAVES)?);
+    assert!(rt; is_made(alloc, Command::NodeGone(2, Number::new(5)), GONE)?);
+    for (bytes, want) in FAULTS {
+        assert!(rt; fault_of::<Command>(alloc, bytes) == Some(*want));
+    }
+    assert!(rt; !is_wire_line(long_message(alloc)?));
+    assert!(rt; is_wire_line(line_of(alloc, 511)?));
     Ok(())
 }

@@ -176,14 +176,6 @@ const STORIES: &[(usize, &[Step<'static>])] = &[
     (1, ACTION),
 ];
 
-#[test]
-fn a_ring_plays_its_newest_lines(rt: HostRuntime) -> Result<(), Fail> {
-    for (size, story) in STORIES {
-        follow(&rt, rt.alloc(), *size, story)?;
-    }
-    Ok(())
-}
-
 /// The canonical spelling of a line, and that of its copy, a line feed behind each.
 fn spelled(alloc: Global, content: &[u8]) -> Result<Vec<u8>, Fail> {
     let shown = shown(alloc, content)?;
@@ -195,7 +187,10 @@ fn spelled(alloc: Global, content: &[u8]) -> Result<Vec<u8>, Fail> {
 }
 
 #[test]
-fn shows_the_canonical_spelling(rt: HostRuntime) -> Result<(), Fail> {
+fn a_ring_plays_its_newest_lines(rt: HostRuntime) -> Result<(), Fail> {
+    for (size, story) in STORIES {
+        follow(&rt, rt.alloc(), *size, story)?;
+    }
     let text = spelled(rt.alloc(), b"privmsg  #x  hi")?;
     check_bytes(&rt, &text, b"PRIVMSG #x :hi\nPRIVMSG #x :hi\n");
     Ok(())

@@ -30,12 +30,14 @@ fn fault_of_channels(alloc: Global, all: &[&[u8]]) -> Result<Option<SetupFault>,
     fault_of(alloc, names(alloc, all)?, Options::default())
 }
 
-#[test]
-fn channels_of_a_setup_are_channels_that_rise(rt: HostRuntime) -> Result<(), Fail> {
+/// Whether channels of a setup are channels that rise.
+fn are_judged(alloc: Global) -> Result<bool, Fail> {
     for (all, want) in CHANNELS {
-        assert!(rt; fault_of_channels(rt.alloc(), all)? == *want);
+        if fault_of_channels(alloc, all)? != *want {
+            return Ok(false);
+        }
     }
-    Ok(())
+    Ok(true)
 }
 
 /// So many channels, in rising order.
@@ -84,6 +86,7 @@ fn a_setup_has_limits(rt: HostRuntime) -> Result<(), Fail> {
             fault_of_sizes(rt.alloc(), *channel_size, *query_size, *most_queries)? == *want
         );
     }
+    assert!(rt; are_judged(rt.alloc())?);
     assert!(rt; fault_of_count(rt.alloc(), 0)? == None);
     assert!(rt; fault_of_count(rt.alloc(), 100)? == None);
     assert!(rt; fault_of_count(rt.alloc(), 101)? == Some(SetupFault::TooManyChannels));
@@ -117,10 +120,6 @@ pub fn has_options(setup: &Setup, options: &Options) -> bool {
         && setup.offset().above_least() == options.offset.above_least()
 }
 
-fn plain_copy(alloc: Global) -> Result<Setup, AllocError> {
-    Setup::plain(alloc)?.copy(alloc)
-}
-
 /// Whether these are the options of the plain setup.
 fn is_plain(setup: &Setup) -> bool {
     let options = Options {
@@ -135,11 +134,10 @@ fn is_plain(setup: &Setup) -> bool {
     has_options(setup, &options)
 }
 
-#[test]
-fn the_plain_setup_is_of_a_nick_and_a_channel(rt: HostRuntime) -> Result<(), Fail> {
-    let setup = plain_copy(rt.alloc())?;
-    assert!(rt; is_told(rt.alloc(), &setup, b"me #x ")? && is_plain(&setup));
-    Ok(())
+/// Whether the plain setup, copied, is of the nick `me` and the channel `#x`.
+fn is_plain_copied(alloc: Global) -> Result<bool, AllocError> {
+    let setup = Setup::plain(alloc)?.copy(alloc)?;
+    Ok(is_told(alloc, &setup, b"me #x ")? && is_plain(&setup))
 }
 
 /// Whether a setup that is made with these options, beside sizes, has them.
@@ -173,6 +171,7 @@ fn keeps_names(alloc: Global, nick: &[u8], channels: &[&[u8]], want: &[u8]) -> R
 #[test]
 fn a_setup_has_what_it_is_made_of(rt: HostRuntime) -> Result<(), Fail> {
     let alloc = rt.alloc();
+    assert!(rt; is_plain_copied(alloc)?);
     assert!(rt; keeps_names(alloc, b"Bob", &[b"#A", b"#b", b"&A"], b"Bob #A #b &A ")?);
     assert!(rt; keeps_options(alloc, true, false, false, Offset::new(0))?);
     assert!(rt; keeps_options(alloc, false, true, false, Offset::new(1500))?);

@@ -52,15 +52,8 @@ fn ends_so(alloc: Global, mut source: Source, want: Option<FoldFault>) -> bool {
 /// How many bytes a reader gives, what it answers then, whether only once, and what is wrong.
 type Reading = (u64, Option<ErrorKind>, bool, Option<FoldFault>);
 
-/// An input has at most 64 MiB.
-const LENGTHS: &[Reading] = &[
-    (u64::MAX, None, false, Some(FoldFault::InputTooLong)),
-    (67_108_865, None, false, Some(FoldFault::InputTooLong)),
-    (67_108_864, None, false, Some(FoldFault::BadBody(1))),
-];
-
-/// A reader fails for good, or once.
-const FAILURES: &[Reading] = &[
+const READINGS: &[Reading] = &[
+    // A reader fails for good.
     (
         0,
         Some(ErrorKind::Interrupted),
@@ -68,14 +61,15 @@ const FAILURES: &[Reading] = &[
         Some(FoldFault::Read),
     ),
     (70, Some(ErrorKind::TimedOut), false, Some(FoldFault::Read)),
+    // A reader fails once.
     (0, Some(ErrorKind::TimedOut), true, Some(FoldFault::Read)),
     (0, Some(ErrorKind::WouldBlock), true, Some(FoldFault::Read)),
     (0, Some(ErrorKind::Interrupted), true, None),
 ];
 
 /// Folds of what these readers give end so, and write nothing.
-fn check(rt: &impl Abort, alloc: Global, readings: &[Reading]) {
-    for (left, then, once, want) in readings {
+fn check_readings(rt: &impl Abort, alloc: Global) {
+    for (left, then, once, want) in READINGS {
         let source = Source {
             left: *left,
             then: *then,
@@ -83,16 +77,6 @@ fn check(rt: &impl Abort, alloc: Global, readings: &[Reading]) {
         };
         assert!(rt; ends_so(alloc, source, *want));
     }
-}
-
-#[test]
-fn an_input_that_is_too_long_is_refused(rt: HostRuntime) {
-    check(&rt, rt.alloc(), LENGTHS);
-}
-
-#[test]
-fn an_input_that_is_not_read_whole_is_refused(rt: HostRuntime) {
-    check(&rt, rt.alloc(), FAILURES);
 }
 
 /// A writer that takes so many bytes, and then none, and whose flush may fail.
@@ -139,7 +123,8 @@ const SINKS: &[(usize, bool, Option<FoldFault>)] = &[
 ];
 
 #[test]
-fn an_output_that_is_not_written_whole_is_a_fault(rt: HostRuntime) {
+fn what_is_not_read_or_written_whole_is_a_fault(rt: HostRuntime) {
+    check_readings(&rt, rt.alloc());
     for (room, flushes, want) in SINKS {
         let sink = Sink {
             room: *room,

@@ -1,17 +1,15 @@
-//! Bodies in words, and their answers as lines of text.
-use crate::fold::said::said;
-use crate::made::{check_bytes, push_line};
-use machine_laws::{HasClients, Machine, run_all};
+//! What a machine answers to bodies, as lines of text.
+use crate::fold::said::Said;
+use machine_laws::{Machine, run_all};
 use recorder::{Words, push_answers};
-use request_once::{Answer, Body, Once};
-use std::alloc::{AllocError, Global};
-use std::process::Abort;
+use request_once::Answer;
+use std::alloc::Global;
 use std::test::Fail;
-use wire_bytes::{Copied, Wire};
+use wire_bytes::Wire;
 
-/// The body that these words say.
-fn body<W: Wire>(alloc: Global, words: &str) -> Result<W, Fail> {
-    let bytes = said(alloc, words)?;
+fn body<W: Wire>(alloc: Global, said: &Said<'_>) -> Result<W, Fail> {
+    let mut bytes = Vec::new(alloc);
+    said.push(&mut bytes)?;
     let (body, len) = W::take(alloc, &bytes)?;
     if len == bytes.len() {
         Ok(body)
@@ -20,101 +18,76 @@ fn body<W: Wire>(alloc: Global, words: &str) -> Result<W, Fail> {
     }
 }
 
-/// The text of these lines, each with its end.
-fn ended(alloc: Global, lines: &[&str]) -> Result<Vec<u8>, AllocError> {
-    let mut text = Vec::new(alloc);
-    for line in lines {
-        push_line(&mut text, line.as_bytes())?;
-    }
-    Ok(text)
-}
-
-/// The text is these lines, each with its end.
-pub fn check_lines(rt: &impl Abort, alloc: Global, text: &[u8], want: &[&str]) -> Result<(), Fail> {
-    let want = ended(alloc, want)?;
-    check_bytes(rt, text, &want);
-    Ok(())
-}
-
-/// A body in words comes to a machine, and its answers are appended.
-fn come<M: HasClients>(
+/// A body comes to a machine, and its answers are appended.
+fn come<M, E: Words + Drop>(
     alloc: Global,
-    machine: &mut Once<M>,
+    machine: &mut M,
     out: &mut Vec<u8>,
     place: u64,
-    words: &str,
+    said: &Said<'_>,
 ) -> Result<(), Fail>
 where
-    M::Effect: Words,
+    M: Machine<Effect = Answer<E>>,
 {
-    let body = body::<Body<M::Command, M::Action>>(alloc, words)?;
+    let body = body::<M::Command>(alloc, said)?;
     let answers = machine.apply(place, &body)?;
     Ok(push_answers(out, place, &answers)?)
 }
 
 /// These bodies come to a machine, at places from 1, and their answers are appended.
-fn come_all<M: HasClients>(
+fn come_all<M, E: Words + Drop>(
     alloc: Global,
-    machine: &mut Once<M>,
+    machine: &mut M,
     out: &mut Vec<u8>,
-    bodies: &[&str],
+    all: &[Said<'_>],
 ) -> Result<(), Fail>
 where
-    M::Effect: Words,
+    M: Machine<Effect = Answer<E>>,
 {
     let mut place = 0u64;
-    for words in bodies {
+    for said in all {
         place = place.wrapping_add(1);
-        come(alloc, machine, out, place, words)?;
+        come(alloc, machine, out, place, said)?;
     }
     Ok(())
 }
 
 /// The answers to all bodies, at places from 1.
-pub fn answered<M: HasClients>(
+pub fn answered<M, E: Words + Drop>(
     alloc: Global,
-    setup: M::Setup,
-    bodies: &[&str],
+    setup: &M::Setup,
+    all: &[Said<'_>],
 ) -> Result<Vec<u8>, Fail>
 where
-    M::Effect: Words,
+    M: Machine<Effect = Answer<E>>,
 {
-    let mut machine = Once::<M>::start(alloc, &setup)?;
+    let mut machine = M::start(alloc, setup)?;
     let mut out = Vec::new(alloc);
-    come_all(alloc, &mut machine, &mut out, bodies)?;
+    come_all(alloc, &mut machine, &mut out, all)?;
     Ok(out)
 }
 
-fn bodies<W: Wire>(alloc: Global, said: &[&str]) -> Result<Vec<W>, Fail> {
-    let mut all = Vec::new(alloc);
-    for words in said {
-        all.push(body(alloc, words)?)?;
+fn bodies<W: Wire>(alloc: Global, all: &[Said<'_>]) -> Result<Vec<W>, Fail> {
+    let mut bodies = Vec::new(alloc);
+    for said in all {
+        bodies.push(body(alloc, said)?)?;
     }
-    Ok(all)
+    Ok(bodies)
 }
 
-/// Appends a line for each answer.
-fn push_run<E: Words>(out: &mut Vec<u8>, answers: &[Answer<E>]) -> Result<(), AllocError> {
-    for answer in answers {
-        answer.push_words(out)?;
-        out.push(b'\n')?;
-    }
-    Ok(())
-}
-
-/// The answers to all bodies in one run, without their places.
-pub fn answered_in_one_run<M: HasClients>(
+/// The answers to all bodies in one run, which do not tell their places: at the place 0.
+pub fn answered_in_one_run<M, E: Words + Drop>(
     alloc: Global,
-    setup: M::Setup,
-    said: &[&str],
+    setup: &M::Setup,
+    all: &[Said<'_>],
 ) -> Result<Vec<u8>, Fail>
 where
-    M::Effect: Words,
+    M: Machine<Effect = Answer<E>>,
 {
-    let bodies = bodies::<Body<M::Command, M::Action>>(alloc, said)?;
-    let mut machine = Once::<M>::start(alloc, &setup)?;
+    let bodies = bodies::<M::Command>(alloc, all)?;
+    let mut machine = M::start(alloc, setup)?;
     let answers = run_all(alloc, &mut machine, &bodies)?;
     let mut out = Vec::new(alloc);
-    push_run(&mut out, &answers)?;
+    push_answers(&mut out, 0, &answers)?;
     Ok(out)
 }

@@ -1,4 +1,5 @@
-//! Setups, bodies in words, and the lines that answer them.
+//! Setups, bodies, and the lines that answer them.
+use crate::fold::said::Said;
 use crate::fold::setups::{Case, PLAIN};
 
 pub const CASES: &[Case<'static>] = &[
@@ -6,10 +7,10 @@ pub const CASES: &[Case<'static>] = &[
     Case {
         many_clients: false,
         bodies: &[
-            "1.1.1 #1 attach",
-            "1.1.2 #1 attach",
-            "heard 0 :a!b@c PRIVMSG #x :hi",
-            "1.1.1 #2 play #x",
+            Said::Attach(1),
+            Said::Attach(2),
+            Said::Heard(0, ":a!b@c PRIVMSG #x :hi"),
+            Said::Play(1),
         ],
         want: &[
             "1 done 1.1.1 1",
@@ -25,9 +26,9 @@ pub const CASES: &[Case<'static>] = &[
     Case {
         most_queries: 1,
         bodies: &[
-            "heard 0 :bob!b@c PRIVMSG me :yo",
-            "heard 0 :carol!d@e PRIVMSG me :yo",
-            "1.1.1 #1 attach",
+            Said::Heard(0, ":bob!b@c PRIVMSG me :yo"),
+            Said::Heard(0, ":carol!d@e PRIVMSG me :yo"),
+            Said::Attach(1),
         ],
         want: &[
             "3 show 1.1.1 :***!bouncer@local PRIVMSG carol :Buffer Playback...",
@@ -41,9 +42,9 @@ pub const CASES: &[Case<'static>] = &[
     Case {
         most_queries: 2,
         bodies: &[
-            "heard 0 :carol!d@e PRIVMSG me :yo",
-            "heard 0 :bob!b@c PRIVMSG me :yo",
-            "1.1.1 #1 attach",
+            Said::Heard(0, ":carol!d@e PRIVMSG me :yo"),
+            Said::Heard(0, ":bob!b@c PRIVMSG me :yo"),
+            Said::Attach(1),
         ],
         want: &[
             "3 show 1.1.1 :***!bouncer@local PRIVMSG carol :Buffer Playback...",
@@ -60,11 +61,11 @@ pub const CASES: &[Case<'static>] = &[
     Case {
         clears_channels: false,
         bodies: &[
-            "heard 0 :a!b@c PRIVMSG #x :hi",
-            "1.1.1 #1 attach",
-            "1.1.2 #1 attach",
-            "heard 1 :a!b@c PRIVMSG #x :ho",
-            "1.1.2 #2 play #x",
+            Said::Heard(0, ":a!b@c PRIVMSG #x :hi"),
+            Said::Attach(1),
+            Said::Attach(2),
+            Said::Heard(1, ":a!b@c PRIVMSG #x :ho"),
+            Said::Play(2),
         ],
         want: &[
             "2 show 1.1.1 :***!bouncer@local PRIVMSG #x :Buffer Playback...",
@@ -89,10 +90,10 @@ pub const CASES: &[Case<'static>] = &[
     Case {
         clears_queries: false,
         bodies: &[
-            "heard 0 :bob!b@c PRIVMSG me :yo",
-            "heard 0 :a!b@c PRIVMSG #x :hi",
-            "1.1.1 #1 attach",
-            "1.1.2 #1 attach",
+            Said::Heard(0, ":bob!b@c PRIVMSG me :yo"),
+            Said::Heard(0, ":a!b@c PRIVMSG #x :hi"),
+            Said::Attach(1),
+            Said::Attach(2),
         ],
         want: &[
             "3 show 1.1.1 :***!bouncer@local PRIVMSG #x :Buffer Playback...",
@@ -114,12 +115,12 @@ pub const CASES: &[Case<'static>] = &[
         channel_size: 2,
         query_size: 1,
         bodies: &[
-            "heard 0 :a!b@c PRIVMSG #x :hi",
-            "heard 1 :a!b@c PRIVMSG #x :ho",
-            "heard 2 :a!b@c PRIVMSG #x :ha",
-            "heard 0 :bob!b@c PRIVMSG me :yo",
-            "heard 1 :bob!b@c PRIVMSG me :ya",
-            "1.1.1 #1 attach",
+            Said::Heard(0, ":a!b@c PRIVMSG #x :hi"),
+            Said::Heard(1, ":a!b@c PRIVMSG #x :ho"),
+            Said::Heard(2, ":a!b@c PRIVMSG #x :ha"),
+            Said::Heard(0, ":bob!b@c PRIVMSG me :yo"),
+            Said::Heard(1, ":bob!b@c PRIVMSG me :ya"),
+            Said::Attach(1),
         ],
         want: &[
             "6 show 1.1.1 :***!bouncer@local PRIVMSG #x :Buffer Playback...",
@@ -136,7 +137,7 @@ pub const CASES: &[Case<'static>] = &[
     // An hour ahead.
     Case {
         offset: 1499,
-        bodies: &["heard 0 :a!b@c PRIVMSG #x :hi", "1.1.1 #1 attach"],
+        bodies: &[Said::Heard(0, ":a!b@c PRIVMSG #x :hi"), Said::Attach(1)],
         want: &[
             "2 show 1.1.1 :***!bouncer@local PRIVMSG #x :Buffer Playback...",
             "2 show 1.1.1 :a!b@c PRIVMSG #x :[23:13:20] hi",
@@ -148,7 +149,7 @@ pub const CASES: &[Case<'static>] = &[
     // Two hours ahead is past midnight.
     Case {
         offset: 1559,
-        bodies: &["heard 0 :a!b@c PRIVMSG #x :hi", "1.1.1 #1 attach"],
+        bodies: &[Said::Heard(0, ":a!b@c PRIVMSG #x :hi"), Said::Attach(1)],
         want: &[
             "2 show 1.1.1 :***!bouncer@local PRIVMSG #x :Buffer Playback...",
             "2 show 1.1.1 :a!b@c PRIVMSG #x :[00:13:20] hi",
@@ -160,7 +161,7 @@ pub const CASES: &[Case<'static>] = &[
     // All but a day behind.
     Case {
         offset: 0,
-        bodies: &["heard 0 :a!b@c PRIVMSG #x :hi", "1.1.1 #1 attach"],
+        bodies: &[Said::Heard(0, ":a!b@c PRIVMSG #x :hi"), Said::Attach(1)],
         want: &[
             "2 show 1.1.1 :***!bouncer@local PRIVMSG #x :Buffer Playback...",
             "2 show 1.1.1 :a!b@c PRIVMSG #x :[22:14:20] hi",
@@ -173,9 +174,9 @@ pub const CASES: &[Case<'static>] = &[
     Case {
         channels: &[b"#A", b"#b"],
         bodies: &[
-            "heard 0 :a!b@c PRIVMSG #b :bee",
-            "heard 1 :a!b@c PRIVMSG #a :ay",
-            "1.1.1 #1 attach",
+            Said::Heard(0, ":a!b@c PRIVMSG #b :bee"),
+            Said::Heard(1, ":a!b@c PRIVMSG #a :ay"),
+            Said::Attach(1),
         ],
         want: &[
             "3 show 1.1.1 :***!bouncer@local PRIVMSG #A :Buffer Playback...",
@@ -192,12 +193,12 @@ pub const CASES: &[Case<'static>] = &[
     Case {
         channels: &[b"#A", b"#b"],
         bodies: &[
-            "up",
-            "heard 0 :me!u@h JOIN #b",
-            "heard 0 :me!u@h JOIN #AA",
-            "heard 0 :me!u@h JOIN #a",
-            "1.1.1 #1 attach",
-            "up",
+            Said::Up,
+            Said::Heard(0, ":me!u@h JOIN #b"),
+            Said::Heard(0, ":me!u@h JOIN #AA"),
+            Said::Heard(0, ":me!u@h JOIN #a"),
+            Said::Attach(1),
+            Said::Up,
         ],
         want: &[
             "1 rejoin JOIN #A",
@@ -215,31 +216,29 @@ pub const CASES: &[Case<'static>] = &[
         ],
         ..PLAIN
     },
-];
-
-/// Bodies in one run, whose answers do not tell their places.
-pub const RUNS: &[Case<'static>] = &[
     // One client at a time in one run.
     Case {
+        in_one_run: true,
         many_clients: false,
         bodies: &[
-            "1.1.1 #1 attach",
-            "1.1.2 #1 attach",
-            "heard 0 :a!b@c PRIVMSG #x :hi",
-            "1.1.1 #2 play #x",
+            Said::Attach(1),
+            Said::Attach(2),
+            Said::Heard(0, ":a!b@c PRIVMSG #x :hi"),
+            Said::Play(1),
         ],
         want: &[
-            "done 1.1.1 1",
-            "close 1.1.1",
-            "done 1.1.2 1",
-            "show 1.1.2 :a!b@c PRIVMSG #x :hi",
-            "close 1.1.1",
-            "done 1.1.1 2",
+            "0 done 1.1.1 1",
+            "0 close 1.1.1",
+            "0 done 1.1.2 1",
+            "0 show 1.1.2 :a!b@c PRIVMSG #x :hi",
+            "0 close 1.1.1",
+            "0 done 1.1.1 2",
         ],
         ..PLAIN
     },
     // Nothing comes of no bodies.
     Case {
+        in_one_run: true,
         bodies: &[],
         want: &[],
         ..PLAIN

@@ -1,5 +1,5 @@
 //! What lines say, by examples.
-use crate::made::{filled_to, name, text};
+use crate::made::{filled_to, is_shown, name, text};
 use irc_line::{Line, LineFault, Name, Text, write_parts};
 use std::alloc::{AllocError, Global};
 use std::test::Fail;
@@ -107,17 +107,6 @@ fn is_too_long(alloc: Global, front: &[u8], len: usize) -> Result<bool, AllocErr
     Ok(fault(alloc, &content) == Some(LineFault::TooLong))
 }
 
-#[test]
-fn a_content_has_its_first_fault(rt: HostRuntime) -> Result<(), Fail> {
-    let alloc = rt.alloc();
-    for (content, want) in FAULTS {
-        assert!(rt; fault(alloc, content.as_bytes()) == Some(*want));
-    }
-    assert!(rt; is_too_long(alloc, b"PRIVMSG #x :", 512)?);
-    assert!(rt; is_too_long(alloc, b"PRIVMSG #x ", 511)?);
-    Ok(())
-}
-
 /// Whether a line of 511 bytes comes to this when it is cut behind other bytes.
 fn is_cut(alloc: Global, line: &Line, want: &[u8]) -> Result<bool, AllocError> {
     let mut out = Vec::from_slice(alloc, b"before ")?;
@@ -188,18 +177,19 @@ fn is_written(alloc: Global) -> Result<bool, AllocError> {
 }
 
 #[test]
-fn a_line_says_its_parts(rt: HostRuntime) -> Result<(), Fail> {
+fn a_line_says_its_parts_and_a_content_its_first_fault(rt: HostRuntime) -> Result<(), Fail> {
     let alloc = rt.alloc();
     assert!(rt; is_cut_by_one(alloc)?);
     assert!(rt; has_parts(alloc)?);
     assert!(rt; is_message(alloc, b"#x", b"hi", b":me!bouncer@local PRIVMSG #x :hi")?);
     assert!(rt; is_written(alloc)?);
-    Ok(())
-}
-
-#[test]
-fn faults_are_told(rt: HostRuntime) -> Result<(), Fail> {
-    let told = format!(in rt.alloc(); "{}; {}", LineFault::BadByte(3), LineFault::NoCommand)?;
-    assert!(rt; told.as_str() == "a byte that no line may hold stands at 3; a line has no command");
+    for (content, want) in FAULTS {
+        assert!(rt; fault(alloc, content.as_bytes()) == Some(*want));
+    }
+    assert!(rt; is_too_long(alloc, b"PRIVMSG #x :", 512)?);
+    assert!(rt; is_too_long(alloc, b"PRIVMSG #x ", 511)?);
+    let bad = LineFault::BadByte(3);
+    assert!(rt; is_shown(alloc, &bad, "a byte that no line may hold stands at 3")?);
+    assert!(rt; is_shown(alloc, &LineFault::NoCommand, "a line has no command")?);
     Ok(())
 }

@@ -54,16 +54,6 @@ fn is_name(alloc: Global, bytes: &[u8]) -> Result<bool, AllocError> {
     Ok(Name::from_bytes(Vec::from_slice(alloc, bytes)?).is_some())
 }
 
-#[test]
-fn names_have_limits(rt: HostRuntime) -> Result<(), Fail> {
-    for (bytes, is_named, is_channel) in NAMES {
-        let bytes = bytes.as_bytes();
-        assert!(rt; is_name(rt.alloc(), bytes)? == *is_named);
-        assert!(rt; is_channel_name(bytes) == *is_channel);
-    }
-    Ok(())
-}
-
 /// Whether these bytes and letters behind them, so many in all, are a text.
 fn is_text(alloc: Global, front: &[u8], len: usize) -> Result<bool, AllocError> {
     Ok(Text::from_bytes(filled_to(alloc, front, len, b"")?).is_some())
@@ -84,8 +74,13 @@ fn is_copied_text(alloc: Global, bytes: &[u8]) -> Result<bool, Fail> {
 }
 
 #[test]
-fn texts_have_limits_and_names_fold(rt: HostRuntime) -> Result<(), Fail> {
+fn names_and_texts_have_limits(rt: HostRuntime) -> Result<(), Fail> {
     let alloc = rt.alloc();
+    for (bytes, is_named, is_channel) in NAMES {
+        let bytes = bytes.as_bytes();
+        assert!(rt; is_name(alloc, bytes)? == *is_named);
+        assert!(rt; is_channel_name(bytes) == *is_channel);
+    }
     assert!(rt; is_text(alloc, b"a", 510)? && !is_text(alloc, b"a", 511)?);
     assert!(rt; !is_text(alloc, b"two\nlines", 9)?);
     assert!(rt; is_folded(alloc, b"A[]\\~Z@a{}|^_`", b"a{}|^z@a{}|^_`")?);

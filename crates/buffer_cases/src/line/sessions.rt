@@ -147,17 +147,6 @@ const LONG_NICKS: Session = Session {
         NICK n234567890123456789012345678901234567890123456789012345678901___\r\n",
 };
 
-#[test]
-fn a_session_is_opened_however_its_bytes_are_cut(rt: HostRuntime) -> Result<(), Fail> {
-    let alloc = rt.alloc();
-    for len in 1..OPENED.bytes.len() + 1 {
-        assert!(rt; goes_so(alloc, &OPENED, len)?);
-    }
-    assert!(rt; goes_so(alloc, &NICKS, 7)?);
-    assert!(rt; goes_so(alloc, &LONG_NICKS, 1000)?);
-    Ok(())
-}
-
 /// Whether an uplink of nick `me` with this password, or none, writes these bytes first.
 fn is_first(alloc: Global, password: Option<&Text>, want: &str) -> Result<bool, Fail> {
     let (_uplink, first) = began(alloc, name(alloc, b"me")?, password)?;
@@ -167,24 +156,6 @@ fn is_first(alloc: Global, password: Option<&Text>, want: &str) -> Result<bool, 
 /// Whether an uplink of nick `me` with a password writes these bytes first.
 fn is_first_with(alloc: Global, password: &str, want: &str) -> Result<bool, Fail> {
     is_first(alloc, Some(&text(alloc, password.as_bytes())?), want)
-}
-
-/// Passwords, and the bytes that are written first.
-const PASSWORDS: &[(&str, &str)] = &[
-    ("secret", "PASS secret\r\nNICK me\r\nUSER me 0 * me\r\n"),
-    (
-        "two words",
-        "PASS :two words\r\nNICK me\r\nUSER me 0 * me\r\n",
-    ),
-];
-
-#[test]
-fn a_password_a_nick_and_a_user_come_first(rt: HostRuntime) -> Result<(), Fail> {
-    assert!(rt; is_first(rt.alloc(), None, "NICK me\r\nUSER me 0 * me\r\n")?);
-    for (password, want) in PASSWORDS {
-        assert!(rt; is_first_with(rt.alloc(), password, want)?);
-    }
-    Ok(())
 }
 
 /// The line that opens a session and another, with all that is given as words and what is written.
@@ -217,8 +188,8 @@ const LINES: &[(&str, &str, &str)] = &[
     ("001\nPRIVMSG \r #x\r\n", "opened\nheard 001\n", ""),
 ];
 
-#[test]
-fn an_open_session_hears_all_but_pings_and_what_is_no_line(rt: HostRuntime) -> Result<(), Fail> {
+/// Whether an open session hears all but pings and what is no line.
+fn are_heard(alloc: Global) -> Result<bool, Fail> {
     for (bytes, inputs, reply) in LINES {
         let session = Session {
             nick: "me",
@@ -226,7 +197,26 @@ fn an_open_session_hears_all_but_pings_and_what_is_no_line(rt: HostRuntime) -> R
             inputs: *inputs,
             reply: *reply,
         };
-        assert!(rt; goes_so(rt.alloc(), &session, 4)?);
+        if !goes_so(alloc, &session, 4)? {
+            return Ok(false);
+        }
     }
+    Ok(true)
+}
+
+#[test]
+fn a_session_is_opened_however_its_bytes_are_cut(rt: HostRuntime) -> Result<(), Fail> {
+    let alloc = rt.alloc();
+    for len in 1..OPENED.bytes.len() + 1 {
+        assert!(rt; goes_so(alloc, &OPENED, len)?);
+    }
+    assert!(rt; goes_so(alloc, &NICKS, 7)?);
+    assert!(rt; goes_so(alloc, &LONG_NICKS, 1000)?);
+    assert!(rt; are_heard(alloc)?);
+    assert!(rt; is_first(alloc, None, "NICK me\r\nUSER me 0 * me\r\n")?);
+    let secret = "PASS secret\r\nNICK me\r\nUSER me 0 * me\r\n";
+    assert!(rt; is_first_with(alloc, "secret", secret)?);
+    let two = "PASS :two words\r\nNICK me\r\nUSER me 0 * me\r\n";
+    assert!(rt; is_first_with(alloc, "two words", two)?);
     Ok(())
 }

@@ -1,5 +1,5 @@
 //! How values are spelled, by examples.
-use crate::made::{fault_of, filled_to, is_shown, is_spelled};
+use crate::made::{fault_of, filled_to, is_shown, is_spelled, is_spelled_again, taken};
 use irc_line::{Line, Name, Text};
 use std::alloc::Global;
 use std::process::Abort;
@@ -15,18 +15,6 @@ fn is_read<W: Wire + PartialEq>(
 ) -> Result<bool, WireFault> {
     let (read, read_len) = W::take(alloc, input)?;
     Ok(read.copy(alloc)? == *value && read == *value && read_len == len)
-}
-
-/// Whether the value at the front of an input is spelled so again, and the input is read so far.
-fn is_spelled_again<W: Wire>(
-    alloc: Global,
-    input: &[u8],
-    spelling: &[u8],
-) -> Result<bool, WireFault> {
-    let (value, len) = W::take(alloc, input)?;
-    let mut out = Vec::new(alloc);
-    value.put(&mut out)?;
-    Ok(out.as_slice() == spelling && len == spelling.len())
 }
 
 /// The value is spelled so, and its spelling is read as the value.
@@ -52,6 +40,28 @@ const SESSION: &[u8] = &[0, 0, 0, 0, 0, 0, 0, 3, 0, 0, 0, 0, 0, 0, 1, 0];
 /// The greatest number, two to the sixtieth.
 const MOST: &[u8] = &[0x10, 0, 0, 0, 0, 0, 0, 0];
 
+/// Marks of run 5 and number 7, of several nodes.
+const MARKS: &[[u8; 17]] = &[
+    [0, 0, 0, 0, 0, 0, 0, 0, 5, 0, 0, 0, 0, 0, 0, 0, 7],
+    [2, 0, 0, 0, 0, 0, 0, 0, 5, 0, 0, 0, 0, 0, 0, 0, 7],
+    [9, 0, 0, 0, 0, 0, 0, 0, 5, 0, 0, 0, 0, 0, 0, 0, 7],
+    [255, 0, 0, 0, 0, 0, 0, 0, 5, 0, 0, 0, 0, 0, 0, 0, 7],
+];
+
+/// A mark is of any byte as its node.
+fn check_marks(rt: &impl Abort, alloc: Global) -> Result<(), Fail> {
+    for bytes in MARKS {
+        let mark = Mark {
+            node: bytes[0],
+            boot: Number::new(5),
+            number: Number::new(7),
+        };
+        mark.fits();
+        check_value(rt, alloc, &mark, bytes)?;
+    }
+    Ok(())
+}
+
 #[test]
 fn values_are_spelled_at_fixed_places(rt: HostRuntime) -> Result<(), Fail> {
     let alloc = rt.alloc();
@@ -62,44 +72,18 @@ fn values_are_spelled_at_fixed_places(rt: HostRuntime) -> Result<(), Fail> {
     check_value(&rt, alloc, &((true, false), 200u8), &[1, 0, 200])?;
     assert!(rt; is_read(alloc, &(true, false), &[1, 0, 200], 2)?);
     assert!(rt; is_read(alloc, &200u8, &[200], 1)?);
-    Ok(())
+    check_marks(&rt, alloc)
 }
 
-/// Marks of run 5 and number 7, of several nodes.
-const MARKS: &[[u8; 17]] = &[
-    [0, 0, 0, 0, 0, 0, 0, 0, 5, 0, 0, 0, 0, 0, 0, 0, 7],
-    [2, 0, 0, 0, 0, 0, 0, 0, 5, 0, 0, 0, 0, 0, 0, 0, 7],
-    [9, 0, 0, 0, 0, 0, 0, 0, 5, 0, 0, 0, 0, 0, 0, 0, 7],
-    [255, 0, 0, 0, 0, 0, 0, 0, 5, 0, 0, 0, 0, 0, 0, 0, 7],
-];
-
-#[test]
-fn a_mark_is_of_any_byte_as_its_node(rt: HostRuntime) -> Result<(), Fail> {
-    for bytes in MARKS {
-        let mark = Mark {
-            node: bytes[0],
-            boot: Number::new(5),
-            number: Number::new(7),
-        };
-        mark.fits();
-        check_value(&rt, rt.alloc(), &mark, bytes)?;
-    }
-    Ok(())
-}
-
-#[test]
-fn values_say_their_numbers(rt: HostRuntime) -> Result<(), Fail> {
-    let alloc = rt.alloc();
-    let (origin, moment) = (Origin::new(1, 1, 1), Moment::new(1_700_000_000));
-    let id = SessionId::new(3, 256);
-    assert!(rt; origin.node() == 1 && origin.boot() == 1 && origin.client() == 1);
-    assert!(rt; moment.seconds() == 1_700_000_000);
-    assert!(rt; id.term() == 3 && id.attempt() == 256 && id < SessionId::new(4, 0));
-    assert!(rt; is_shown(alloc, &origin, "1.1.1")?);
-    assert!(rt; is_shown(alloc, &moment, "1700000000")?);
-    assert!(rt; is_shown(alloc, &id, "3.256")?);
-    assert!(rt; is_shown(alloc, &Number::new(1 << 60), "1152921504606846976")?);
-    Ok(())
+/// Whether an origin, a moment and a session's id say their numbers.
+fn are_said(origin: Origin, moment: Moment, id: SessionId) -> bool {
+    origin.node() == 1
+        && origin.boot() == 1
+        && origin.client() == 1
+        && moment.seconds() == 1_700_000_000
+        && id.term() == 3
+        && id.attempt() == 256
+        && id < SessionId::new(4, 0)
 }
 
 /// Inputs without a value at their front, and what is wrong with each.
@@ -180,24 +164,14 @@ const UPPER: &[u8] = b"\x00\x0ePRIVMSG #x :hi";
 
 /// Whether the name at the front of an input is of these bytes.
 fn is_name(alloc: Global, input: &[u8], bytes: &[u8]) -> Result<bool, WireFault> {
-    let (name, _) = Name::take(alloc, input)?;
+    let name = taken::<Name>(alloc, input)?;
     Ok(name.as_bytes() == bytes)
 }
 
 /// Whether the line at the front of an input has this command.
 fn has_command(alloc: Global, input: &[u8], command: &[u8]) -> Result<bool, WireFault> {
-    let (line, _) = Line::take(alloc, input)?;
+    let line = taken::<Line>(alloc, input)?;
     Ok(line.command() == command)
-}
-
-#[test]
-fn names_and_lines_are_read(rt: HostRuntime) -> Result<(), Fail> {
-    let alloc = rt.alloc();
-    assert!(rt; is_name(alloc, NAME, b"#x")?);
-    assert!(rt; is_spelled_again::<Name>(alloc, NAME, NAME)?);
-    assert!(rt; has_command(alloc, UPPER, b"PRIVMSG")?);
-    assert!(rt; is_spelled_again::<Line>(alloc, UPPER, UPPER)?);
-    Ok(())
 }
 
 /// Whether a text of 511 bytes is refused so in so many bytes.
@@ -208,7 +182,7 @@ fn is_511_refused(alloc: Global, len: usize, want: WireFault) -> Result<bool, Wi
 
 /// How many bytes the text at the front of an input has.
 fn text_len(alloc: Global, input: &[u8]) -> Result<usize, WireFault> {
-    let (text, _) = Text::take(alloc, input)?;
+    let text = taken::<Text>(alloc, input)?;
     Ok(text.as_bytes().len())
 }
 
@@ -220,8 +194,19 @@ fn is_510_read(alloc: Global) -> Result<bool, WireFault> {
 }
 
 #[test]
-fn a_text_has_at_most_510_bytes(rt: HostRuntime) -> Result<(), Fail> {
+fn values_are_said_and_read(rt: HostRuntime) -> Result<(), Fail> {
     let alloc = rt.alloc();
+    let (origin, moment) = (Origin::new(1, 1, 1), Moment::new(1_700_000_000));
+    let id = SessionId::new(3, 256);
+    assert!(rt; are_said(origin, moment, id));
+    assert!(rt; is_shown(alloc, &origin, "1.1.1")?);
+    assert!(rt; is_shown(alloc, &moment, "1700000000")?);
+    assert!(rt; is_shown(alloc, &id, "3.256")?);
+    assert!(rt; is_shown(alloc, &Number::new(1 << 60), "1152921504606846976")?);
+    assert!(rt; is_name(alloc, NAME, b"#x")?);
+    assert!(rt; is_spelled_again::<Name>(alloc, NAME, NAME)?);
+    assert!(rt; has_command(alloc, UPPER, b"PRIVMSG")?);
+    assert!(rt; is_spelled_again::<Line>(alloc, UPPER, UPPER)?);
     assert!(rt; is_510_read(alloc)?);
     assert!(rt; is_511_refused(alloc, 512, WireFault::Short)?);
     assert!(rt; is_511_refused(alloc, 513, WireFault::Bad(0))?);

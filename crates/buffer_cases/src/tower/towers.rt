@@ -34,15 +34,6 @@ const FENCED: &[&[u8]] = &[
     CLAIM_LATER,
 ];
 
-#[test]
-fn a_session_is_fenced_and_each_line_is_handed_once(rt: HostRuntime) -> Result<(), Fail> {
-    let text = answered::<Tower>(rt.alloc(), Setup::plain(rt.alloc())?, FENCED)?;
-    let want =
-        b"1 rejoin 1.1 JOIN #x\n2 done 1.1.1 1\n3 done 1.1.1 2\n4 hand 1.1 1 PRIVMSG #x :hi\n9 rejoin 1.2 JOIN #x\n";
-    check_bytes(&rt, &text, want);
-    Ok(())
-}
-
 /// It attaches, and says so by the requests from 2 to 1,002.
 fn a_thousand_and_one<M: Hosted>(alloc: Global) -> Result<Vec<M::Command>, Fail> {
     let mut all = Vec::new(alloc);
@@ -90,6 +81,15 @@ fn is_refused_a_line<M: Told>(alloc: Global, setup: M::Setup) -> Result<bool, Fa
     let bodies = a_thousand_and_one::<M>(alloc)?;
     let effects = M::answers(alloc, &setup, &bodies)?;
     Ok(is_busy_at_last::<M>(&effects))
+}
+
+#[test]
+fn a_session_is_fenced_and_each_line_is_handed_once(rt: HostRuntime) -> Result<(), Fail> {
+    let text = answered::<Tower>(rt.alloc(), Setup::plain(rt.alloc())?, FENCED)?;
+    let want =
+        b"1 rejoin 1.1 JOIN #x\n2 done 1.1.1 1\n3 done 1.1.1 2\n4 hand 1.1 1 PRIVMSG #x :hi\n9 rejoin 1.2 JOIN #x\n";
+    check_bytes(&rt, &text, want);
+    Ok(())
 }
 
 #[test]

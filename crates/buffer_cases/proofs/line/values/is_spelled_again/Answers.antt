@@ -1,5 +1,0 @@
-use Rattle.std.proofs.Common.{arith}
-use Rattle.buffer_cases.proofs.line.values.is_spelled_again.Goals as goal
-
-pub put-requires : goal.put-requires
-put-requires g c = (g.met.W.Wire.is_codec.one_spelling c.args.input.now c.in_ok-value.value _ (λ i. omega (arith, c.type_inv.input i)) c.in_ok-value.ensures.ok).0

@@ -1,0 +1,79 @@
+"""Configurations with a fault, as the bytes of a file, and what is told of each behind the file's path and a colon."""
+
+# the least configuration but for its addresses to listen at, in line 5
+LISTENING = b'nick = "me"\npassword = "pass"\nupstream = "127.0.0.1:6667"\nstore = "store"\nlisten = '
+
+# the least configuration, in five lines
+LEAST = LISTENING + b'["127.0.0.1:1", "127.0.0.1:2", "127.0.0.1:3"]\n'
+
+# texts that are no TOML
+NO_TOML = [
+    (b'nick = "me"\npassword = \n', "2: is no TOML"),
+    (b"nick\n", "1: is no TOML"),
+    (b'nick = "me"\nnick = "you"\n', "2: is no TOML"),
+    (b'nick = "me"\n\xff\n', "2: is no TOML"),
+]
+
+# texts without a key that is needed or with a bad one
+NEEDED = [
+    (b"", " nick: is missing"),
+    (b"nick = 3", "1: nick: needs a text"),
+    (b'nick = "a b"', "1: nick: needs a name: 1 to 64 bytes without space or comma, the first no colon"),
+    (b'nick = "me"', " password: is missing"),
+    (b'nick = "me"\npassword = ""', "2: password: needs 1 to 64 bytes without space"),
+    (
+        b'nick = "me"\npassword = "pass"\nupstream = "127.0.0.1:0"',
+        "3: upstream: needs an address 127.0.0.1:PORT",
+    ),
+    (
+        b'nick = "me"\npassword = "pass"\nupstream = "127.0.0.1:65536"',
+        "3: upstream: needs an address 127.0.0.1:PORT",
+    ),
+    (b'colour = "red"', "1: colour: is no key of a configuration"),
+]
+
+# addresses to listen at
+LISTEN = [
+    (b'["127.0.0.1:1", "127.0.0.1:2"]\n', "5: listen: needs three, five or seven addresses"),
+    (b'"127.0.0.1:1"\n', "5: listen: needs a list of texts"),
+    (b'["127.0.0.1:1", "127.0.0.1:2", "localhost:3"]\n', "5: listen: needs addresses 127.0.0.1:PORT"),
+    (
+        b'["127.0.0.1:1", "127.0.0.1:2", "127.0.0.1:1"]\n',
+        "5: listen: needs addresses that differ, and none of upstream's",
+    ),
+    (
+        b'["127.0.0.1:1", "127.0.0.1:2", "127.0.0.1:6667"]\n',
+        "5: listen: needs addresses that differ, and none of upstream's",
+    ),
+]
+
+# further lines with values
+RANGES = [
+    (b"chan_buffer_size = 501", "6: chan_buffer_size: needs 0 to 500"),
+    (b"query_buffer_size = -1", "6: query_buffer_size: needs 0 to 500"),
+    (b"max_query_buffers = 0", "6: max_query_buffers: needs 1 to 50"),
+    (b"offset_minutes = 1440", "6: offset_minutes: needs -1439 to 1439"),
+    (b"offset_minutes = -1440", "6: offset_minutes: needs -1439 to 1439"),
+    (b"multi_clients = 1", "6: multi_clients: needs true or false"),
+    (b"\nbeat_ms = 9", "7: beat_ms: needs 10 to 10000"),
+    (b"timeout_ms = 60001", "6: timeout_ms: needs 50 to 60000"),
+    (b"flood_burst = 0", "6: flood_burst: needs 1 to 100"),
+    (b"flood_ms = 60001", "6: flood_ms: needs 0 to 60000"),
+    (b'beat_ms = "100"', "6: beat_ms: needs a whole number"),
+]
+
+# further lines with texts and channels
+OPTIONAL = [
+    (b'upstream_password = "a b"', "6: upstream_password: needs 1 to 64 bytes without space"),
+    (b'record = ""', "6: record: needs a path"),
+    (b'log = "loud"', "6: log: needs quiet, info or debug"),
+    (b'channels = ["#x", "y"]', "6: channels: needs names of channels"),
+    (b'channels = ["#x", "#y", "#X"]', "6: channels: names a channel twice"),
+]
+
+FAULTY = [
+    *NO_TOML,
+    *NEEDED,
+    *((LISTENING + text, wanted) for text, wanted in LISTEN),
+    *((LEAST + text, wanted) for text, wanted in RANGES + OPTIONAL),
+]
