@@ -88,11 +88,13 @@ fn is_usual(config: &Config) -> bool {
 
 /// Whether this is the configuration with every key, its channels by their folded names.
 fn is_every(alloc: Global, config: &Config) -> Result<bool, AllocError> {
-    Ok(has_values(config)
-        && has_texts(&config.upstream_password, &config.record)
-        && config.listen.len() == 3
-        && is_set_up(config)
-        && is_told(alloc, &config.setup, b"me #X #y &A ")?)
+    Ok(
+        has_values(config)
+            && has_texts(&config.upstream_password, &config.record)
+            && config.listen.len() == 3
+            && is_set_up(config)
+            && is_told(alloc, &config.setup, b"me #X #y &A ")?,
+    )
 }
 
 /// Whether a text is taken, as the configuration with every key or as the least one.

@@ -1,7 +1,5 @@
 //! Commands as bytes, and the lines that they hold, by examples.
-use crate::made::{
-    fault_of, filled_to, is_copied_so, is_spelled_again, name, taken, text,
-};
+use crate::made::{fault_of, filled_to, is_copied_so, is_spelled_again, name, taken, text};
 use buffer_commands::{Action, Command, WireLine};
 use irc_line::Line;
 use std::alloc::{AllocError, Global};

@@ -124,11 +124,6 @@ fn check_made<M: Hosted>(rt: &impl Abort, alloc: Global) -> Result<(), Fail> {
     Ok(check::<M>(rt, alloc, say::<M>(alloc, 2)?, SAY)?)
 }
 
-#[test]
-fn the_bodies_that_are_made_have_one_spelling(rt: HostRuntime) -> Result<(), Fail> {
-    check_made::<Tower>(&rt, rt.alloc())
-}
-
 /// The source of the body that these bytes spell.
 fn source_of<M: Hosted>(alloc: Global, bytes: &[u8]) -> Result<Source, Fail> {
     Ok(M::source(&taken::<M::Command>(alloc, bytes)?))
@@ -156,6 +151,7 @@ fn check_sources<M: Hosted>(rt: &impl Abort, alloc: Global) -> Result<(), Fail> 
 }
 
 #[test]
-fn each_body_has_its_source(rt: HostRuntime) -> Result<(), Fail> {
+fn each_body_has_one_spelling_and_its_source(rt: HostRuntime) -> Result<(), Fail> {
+    check_made::<Tower>(&rt, rt.alloc())?;
     check_sources::<Tower>(&rt, rt.alloc())
 }

@@ -24,16 +24,6 @@ fn is_next_claim<M: Told>(
     Ok(machine.next_claim() == want)
 }
 
-#[test]
-fn the_next_claim_is_of_the_first_line_that_waits(rt: HostRuntime) -> Result<(), Fail> {
-    let alloc = rt.alloc();
-    let bodies = [OPENED, ATTACH, SAY, CLAIM];
-    let first = Some(Number::new(1));
-    assert!(rt; is_next_claim::<Tower>(alloc, Setup::plain(alloc)?, &bodies[..3], first)?);
-    assert!(rt; is_next_claim::<Tower>(alloc, Setup::plain(alloc)?, &bodies, None)?);
-    Ok(())
-}
-
 /// Appends what a machine plays of a target, a line each.
 fn push_played<M: Told>(out: &mut Vec<u8>, machine: &M, target: &M::Target) -> Result<(), Fail> {
     for line in &machine.playback(target)? {
@@ -69,6 +59,11 @@ fn check_played_twice<M: Told>(
 }
 
 #[test]
-fn what_is_kept_is_played_without_emptying_it(rt: HostRuntime) -> Result<(), Fail> {
-    check_played_twice::<Tower>(&rt, rt.alloc(), Setup::plain(rt.alloc())?)
+fn a_tower_tells_its_next_claim_and_plays_what_it_keeps(rt: HostRuntime) -> Result<(), Fail> {
+    let alloc = rt.alloc();
+    let bodies = [OPENED, ATTACH, SAY, CLAIM];
+    let first = Some(Number::new(1));
+    assert!(rt; is_next_claim::<Tower>(alloc, Setup::plain(alloc)?, &bodies[..3], first)?);
+    assert!(rt; is_next_claim::<Tower>(alloc, Setup::plain(alloc)?, &bodies, None)?);
+    check_played_twice::<Tower>(&rt, alloc, Setup::plain(alloc)?)
 }

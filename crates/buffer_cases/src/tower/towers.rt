@@ -84,17 +84,12 @@ fn is_refused_a_line<M: Told>(alloc: Global, setup: M::Setup) -> Result<bool, Fa
 }
 
 #[test]
-fn a_session_is_fenced_and_each_line_is_handed_once(rt: HostRuntime) -> Result<(), Fail> {
-    let text = answered::<Tower>(rt.alloc(), Setup::plain(rt.alloc())?, FENCED)?;
+fn each_line_is_handed_once_and_none_past_a_thousand(rt: HostRuntime) -> Result<(), Fail> {
+    let alloc = rt.alloc();
+    assert!(rt; is_refused_a_line::<Tower>(alloc, Setup::plain(alloc)?)?);
+    let text = answered::<Tower>(alloc, Setup::plain(alloc)?, FENCED)?;
     let want =
         b"1 rejoin 1.1 JOIN #x\n2 done 1.1.1 1\n3 done 1.1.1 2\n4 hand 1.1 1 PRIVMSG #x :hi\n9 rejoin 1.2 JOIN #x\n";
     check_bytes(&rt, &text, want);
-    Ok(())
-}
-
-#[test]
-fn a_line_past_a_thousand_that_wait_is_not_sent(rt: HostRuntime) -> Result<(), Fail> {
-    let setup = Setup::plain(rt.alloc())?;
-    assert!(rt; is_refused_a_line::<Tower>(rt.alloc(), setup)?);
     Ok(())
 }
