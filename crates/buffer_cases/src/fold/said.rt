@@ -1,5 +1,6 @@
 //! Bodies of examples, and the bytes of each.
 use std::alloc::AllocError;
+use std::test::Fail;
 
 /// A body that comes to buffers.
 #[derive(Clone, Copy)]
@@ -16,20 +17,21 @@ pub enum Said<'a> {
 
 impl<'a> Said<'a> {
     /// Appends the bytes of a body.
-    pub fn push(&self, out: &mut Vec<u8>) -> Result<(), AllocError> {
+    pub fn push(&self, out: &mut Vec<u8>) -> Result<(), Fail> {
         match self {
-            Said::Up => out.extend_from_slice(&[0, 4]),
+            Said::Up => Ok(out.extend_from_slice(&[0, 4])?),
             Said::Heard(second, line) => push_heard(out, *second, line.as_bytes()),
-            Said::Attach(client) => push_request(out, *client, 1, b"\x01"),
-            Said::Play(client) => push_request(out, *client, 2, b"\x08\0\x02#x"),
+            Said::Attach(client) => Ok(push_request(out, *client, 1, b"\x01")?),
+            Said::Play(client) => Ok(push_request(out, *client, 2, b"\x08\0\x02#x")?),
         }
     }
 }
 
-fn push_heard(out: &mut Vec<u8>, second: u8, line: &[u8]) -> Result<(), AllocError> {
+fn push_heard(out: &mut Vec<u8>, second: u8, line: &[u8]) -> Result<(), Fail> {
+    let len = u16::try_from(line.len())?;
     out.extend_from_slice(&[0, 2, 0, 0, 0, 0, 0x65, 0x53, 0xf1, second])?;
-    out.extend_from_slice(&(line.len() as u16).to_be_bytes())?;
-    out.extend_from_slice(line)
+    out.extend_from_slice(&len.to_be_bytes())?;
+    Ok(out.extend_from_slice(line)?)
 }
 
 /// Appends the request of this number of the client 1.1.N, and its action.
