@@ -66,17 +66,8 @@ fn saved_and_left(
     Ok((done, found(alloc, &file)?))
 }
 
-fn check_bytes(rt: &impl Abort, told: &[u8], wanted: &[u8]) {
-    assert!(rt; told == wanted);
-}
-
-/// The calls were these: the first letter of each, in upper case where it failed.
-fn check_calls(
-    rt: &impl Abort,
-    alloc: Global,
-    calls: &[Called],
-    wanted: &[u8],
-) -> Result<(), AllocError> {
+/// The first letter of each call, in upper case where it failed.
+fn letters(alloc: Global, calls: &[Called]) -> Result<Vec<u8>, AllocError> {
     let mut letters = Vec::new(alloc);
     for called in calls {
         let letter = match &called.call {
@@ -87,19 +78,39 @@ fn check_calls(
         };
         letters.push(if called.passed { letter } else { letter - 32 })?;
     }
+    Ok(letters)
+}
+
+fn check_bytes(rt: &impl Abort, told: &[u8], wanted: &[u8]) {
+    assert!(rt; told == wanted);
+}
+
+/// The calls were these.
+fn check_calls(
+    rt: &impl Abort,
+    alloc: Global,
+    calls: &[Called],
+    wanted: &[u8],
+) -> Result<(), AllocError> {
+    let letters = letters(alloc, calls)?;
     check_bytes(rt, &letters, wanted);
     Ok(())
 }
 
-/// A record and the gate behind it were written, then its gate, however long the file was: the place and the
-/// size of each write.
-fn check_writes(rt: &impl Abort, alloc: Global, calls: &[Called]) -> Result<(), AllocError> {
+/// The place and the size of each write.
+fn writes(alloc: Global, calls: &[Called]) -> Result<Vec<(usize, usize)>, AllocError> {
     let mut writes = Vec::new(alloc);
     for called in calls {
         if let Call::Write(place, bytes) = &called.call {
             writes.push((*place, bytes.len()))?;
         }
     }
+    Ok(writes)
+}
+
+/// A record and the gate behind it were written, then its gate, however long the file was.
+fn check_writes(rt: &impl Abort, alloc: Global, calls: &[Called]) -> Result<(), AllocError> {
+    let writes = writes(alloc, calls)?;
     assert!(rt; writes.as_slice() == [(9, 32), (8, 1), (41, 32), (40, 1)].as_slice());
     Ok(())
 }
@@ -111,6 +122,13 @@ fn saved_twice(alloc: Global) -> Result<JournalStore<u8, FaultDisk>, StoreFault>
     save(alloc, &mut store, 2)?;
     store.again()?;
     Ok(store)
+}
+
+#[test]
+fn a_save_is_four_calls(rt: HostRuntime) -> Result<(), Fail> {
+    let disk = saved_twice(rt.alloc())?.into_disk();
+    check_calls(&rt, rt.alloc(), disk.calls(), b"slrwswswswsslr")?;
+    Ok(check_writes(&rt, rt.alloc(), disk.calls())?)
 }
 
 /// The boot that a store reads.
@@ -145,12 +163,10 @@ fn check_mended(
     Ok(())
 }
 
-/// A save is four calls, and a store that met an error asks nothing until it serves again.
 #[test]
-fn a_save_is_four_calls_up_to_an_error(rt: HostRuntime) -> Result<(), Fail> {
-    let disk = saved_twice(rt.alloc())?.into_disk();
-    check_calls(&rt, rt.alloc(), disk.calls(), b"slrwswswswsslr")?;
-    check_writes(&rt, rt.alloc(), disk.calls())?;
+fn a_store_that_met_an_error_asks_nothing_until_it_serves_again(
+    rt: HostRuntime,
+) -> Result<(), Fail> {
     let mut store = empty(rt.alloc(), Fails::Once(4))?;
     check_broken(&rt, rt.alloc(), &mut store)?;
     Ok(check_mended(&rt, rt.alloc(), &mut store)?)
@@ -237,12 +253,8 @@ fn check_failed(rt: &impl Abort, alloc: Global, disk: &mut FaultDisk) -> Result<
     check_left(rt, disk, Unsynced::Overwritten(7), b"aX\x07\x07")
 }
 
-/// A disk fails as it is told, and what is not synced is kept or overwritten.
 #[test]
-fn a_disk_fails_as_it_is_told(rt: HostRuntime) -> Result<(), Fail> {
-    assert!(rt; Fails::Never.passes(9));
-    assert!(rt; Fails::From(2).passes(1) && !Fails::From(2).passes(3));
-    assert!(rt; Fails::Once(2).passes(3) && !Fails::Once(2).passes(2));
+fn what_is_not_synced_is_kept_or_overwritten(rt: HostRuntime) -> Result<(), Fail> {
     let file = b"abc".to_vec(rt.alloc())?;
     let mut disk = FaultDisk::new(rt.alloc(), file, Fails::Once(2));
     disk.write_at(1, b"XY")?;
@@ -252,4 +264,11 @@ fn a_disk_fails_as_it_is_told(rt: HostRuntime) -> Result<(), Fail> {
     check_left(&rt, &disk, Unsynced::Overwritten(7), b"aXY")?;
     assert!(rt; disk.write_at(2, b"de") == Err(DiskFault::Device));
     Ok(check_failed(&rt, rt.alloc(), &mut disk)?)
+}
+
+#[test]
+fn a_disk_fails_as_it_is_told(rt: HostRuntime) {
+    assert!(rt; Fails::Never.passes(9));
+    assert!(rt; Fails::From(2).passes(1) && !Fails::From(2).passes(3));
+    assert!(rt; Fails::Once(2).passes(3) && !Fails::Once(2).passes(2));
 }

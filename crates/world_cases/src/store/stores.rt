@@ -46,6 +46,17 @@ fn settled<B: Wire, S: Stable<B>>(store: &mut S, change: &Change<B>) -> Result<(
     Ok(())
 }
 
+/// The spelling of a change.
+fn spelled(alloc: Global, vote: Option<u8>) -> Result<Vec<u8>, AllocError>
+    requires { vote ≢ Some 0 }
+{
+    let change = change(alloc, vote, 1)?;
+    change.fits();
+    let mut out = Vec::new(alloc);
+    change.put(&mut out)?;
+    Ok(out)
+}
+
 /// Boot, term, vote, how many entries are kept, and how many follow.
 type Parts = (u64, u64, Option<u8>, u64, usize);
 
@@ -53,34 +64,35 @@ type Parts = (u64, u64, Option<u8>, u64, usize);
 fn read(alloc: Global, input: &[u8]) -> Result<(usize, Parts), WireFault> {
     let (change, len) = Change::<u8>::take(alloc, input)?;
     let copy = change.copy(alloc)?;
-    let (boot, term, keep) = (
-        copy.boot().value(),
-        copy.term().value(),
-        copy.keep().value(),
-    );
-    Ok((len, (boot, term, copy.vote(), keep, copy.entries().len())))
+    Ok((len, parts_of(&copy)))
 }
 
-/// Whether a change with this vote has these bytes.
-fn is_spelled(alloc: Global, vote: Option<u8>, bytes: &[u8]) -> Result<bool, AllocError>
-    requires { vote ≢ Some 0 }
-{
-    let change = change(alloc, vote, 1)?;
-    change.fits();
-    let mut out = Vec::new(alloc);
-    change.put(&mut out)?;
-    Ok(out.as_slice() == bytes)
+fn parts_of(change: &Change<u8>) -> Parts {
+    let (boot, term) = (change.boot().value(), change.term().value());
+    (
+        boot,
+        term,
+        change.vote(),
+        change.keep().value(),
+        change.entries().len(),
+    )
 }
 
 #[test]
-fn a_change_is_its_numbers_its_vote_or_a_zero_and_its_entries(rt: HostRuntime) -> Result<(), Fail> {
-    let alloc = rt.alloc();
-    assert!(rt; is_spelled(alloc, Some(3), &BYTES)?);
-    assert!(rt; read(alloc, &BYTES) == Ok((40, (1, 2, Some(3), 1, 1))));
+fn a_change_is_its_numbers_its_vote_and_its_entries(rt: HostRuntime) -> Result<(), Fail> {
+    let bytes = spelled(rt.alloc(), Some(3))?;
+    assert!(rt; bytes.as_slice() == BYTES.as_slice());
+    assert!(rt; read(rt.alloc(), &BYTES) == Ok((40, (1, 2, Some(3), 1, 1))));
+    Ok(())
+}
+
+#[test]
+fn no_vote_is_a_zero(rt: HostRuntime) -> Result<(), Fail> {
     let mut bytes = BYTES;
     bytes[16] = 0;
-    assert!(rt; is_spelled(alloc, None, &bytes)?);
-    assert!(rt; read(alloc, &bytes) == Ok((40, (1, 2, None, 1, 1))));
+    let spelled = spelled(rt.alloc(), None)?;
+    assert!(rt; spelled.as_slice() == bytes.as_slice());
+    assert!(rt; read(rt.alloc(), &bytes) == Ok((40, (1, 2, None, 1, 1))));
     Ok(())
 }
 
@@ -140,6 +152,17 @@ fn saved_once(alloc: Global) -> Result<MemoryStore<u8>, StoreFault> {
     Ok(store)
 }
 
+#[test]
+fn a_memory_store_keeps_what_is_saved(rt: HostRuntime) -> Result<(), Fail> {
+    let store = MemoryStore::new(rt.alloc());
+    check_saved(&rt, rt.alloc(), &store, (0, 0, 0), &[])?;
+    let mut store = saved_once(rt.alloc())?;
+    store.again()?;
+    check_saved(&rt, rt.alloc(), &store, (1, 2, 3), &[2])?;
+    assert!(rt; store.failures() == 0);
+    Ok(())
+}
+
 /// A log of the bodies 5 and 6, of term 1.
 fn two_entries(alloc: Global) -> Result<Log<u8>, AllocError> {
     let mut log = Log::new(alloc);
@@ -168,24 +191,6 @@ fn settled_over(alloc: Global, log: Log<u8>) -> Result<MemoryStore<u8>, StoreFau
     Ok(store)
 }
 
-/// A store of what another one reads.
-fn held(alloc: Global) -> Result<MemoryStore<u8>, StoreFault> {
-    let first = saved_once(alloc)?;
-    Ok(MemoryStore::holding(alloc, first.read()?))
-}
-
-/// A memory store keeps what is saved, and holds what it is made of.
-#[test]
-fn a_memory_store_keeps_what_is_saved(rt: HostRuntime) -> Result<(), Fail> {
-    let alloc = rt.alloc();
-    check_saved(&rt, alloc, &MemoryStore::new(alloc), (0, 0, 0), &[])?;
-    let mut store = saved_once(alloc)?;
-    store.again()?;
-    check_saved(&rt, alloc, &store, (1, 2, 3), &[2])?;
-    assert!(rt; store.failures() == 0);
-    Ok(check_saved(&rt, alloc, &held(alloc)?, (1, 2, 3), &[2])?)
-}
-
 #[test]
 fn a_save_keeps_entries_and_adds_those_that_follow(rt: HostRuntime) -> Result<(), Fail> {
     let log = two_entries(rt.alloc())?;
@@ -194,6 +199,18 @@ fn a_save_keeps_entries_and_adds_those_that_follow(rt: HostRuntime) -> Result<()
         check_saved(&rt, rt.alloc(), &store, (1, 2, 0), &[1, 2])?;
     }
     Ok(())
+}
+
+/// A store of what another one reads.
+fn held(alloc: Global) -> Result<MemoryStore<u8>, StoreFault> {
+    let first = saved_once(alloc)?;
+    Ok(MemoryStore::holding(alloc, first.read()?))
+}
+
+#[test]
+fn a_store_holds_what_it_is_made_of(rt: HostRuntime) -> Result<(), Fail> {
+    let store = held(rt.alloc())?;
+    Ok(check_saved(&rt, rt.alloc(), &store, (1, 2, 3), &[2])?)
 }
 
 #[test]
