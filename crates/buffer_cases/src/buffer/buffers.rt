@@ -1,6 +1,6 @@
 //! What is kept and shown, by examples.
 use crate::made::{name, taken};
-use buffer_commands::{Command, Setup};
+use buffer_commands::Setup;
 use buffer_machine::BufferMachine;
 use machine_laws::Machine;
 use std::alloc::Global;
@@ -10,17 +10,12 @@ use std::test::Fail;
 /// A message to the channel `#x`, 1,700,000,000 seconds after 1970.
 const MESSAGE: &[u8] = b"\x02\0\0\0\0\x65\x53\xf1\0\0\x15:a!b@c PRIVMSG #x :hi";
 
-/// The machine of the plain setup after a command.
-fn machine_after(alloc: Global, bytes: &[u8]) -> Result<BufferMachine, Fail> {
-    let mut machine = BufferMachine::start(alloc, &Setup::plain(alloc)?)?;
-    apply(alloc, &mut machine, bytes)?;
-    Ok(machine)
-}
-
-fn apply(alloc: Global, machine: &mut BufferMachine, bytes: &[u8]) -> Result<(), Fail> {
-    let command = taken::<Command>(alloc, bytes)?;
+/// The machine of a setup after a command.
+fn machine_after<M: Machine>(alloc: Global, setup: M::Setup, bytes: &[u8]) -> Result<M, Fail> {
+    let mut machine = M::start(alloc, &setup)?;
+    let command = taken::<M::Command>(alloc, bytes)?;
     machine.apply(1, &command)?;
-    Ok(())
+    Ok(machine)
 }
 
 /// How many lines a machine plays of a target.
@@ -38,6 +33,7 @@ fn check(rt: &impl Abort, alloc: Global, machine: &BufferMachine) -> Result<(), 
 
 #[test]
 fn shows_what_is_kept_and_who_it_is(rt: HostRuntime) -> Result<(), Fail> {
-    let machine = machine_after(rt.alloc(), MESSAGE)?;
-    check(&rt, rt.alloc(), &machine)
+    let alloc = rt.alloc();
+    let machine = machine_after::<BufferMachine>(alloc, Setup::plain(alloc)?, MESSAGE)?;
+    check(&rt, alloc, &machine)
 }
