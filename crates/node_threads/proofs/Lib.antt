@@ -6,3 +6,4 @@ pub mod Started
 mod Going
 mod Told
 mod Answering
+mod Exits
