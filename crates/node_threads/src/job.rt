@@ -50,6 +50,11 @@ impl<M: Hosted> Job<M> {
         }
     }
 
+    /// Whether the worker is told to end.
+    pub(crate) fn is_end(&self) -> bool {
+        matches!(self, Job::Note(Note::End))
+    }
+
     /// Whether it is a look that may come too early: there may be many, and nothing comes of most.
     pub fn waits(&self) -> bool
         ensures { result ≡ waits self.now }

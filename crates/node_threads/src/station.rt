@@ -55,16 +55,31 @@ impl<M: Marking, G: Gate + Drop, O: Outlet<M::Effect>> Station<M, G, O> {
     {
         self.outlet.report(rt, standing(self.alloc, cell, false));
         for _ in rt.forever() {
-            let Ok(job) = self.inbox.recv(rt) else {
+            if !self.do_next(rt, cell) {
                 break;
-            };
-            if let Job::Note(Note::End) = &job {
-                break;
-            }
-            if let Some(report) = self.run(rt, cell, job) {
-                self.outlet.report(rt, report);
             }
         }
+    }
+
+    /// Does the next job that comes to the inbox. False where it is told to end, or nobody tells it
+    /// anything any more.
+    fn do_next<R: Wait, S: Stable<M::Command>, U: Upstream>(
+        &mut self,
+        rt: &R,
+        cell: &mut MarkedCell<M, S, U>,
+    ) -> bool
+        ensures { IsSameHome cell.old.parts cell.new.parts }
+    {
+        let Ok(job) = self.inbox.recv(rt) else {
+            return false;
+        };
+        if job.is_end() {
+            return false;
+        }
+        if let Some(report) = self.run(rt, cell, job) {
+            self.outlet.report(rt, report);
+        }
+        true
     }
 
     /// Does a job, takes the messages that came, and applies what is agreed. What is to be told
