@@ -1,5 +1,5 @@
 -- What an edit at the place of a key does to channels.
-use Rattle.std.proofs.Common.{◌≡◌, ℕ, zero, suc, ◌<◌, arith, Bool, true, false, if◌then◌else◌, List, [], ◌∷◌, map, get_or, set, length, refl, sym, ap, ◌∙◌, subst, Result, Ok, Err, OnOk, OnErr, Some, None}
+use Rattle.std.proofs.Common.{◌≡◌, ℕ, zero, suc, ◌<◌, ◌≤◌, arith, Bool, true, false, if◌then◌else◌, List, [], ◌∷◌, map, get_or, set, length, refl, sym, ap, ◌∙◌, subst, Result, Ok, Err, OnOk, OnErr, Some, None, option_map}
 use Rattle.std.specs.List.{list_any, insert, remove}
 use Rattle.std.specs.List.Sorted.{IsBinarySearchResult, IsSearchInRange}
 use Rattle.std.specs.Ordering.{nat_cmp}
@@ -11,7 +11,7 @@ use Rattle.irc_line.proofs.Booleans.{and_left}
 use Rattle.irc_line.proofs.Order.{below-asym}
 use Rattle.buffer_lines.specs.Stamps.{ring}
 use Rattle.buffer_targets.specs.Places.{IsPlace, IsGap}
-use Rattle.buffer_targets.specs.Targets.{ChannelLines, at_channel, channel_names, channel_of_key, has_key, put_channel, without_channel, over, cleared, channel, target, joined_by, with_joined}
+use Rattle.buffer_targets.specs.Targets.{ChannelKeeps, ChannelLines, KeepsSoMany, at_channel, channel_names, channel_of_key, has_key, put_channel, without_channel, over, cleared, channel, target, joined_by, with_joined}
 use Rattle.buffer_targets.proofs.Rising.{none_at_gap, some_at_place, rising_are_different, rising-insert, rising-filter}
 use Rattle.buffer_targets.proofs.Edits.{none_changed, none_removed, none_found, any_is, changed, removed, found, names_stay, names_set, names-insert}
 use Rattle.buffer_targets.proofs.Search.{searched}
@@ -31,6 +31,10 @@ module _ (key : List ℕ) (cs : List ChannelLines) (at : ℕ) (rises : are_risin
 
   pub channel_found : (x : ChannelLines) → x ≡ get_or cs at x → Some x ≡ channel_of_key key cs
   channel_found x e = sym (found name_of key cs at x (rising_are_different _ rises) place e)
+
+  -- it keeps at least what the channel of the key keeps
+  pub channel_keeps : (size : ℕ) (x : ChannelLines) → x ≡ get_or cs at x → ChannelKeeps key size cs → size ≤ x.target.lines.size
+  channel_keeps size x e keeps = subst (λ found. KeepsSoMany size (option_map (λ c. c.target) found)) (sym (channel_found x e)) keeps
 
   pub channel_removed : remove cs at ≡ without_channel key cs
   channel_removed = removed name_of key cs at (rising_are_different _ rises) place

@@ -1,5 +1,5 @@
 -- What an edit at the place of a key does to queries.
-use Rattle.std.proofs.Common.{◌≡◌, ℕ, ◌<◌, true, false, List, [], ◌∷◌, ◌++◌, map, get_or, set, drop, length, refl, sym, ap, ◌∙◌, subst, Result, Ok, Err, OnOk, OnErr, Some, None}
+use Rattle.std.proofs.Common.{◌≡◌, ℕ, ◌<◌, ◌≤◌, true, false, List, [], ◌∷◌, ◌++◌, map, get_or, set, drop, length, refl, sym, ap, ◌∙◌, subst, Result, Ok, Err, OnOk, OnErr, Some, None}
 use Rattle.std.specs.List.{insert, list_any}
 use Rattle.std.proofs.lemmas.List.{map_push, length-map, drop-map, get_or_default}
 use Rattle.irc_line.specs.Names.{fold_name}
@@ -7,7 +7,7 @@ use Rattle.irc_line.specs.Lines.{Parts}
 use Rattle.irc_line.specs.Keys.{is_in}
 use Rattle.buffer_lines.specs.Stamps.{ring}
 use Rattle.buffer_targets.specs.Places.{IsPlace, IsGap, IsIndex, are_different, lowered, names_at}
-use Rattle.buffer_targets.specs.Targets.{TargetLines, at_query, has_name_key, newest, pushed, query_names, query_of_key, query_stored, target}
+use Rattle.buffer_targets.specs.Targets.{KeepsSoMany, QueryKeeps, TargetLines, at_query, has_name_key, newest, pushed, query_names, query_of_key, query_stored, target}
 use Rattle.buffer_targets.proofs.Rising.{some_at_place}
 use Rattle.buffer_targets.proofs.Edits.{none_changed, none_found, any_is, changed, found, names_stay, names_set}
 use Rattle.buffer_targets.proofs.Indexes.{found_in_index, index_pushed, index_dropped}
@@ -29,6 +29,10 @@ module _ (key : List ℕ) (ts : List TargetLines) (at : ℕ) (different : are_di
 
   pub query_found : (x : TargetLines) → x ≡ get_or ts at x → Some x ≡ query_of_key key ts
   query_found x e = sym (found name_of key ts at x different place e)
+
+  -- it keeps at least what the query of the key keeps
+  pub query_keeps : (size : ℕ) (x : TargetLines) → x ≡ get_or ts at x → QueryKeeps key size ts → size ≤ x.lines.size
+  query_keeps size x e keeps = subst (KeepsSoMany size) (sym (query_found x e)) keeps
 
 module _ (key : List ℕ) (ts : List TargetLines) (absent : is_in key (query_names ts) ≡ false) where
   -- there is no query of the key

@@ -1,5 +1,5 @@
 -- What is held of a target: the spelling of its making and its last lines. And what is done to one.
-use Rattle.std.specs.Prelude.{◌≡◌, ℕ, ◌-◌, ◌<◌, ◌≤◌, Bool, true, false, not, if◌then◌else◌, List, [], ◌∷◌, ◌++◌, length, drop, map, filter, find, Option, None, Some, refl}
+use Rattle.std.specs.Prelude.{◌≡◌, ℕ, ◌-◌, ◌<◌, ◌≤◌, Bool, true, false, not, if◌then◌else◌, List, [], ◌∷◌, ◌++◌, length, drop, map, filter, find, Option, None, Some, option_map, refl}
 use Rattle.std.specs.List.{list_any}
 use Rattle.std.specs.Coded.{Coded, code_by, coded×, coded_list, coded_ℕ, coded_bool}
 use Rattle.circular_buffer.specs.Buffer.{keep_last}
@@ -33,6 +33,11 @@ resized n t = target t.name (ring (keep_last n t.lines.lines) n)
 -- one line more came, with its moment
 abbrev pub pushed : ℕ × Parts → TargetLines → TargetLines
 pushed line t = target t.name (ring (keep_last t.lines.size (t.lines.lines ++ line ∷ [])) t.lines.size)
+
+-- a target that is found keeps so many lines, or more; or none is found
+abbrev pub KeepsSoMany : ℕ → Option TargetLines → Type 0
+KeepsSoMany size None = Unit {0}
+KeepsSoMany size (Some t) = size ≤ t.lines.size
 
 -- Channels, in rising order of their keys
 
@@ -73,6 +78,10 @@ at_channel key f cs = map (λ c. if has_key key c then f c else c) cs
 -- the channel of a key
 abbrev pub channel_of_key : List ℕ → List ChannelLines → Option ChannelLines
 channel_of_key key cs = find (has_key key) cs
+
+-- the channel of a key keeps so many lines, or more; or there is none
+abbrev pub ChannelKeeps : List ℕ → ℕ → List ChannelLines → Type 0
+ChannelKeeps key size cs = KeepsSoMany size (option_map (λ c. c.target) (channel_of_key key cs))
 
 -- the channels' names
 abbrev pub channel_names : List ChannelLines → List (List ℕ)
@@ -136,6 +145,10 @@ at_query key f ts = map (λ t. if has_name_key key t then f t else t) ts
 -- the query of a key
 abbrev pub query_of_key : List ℕ → List TargetLines → Option TargetLines
 query_of_key key ts = find (has_name_key key) ts
+
+-- the query of a key keeps so many lines, or more; or there is none
+abbrev pub QueryKeeps : List ℕ → ℕ → List TargetLines → Type 0
+QueryKeeps key size ts = KeepsSoMany size (query_of_key key ts)
 
 -- the queries' names
 abbrev pub query_names : List TargetLines → List (List ℕ)

@@ -5,7 +5,7 @@ ghost use Rattle.irc_line.specs.Keys.{are_rising};
 ghost use Rattle.irc_line.specs.Names.{fold_name};
 ghost use Rattle.buffer_lines.specs.Stamps.{ring};
 ghost use Rattle.buffer_targets.specs.Places.{IsGap, IsPlace, IsSearched};
-ghost use Rattle.buffer_targets.specs.Targets.{StandsAt, at_channel, channel, channel_names, channel_of_key, cleared, has_key, joined_by, open_cleared, over, pushed, resized, target, with_detached, with_joined, without_channel, IsChannelAt, has_channel, unjoined, channel_resized, IsStoredAt};
+ghost use Rattle.buffer_targets.specs.Targets.{StandsAt, at_channel, channel, channel_names, channel_of_key, cleared, has_key, joined_by, open_cleared, over, pushed, resized, target, with_detached, with_joined, without_channel, IsChannelAt, has_channel, unjoined, channel_resized, ChannelKeeps, IsStoredAt};
 
 use crate::channel::Channel;
 use buffer_lines::KeptLine;
@@ -79,11 +79,12 @@ impl Channels {
         }
     }
 
-    /// Gives the channel of a name another size. A refused call changes nothing.
+    /// Gives the channel of a name another size. A refused call changes nothing;
+    /// a size that is not larger is never refused.
     pub fn resize_at(&mut self, name: &[u8], size: usize) -> Result<(), AllocError>
         ensures ok { OnOk result (self.new ≡ channel_resized (fold_name name.now) size self.old) }
         ensures err { OnErr result (self.new ≡ self.old) }
-        ensures unknown { has_channel (fold_name name.now) self.old ≡ false → IsOk result }
+        ensures smaller { ChannelKeeps (fold_name name.now) size self.old → IsOk result }
     {
         match self.search(name) {
             Ok(at) => self.channels[at].resize(size),

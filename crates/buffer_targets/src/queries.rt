@@ -3,7 +3,7 @@ ghost use Rattle.std.specs.List.{list_any};
 ghost use Rattle.irc_line.specs.Names.{fold_name};
 ghost use Rattle.buffer_lines.specs.Stamps.{ring};
 ghost use Rattle.buffer_targets.specs.Places.{are_different};
-ghost use Rattle.buffer_targets.specs.Targets.{at_query, cleared, has_name_key, pushed, query_names, query_of_key, query_stored, resized, target, query_resized, has_query};
+ghost use Rattle.buffer_targets.specs.Targets.{at_query, cleared, has_name_key, pushed, query_names, query_of_key, query_stored, resized, target, query_resized, has_query, QueryKeeps};
 
 use crate::index;
 use crate::target::Target;
@@ -72,11 +72,12 @@ impl Queries {
         }
     }
 
-    /// Gives the query of a name another size. A refused call changes nothing.
+    /// Gives the query of a name another size. A refused call changes nothing;
+    /// a size that is not larger is never refused.
     pub fn resize_at(&mut self, name: &[u8], size: usize) -> Result<(), AllocError>
         ensures ok { OnOk result (self.new ≡ query_resized (fold_name name.now) size self.old) }
         ensures err { OnErr result (self.new ≡ self.old) }
-        ensures unknown { has_query (fold_name name.now) self.old ≡ false → IsOk result }
+        ensures smaller { QueryKeeps (fold_name name.now) size self.old → IsOk result }
     {
         match index::search(&self.targets, &self.places, name) {
             Ok(place) => self.targets[place].resize(size),

@@ -29,6 +29,19 @@ is_counted note.Wake = false
 is_counted note.Restart = true
 is_counted note.End = true
 
+-- whether a note tells the worker to end
+abbrev pub is_last : {B L : Type 0} → Note B L → Bool
+is_last note.Timeout = false
+is_last note.Beat = false
+is_last (note.Ask body) = false
+is_last note.Opened = false
+is_last note.Closed = false
+is_last (note.Heard at line) = false
+is_last note.Claim = false
+is_last note.Wake = false
+is_last note.Restart = false
+is_last note.End = true
+
 module _ {M A L T P S C E : Type 0} where
   -- whether the node was told this: what a caller that waits for its answer tells is not
   abbrev pub is_told : Job M A L T P S C E → Bool
@@ -38,6 +51,15 @@ module _ {M A L T P S C E : Type 0} where
   is_told (job.LookAfter number target reply) = false
   is_told (job.Restart reply) = false
   is_told (job.Status reply) = false
+
+  -- whether the worker is told to end
+  abbrev pub is_end : Job M A L T P S C E → Bool
+  is_end (job.Note note) = is_last note
+  is_end (job.Look place target reply) = false
+  is_end (job.Mark reply) = false
+  is_end (job.LookAfter number target reply) = false
+  is_end (job.Restart reply) = false
+  is_end (job.Status reply) = false
 
   -- whether it is a look that may come too early
   abbrev pub waits : Job M A L T P S C E → Bool

@@ -1,7 +1,7 @@
 //! What a worker has to do.
 ghost use Rattle.std.specs.Prelude.{◌≡◌, IfErr};
 ghost use Rattle.node_threads.specs.Faults.{IsUndelivered};
-ghost use Rattle.node_threads.specs.Reports.{is_told, waits};
+ghost use Rattle.node_threads.specs.Reports.{is_end, is_told, waits};
 
 use crate::cluster_fault::ClusterFault;
 use crossbeam_channel::{SendError, Sender};
@@ -51,7 +51,9 @@ impl<M: Hosted> Job<M> {
     }
 
     /// Whether the worker is told to end.
-    pub(crate) fn is_end(&self) -> bool {
+    pub(crate) fn is_end(&self) -> bool
+        ensures { result ≡ is_end self.now }
+    {
         matches!(self, Job::Note(Note::End))
     }
 

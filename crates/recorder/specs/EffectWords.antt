@@ -1,6 +1,7 @@
 -- How what leaves is printed.
 use Rattle.std.specs.Prelude.{ℕ, List, [], ◌∷◌, ◌++◌, take, flat_map, codes, decimal}
 use Rattle.irc_line.specs.Lines.{Parts, spelling}
+use Rattle.wire_bytes.specs.Texts.{origin_text}
 use Rattle.wire_bytes.specs.declared.origin.Origin.{Origin}
 use Rattle.buffer_commands.specs.declared.effect.Effect.{Effect}
 use Rattle.buffer_commands.specs.declared.effect.Effect.TheVariants.{Close, Show, Send, Rejoin}
@@ -11,13 +12,9 @@ use Rattle.upstream_claim.specs.declared.effect.ClaimsEffect.TheVariants.{Inner 
 use Rattle.request_once.specs.declared.answer.Answer.{Answer}
 use Rattle.request_once.specs.declared.answer.Answer.TheVariants.{Effect as Passed, Done, Repeat, Gap, Marked}
 
--- an origin as `node.boot.client`
-abbrev pub origin_words : Origin → List ℕ
-origin_words o = decimal o.0 ++ 46 ∷ decimal o.1 ++ 46 ∷ decimal o.2
-
 -- a word and an origin, a space between them
 abbrev pub to_origin : List ℕ → Origin → List ℕ
-to_origin word o = word ++ 32 ∷ origin_words o
+to_origin word o = word ++ 32 ∷ origin_text o
 
 -- what a line is printed as: its spelling's first 510 bytes
 abbrev pub printed_line : List ℕ → List ℕ

@@ -90,7 +90,8 @@ impl Driver {
         now: &Now,
         node: NodeId,
     ) -> Result<(), AllocError>
-        ensures { OnOk result (ServesIf (is_that leader.now node) now.now.ms node self.old self.new) }
+        ensures { OnOk result
+            (ServesIf (is_that leader.now node) now.now.ms node self.old self.new) }
     {
         if !is_that(leader, node) {
             return Ok(());

@@ -1,7 +1,7 @@
 use Rattle.std.proofs.Common.{refl}
 use Rattle.irc_line.specs.Names.{fold_name}
 use Rattle.buffer_targets.specs.Targets.{over, resized}
-use Rattle.buffer_targets.proofs.ChannelEdits.{channel_known, channel_set_ok, rising_set, same_name_of, no_channel_set}
+use Rattle.buffer_targets.proofs.ChannelEdits.{channel_keeps, channel_set_ok, rising_set, same_name_of, no_channel_set}
 use Rattle.buffer_targets.proofs.channels.Channels.resize_at.Goals as goal
 
 pub invariant_of-self : goal.invariant_of-self
@@ -15,7 +15,6 @@ returns-in-Ok-clause-ok c =
 pub returns-in-Err-clause-ok : goal.returns-in-Err-clause-ok
 returns-in-Err-clause-ok c = no_channel_set _ _ _ c.in-Err.ensures.place (over (resized c.args.size))
 
-pub returns-in-Ok-clause-unknown : goal.returns-in-Ok-clause-unknown
-returns-in-Ok-clause-unknown c = λ unknown.
-    let known = channel_known (fold_name c.args.name.now) _ c.in-Ok.at (rw c.self.view_is at c.self.invariant) c.in-Ok.ensures.place in
-    cc
+pub returns-in-Ok-clause-smaller : goal.returns-in-Ok-clause-smaller
+returns-in-Ok-clause-smaller c = λ keeps.
+    c.resize.ensures.smaller (channel_keeps (fold_name c.args.name.now) _ c.in-Ok.at (rw c.self.view_is at c.self.invariant) c.in-Ok.ensures.place c.args.size _ (rw c.self.view_is at c.index_mut.ensures.value) keeps)

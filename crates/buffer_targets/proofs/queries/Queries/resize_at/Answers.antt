@@ -1,7 +1,7 @@
-use Rattle.std.proofs.Common.{refl}
+use Rattle.std.proofs.Common.{refl, sym, subst}
 use Rattle.irc_line.specs.Names.{fold_name}
-use Rattle.buffer_targets.specs.Targets.{resized}
-use Rattle.buffer_targets.proofs.QueryEdits.{query_known, query_set_ok, index_set, same_name_of, no_query_set}
+use Rattle.buffer_targets.specs.Targets.{QueryKeeps, resized}
+use Rattle.buffer_targets.proofs.QueryEdits.{query_keeps, query_set_ok, index_set, same_name_of, no_query_set}
 use Rattle.buffer_targets.proofs.queries.Queries.resize_at.Goals as goal
 
 pub invariant_of-self : goal.invariant_of-self
@@ -16,8 +16,7 @@ pub returns-in-Err-clause-ok : goal.returns-in-Err-clause-ok
 returns-in-Err-clause-ok c =
     rw (← c.self.view_is) (no_query_set (fold_name c.args.name.now) c.self.inside.targets.items (rw c.deref.ensures.value at c.in-Err.ensures.absent.2) (resized c.args.size))
 
-pub returns-in-Ok-clause-unknown : goal.returns-in-Ok-clause-unknown
-returns-in-Ok-clause-unknown c = λ unknown.
-    let known = query_known (fold_name c.args.name.now) c.self.inside.targets.items c.in-Ok.place c.self.invariant.different (rw c.deref.ensures.value at c.in-Ok.ensures.found.1) in
-    let same = c.self.view_is in
-    cc
+pub returns-in-Ok-clause-smaller : goal.returns-in-Ok-clause-smaller
+returns-in-Ok-clause-smaller c = λ keeps.
+    let keeps = subst (QueryKeeps (fold_name c.args.name.now) c.args.size) (sym c.self.view_is) keeps in
+    c.resize.ensures.smaller (query_keeps (fold_name c.args.name.now) c.self.inside.targets.items c.in-Ok.place c.self.invariant.different (rw c.deref.ensures.value at c.in-Ok.ensures.found.1) c.args.size _ c.index_mut.ensures.value keeps)
