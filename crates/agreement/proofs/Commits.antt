@@ -16,7 +16,7 @@ use Rattle.raft_node.proofs.Items.{item-with_cases, length-with_item}
 use Rattle.agreement.proofs.Counts.{item-map_test, length-map_test}
 use Rattle.agreement.proofs.Ghost.{Ghost, Chosen, GhostOk, KindOk, LeaderOk, RoleOk, NodeOk, Held}
 use Rattle.agreement.proofs.Later.{complete, Extends, node_later, held_later}
-use Rattle.agreement.proofs.Changes.{settled, settled_extends, settled_apart, settled_ok}
+use Rattle.agreement.proofs.Growing.{settled, settled_extends, settled_apart, settled_ok}
 use Rattle.agreement.proofs.Plain.{Moved, stay, role_leader, leader_ok}
 
 module _ {B : Type 0} where

@@ -8,7 +8,7 @@ use Rattle.raft_node.proofs.ByMessage.{on_vote}
 use Rattle.election.specs.Elections as election
 use Rattle.agreement.proofs.Ghost.{Ghost, GhostOk, KindOk, NodeOk}
 use Rattle.agreement.proofs.Plain.{Moved, stay, then_moved}
-use Rattle.agreement.proofs.Votes.{counted_vote_moved}
+use Rattle.agreement.proofs.Counting.{counted_vote_moved}
 use Rattle.agreement.proofs.Entries.{forward_moved}
 
 module _ {B : Type 0} where

@@ -22,7 +22,8 @@ use Rattle.agreement.proofs.Later.{Extends, extends_self, extends_on, all_later,
 use Rattle.agreement.proofs.Plain.{Moved, stay, sending_ok, raised_ok, restarted_ok, unsent_ok, beat_ok}
 use Rattle.agreement.proofs.Votes.{timeout_moved, request_moved}
 use Rattle.agreement.proofs.Elections.{vote_moved}
-use Rattle.agreement.proofs.Entries.{append_moved, forward_moved}
+use Rattle.agreement.proofs.Entries.{forward_moved}
+use Rattle.agreement.proofs.Taking.{append_moved}
 use Rattle.agreement.proofs.Commits.{reply_moved}
 
 module _ {B : Type 0} where

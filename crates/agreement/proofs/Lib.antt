@@ -3,10 +3,13 @@ pub mod Counts
 pub mod Ghost
 pub mod Later
 pub mod Changes
+pub mod Growing
 pub mod Plain
 pub mod Votes
+pub mod Counting
 pub mod Repairs
 pub mod Entries
+pub mod Taking
 pub mod Elections
 pub mod Commits
 pub mod Headline

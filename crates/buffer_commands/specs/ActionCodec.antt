@@ -4,8 +4,10 @@ use Rattle.std.specs.Prelude.{◌==◌, is_some}
 use Rattle.std.specs.Int.{w16}
 use Rattle.irc_line.specs.Names.{is_name, is_channel, is_text}
 use Rattle.wire_bytes.specs.Fields.{through, both, reading_of, byte_within}
-use Rattle.wire_bytes.specs.Codecs.{IsCodec, through-codec, done-codec, both-codec, only-codec, choice-codec}
-use Rattle.wire_bytes.specs.FieldCodecs.{both_true, byte-codec, name_is_codec, sized_some, text_is_codec, number-codec, wide16}
+use Rattle.wire_bytes.specs.Codecs.{IsCodec, through-codec, done-codec, both-codec, only-codec}
+use Rattle.wire_bytes.specs.ChoiceCodec.{choice-codec}
+use Rattle.wire_bytes.specs.FieldCodecs.{both_true, byte-codec, number-codec, wide16}
+use Rattle.wire_bytes.specs.ContentCodecs.{name_is_codec, sized_some, text_is_codec}
 use Rattle.wire_bytes.specs.LineCodec.{line_is_codec}
 use Rattle.wire_bytes.specs.Contents.{sized, name, text, FitsLine, line}
 use Rattle.buffer_commands.specs.Spellings.{verb_of, spelled_verb, verb, FitsChannel, channel_name, FitsSize, spelled_size, buffer_size, action_kind, action_body, spelled_action, FitsAction, say_of, set_of, action_cases, action}

@@ -3,7 +3,8 @@ use Rattle.std.proofs.Common.{◌≡◌, ℕ, ◌++◌, IsTrue, refl, subst}
 use Rattle.std.specs.Prelude.{◌==◌, is_some}
 use Rattle.irc_line.specs.Lines.{Parts}
 use Rattle.wire_bytes.specs.Fields.{both, reading_of}
-use Rattle.wire_bytes.specs.Codecs.{IsCodec, through-codec, done-codec, both-codec, choice-codec}
+use Rattle.wire_bytes.specs.Codecs.{IsCodec, through-codec, done-codec, both-codec}
+use Rattle.wire_bytes.specs.ChoiceCodec.{choice-codec}
 use Rattle.wire_bytes.specs.FieldCodecs.{byte-codec}
 use Rattle.wire_bytes.specs.LineCodec.{line_is_codec}
 use Rattle.wire_bytes.specs.Contents.{spelled_line, FitsLine, line}

@@ -1,6 +1,6 @@
 -- What the machine answers is what its definitions say.
-use Rattle.std.proofs.Common.{◌≡◌, ℕ, List, [], ◌∷◌, ◌++◌, map, refl, ap, ◌∙◌, sym, arith, append_assoc, Bool, true, false, not, ◌&&◌, ◌||◌, subst}
-use Rattle.std.specs.Prelude.{Some, None, if◌then◌else◌, nat_le, nat_lt, filter, find, flat_map, codes, unwrap_or}
+use Rattle.std.proofs.Common.{◌≡◌, ℕ, List, [], ◌∷◌, ◌++◌, map, refl, ap, ◌∙◌, sym, arith, append_assoc, Bool, true, false, not, ◌&&◌, subst}
+use Rattle.std.specs.Prelude.{Some, None, if◌then◌else◌, nat_le, nat_lt, filter, find, flat_map, codes}
 use Rattle.std.specs.List.{list_all}
 use Rattle.std.proofs.lemmas.Bool.Decides.{nat_tests}
 use Rattle.irc_line.specs.Names.{fold_name}
@@ -18,8 +18,8 @@ use Rattle.buffer_commands.specs.declared.effect.Effect.{Effect}
 use Rattle.buffer_commands.specs.declared.effect.Effect.TheVariants.{Close, Send, Rejoin}
 use Rattle.buffer_machine.specs.Messages.{is_among, channel_of, bare, own_line, is_query_name}
 use Rattle.buffer_machine.specs.Buffers.{floor, attached, nick, channels, queries, is_known, joined, detached, is_past, kept, playback}
-use Rattle.buffer_machine.specs.Effects.{show_all, show_each, send_all, status, named, is_channel_known, open_channels, closings, if_some, shown_again, sent_again, shown, sent, effects}
-use Rattle.buffer_machine.specs.Steps.{played, closed_out, others, shown_at_attach, sent_at_attach, answers, answers_attaching, answers_again, answers_joining, answers_parting, answers_detaching, answers_reattaching, answers_taking}
+use Rattle.buffer_machine.specs.Effects.{show_all, show_each, send_all, status, named, open_channels, closings, if_some, shown_again, sent_again, shown, sent, effects}
+use Rattle.buffer_machine.specs.Answering.{played, closed_out, others, shown_at_attach, sent_at_attach, answers, answers_attaching, answers_again, answers_joining, answers_parting, answers_detaching, answers_reattaching, answers_taking}
 use Rattle.buffer_machine.specs.Held.{IsSound, channel_held, target_held, held}
 use Rattle.buffer_machine.proofs.Folded.{query-key}
 use Rattle.buffer_machine.proofs.Lists.{flat_map_at, flat_map_through, map_through}
@@ -27,10 +27,10 @@ use Rattle.buffer_machine.proofs.Names.{all-at}
 use Rattle.buffer_machine.proofs.Standing.{queries-are, not_a_channel}
 use Rattle.buffer_machine.proofs.Unknown.{detached-unknown}
 use Rattle.buffer_machine.proofs.Found.{channel_under, channel-found, found-detached}
-use Rattle.buffer_machine.proofs.Playing.{playback-both, playback-channel, playback-query, asked-is, done-is}
+use Rattle.buffer_machine.proofs.Playing.{playback-channel, playback-query, asked-is, done-is}
 use Rattle.buffer_machine.proofs.ChannelsCome.{floor_now}
-use Rattle.irc_line.proofs.Booleans.{or_left_false, or_right_false}
 use Rattle.std.proofs.lemmas.List.{append-nil}
+use Rattle.buffer_machine.proofs.Named.{named-known, named-unknown, known-is, played-known}
 
 -- ---- the parts of an answer, by whether the asker is attached
 
@@ -42,45 +42,6 @@ parts_by false all shows sends close e = sym (append-nil (close ++ []) ∙ appen
 -- shown alone
 shows_by : (am : Bool) (shows close : List Effect) → (if am then shows else close) ≡ (if am then [] else close) ++ (if am then shows else []) ++ (if am then [] else [])
 shows_by am shows close = parts_by am shows shows [] close (sym (append-nil shows))
-
--- ---- a channel by its name
-
-found_none_by : (k c : List ℕ) (cs : List (List ℕ)) (b : Bool) → b ≡ false → find (at_key k) cs ≡ None → (if b then Some c else find (at_key k) cs) ≡ None
-found_none_by k c cs true e f = absurd cc
-found_none_by k c cs false e f = f
-
--- no name is found under a key that is not there
-found_none : (k : List ℕ) (cs : List (List ℕ)) → is_in k cs ≡ false → find (at_key k) cs ≡ None
-found_none k [] e = refl
-found_none k (c ∷ cs) e = found_none_by k c cs (at_key k c) (or_left_false (at_key k c) _ e) (found_none k cs (or_right_false (at_key k c) _ e))
-
-found_some_by : (k c a b : List ℕ) (cs : List (List ℕ)) (t : Bool) → (t || is_in k cs) ≡ true → (is_in k cs ≡ true → unwrap_or (find (at_key k) cs) a ≡ unwrap_or (find (at_key k) cs) b)
-    → unwrap_or (if t then Some c else find (at_key k) cs) a ≡ unwrap_or (if t then Some c else find (at_key k) cs) b
-found_some_by k c a b cs true e ih = refl
-found_some_by k c a b cs false e ih = ih e
-
--- a name is found, whatever stands for none
-found_some : (k a b : List ℕ) (cs : List (List ℕ)) → is_in k cs ≡ true → unwrap_or (find (at_key k) cs) a ≡ unwrap_or (find (at_key k) cs) b
-found_some k a b [] e = absurd cc
-found_some k a b (c ∷ cs) e = found_some_by k c a b cs (at_key k c) e (λ i. found_some k a b cs i)
-
-named-known : (s : Settings) (history : List Command) (c : List ℕ) → is_in (fold_name c) (channels s history) ≡ true
-    → named s history c ≡ unwrap_or (find (at_key (fold_name c)) (channels s history)) (fold_name c)
-unfolding named
-named-known s history c e = found_some (fold_name c) c (fold_name c) (channels s history) e
-
-named-unknown : (s : Settings) (history : List Command) (c : List ℕ) → is_in (fold_name c) (channels s history) ≡ false → named s history c ≡ c
-unfolding named
-named-unknown s history c e = rw (found_none (fold_name c) (channels s history) e) refl
-
-known-is : (s : Settings) (history : List Command) (c : List ℕ) → is_channel_known s history c ≡ is_in (fold_name c) (channels s history)
-unfolding is_channel_known
-known-is s history c = refl
-
--- the playback of a channel that is known
-played-known : (s : Settings) (history : List Command) (c : List ℕ) → is_in (fold_name c) (channels s history) ≡ true
-    → playback s history (fold_name c) ≡ framed s.offset (unwrap_or (find (at_key (fold_name c)) (channels s history)) (fold_name c)) (kept s history (fold_name c))
-played-known s history c e = playback-both s history (fold_name c) ∙ rw e refl
 
 -- ---- a channel attached again
 

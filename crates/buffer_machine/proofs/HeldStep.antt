@@ -14,7 +14,8 @@ use Rattle.buffer_commands.specs.declared.effect.Effect.{Effect}
 use Rattle.buffer_machine.specs.Messages.{is_new_nick}
 use Rattle.buffer_machine.specs.Effects.{effects}
 use Rattle.buffer_machine.proofs.EffectsStep.{effects-step}
-use Rattle.buffer_machine.specs.Steps.{after, answers, beginning, channels_storing, channels_taking, queries_storing, storing}
+use Rattle.buffer_machine.specs.Steps.{after, beginning, channels_storing, channels_taking, queries_storing, storing}
+use Rattle.buffer_machine.specs.Answering.{answers}
 use Rattle.buffer_machine.specs.Held.{Held, IsSound, channel_held, held, holding}
 use Rattle.buffer_machine.proofs.ChannelsCome.{floor_now, channels-step}
 use Rattle.buffer_machine.proofs.QueriesStep.{queries-step}

@@ -11,10 +11,12 @@ pub mod Found
 pub mod Pointwise
 pub mod OneChannel
 pub mod ChannelsStep
+pub mod Filters
 pub mod ChannelsCome
 pub mod OneQuery
 pub mod QueriesStep
 pub mod Playing
+pub mod Named
 pub mod EffectsStep
 pub mod FloorLemmas
 pub mod HeldStep

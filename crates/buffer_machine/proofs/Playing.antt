@@ -12,7 +12,7 @@ use Rattle.buffer_commands.specs.Settings.{Settings}
 use Rattle.buffer_commands.specs.declared.command.Command.{Command}
 use Rattle.buffer_machine.specs.Buffers.{channels, queries, targets, is_known, made_as, kept, playback}
 use Rattle.buffer_machine.specs.Effects.{show_all, status}
-use Rattle.buffer_machine.specs.Steps.{played_of, first_some, target_of_key, played_or_status, done_or_status}
+use Rattle.buffer_machine.specs.Answering.{played_of, first_some, target_of_key, played_or_status, done_or_status}
 use Rattle.buffer_machine.specs.Held.{Held, IsSound, held}
 use Rattle.buffer_machine.proofs.Names.{find-append, find-different}
 use Rattle.buffer_machine.proofs.Standing.{channels-rise, queries-differ, known-both}

@@ -18,7 +18,8 @@ use Rattle.buffer_machine.specs.Messages.{channel_of, is_among}
 use Rattle.buffer_machine.specs.Buffers.{channels, floor, is_attach, is_taken, attached, nick, detached, is_known, stored, emptied, clears, plays, kept, size, playback}
 use Rattle.buffer_machine.specs.Effects.{shown, effects, open_channels}
 use Rattle.buffer_machine.specs.Held.{Held, IsSound, held}
-use Rattle.buffer_machine.specs.Steps.{after, answers}
+use Rattle.buffer_machine.specs.Steps.{after}
+use Rattle.buffer_machine.specs.Answering.{answers}
 use Rattle.buffer_machine.proofs.EffectsStep.{effects-step}
 use Rattle.buffer_machine.proofs.HeldStep.{held-step}
 use Rattle.buffer_machine.proofs.Kept.{kept-next}

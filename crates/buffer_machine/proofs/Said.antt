@@ -12,7 +12,8 @@ use Rattle.buffer_commands.specs.declared.effect.Effect.TheVariants.{Send}
 use Rattle.buffer_machine.specs.Effects.{show_each}
 use Rattle.buffer_machine.specs.Held.{Held}
 use Rattle.buffer_machine.specs.Messages.{channel_of, own_said}
-use Rattle.buffer_machine.specs.Steps.{answers_saying, found, is_detached, others, storing}
+use Rattle.buffer_machine.specs.Steps.{found, is_detached, storing}
+use Rattle.buffer_machine.specs.Answering.{answers_saying, others}
 
 -- a message names the channel that it is for
 pub said-channel : (nick name text : List ℕ) (verb : Verb) → channel_of (own_said nick verb name text) ≡ name

@@ -4,7 +4,8 @@ ghost use Rattle.buffer_commands.specs.declared.command.Command.TheVariants.{Cli
 ghost use Rattle.machine_laws.specs.Origins.{same_origin};
 ghost use Rattle.buffer_machine.specs.Machine.{held_of};
 ghost use Rattle.buffer_machine.specs.Messages.{is_among};
-ghost use Rattle.buffer_machine.specs.Steps.{after, answers, answers_attaching, closed_out};
+ghost use Rattle.buffer_machine.specs.Steps.{after};
+ghost use Rattle.buffer_machine.specs.Answering.{answers, answers_attaching, closed_out};
 
 use crate::buffers::Buffers;
 use crate::channel_actions::{detach, join, part, reattach};

@@ -2,7 +2,8 @@
 ghost use Rattle.std.specs.Prelude.{◌≡◌, option_map, IfOk};
 ghost use Rattle.irc_line.specs.Names.{fold_name};
 ghost use Rattle.buffer_machine.specs.Machine.{held_of};
-ghost use Rattle.buffer_machine.specs.Steps.{IsDetachedAt, IsKnownAt, beginning, target_of_key};
+ghost use Rattle.buffer_machine.specs.Steps.{IsDetachedAt, IsKnownAt, beginning};
+ghost use Rattle.buffer_machine.specs.Answering.{target_of_key};
 
 use crate::clients::Clients;
 use buffer_commands::Setup;

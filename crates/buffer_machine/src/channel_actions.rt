@@ -3,7 +3,8 @@ ghost use Rattle.std.specs.Prelude.{◌≡◌, ◌∷◌, [], codes, if◌then�
 ghost use Rattle.irc_line.specs.Lines.{spelling};
 ghost use Rattle.buffer_machine.specs.Machine.{held_of};
 ghost use Rattle.buffer_machine.specs.Messages.{bare, own_line, word_bytes};
-ghost use Rattle.buffer_machine.specs.Steps.{answers_again, is_detached, is_joined, played, joining, reattached, show_own, parting, parted, detaching, detached_now, reattaching};
+ghost use Rattle.buffer_machine.specs.Steps.{is_detached, is_joined, reattached, parted, detached_now};
+ghost use Rattle.buffer_machine.specs.Answering.{answers_again, played, joining, show_own, parting, detaching, reattaching};
 
 use crate::buffers::Buffers;
 use crate::channel_changes::{attach_again, let_channel_go};

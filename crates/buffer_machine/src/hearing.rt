@@ -5,7 +5,8 @@ ghost use Rattle.irc_line.specs.Names.{is_name};
 ghost use Rattle.buffer_commands.specs.declared.command.Command.TheVariants.{Upstream};
 ghost use Rattle.buffer_machine.specs.Machine.{held_of};
 ghost use Rattle.buffer_machine.specs.Messages.{is_new_nick};
-ghost use Rattle.buffer_machine.specs.Steps.{HasPlace, after, answers_taking, channels_taking, with_channels, after_line};
+ghost use Rattle.buffer_machine.specs.Steps.{HasPlace, after, channels_taking, with_channels, after_line};
+ghost use Rattle.buffer_machine.specs.Answering.{answers_taking};
 ghost use Rattle.buffer_targets.specs.Targets.{joined_by};
 
 use crate::buffers::Buffers;

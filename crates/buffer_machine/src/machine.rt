@@ -7,7 +7,7 @@ ghost use Rattle.buffer_machine.specs.Buffers.{attached, nick, playback};
 ghost use Rattle.buffer_machine.specs.Effects.{TakesNone};
 ghost use Rattle.buffer_machine.specs.Held.{IsSound, commands};
 ghost use Rattle.buffer_machine.specs.Machine.{held_of};
-ghost use Rattle.buffer_machine.specs.Steps.{played_of, target_of_key};
+ghost use Rattle.buffer_machine.specs.Answering.{played_of, target_of_key};
 
 use crate::buffers::Buffers;
 use crate::floors::Floors;

@@ -3,7 +3,8 @@ ghost use Rattle.std.specs.Prelude.{◌≡◌, Some, IfOk, OnOk};
 ghost use Rattle.irc_line.specs.Names.{is_channel};
 ghost use Rattle.buffer_machine.specs.Machine.{held_of};
 ghost use Rattle.buffer_machine.specs.Messages.{channel_of};
-ghost use Rattle.buffer_machine.specs.Steps.{HasPlace, is_detached, others, storing, saying, after_saying, sharing};
+ghost use Rattle.buffer_machine.specs.Steps.{HasPlace, after_saying, is_detached, storing};
+ghost use Rattle.buffer_machine.specs.Answering.{others, saying, sharing};
 
 use crate::buffers::Buffers;
 use crate::lines::channel_of;

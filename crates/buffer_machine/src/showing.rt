@@ -1,7 +1,7 @@
 //! Effects, appended to those before them. After an error a part may have been appended.
 ghost use Rattle.std.specs.Prelude.{◌≡◌, ◌++◌, ◌∷◌, [], map, flat_map, not, option_to_list, IfOk, OnOk};
 ghost use Rattle.buffer_machine.specs.Effects.{copies, show_all, status};
-ghost use Rattle.buffer_machine.specs.Steps.{others, played, rejoins, sent_at_attach, shown_at_attach};
+ghost use Rattle.buffer_machine.specs.Answering.{others, played, rejoins, sent_at_attach, shown_at_attach};
 
 use crate::message::{ChannelWord, bare_channel, own_channel, status_line};
 use buffer_commands::Effect;

@@ -2,7 +2,8 @@
 ghost use Rattle.std.specs.Prelude.{◌≡◌, IfOk, IsOk, OnOk};
 ghost use Rattle.buffer_machine.specs.Effects.{TakesNone};
 ghost use Rattle.buffer_machine.specs.Machine.{held_of};
-ghost use Rattle.buffer_machine.specs.Steps.{IsWithinLimits, after, answers, floor_for, floors_after};
+ghost use Rattle.buffer_machine.specs.Steps.{IsWithinLimits, after, floor_for, floors_after};
+ghost use Rattle.buffer_machine.specs.Answering.{answers};
 
 use crate::actions::act;
 use crate::buffers::Buffers;

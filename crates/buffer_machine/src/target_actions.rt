@@ -3,7 +3,8 @@ ghost use Rattle.std.specs.Prelude.{◌≡◌, codes, IfOk, OnOk};
 ghost use Rattle.irc_line.specs.Names.{fold_name};
 ghost use Rattle.buffer_machine.specs.Effects.{status};
 ghost use Rattle.buffer_machine.specs.Machine.{held_of};
-ghost use Rattle.buffer_machine.specs.Steps.{kinds_cleared, answers_sizing, cleared_of, played_out, sized_unless_past, playing, clearing};
+ghost use Rattle.buffer_machine.specs.Steps.{kinds_cleared, cleared_of, played_out, sized_unless_past};
+ghost use Rattle.buffer_machine.specs.Answering.{answers_sizing, playing, clearing};
 
 use crate::buffers::Buffers;
 use crate::message::{DONE, NO_SUCH_TARGET, SIZE_IS_PAST};

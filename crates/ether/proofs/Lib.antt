@@ -3,6 +3,7 @@ mod Changes
 mod Stowing
 mod Knowing
 mod Steps
+mod Ticks
 mod Cutting
 mod Passes
 mod Keys

@@ -1,6 +1,6 @@
 -- Each step on the table keeps the rule.
-use Rattle.std.proofs.Common.{◌≡◌, ◌≢◌, ℕ, zero, suc, pred, ◌+◌, ◌*◌, ◌<◌, ◌≤◌, ◌^◌, ◌%◌, inr, Bool, true, false, List, [], ◌∷◌, ◌++◌, length, set, get_or, slice_index, Option, Some, None, refl, sym, ap, ◌∙◌, subst, arith, length-set, suc-mul, mul-le-mul_right}
-use mathlib.Core.Option.{some, some-injective, some-ne-none}
+use Rattle.std.proofs.Common.{◌≡◌, ◌≢◌, ℕ, zero, suc, pred, ◌+◌, ◌*◌, ◌<◌, ◌≤◌, inr, Bool, true, false, List, [], ◌∷◌, ◌++◌, length, set, get_or, slice_index, Option, Some, None, refl, sym, ap, ◌∙◌, subst, arith, length-set, suc-mul, mul-le-mul_right}
+use mathlib.Core.Option.{some}
 use mathlib.Core.Option as maybe
 use lib.ListN.{get_elem?}
 use mathlib.Core.Logic.{dite}
@@ -12,17 +12,17 @@ use Rattle.raft_log.specs.Lists.{item}
 use Rattle.raft_log.specs.Node.{Node}
 use Rattle.raft_node.specs.Machine.{Machine}
 use Rattle.world_views.specs.declared.envelope.Envelope.{Envelope}
-use Rattle.world_views.specs.Own.{EventOf, ViewOf}
+use Rattle.world_views.specs.Own.{ViewOf}
 use Rattle.world_views.specs.Rule.{Stands, IsRule}
-use Rattle.world_views.specs.Views.{View, addressee, brings, opening_count, sender, total, upto}
+use Rattle.world_views.specs.Views.{View, addressee, opening_count, sender, total, upto}
 use Rattle.ether.specs.Rule.{Spare, Known, Look, MayLie, IsStowed, IsKept, known, look_at, mailbox_of, slot_of}
 use Rattle.ether.specs.Rule.Spare.{Home, Out}
-use Rattle.ether.specs.Plays.{IsFrom, IsOlder, after_event, after_opening, after_post, after_take, carried_out, carrying, counted, glanced, holding, on_view, opened, opens_seat, out_of, posted, taken, ticked}
+use Rattle.ether.specs.Plays.{IsFrom, IsOlder, after_opening, after_post, after_take, carried_out, carrying, counted, glanced, holding, on_view, opened, opens_seat, out_of, posted, taken}
 use Rattle.ether.proofs.Changing.{Changes, below_length, changed, still_stands}
-use Rattle.ether.proofs.Changes.{event_changes, opening_changes, take_changes, nothing_changes, post_changes, own_stands, own_sent}
+use Rattle.ether.proofs.Changes.{take_changes, nothing_changes, post_changes, own_stands, own_sent}
 use Rattle.ether.proofs.Knowing.{knows_change}
 use Rattle.world_views.proofs.Tickets.{upto_all}
-use Rattle.ether.proofs.Stowing.{SeatOf, SlotOf, HomesOf, StateOf, few_slots, stays, takes_out, slot_marked, slot_unmarked, swaps, mailbox-ne-seat}
+use Rattle.ether.proofs.Stowing.{SeatOf, SlotOf, HomesOf, StateOf, few_slots, stays, slot_marked, slot_unmarked, swaps, mailbox-ne-seat}
 
 at_word : (l : List ℕ) (i : ℕ) → i < length l → get_elem? l i ≡ some (get_or l i 0)
 at_word [] i h = absurd (omega arith)
@@ -67,7 +67,7 @@ abbrev pub at_step : {S : Type 0} → ℕ → Step S
 at_step w = record { slots = 0; word = w; first = 0; second = 0; said = maybe.none }
 
 module _ (M : Machine) (n : ℕ) (s : StateOf M) (r : IsKept M n s) where
-  room : slice_index s.words 0 + 1 < 18446744073709551616
+  pub room : slice_index s.words 0 + 1 < 18446744073709551616
   room =
       let t = total_few r.views r.rule.tickets.few in
       let c = r.rule.tickets.counted in
@@ -75,7 +75,7 @@ module _ (M : Machine) (n : ℕ) (s : StateOf M) (r : IsKept M n s) where
       let f = r.few in
       omega arith
 
-  word_0 : (x : ℕ) → slice_index (set s.words 0 x) 0 ≡ x
+  pub word_0 : (x : ℕ) → slice_index (set s.words 0 x) 0 ≡ x
   word_0 x = let w = r.wide in get_or-set_same s.words 0 x 0 (omega arith)
 
   slots_few : (k : ℕ) → k < length s.homes → k < 64
@@ -88,10 +88,10 @@ module _ (M : Machine) (n : ℕ) (s : StateOf M) (r : IsKept M n s) where
   whole v at = upto_all (slice_index s.words 0) v.turns (λ j t x h. (r.rule.tickets.once v.node t v at (inr (j, x, h))).0)
 
   module _ (id : ℕ) (x : Spare) (ls : List (Look M.Body)) (v : ViewOf M) (at : get_elem? s.views id ≡ some (known x ls (v ∷ []))) where
-    known_at : get_elem? r.views v.node ≡ some v
+    pub known_at : get_elem? r.views v.node ≡ some v
     known_at = (r.known.seen id 0 (known x ls (v ∷ [])) v at refl).0
 
-    changed_kept : (y : Spare) (ls' : List (Look M.Body)) (w : ViewOf M) (words : List ℕ) (homes : HomesOf M) (next : ℕ) → slice_index words 0 ≡ next → length words ≡ length s.words → length homes ≡ length s.homes
+    pub changed_kept : (y : Spare) (ls' : List (Look M.Body)) (w : ViewOf M) (words : List ℕ) (homes : HomesOf M) (next : ℕ) → slice_index words 0 ≡ next → length words ≡ length s.words → length homes ≡ length s.homes
         → Changes M r.views (slice_index s.words 0) next v.node v w → IsStowed M n next (set r.views v.node w) record { words = words; homes = homes; views = set s.views id (known y ls' (w ∷ [])) }
         → IsKept M n record { words = words; homes = homes; views = set s.views id (known y ls' (w ∷ [])) }
     changed_kept y ls' w words homes next is long shelf c stowed =
@@ -105,94 +105,12 @@ module _ (M : Machine) (n : ℕ) (s : StateOf M) (r : IsKept M n s) where
           stowed = subst (λ (z : ℕ). IsStowed M n z (set r.views v.node w) record { words = words; homes = homes; views = set s.views id (known y ls' (w ∷ [])) }) (sym is) stowed;
         }
 
-    still : (w : ViewOf M) (next : ℕ) → Changes M r.views (slice_index s.words 0) next v.node v w → (e : Envelope M.Body) → Stands M r.views (slice_index s.words 0) e → Stands M (set r.views v.node w) next e
+    pub still : (w : ViewOf M) (next : ℕ) → Changes M r.views (slice_index s.words 0) next v.node v w → (e : Envelope M.Body) → Stands M r.views (slice_index s.words 0) e → Stands M (set r.views v.node w) next e
     still w next c e h =
         let up = c.up in
         still_stands M r.views (slice_index s.words 0) next v.node v w known_at c (slice_index s.words 0) next e (omega arith) up h
 
 module _ (M : Machine) where
-  -- a tick: the event's message, if it brings one, was heard
-  pub ticks : (n slots id : ℕ) (me : Me (SlotOf M) (SeatOf M)) (st : Step (SlotOf M)) (k : ℕ) (ls : List (Look M.Body)) (v : ViewOf M) (b : ℕ × Node M.Body) (e : EventOf M)
-      → me ≡ holding true k ls v → v.opened ≡ Some b → length v.turns < 2 ^ 60
-      → ((m : Envelope M.Body) → brings e ≡ Some m → (j : ℕ) × (get_elem? v.heard j ≡ some m))
-      → Allows (IsKept M n) slots id me 0 (λ x. (x + 1) % 18446744073709551616) (counted (ticked M e) st me)
-  ticks n slots id me st k ls v b e is was few may =
-      subst (λ (m : Me (SlotOf M) (SeatOf M)). Allows (IsKept M n) slots id m 0 (λ x. (x + 1) % 18446744073709551616) (counted (ticked M e) st m)) (sym is)
-      (λ s r wide at _.
-      let next : ℕ = slice_index s.words 0 in
-      let w : ViewOf M = after_event M v next e in
-      let lt = room M n s r in
-      let up : (next + 1) % 18446744073709551616 ≡ next + 1 = omega arith in
-      let c : Changes M r.views next (next + 1) v.node v w = event_changes M n r.views next v.node v (known_at M n s r id (Out k) ls v at) r.rule b e was few may in (
-        known (Out k) ls (w ∷ []),
-        keeps,
-        tt,
-        changed_kept M n s r id (Out k) ls v at (Out k) ls w (set s.words 0 ((next + 1) % 18446744073709551616)) s.homes (next + 1) (word_0 M n s r ((next + 1) % 18446744073709551616) ∙ up)
-            (length-set s.words 0 ((next + 1) % 18446744073709551616)) refl c
-            (stays M n next (next + 1) r.views (set r.views v.node w) s r.stowed (still M n s r id (Out k) ls v at w (next + 1) c) id ((next + 1) % 18446744073709551616) (known (Out k) ls (v ∷ [])) (known (Out k) ls (w ∷ [])) at refl),
-        refl,
-      ))
-
-  -- the opening, where the spare is out already, and where it is at home
-  opens_out : (n slots id : ℕ) (st : Step (SlotOf M)) (k : ℕ) (ls : List (Look M.Body)) (v : ViewOf M) (h : Bool) (new : Node M.Body) → v.opened ≡ None → new.sent ≡ []
-      → Allows (IsKept M n) slots id (holding true k ls v) 0 (λ x. (x + 1) % 18446744073709551616) (opens_seat (opened h new) st (holding true k ls v))
-  opens_out n slots id st k ls v h new closed fresh s r wide at _ =
-      let next : ℕ = slice_index s.words 0 in
-      let w : ViewOf M = after_opening v next h new in
-      let lt = room M n s r in
-      let up : (next + 1) % 18446744073709551616 ≡ next + 1 = omega arith in
-      let c : Changes M r.views next (next + 1) v.node v w = opening_changes M n r.views next v.node v (known_at M n s r id (Out k) ls v at) r.rule h new closed fresh in (
-        known (Out k) ls (w ∷ []),
-        keeps,
-        tt,
-        changed_kept M n s r id (Out k) ls v at (Out k) ls w (set s.words 0 ((next + 1) % 18446744073709551616)) s.homes (next + 1) (word_0 M n s r ((next + 1) % 18446744073709551616) ∙ up)
-            (length-set s.words 0 ((next + 1) % 18446744073709551616)) refl c
-            (stays M n next (next + 1) r.views (set r.views v.node w) s r.stowed (still M n s r id (Out k) ls v at w (next + 1) c) id ((next + 1) % 18446744073709551616) (known (Out k) ls (v ∷ [])) (known (Out k) ls (w ∷ [])) at refl),
-        refl,
-      )
-
-  opens_home : (n slots id : ℕ) (st : Step (SlotOf M)) (k : ℕ) (ls : List (Look M.Body)) (v : ViewOf M) (h : Bool) (new : Node M.Body) → v.opened ≡ None → new.sent ≡ []
-      → Allows (IsKept M n) slots id (holding false k ls v) 0 (λ x. (x + 1) % 18446744073709551616) (opens_seat (opened h new) st (holding false k ls v))
-  opens_home n slots id st k ls v h new closed fresh s r wide at _ =
-      let next : ℕ = slice_index s.words 0 in
-      let w : ViewOf M = after_opening v next h new in
-      let lt = room M n s r in
-      let up : (next + 1) % 18446744073709551616 ≡ next + 1 = omega arith in
-      let c : Changes M r.views next (next + 1) v.node v w = opening_changes M n r.views next v.node v (known_at M n s r id (Home k) ls v at) r.rule h new closed fresh in (
-        known (Out k) ls (w ∷ []),
-        takes k None,
-        (r.stowed.spares id (known (Home k) ls (v ∷ [])) at).1,
-        changed_kept M n s r id (Home k) ls v at (Out k) ls w (set s.words 0 ((next + 1) % 18446744073709551616)) (set s.homes k maybe.none) (next + 1) (word_0 M n s r ((next + 1) % 18446744073709551616) ∙ up)
-            (length-set s.words 0 ((next + 1) % 18446744073709551616)) (length-set s.homes k maybe.none) c
-            (takes_out M n next (next + 1) r.views (set r.views v.node w) s r.stowed (still M n s r id (Home k) ls v at w (next + 1) c) id ((next + 1) % 18446744073709551616) k (known (Home k) ls (v ∷ [])) (known (Out k) ls (w ∷ [])) at refl refl),
-        refl,
-      )
-
-  pub opens_by : (n slots id : ℕ) (me : Me (SlotOf M) (SeatOf M)) (st : Step (SlotOf M)) (out : Bool) (k : ℕ) (ls : List (Look M.Body)) (v : ViewOf M) (h : Bool) (new : Node M.Body)
-      → me ≡ holding out k ls v → v.opened ≡ None → new.sent ≡ []
-      → Allows (IsKept M n) slots id me 0 (λ x. (x + 1) % 18446744073709551616) (opens_seat (opened h new) st me)
-  opens_by n slots id me st true k ls v h new is closed fresh =
-      subst (λ (m : Me (SlotOf M) (SeatOf M)). Allows (IsKept M n) slots id m 0 (λ x. (x + 1) % 18446744073709551616) (opens_seat (opened h new) st m)) (sym is) (opens_out n slots id st k ls v h new closed fresh)
-  opens_by n slots id me st false k ls v h new is closed fresh =
-      subst (λ (m : Me (SlotOf M) (SeatOf M)). Allows (IsKept M n) slots id m 0 (λ x. (x + 1) % 18446744073709551616) (opens_seat (opened h new) st m)) (sym is) (opens_home n slots id st k ls v h new closed fresh)
-
-  -- the same of what a step tells, where that is an opening
-  pub opens_as : (n slots id : ℕ) (me : Me (SlotOf M) (SeatOf M)) (st : Step (SlotOf M)) (f : ℕ → SeatOf M → SeatOf M) (out : Bool) (k : ℕ) (ls : List (Look M.Body)) (v : ViewOf M) (h : Bool) (new : Node M.Body)
-      → f ≡ opened h new → me ≡ holding out k ls v → v.opened ≡ None → new.sent ≡ []
-      → Allows (IsKept M n) slots id me 0 (λ x. (x + 1) % 18446744073709551616) (opens_seat f st me)
-  opens_as n slots id me st f out k ls v h new made is closed fresh =
-      subst (λ (a : ℕ → SeatOf M → SeatOf M). Allows (IsKept M n) slots id me 0 (λ x. (x + 1) % 18446744073709551616) (opens_seat a st me)) (sym made)
-      (opens_by n slots id me st out k ls v h new is closed fresh)
-
-  -- or an event
-  pub ticks_as : (n slots id : ℕ) (me : Me (SlotOf M) (SeatOf M)) (st : Step (SlotOf M)) (f : ℕ → SeatOf M → SeatOf M) (k : ℕ) (ls : List (Look M.Body)) (v : ViewOf M) (b : ℕ × Node M.Body) (e : EventOf M)
-      → f ≡ ticked M e → me ≡ holding true k ls v → v.opened ≡ Some b → length v.turns < 2 ^ 60
-      → ((m : Envelope M.Body) → brings e ≡ Some m → (j : ℕ) × (get_elem? v.heard j ≡ some m))
-      → Allows (IsKept M n) slots id me 0 (λ x. (x + 1) % 18446744073709551616) (counted f st me)
-  ticks_as n slots id me st f k ls v b e made is was few may =
-      subst (λ (a : ℕ → SeatOf M → SeatOf M). Allows (IsKept M n) slots id me 0 (λ x. (x + 1) % 18446744073709551616) (counted a st me)) (sym made)
-      (ticks n slots id me st k ls v b e is was few may)
-
   -- what lay in a mailbox of the pair was sent by the one node to the other
   older_by : (n : ℕ) (s : StateOf M) (r : IsKept M n s) (v : ViewOf M) (e : Envelope M.Body) (a : ℕ) → get_elem? r.views v.node ≡ some v → v.node < n → addressee e < n
       → a ≡ mailbox_of n v.node (addressee e) → e.message.to ≡ suc (addressee e) → (y : SlotOf M) → MayLie M n r.views (slice_index s.words 0) a y → IsOlder v e y

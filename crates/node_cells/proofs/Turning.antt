@@ -1,5 +1,6 @@
 -- A cell after a turn.
 use Rattle.std.proofs.Common.{◌≡◌, ℕ, zero, suc, ◌+◌, ◌*◌, ◌≤◌, ◌↔◌, Bool, true, false, List, [], ◌∷◌, ◌++◌, map, length, drop, refl, sym, ap, ◌∙◌, subst, arith, length-append}
+use Rattle.std.proofs.Math.Seq.{drop-append_seam}
 use Rattle.raft_log.specs.declared.message.Message.{Message}
 use Rattle.raft_log.specs.declared.node_state.NodeState.{NodeState}
 use Rattle.raft_log.specs.Node.{Node}
@@ -35,10 +36,6 @@ use Rattle.node_cells.specs.Turns.{CellOf, FallsInTurn, IsEvent, IsGiven, IsTurn
 use Rattle.node_cells.specs.Upstreams.{HandsOut, Tally}
 use Rattle.node_cells.proofs.Recorded.{Book, posts_are}
 use Rattle.node_cells.proofs.Showing.{Inner, Stepped, Still, downed, is_up, stepped, stand_behind}
-
-drop_front : {A : Type 0} (xs ys : List A) → drop (length xs) (xs ++ ys) ≡ ys
-drop_front [] ys = refl
-drop_front (x ∷ xs) ys = drop_front xs ys
 
 module _ (M : Machine) where
   -- what is given is what comes out
@@ -188,7 +185,7 @@ module _ (M : Machine) {Setup Hosted Store U : Type 0} (k : Keeper Store M.Body)
                     event = event;
                     gives = given_out M output.place output.effects.items o given_o ∙ (λ d. given {M = M} (sym place d) (sym effects d).items);
                     posts = λ honest. to ∙ ap (λ (l : List (Message M.Body)). map to_of l)
-                        (sym (ap (λ (s : Node M.Body). drop (length v.state.sent) s.sent) (state_2 honest) ∙ drop_front v.state.sent output.messages.items));
+                        (sym (ap (λ (s : Node M.Body). drop (length v.state.sent) s.sent) (state_2 honest) ∙ drop-append_seam v.state.sent output.messages.items));
                   }
 
       -- the step was done, and its output found no memory

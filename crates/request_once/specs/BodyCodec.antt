@@ -2,7 +2,8 @@
 use Rattle.std.proofs.Common.{◌≡◌, ℕ, List, [], ◌∷◌, ◌++◌, IsTrue, refl, arith}
 use Rattle.std.specs.Prelude.{is_some}
 use Rattle.wire_bytes.specs.Fields.{Reading, done, through, both, reading_of}
-use Rattle.wire_bytes.specs.Codecs.{IsCodec, through-codec, both-codec, choice-codec, done-codec}
+use Rattle.wire_bytes.specs.Codecs.{IsCodec, through-codec, both-codec, done-codec}
+use Rattle.wire_bytes.specs.ChoiceCodec.{choice-codec}
 use Rattle.wire_bytes.specs.Values.{spelled_origin, spelled_number, spelled_mark, FitsOrigin, FitsNumber, FitsMoment, FitsMark, origin, number, moment, mark_taken}
 use Rattle.wire_bytes.specs.ValueCodecs.{origin_is_codec, number_is_codec, moment_is_codec, mark_is_codec}
 use Rattle.wire_bytes.specs.declared.mark.Mark as mark

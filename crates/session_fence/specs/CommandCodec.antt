@@ -2,7 +2,8 @@
 use Rattle.std.proofs.Common.{◌≡◌, ℕ, List, [], ◌∷◌, ◌++◌, IsTrue, refl, arith}
 use Rattle.std.specs.Prelude.{is_some}
 use Rattle.wire_bytes.specs.Fields.{Reading, through, both, reading_of}
-use Rattle.wire_bytes.specs.Codecs.{IsCodec, through-codec, both-codec, choice-codec}
+use Rattle.wire_bytes.specs.Codecs.{IsCodec, through-codec, both-codec}
+use Rattle.wire_bytes.specs.ChoiceCodec.{choice-codec}
 use Rattle.wire_bytes.specs.Values.{spelled_session, spelled_number, FitsSession, FitsNumber, FitsMoment, session, number, moment}
 use Rattle.wire_bytes.specs.ValueCodecs.{session_is_codec, number_is_codec, moment_is_codec}
 use Rattle.wire_bytes.specs.declared.session_id.SessionId.{SessionId}

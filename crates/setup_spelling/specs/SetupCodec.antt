@@ -9,7 +9,8 @@ use Rattle.irc_line.specs.Names.{is_channel, is_name}
 use Rattle.irc_line.proofs.Booleans.{and_left, and_right}
 use Rattle.wire_bytes.specs.Fields.{Reading, both, byte_within, truth, truth_byte, through}
 use Rattle.wire_bytes.specs.Codecs.{IsCodec, both-codec, done-codec, only-codec, then-codec, through-codec}
-use Rattle.wire_bytes.specs.FieldCodecs.{byte-codec, name_is_codec, number-codec, sized_some, truth_is_codec, wide16}
+use Rattle.wire_bytes.specs.FieldCodecs.{byte-codec, number-codec, truth_is_codec, wide16}
+use Rattle.wire_bytes.specs.ContentCodecs.{name_is_codec, sized_some}
 use Rattle.wire_bytes.specs.Contents.{name, sized}
 use Rattle.buffer_commands.specs.ActionCodec.{channel_is_codec}
 use Rattle.buffer_commands.specs.Settings.{are_channels}

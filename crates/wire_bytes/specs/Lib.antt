@@ -5,6 +5,8 @@ pub mod Contents
 pub mod Values
 pub mod Texts
 pub mod Codecs
+pub mod ChoiceCodec
 pub mod FieldCodecs
+pub mod ContentCodecs
 pub mod ValueCodecs
 pub mod LineCodec

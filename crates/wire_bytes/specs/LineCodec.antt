@@ -8,7 +8,7 @@ use Rattle.irc_line.proofs.Judging.{judged_line, judged_is}
 use Rattle.irc_line.proofs.Canonical.{spelling_judged}
 use Rattle.wire_bytes.specs.Contents.{FitsLine, spelled_line, line}
 use Rattle.wire_bytes.specs.Codecs.{IsCodec}
-use Rattle.wire_bytes.specs.FieldCodecs.{content-codec, sized_some}
+use Rattle.wire_bytes.specs.ContentCodecs.{content-codec, sized_some}
 use Rattle.irc_line.proofs.SameBytes.{same_bytes-refl, same_bytes-eq}
 
 abbrev read_as : Parts → Result Parts LineFault

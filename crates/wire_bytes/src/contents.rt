@@ -14,7 +14,7 @@ impl Wire for Name {
     ghost use Rattle.irc_line.specs.Names.{is_name};
     ghost use Rattle.wire_bytes.specs.Contents.{sized, name};
     ghost use Rattle.wire_bytes.specs.Wants.{once_whole};
-    ghost use Rattle.wire_bytes.specs.FieldCodecs.{name_is_codec};
+    ghost use Rattle.wire_bytes.specs.ContentCodecs.{name_is_codec};
 
     ghost spelled = { sized };
 
@@ -49,7 +49,7 @@ impl Wire for Text {
     ghost use Rattle.irc_line.specs.Names.{is_text};
     ghost use Rattle.wire_bytes.specs.Contents.{sized, text};
     ghost use Rattle.wire_bytes.specs.Wants.{once_whole};
-    ghost use Rattle.wire_bytes.specs.FieldCodecs.{text_is_codec};
+    ghost use Rattle.wire_bytes.specs.ContentCodecs.{text_is_codec};
 
     ghost spelled = { sized };
 

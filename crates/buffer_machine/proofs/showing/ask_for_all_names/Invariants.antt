@@ -1,6 +1,6 @@
 use Rattle.std.proofs.Common.{◌≡◌, ◌++◌, take}
 use Rattle.std.specs.Prelude.{flat_map}
-use Rattle.buffer_machine.specs.Steps.{sent_at_attach}
+use Rattle.buffer_machine.specs.Answering.{sent_at_attach}
 use Rattle.buffer_machine.proofs.showing.ask_for_all_names.Given as goal
 
 abbrev pub invariant-loop-channel : goal.invariant-loop-channel

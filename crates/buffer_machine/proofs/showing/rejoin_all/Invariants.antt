@@ -1,5 +1,5 @@
 use Rattle.std.proofs.Common.{◌≡◌, take}
-use Rattle.buffer_machine.specs.Steps.{rejoins}
+use Rattle.buffer_machine.specs.Answering.{rejoins}
 use Rattle.buffer_machine.proofs.showing.rejoin_all.Given as goal
 
 abbrev pub invariant-loop-channel : goal.invariant-loop-channel

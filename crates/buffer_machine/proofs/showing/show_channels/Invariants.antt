@@ -1,6 +1,6 @@
 use Rattle.std.proofs.Common.{◌≡◌, ◌++◌, take}
 use Rattle.std.specs.Prelude.{flat_map}
-use Rattle.buffer_machine.specs.Steps.{shown_at_attach}
+use Rattle.buffer_machine.specs.Answering.{shown_at_attach}
 use Rattle.buffer_machine.proofs.showing.show_channels.Given as goal
 
 abbrev pub invariant-loop-channel : goal.invariant-loop-channel

@@ -1,7 +1,7 @@
 use Rattle.std.proofs.Common.{◌≡◌, ◌++◌, take}
 use Rattle.std.specs.Prelude.{flat_map}
 use Rattle.buffer_machine.specs.Effects.{show_all}
-use Rattle.buffer_machine.specs.Steps.{played}
+use Rattle.buffer_machine.specs.Answering.{played}
 use Rattle.buffer_machine.proofs.showing.show_queries.Given as goal
 
 abbrev pub invariant-loop-query : goal.invariant-loop-query

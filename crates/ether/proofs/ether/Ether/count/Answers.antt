@@ -4,7 +4,8 @@ use Rattle.raft_node.specs.Machine.{Machine}
 use Rattle.ether.specs.declared.rule.Group.{Group}
 use Rattle.ether.specs.Passes.{EtherParts, looks_of, view_of}
 use Rattle.ether.specs.Plays.{ticked}
-use Rattle.ether.proofs.Steps.{no_step, ticks_as}
+use Rattle.ether.proofs.Steps.{no_step}
+use Rattle.ether.proofs.Ticks.{ticks_as}
 use Rattle.ether.proofs.ether.Ether.count.Given as given
 use Rattle.ether.proofs.ether.Ether.count.Goals as goal
 

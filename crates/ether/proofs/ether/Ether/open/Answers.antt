@@ -3,7 +3,8 @@ use Rattle.raft_log.specs.Seen.{seen}
 use Rattle.ether.specs.Passes.{looks_of, view_of}
 use Rattle.ether.specs.Plays.{after_opening, holding}
 use Rattle.ether.proofs.Passes.{is_pass, is_open}
-use Rattle.ether.proofs.Steps.{no_step, opens_as, opened_me}
+use Rattle.ether.proofs.Steps.{no_step, opened_me}
+use Rattle.ether.proofs.Ticks.{opens_as}
 use Rattle.ether.proofs.ether.Ether.open.Given as given
 use Rattle.ether.proofs.ether.Ether.open.Goals as goal
 

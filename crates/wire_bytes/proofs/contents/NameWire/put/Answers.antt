@@ -1,4 +1,4 @@
-use Rattle.wire_bytes.specs.FieldCodecs.{name_short}
+use Rattle.wire_bytes.specs.ContentCodecs.{name_short}
 use Rattle.wire_bytes.proofs.contents.NameWire.put.Goals as goal
 
 pub put_sized-requires : goal.put_sized-requires

@@ -1,4 +1,4 @@
-use Rattle.wire_bytes.specs.FieldCodecs.{text_short}
+use Rattle.wire_bytes.specs.ContentCodecs.{text_short}
 use Rattle.wire_bytes.proofs.contents.TextWire.put.Goals as goal
 
 pub put_sized-requires : goal.put_sized-requires
