@@ -67,7 +67,7 @@ fn take(
     alloc: Global,
     turn: &mut Turn,
     settings: &Settings,
-    arrival: Arrival,
+    mut arrival: Arrival,
     line: &Line,
     command: ClientCommand,
 ) -> Result<(), AllocError>
@@ -75,39 +75,20 @@ fn take(
     ensures { OnOk result (turn.new ≡ all_done settings.now.nick turn.old
         (early settings.now arrival line.now command)) }
 {
-    let Arrival {
-        password,
-        nick,
-        user,
-    } = arrival;
     match command {
         ClientCommand::Pass => {
-            let password = Some(Password::from_slice(alloc, line.parameter(0))?);
-            turn.move_to(Phase::Arriving(Arrival {
-                password,
-                nick,
-                user,
-            }));
+            arrival.password = Some(Password::from_slice(alloc, line.parameter(0))?);
+            turn.move_to(Phase::Arriving(arrival));
             Ok(())
         }
-        ClientCommand::Nick => see(
-            turn,
-            settings,
-            Arrival {
-                password,
-                nick: true,
-                user,
-            },
-        ),
-        ClientCommand::User => see(
-            turn,
-            settings,
-            Arrival {
-                password,
-                nick,
-                user: true,
-            },
-        ),
+        ClientCommand::Nick => {
+            arrival.nick = true;
+            see(turn, settings, arrival)
+        }
+        ClientCommand::User => {
+            arrival.user = true;
+            see(turn, settings, arrival)
+        }
         ClientCommand::Cap => tell_capabilities(turn, settings, line),
         ClientCommand::Ping => tell_pong(turn, line),
         ClientCommand::Quit => {
