@@ -13,7 +13,7 @@ use Rattle.node_notes.specs.declared.status.Status.{Status}
 
 -- what happens to the node by a note; nothing where it is for the worker
 abbrev pub input_of : {B L : Type 0} → Note B L → Option (NodeInput B L)
-input_of Timeout = Some input.Timeout
+input_of (Timeout contacts) = Some input.Timeout
 input_of Beat = Some input.Beat
 input_of (Ask body) = Some (input.Ask body)
 input_of Opened = Some input.Opened

@@ -2,9 +2,11 @@
 #![tactic(auto)]
 
 mod note;
+mod progress;
 mod report;
 mod status;
 
 pub use note::Note;
+pub use progress::Progress;
 pub use report::Report;
 pub use status::Status;

@@ -9,8 +9,9 @@ use world_views::NodeInput;
 /// node's mailboxes; or what the worker itself is to do.
 #[derive(Drop)]
 pub enum Note<B: Wire, L> {
-    /// The node waited too long for a leader.
-    Timeout,
+    /// The node waited too long for a leader: its worker asks for votes, unless it has heard of a leader more
+    /// often than this by then, and so since the driver counted.
+    Timeout(u64),
     /// The node, where it leads, sends to all others.
     Beat,
     /// A client asks, or word comes that a node is gone.
@@ -37,7 +38,7 @@ impl<B: Wire, L> Note<B, L> {
         ensures { result ≡ input_of self }
     {
         match self {
-            Note::Timeout => Some(NodeInput::Timeout),
+            Note::Timeout(_) => Some(NodeInput::Timeout),
             Note::Beat => Some(NodeInput::Beat),
             Note::Ask(body) => Some(NodeInput::Ask(body)),
             Note::Opened => Some(NodeInput::Opened),
