@@ -153,6 +153,15 @@ impl ClientGate {
         copies(self.alloc, &self.waiting)
     }
 
+    /// How many requests are not known to be done.
+    pub fn waiting(&self) -> usize
+        ensures answer { (s : Settings) (calls : List Call) → Stands s calls self.now →
+            result ≡ length (gate s calls).waiting }
+        ensures limit { result ≤ 101 }
+    {
+        self.waiting.len()
+    }
+
     /// Ends the gate of a connection that is gone: the Leave of a client that attached and did not
     /// leave, and nothing else. It takes no memory.
     pub fn end(&mut self) -> Option<Request>
