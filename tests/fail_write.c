@@ -1,4 +1,4 @@
-// Fails each write to the files whose path ends in what the file named by FAILING says, as long as that file is there.
+// Fails each write to the files whose path ends in a line of the file named by FAILING, as long as that file is there.
 #define _GNU_SOURCE
 #include <dlfcn.h>
 #include <errno.h>
@@ -12,14 +12,17 @@
 static int fails(int fd) {
     const char *control = getenv("FAILING");
     char end[256], link[64], path[4096];
-    if (!control) return 0;
-    int file = open(control, O_RDONLY | O_CLOEXEC);
-    if (file < 0) return 0;
-    ssize_t length = read(file, end, sizeof end);
-    close(file);
+    FILE *file = control ? fopen(control, "re") : NULL;
+    if (!file) return 0;
     snprintf(link, sizeof link, "/proc/self/fd/%d", fd);
-    ssize_t long_as = readlink(link, path, sizeof path);
-    return length > 0 && long_as >= length && memcmp(path + long_as - length, end, length) == 0;
+    ssize_t length = readlink(link, path, sizeof path);
+    int is_meant = 0;
+    while (!is_meant && fscanf(file, "%255s", end) == 1) {
+        ssize_t tail = (ssize_t)strlen(end);
+        is_meant = length >= tail && memcmp(path + length - tail, end, tail) == 0;
+    }
+    fclose(file);
+    return is_meant;
 }
 
 #define GUARDED(name, parameters, arguments)                                   \

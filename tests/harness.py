@@ -42,11 +42,12 @@ class Ports:
 
 
 class Bouncer:
-    """A program that runs three nodes."""
+    """A program that runs three nodes, or as many as are asked for."""
 
-    def __init__(self, folder, upstream_port, **more):
+    def __init__(self, folder, upstream_port, nodes=3, **more):
         self.folder = folder
-        self.held = Ports(3)
+        self.nodes = range(1, nodes + 1)
+        self.held = Ports(nodes)
         self.ports = self.held.numbers
         self.config = os.path.join(folder, "hukbarg.toml")
         self.log_path = os.path.join(folder, "log")
@@ -101,9 +102,17 @@ class Bouncer:
         """The node that led last, by its number."""
         return [int(line.split(" node ")[1][0]) for line in self.log().splitlines() if " leads in term " in line][-1]
 
+    def followers(self):
+        """The other nodes."""
+        leader = self.leader()
+        return [node for node in self.nodes if node != leader]
+
+    def journal(self, node):
+        return f"{self.folder}/store/node-{node}"
+
     def up(self):
         """All nodes are up, and there was a session."""
-        for node in (1, 2, 3):
+        for node in self.nodes:
             self.wait(f" node {node}: up, run ")
         self.wait("upstream opened")
         return self

@@ -1,0 +1,52 @@
+"""Journals, read and made by hand (docs/FORMATS.md, "The journal")."""
+
+import struct
+
+HEADER = b"RBSTOR01"
+CHANGE = struct.Struct(">QQBQH")  # boot, term, vote, entries kept, entries that follow
+ENTRY = struct.Struct(">QI")  # term, length of the body
+MOST_ENTRIES = 256  # in one change
+ASKED, BLANK, CLAIM = b"\x01", b"\x02", b"\x00\x01"  # how bodies begin
+
+
+def records(data):
+    """What each open record of a journal holds."""
+    place = len(HEADER)
+    while place < len(data) and data[place] != 0:
+        (length,) = struct.unpack_from(">I", data, place + 1)
+        yield data[place + 5 : place + 5 + length]
+        place += 5 + length
+
+
+def bodies(path):
+    """The bodies of the log that a journal holds."""
+    with open(path, "rb") as file:
+        data = file.read()
+    log = []
+    for record in records(data):
+        _, _, _, kept, count = CHANGE.unpack_from(record, 0)
+        del log[kept:]
+        place = CHANGE.size
+        for _ in range(count):
+            _, length = ENTRY.unpack_from(record, place)
+            place += ENTRY.size
+            log.append(record[place : place + length])
+            place += length
+    return log
+
+
+def count(path, beginning):
+    """How many bodies of a journal's log begin so."""
+    return sum(body.startswith(beginning) for body in bodies(path))
+
+
+def make(path, log, boot=1, term=1):
+    """Makes a journal that holds these bodies, all of one term."""
+    with open(path, "wb") as file:
+        file.write(HEADER)
+        for first in range(0, max(len(log), 1), MOST_ENTRIES):
+            some = log[first : first + MOST_ENTRIES]
+            entries = b"".join(ENTRY.pack(term, len(body)) + body for body in some)
+            payload = CHANGE.pack(boot, term, 0, first, len(some)) + entries
+            file.write(b"\x01" + struct.pack(">I", len(payload)) + payload)
+        file.write(b"\x00")
