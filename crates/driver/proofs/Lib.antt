@@ -3,5 +3,6 @@ mod Driving
 mod Leading
 mod Passing
 mod Rounds
+mod Serving
 mod Sessions
-mod Ticking
+mod Telling

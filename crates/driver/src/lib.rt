@@ -12,6 +12,7 @@ mod link;
 mod news;
 mod notices;
 mod order;
+mod orders;
 mod settings;
 
 pub use driver::Driver;
