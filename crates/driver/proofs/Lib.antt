@@ -1,3 +1,4 @@
+mod Asking
 mod Crowds
 mod Driving
 mod Leading

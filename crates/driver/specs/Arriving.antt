@@ -1,8 +1,7 @@
 -- What a driver begins with, and a client that connects.
-use Rattle.std.specs.Prelude.{◌≡◌, ◌+◌, ◌-◌, ◌^◌, ℕ, Bool, nat_lt, if◌then◌else◌, List, [], ◌∷◌, Option, Some, None, slice_get, slice_set}
+use Rattle.std.specs.Prelude.{◌≡◌, ◌+◌, ◌^◌, ℕ, Bool, nat_lt, if◌then◌else◌, List, [], ◌∷◌, Option, Some, None}
 use Rattle.client_gate.specs.Calls.{Held, Stands}
 use Rattle.client_gate.specs.Made.{made}
-use Rattle.pacing.specs.declared.pace.Pace.{Pace}
 use Rattle.wire_bytes.specs.declared.origin.Origin.{Origin}
 use Rattle.driver.specs.declared.client.Client.{Client}
 use Rattle.driver.specs.declared.clients.Clients.{Clients}
@@ -12,7 +11,8 @@ use Rattle.driver.specs.declared.link.Stage.TheVariants.{Idle}
 use Rattle.driver.specs.declared.order.Order.{Order}
 use Rattle.driver.specs.declared.settings.Settings.{Settings}
 use Rattle.driver.specs.Desks.{at, new_desk}
-use Rattle.driver.specs.Gone.{greatest, no_notices}
+use Rattle.driver.specs.Driving.{changed_at, orders_at}
+use Rattle.driver.specs.Gone.{no_notices, with_seen}
 use Rattle.driver.specs.Hearing.{boot_up, turned_away, turned_away_news}
 use Rattle.driver.specs.Links.{first_backoff, status_at}
 use Rattle.driver.specs.Rosters.{IsNew, client_at}
@@ -77,27 +77,19 @@ ArrivesBy (Some boot) (Some number) node password nick now old new = Arrives (no
 abbrev pub ArrivesIf : List Desk → Option ℕ → ℕ → List ℕ → List ℕ → ℕ → Clients → Clients → Type 0
 ArrivesIf desks number node password nick now old new = ArrivesBy (boot_at desks node) number node password nick now old new
 
--- the desk of a node to which a client connected: its run was seen, where the client was taken; where the node is not up, the client
--- was turned away
-abbrev pub visited : Option ℕ → Bool → Desk → Desk
-visited None taken desk = turned_away desk
-visited (Some boot) taken desk = if taken then record desk { seen = Some (greatest desk.seen boot) } else desk
-
-abbrev pub visited_if : ℕ → Option Desk → List Desk → ℕ → List Desk
-visited_if numbered None desks index = desks
-visited_if numbered (Some desk) desks index = slice_set desks index (visited (boot_up desk.status) (nat_lt numbered (2 ^ 60)) desk)
+-- the desks where a client connected to a node with this run, if it is up: the run was seen, where the client was taken; where the
+-- node is not up, the client was turned away
+abbrev pub visited : Option ℕ → Bool → List Desk → ℕ → List Desk
+visited None taken desks node = changed_at turned_away desks node
+visited (Some boot) taken desks node = if taken then changed_at (with_seen boot) desks node else desks
 
 abbrev pub desks_behind : List Desk → ℕ → ℕ → List Desk
-desks_behind desks node numbered = visited_if numbered (slice_get desks (node - 1)) desks (node - 1)
+desks_behind desks node numbered = visited (boot_at desks node) (nat_lt numbered (2 ^ 60)) desks node
 
 -- an operator is told of the first client that was turned away since the node was up
-abbrev pub turned_away_by : Option ℕ → Desk → List Order
-turned_away_by None desk = turned_away_news desk
-turned_away_by (Some boot) desk = []
-
-abbrev pub turned_away_if : Option Desk → List Order
-turned_away_if None = []
-turned_away_if (Some desk) = turned_away_by (boot_up desk.status) desk
+abbrev pub turned_away_by : Option ℕ → List Desk → ℕ → List Order
+turned_away_by None desks node = orders_at turned_away_news desks node
+turned_away_by (Some boot) desks node = []
 
 abbrev pub turned_away_at : List Desk → ℕ → List Order
-turned_away_at desks node = turned_away_if (slice_get desks (node - 1))
+turned_away_at desks node = turned_away_by (boot_at desks node) desks node

@@ -1,5 +1,5 @@
 -- What a node is told by the clock and by how it stands, and when.
-use Rattle.std.specs.Prelude.{ℕ, ◌+◌, ◌*◌, ◌-◌, ◌&&◌, Bool, false, not, nat_eq, nat_le, nat_lt, if◌then◌else◌, List, [], ◌∷◌, Option, Some, None}
+use Rattle.std.specs.Prelude.{ℕ, ◌+◌, ◌*◌, ◌-◌, ◌&&◌, Bool, false, not, nat_eq, nat_le, if◌then◌else◌, List, [], ◌∷◌, Option, Some, None}
 use Rattle.bouncer_tower.specs.Bodies.{TowerBody}
 use Rattle.buffer_commands.specs.declared.wire_line.WireLine.{WireLine}
 use Rattle.node_notes.specs.declared.note.Note.{Note}

@@ -90,6 +90,10 @@ abbrev pub greatest : Option ℕ → ℕ → ℕ
 greatest None boot = boot
 greatest (Some seen) boot = if nat_le boot seen then seen else boot
 
+-- a desk of which a client has an origin with this boot
+abbrev pub with_seen : ℕ → Desk → Desk
+with_seen boot desk = record desk { seen = Some (greatest desk.seen boot) }
+
 -- the runs up to this boot are gone
 abbrev pub gone_below : Option ℕ → Option ℕ
 gone_below None = None

@@ -8,6 +8,7 @@ pub mod Gone
 pub mod Hearing
 pub mod Leading
 pub mod Links
+pub mod Once
 pub mod Operators
 pub mod Outages
 pub mod Passing

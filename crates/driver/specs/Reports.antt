@@ -1,5 +1,5 @@
 -- What comes of a report of a node's worker.
-use Rattle.std.specs.Prelude.{◌≡◌, ℕ, ◌-◌, Bool, true, false, ◌||◌, List, [], Option, Some, None, map, slice_get}
+use Rattle.std.specs.Prelude.{◌≡◌, ℕ, ◌-◌, Bool, true, false, ◌||◌, List, Option, Some, None, map, slice_get}
 use Rattle.std.specs.BTreeMap.{keys}
 use Rattle.wire_bytes.specs.declared.moment.Moment.{Moment}
 use Rattle.client_gate.specs.Gates.{GateEffect}

@@ -1,7 +1,7 @@
 //! What the driver knows of one node.
 ghost use Rattle.std.specs.Prelude.{◌≡◌, ◌++◌, OnOk, Some, None};
 ghost use Rattle.driver.specs.Desks.{is_full, new_desk, told};
-ghost use Rattle.driver.specs.Gone.{dead_below, dead_boot, greatest, is_to_restart, restart_behind, restart_if};
+ghost use Rattle.driver.specs.Gone.{dead_below, dead_boot, greatest, is_to_restart, restart_behind, restart_if, with_seen};
 ghost use Rattle.driver.specs.Leading.{term_of};
 ghost use Rattle.driver.specs.Hearing.{boot_up, turned_away, turned_away_news};
 ghost use Rattle.driver.specs.Telling.{ordered, told_to};
@@ -143,7 +143,7 @@ impl Desk {
 
     /// A client of it has an origin with this boot.
     pub fn see(&mut self, boot: Number)
-        ensures { self.new ≡ record self.old { seen = Some (greatest self.old.seen boot) } }
+        ensures { self.new ≡ with_seen boot self.old }
     {
         self.seen = Some(self.greatest_seen(boot));
     }

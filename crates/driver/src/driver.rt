@@ -1,6 +1,10 @@
 //! The driver: what happened is told to it, and it gives orders.
 ghost use Rattle.std.specs.Prelude.{◌≡◌, IfOk, IfSome, None, OnErr, OnOk};
-ghost use Rattle.driver.specs.Arriving.{Arrives, ArrivesIf, IsNewDriver, desks_behind, last_number, new_desks, next_number, turned_away_at};
+ghost use Rattle.driver.specs.Arriving.{Arrives, ArrivesIf, IsNewDriver, boot_at, desks_behind};
+ghost use Rattle.driver.specs.Arriving.{last_number, new_desks, next_number, turned_away_at};
+ghost use Rattle.driver.specs.Driving.{changed_at, orders_at};
+ghost use Rattle.driver.specs.Gone.{with_seen};
+ghost use Rattle.driver.specs.Hearing.{turned_away, turned_away_news};
 ghost use Rattle.driver.specs.Links.{Sends};
 ghost use Rattle.driver.specs.Rosters.{AreOthersSame, Serves, client_at, is_attached_in};
 ghost use Rattle.driver.specs.Serving.{IsLost, Receives};
@@ -24,7 +28,7 @@ use irc_line::Line;
 use pacing::{Pace, Timer};
 use raft_log::NodeId;
 use std::alloc::{AllocError, Global};
-use wire_bytes::Origin;
+use wire_bytes::{Number, Origin};
 
 /// The most nodes that there may be.
 const MOST_NODES: usize = 7;
@@ -104,9 +108,8 @@ impl Driver {
           orders = self.new.orders;
         }) }
     {
-        let desk = &mut self.desks[node.value() as usize - 1];
-        let Some(boot) = desk.boot() else {
-            desk.turn_away(&mut self.orders)?;
+        let Some(boot) = self.boot_of(node) else {
+            self.turn_away(node)?;
             return Ok(None);
         };
         if self.numbered >= MOST_NUMBER {
@@ -116,8 +119,36 @@ impl Driver {
         let origin = Origin::new(node.value(), boot.value(), number);
         self.admit(now, origin)?;
         self.numbered = number;
-        self.desks[node.value() as usize - 1].see(boot);
+        self.see(node, boot);
         Ok(Some(number))
+    }
+
+    /// The run in which a node is up, if it is.
+    fn boot_of(&self, node: NodeId) -> Option<Number>
+        ensures { result ≡ boot_at self.now.desks node }
+    {
+        let desk = self.desks.get(node.value() as usize - 1)?;
+        desk.boot()
+    }
+
+    /// A client connected to a node that is not up.
+    fn turn_away(&mut self, node: NodeId) -> Result<(), AllocError>
+        ensures desks { OnOk result
+            (self.new.desks ≡ changed_at turned_away self.old.desks node) }
+        ensures told { OnOk result (self.new.orders
+            ≡ ordered self.old.orders (orders_at turned_away_news self.old.desks node)) }
+        ensures rest { self.new ≡ record self.old
+            { desks = self.new.desks; orders = self.new.orders } }
+    {
+        self.desks[node.value() as usize - 1].turn_away(&mut self.orders)
+    }
+
+    /// A client of this run of a node connected.
+    fn see(&mut self, node: NodeId, boot: Number)
+        ensures { self.new ≡ record self.old
+            { desks = changed_at (with_seen boot) self.old.desks node } }
+    {
+        self.desks[node.value() as usize - 1].see(boot);
     }
 
     /// A client of this origin has connected.

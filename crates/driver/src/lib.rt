@@ -7,6 +7,7 @@ mod clients;
 mod desk;
 mod driver;
 mod gone;
+pub mod laws;
 mod leader;
 mod link;
 mod news;
