@@ -2,6 +2,7 @@ mod Asking
 mod Crowds
 mod Driving
 mod Leading
+mod Led
 mod Owning
 mod Passing
 mod Rounds

@@ -7,6 +7,7 @@ pub mod Driving
 pub mod Gone
 pub mod Hearing
 pub mod Leading
+pub mod Led
 pub mod Links
 pub mod Once
 pub mod Operators
