@@ -1,6 +1,6 @@
 -- Each request of a client is told once, where nothing is asked again.
-use Rattle.std.proofs.Common.{◌≡◌, ◌∙◌, ◌++◌, ◌||◌, ℕ, Bool, true, false, List, [], ◌∷◌, Option, Some, None, map, refl, sym, ap, subst, inl, inr, ⊎_elim}
-use Rattle.std.specs.Prelude.{flat_map, option_to_list, if◌then◌else◌}
+use Rattle.std.proofs.Common.{◌≡◌, ◌∙◌, ◌++◌, ℕ, Bool, true, false, List, [], ◌∷◌, Option, Some, None, refl, sym, ap, subst, ⊎_elim}
+use Rattle.std.specs.Prelude.{option_to_list, if◌then◌else◌}
 use Rattle.std.specs.Global.{Vec}
 use Rattle.std.proofs.lemmas.List.{append_assoc, append-nil, map-append}
 use Rattle.std.proofs.lemmas.Grind.{flat_map-append}
@@ -14,16 +14,15 @@ use Rattle.request_once.specs.declared.answer.Answer.TheVariants as answer
 use Rattle.client_gate.specs.declared.fed.Fed.{Fed}
 use Rattle.client_gate.specs.declared.request.Request.{Request}
 use Rattle.client_gate.specs.declared.settings.Settings.{Settings}
-use Rattle.client_gate.specs.Answers.{given_in}
 use Rattle.client_gate.specs.Calls.{Call, End, Feed, Hear, Refused, Stands, fed_answer, gate}
 use Rattle.client_gate.specs.Gates.{GateEffect, Given, given_effect, last_request}
-use Rattle.client_gate.specs.Numbers.{all_requests, numbered_by}
+use Rattle.client_gate.specs.Numbers.{all_requests}
 use Rattle.driver.specs.declared.client.Client.{Client}
 use Rattle.driver.specs.declared.order.Order.{Order}
 use Rattle.driver.specs.Asking.{HearsNode, anew_if, asks_if, held_if, is_stuck, may_be_lost, now_asked}
 use Rattle.driver.specs.Clients.{asked_all, asks_of, parting_unless, passed, welcome, write_some, written}
 use Rattle.driver.specs.Crowds.{Ticks}
-use Rattle.driver.specs.Once.{AreQuiet, AsksOnce, Event, Happening, Happens, TellsOnce, asks_again, number_told, numbers_of, numbers_told}
+use Rattle.driver.specs.Once.{AreQuiet, AsksOnce, Event, Happens, TellsOnce, asks_again, number_told, numbers_of, numbers_told}
 use Rattle.driver.specs.Once.{Goes, Learns, Speaks, Waits, Words}
 use Rattle.driver.specs.Serving.{HasPassed, Hears, IsCutOff, IsLost, Receives, ended, ended_if}
 use Rattle.driver.specs.Silence.{IsKept, IsPing, is_silent, is_too_slow}

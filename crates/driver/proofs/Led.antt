@@ -1,9 +1,9 @@
 -- The connection to the server is of the node that leads in the greatest term, or there is none.
-use Rattle.std.proofs.Common.{◌≡◌, ◌∙◌, ℕ, suc, zero, ◌+◌, ◌-◌, ◌<◌, ◌≤◌, Bool, true, false, not, List, Option, Some, None, length, refl, sym, ap, subst, set, get_or, slice_get, ⊎_elim, arith}
-use Rattle.std.specs.Prelude.{if◌then◌else◌, nat_eq}
+use Rattle.std.proofs.Common.{◌≡◌, ◌∙◌, ℕ, suc, zero, ◌+◌, ◌-◌, ◌<◌, ◌≤◌, Bool, true, false, not, List, Option, Some, None, length, refl, sym, ap, subst, set, slice_get, ⊎_elim, arith}
+use Rattle.std.specs.Prelude.{if◌then◌else◌}
 use Rattle.std.proofs.lemmas.Bool.{cases_lt, eqb-true}
 use Rattle.std.proofs.lemmas.List.{get_or-set_same, get_or-set_other, length-set}
-use Rattle.std.proofs.lemmas.Option.{slice_get-get_or, slice_get_past, slice_get_within, get_or_from_slice_get}
+use Rattle.std.proofs.lemmas.Option.{slice_get-get_or, slice_get_past, slice_get_within}
 use Rattle.pacing.specs.Pacing.{may_go}
 use Rattle.pacing.specs.declared.backoff.Backoff.{Backoff}
 use Rattle.driver.specs.declared.desk.Desk.{Desk}
@@ -12,8 +12,8 @@ use Rattle.driver.specs.declared.link.Stage.{Stage}
 use Rattle.driver.specs.declared.link.Stage.TheVariants.{Idle, Connecting, Open}
 use Rattle.driver.specs.declared.news.Ending.TheVariants.{LedNoMore}
 use Rattle.driver.specs.Desks.{claim_due, desk_claimed}
-use Rattle.driver.specs.Driving.{Claims, Connects, Leaves, LeavesIf, Serves, ServesIf, TickNodes, Ticks, TicksNode, changed_at, changed_if}
-use Rattle.driver.specs.Leading.{IsLeader, NoneLeadsAbove, is_older, is_that, term_at, term_in, term_of}
+use Rattle.driver.specs.Driving.{LeavesIf, ServesIf, TickNodes, TicksNode, changed_at, changed_if}
+use Rattle.driver.specs.Leading.{IsLeader, is_older, is_that, term_at, term_in, term_of}
 use Rattle.driver.specs.Led.{IsOf, IsOfLeader, IsOfLeaderHeard, IsOfLeaderTicked}
 use Rattle.driver.specs.Links.{idle_behind, may_connect, node_of}
 
@@ -93,11 +93,10 @@ of_not_older (Some node) leader is = that_is leader node (shown (is_that leader 
 left_of : (older : Bool) (now : ℕ) (told left : Driver) (leader : Option ℕ) → is_older (node_of told.link.stage) leader ≡ older → LeavesIf older now LedNoMore told left → (left.desks ≡ told.desks) × IsOf (node_of left.link.stage) leader
 left_of false now told left leader is same =
     (ap (λ (driver : Driver). driver.desks) same, subst (λ (driver : Driver). IsOf (node_of driver.link.stage) leader) (sym same) (of_not_older (node_of told.link.stage) leader is))
-left_of true now told left leader is h =
-    (
-      ap (λ (driver : Driver). driver.desks) h.ends.rest ∙ ap (λ (driver : Driver). driver.desks) h.rest,
-      subst (λ (own : Option ℕ). IsOf own leader) (sym (ap node_of h.ends.stage ∙ idle_of_none h.closed.link.stage h.closed.link.backoff now)) tt
-    )
+left_of true now told left leader is h = (
+  ap (λ (driver : Driver). driver.desks) h.ends.rest ∙ ap (λ (driver : Driver). driver.desks) h.rest,
+  subst (λ (own : Option ℕ). IsOf own leader) (sym (ap node_of h.ends.stage ∙ idle_of_none h.closed.link.stage h.closed.link.backoff now)) tt,
+)
 
 -- the server is connected to for the node that leads
 connects_of : (may : Bool) (stage : Stage) (node : ℕ) (leader : Option ℕ) → leader ≡ Some node → IsOf (node_of stage) leader → IsOf (node_of (if may then Connecting node else stage)) leader

@@ -13,10 +13,10 @@ use Rattle.client_gate.specs.Gates.{GateEffect, Given, given_effect, last_reques
 use Rattle.driver.specs.declared.client.Asked.{Asked}
 use Rattle.driver.specs.declared.client.Client.{Client}
 use Rattle.driver.specs.declared.order.Order.{Order}
-use Rattle.driver.specs.Asking.{HearsNode, anew_if, asks_if, held_if, is_stuck, may_be_lost, now_asked}
-use Rattle.driver.specs.Clients.{asked_all, asks_of, parting_unless, passed, welcome, write_some, written}
+use Rattle.driver.specs.Asking.{HearsNode, anew_if, held_if, is_stuck, may_be_lost, now_asked}
+use Rattle.driver.specs.Clients.{asked_all, asks_of, parting_unless, passed, write_some, written}
 use Rattle.driver.specs.Crowds.{Ticks}
-use Rattle.driver.specs.Once.{AsksOwn, Event, Goes, HappenAll, Happening, Happens, IsFor, Learns, Speaks, TellsOnly, TellsOwn, Waits, Words}
+use Rattle.driver.specs.Once.{AsksOwn, Event, Goes, HappenAll, Happens, Learns, Speaks, TellsOnly, Waits, Words}
 use Rattle.driver.specs.Serving.{HasPassed, Hears, IsCutOff, IsLost, Receives, ended, ended_if}
 use Rattle.driver.specs.Silence.{IsKept, IsPing, is_silent, is_too_slow}
 use Rattle.driver.specs.Telling.{Ordered, ordered}

@@ -1,5 +1,5 @@
 -- A client's requests are told to its node once, but where they may be lost.
-use Rattle.std.specs.Prelude.{◌≡◌, ◌++◌, ℕ, Bool, true, false, List, [], ◌∷◌, map, flat_map}
+use Rattle.std.specs.Prelude.{◌≡◌, ◌++◌, ℕ, Bool, false, List, [], ◌∷◌, map, flat_map}
 use Rattle.bouncer_tower.specs.Bodies.{TowerBody}
 use Rattle.buffer_commands.specs.declared.wire_line.WireLine.{WireLine}
 use Rattle.request_once.specs.declared.body.Body.TheVariants.{Asked}
