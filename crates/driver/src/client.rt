@@ -25,8 +25,8 @@ use request_once::Answer;
 use std::alloc::{AllocError, Global};
 use wire_bytes::Origin;
 
-/// The most requests that may wait at a client's gate while more is read of the client: a piece of 512 bytes
-/// has at most some 42 requests, and the gate takes 100.
+/// The most requests that may wait at a client's gate while more is read of the client: a piece of 512
+/// bytes has at most some 42 requests, and the gate takes 100.
 const MOST_WAITING: usize = 48;
 
 /// By which note of its node, and when, the oldest of the requests that wait was told.
@@ -48,8 +48,8 @@ pub struct Client {
     heard: Timer,
     /// Of what waits; where nothing waits it says nothing.
     asked: Asked,
-    /// A request was left out, or a turn of its node was refused, and nothing was done for it since: what waits
-    /// may be lost.
+    /// A request was left out, or a turn of its node was refused, and nothing was done for it since: what
+    /// waits may be lost.
     is_held_up: bool,
     is_attached: bool,
     /// It was asked for a word since it was last heard of.

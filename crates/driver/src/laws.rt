@@ -13,8 +13,8 @@ pub fn requests_go_to_their_own_node()
     ensures { AsksOwn }
 {}
 
-/// Behind each report of a worker, and whenever time passed, the connection to the server is of the node that
-/// leads in the greatest term, as far as the driver knows, or there is none.
+/// Behind each report of a worker, and whenever time passed, the connection to the server is of the node
+/// that leads in the greatest term, as far as the driver knows, or there is none.
 pub fn the_server_is_of_the_greatest_leader()
     ensures heard { IsOfLeaderHeard }
     ensures ticked { IsOfLeaderTicked }

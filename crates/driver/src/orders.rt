@@ -15,7 +15,7 @@ const MOST_NODES: usize = 7;
 
 /// What is ordered, and how many notes each node was told.
 ///
-/// A clause sees the orders, and how many notes each node was told before them: how many it was told in all
+/// A clause sees the orders, and how many notes each node was told before them: what it was told in all
 /// are these and what the orders tell it.
 #[derive(Drop)]
 pub struct Orders {

@@ -12,7 +12,7 @@ use crate::orders::Orders;
 use std::alloc::AllocError;
 
 impl Client {
-    /// Its node told that what it was told up to this note may be lost, and whether a turn of it was refused.
+    /// Its node told that what it was told up to this note may be lost, and whether it refused a turn.
     pub fn hear_node(
         &mut self,
         now: &Now,

@@ -170,8 +170,8 @@ impl Desk {
     }
 }
 
-/// How far a worker is that was told so many notes, by what was known of it and what it tells: it never goes
-/// back, and is never further than it was told.
+/// How far a worker is that was told so many notes, by what was known of it and what it tells: it never
+/// goes back, and is never further than it was told.
 fn progressed(known: &Progress, told: u64, heard: &Progress) -> Progress
     ensures { result ≡ progressed known.now told heard.now }
 {
