@@ -1,7 +1,7 @@
 -- What comes of clients, one and then those behind it.
-use Rattle.std.proofs.Common.{◌≡◌, ◌∷◌, ℕ, List, [], refl, subst, sym}
+use Rattle.std.proofs.Common.{◌≡◌, ◌∷◌, ℕ, Bool, List, [], refl, subst, sym}
 use Rattle.wire_bytes.specs.declared.moment.Moment.{Moment}
-use Rattle.driver.specs.Crowds.{LeaveEach, LeavesClient, TickEach, TicksClient, Told}
+use Rattle.driver.specs.Crowds.{CutEach, CutsClient, LeaveEach, LeavesClient, TickEach, TicksClient, Told, WordEach, WordsClient}
 
 -- time passes for one client, and then for those behind it
 pub tick_more : (at : Moment) (timeout now number : ℕ) (left more : List ℕ) (old behind new : Told) → left ≡ number ∷ more → TicksClient at timeout now number old behind → TickEach at timeout now more behind new → TickEach at timeout now left old new
@@ -26,3 +26,27 @@ pub leave_none : (at : Moment) (node boot : ℕ) (left : List ℕ) (last : Told)
 unfolding LeaveEach
 leave_none at node boot left last none =
     subst (λ (left : List ℕ). LeaveEach at node boot left last last) (sym none) refl
+
+-- one client is cut off, or stays, and then those behind it
+pub cut_more : (node number : ℕ) (left more : List ℕ) (old behind new : Told) → left ≡ number ∷ more → CutsClient node number old behind → CutEach node more behind new → CutEach node left old new
+unfolding CutEach
+cut_more node number left more old behind new is cuts all =
+    subst (λ (left : List ℕ). CutEach node left old new) (sym is) (behind, cuts, all)
+
+-- where none is left it is done
+pub cut_none : (node : ℕ) (left : List ℕ) (last : Told) → left ≡ [] → CutEach node left last last
+unfolding CutEach
+cut_none node left last none =
+    subst (λ (left : List ℕ). CutEach node left last last) (sym none) refl
+
+-- one client hears what its node told, and then those behind it
+pub word_more : (at : Moment) (now node lost : ℕ) (refused : Bool) (number : ℕ) (left more : List ℕ) (old behind new : Told) → left ≡ number ∷ more → WordsClient at now node lost refused number old behind → WordEach at now node lost refused more behind new → WordEach at now node lost refused left old new
+unfolding WordEach
+word_more at now node lost refused number left more old behind new is words all =
+    subst (λ (left : List ℕ). WordEach at now node lost refused left old new) (sym is) (behind, words, all)
+
+-- where none is left it is done
+pub word_none : (at : Moment) (now node lost : ℕ) (refused : Bool) (left : List ℕ) (last : Told) → left ≡ [] → WordEach at now node lost refused left last last
+unfolding WordEach
+word_none at now node lost refused left last none =
+    subst (λ (left : List ℕ). WordEach at now node lost refused left last last) (sym none) refl

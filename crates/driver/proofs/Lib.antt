@@ -1,7 +1,9 @@
+mod Asking
 mod Crowds
 mod Driving
 mod Leading
 mod Passing
 mod Rounds
+mod Serving
 mod Sessions
-mod Ticking
+mod Telling

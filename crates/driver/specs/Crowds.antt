@@ -1,5 +1,5 @@
 -- What comes of all clients, one after another.
-use Rattle.std.specs.Prelude.{◌≡◌, ◌++◌, ◌&&◌, ◌||◌, ℕ, Bool, true, false, nat_eq, nat_lt, List, [], ◌∷◌, Option, Some, None}
+use Rattle.std.specs.Prelude.{◌≡◌, ◌&&◌, ℕ, Bool, true, false, nat_eq, nat_lt, List, [], ◌∷◌, Option, Some, None}
 use Rattle.client_gate.specs.declared.settings.Settings.{Settings}
 use Rattle.client_gate.specs.Calls.{Call, Stands, gate}
 use Rattle.client_gate.specs.Gates.{last_request}
@@ -7,31 +7,39 @@ use Rattle.wire_bytes.specs.declared.moment.Moment.{Moment}
 use Rattle.wire_bytes.specs.declared.origin.Origin.{Origin}
 use Rattle.driver.specs.declared.client.Client.{Client}
 use Rattle.driver.specs.declared.clients.Clients.{Clients}
-use Rattle.driver.specs.declared.order.Order.{Order}
-use Rattle.driver.specs.Clients.{HasTicked, StandsSo, ended_if, is_too_slow, parting_unless}
+use Rattle.driver.specs.Asking.{HearsNode}
+use Rattle.driver.specs.Clients.{parting_unless}
+use Rattle.driver.specs.Outages.{IsToldDown}
 use Rattle.driver.specs.Rosters.{AreOthersSame, Serves, client_at}
+use Rattle.driver.specs.Serving.{IsLost}
+use Rattle.driver.specs.Silence.{IsKept, is_too_slow}
+use Rattle.driver.specs.Telling.{Ordered, ordered}
 
 -- the clients, and what was ordered
 pub record Told : Type 0 where
   pub clients : Clients
-  pub orders : List Order
+  pub orders : Ordered
 
-abbrev pub told : Clients → List Order → Told
+abbrev pub told : Clients → Ordered → Told
 told clients orders = record { clients = clients; orders = orders }
 
--- Time brought a client what it brings, and its gate knows of its end where it was too slow.
-pub record Ticks (s : Settings) (calls : List Call) (at : Moment) (timeout now : ℕ) (old : Client) (before : List Order) (new : Client) (after : List Order) : Type 0 where
-  pub ticked : HasTicked s calls at timeout now old before new after
-  pub stands : StandsSo s (ended_if (is_too_slow old now) old.is_gone calls) (old.is_gone || is_too_slow old now) old new
+-- Time brought a client what it brings: one that is too slow is parted from.
+pub record Ticks (timeout now : ℕ) (at : Moment) (s : Settings) (calls : List Call) (old : Client) (before : Ordered) (new : Client) (after : Ordered) : Type 0 where
+  pub slow : is_too_slow old now ≡ true → IsLost now at s calls old before new after
+  pub kept : is_too_slow old now ≡ false → IsKept timeout now at s calls old before new after
+
+-- Nothing changed for the clients, and nothing was ordered.
+abbrev pub IsSame : Told → Told → Type 0
+IsSame old new = (new.clients ≡ old.clients) × (new.orders ≡ old.orders)
 
 -- Time passed for the client of this number, where there is one; all others are as they were.
 pub record TicksClient (at : Moment) (timeout now number : ℕ) (old new : Told) : Type 0 where
   pub others : AreOthersSame number old.clients new.clients
-  pub nobody : client_at old.clients number ≡ None → (new.clients ≡ old.clients) × (new.orders ≡ old.orders)
+  pub nobody : client_at old.clients number ≡ None → IsSame old new
   pub served :
       Serves
       (λ c. client_at old.clients number ≡ Some c)
-      (λ s calls c client. Ticks s calls at timeout now c old.orders client new.orders)
+      (λ s calls c client. Ticks timeout now at s calls c old.orders client new.orders)
       number new.clients
 
 -- time passes for the clients of these numbers, in this order
@@ -52,17 +60,55 @@ is_one_below (Some client) node boot = is_below client.origin node boot
 -- others are as they were.
 pub record LeavesClient (at : Moment) (node boot number : ℕ) (old new : Told) : Type 0 where
   pub others : AreOthersSame number old.clients new.clients
-  pub nobody : client_at old.clients number ≡ None → (new.clients ≡ old.clients) × (new.orders ≡ old.orders)
-  pub stays :
-      (c : Client) → client_at old.clients number ≡ Some c → is_below c.origin node boot ≡ false
-      → (new.clients ≡ old.clients) × (new.orders ≡ old.orders)
+  pub nobody : client_at old.clients number ≡ None → IsSame old new
+  pub stays : (c : Client) → client_at old.clients number ≡ Some c → is_below c.origin node boot ≡ false → IsSame old new
   pub leaves : (c : Client) → client_at old.clients number ≡ Some c → is_below c.origin node boot ≡ true → client_at new.clients number ≡ None
   pub orders :
       (s : Settings) (calls : List Call) (c : Client) → client_at old.clients number ≡ Some c → is_below c.origin node boot ≡ true
-      → Stands s calls c.gate → new.orders ≡ old.orders ++ parting_unless c.is_gone c.origin at (last_request (gate s calls))
+      → Stands s calls c.gate → new.orders ≡ ordered old.orders (parting_unless c.is_gone c.origin at (last_request (gate s calls)))
 
 -- the same of the clients of these numbers, in this order
 unfoldable pub LeaveEach : Moment → ℕ → ℕ → List ℕ → Told → Told → Type 0
 LeaveEach at node boot [] old new = new ≡ old
 LeaveEach at node boot (number ∷ numbers) old new =
     (behind : Told) × LeavesClient at node boot number old behind × LeaveEach at node boot numbers behind new
+
+-- a client of this node
+abbrev pub is_of : Origin → ℕ → Bool
+is_of origin node = nat_eq origin.0 node
+
+abbrev pub is_one_of : Option Client → ℕ → Bool
+is_one_of None node = false
+is_one_of (Some client) node = is_of client.origin node
+
+-- A node is down: the client of this number, where it is one of that node, is told so and forgotten; all others are as they were.
+pub record CutsClient (node number : ℕ) (old new : Told) : Type 0 where
+  pub others : AreOthersSame number old.clients new.clients
+  pub nobody : client_at old.clients number ≡ None → IsSame old new
+  pub stays : (c : Client) → client_at old.clients number ≡ Some c → is_of c.origin node ≡ false → IsSame old new
+  pub leaves : (c : Client) → client_at old.clients number ≡ Some c → is_of c.origin node ≡ true → client_at new.clients number ≡ None
+  pub told : (c : Client) → client_at old.clients number ≡ Some c → is_of c.origin node ≡ true → IsToldDown c old.orders new.orders
+
+-- the same of the clients of these numbers, in this order
+unfoldable pub CutEach : ℕ → List ℕ → Told → Told → Type 0
+CutEach node [] old new = new ≡ old
+CutEach node (number ∷ numbers) old new = (behind : Told) × CutsClient node number old behind × CutEach node numbers behind new
+
+-- A node told what may be lost, and whether it refused a turn: the client of this number hears it, where it is one of that node; all
+-- others are as they were.
+pub record WordsClient (at : Moment) (now node lost : ℕ) (refused : Bool) (number : ℕ) (old new : Told) : Type 0 where
+  pub others : AreOthersSame number old.clients new.clients
+  pub nobody : client_at old.clients number ≡ None → IsSame old new
+  pub stays : (c : Client) → client_at old.clients number ≡ Some c → is_of c.origin node ≡ false → IsSame old new
+  pub served :
+      Serves
+      (λ c. (client_at old.clients number ≡ Some c) × (is_of c.origin node ≡ true))
+      (λ s calls c client. HearsNode lost refused now at s calls c old.orders client new.orders)
+      number new.clients
+
+-- the same of the clients of these numbers, in this order
+unfoldable pub WordEach : Moment → ℕ → ℕ → ℕ → Bool → List ℕ → Told → Told → Type 0
+WordEach at now node lost refused [] old new = new ≡ old
+WordEach at now node lost refused (number ∷ numbers) old new =
+    (behind : Told)
+    × WordsClient at now node lost refused number old behind × WordEach at now node lost refused numbers behind new

@@ -1,9 +1,10 @@
 -- What a node is told by the clock and by how it stands, and when.
-use Rattle.std.specs.Prelude.{ℕ, ◌+◌, ◌*◌, ◌-◌, ◌&&◌, ◌||◌, Bool, false, not, min, ◌^◌, nat_eq, nat_le, nat_lt, if◌then◌else◌, List, [], ◌∷◌, Option, Some, None}
+use Rattle.std.specs.Prelude.{ℕ, ◌+◌, ◌*◌, ◌-◌, ◌&&◌, Bool, false, not, nat_eq, nat_le, if◌then◌else◌, List, [], ◌∷◌, Option, Some, None}
 use Rattle.bouncer_tower.specs.Bodies.{TowerBody}
 use Rattle.buffer_commands.specs.declared.wire_line.WireLine.{WireLine}
 use Rattle.node_notes.specs.declared.note.Note.{Note}
 use Rattle.node_notes.specs.declared.note.Note.TheVariants.{Timeout, Beat, Restart, Claim}
+use Rattle.node_notes.specs.declared.progress.Progress.{Progress}
 use Rattle.node_notes.specs.declared.status.Status.{Status}
 use Rattle.node_notes.specs.Notes.{leads}
 use Rattle.machine_laws.specs.Sessions.{same_session}
@@ -15,6 +16,7 @@ use Rattle.driver.specs.declared.desk.Claimed.{Claimed}
 use Rattle.driver.specs.declared.order.Order.{Order}
 use Rattle.driver.specs.declared.order.Order.TheVariants.{Tell}
 use Rattle.driver.specs.declared.settings.Settings.{Settings}
+use Rattle.driver.specs.Telling.{Ordered, next_note}
 
 -- so many milliseconds have passed since then; before that moment none have
 abbrev pub is_over : Timer → ℕ → ℕ → Bool
@@ -24,19 +26,17 @@ is_over timer wait now = nat_le wait (now - timer.since)
 abbrev pub patience : Settings → ℕ → ℕ
 patience settings id = settings.timeout_ms + 50 * id
 
--- a leader sends where its log or what is agreed of it grew since it last sent, where a node that lags behind it answered since
--- then, or where it sent nothing for a while; but not while its last such note is not done
-unfoldable pub is_to_beat : Desk → Settings → ℕ → Status → Bool
-is_to_beat desk settings now status =
-    (nat_lt desk.beaten.0 status.last || nat_lt desk.beaten.1 status.commit || desk.is_answered || is_over desk.beat settings.beat_ms now)
-    && nat_le desk.beat_note desk.done
+-- a leader sends where it was not told to for a while, and its last such note is done
+abbrev pub is_to_beat : Desk → Settings → ℕ → Bool
+is_to_beat desk settings now = is_over desk.beat settings.beat_ms now && nat_le desk.beat_note desk.progress.done
 
--- what a node is told that is up: a leader to send, and any other, where it heard of no leader for too long, to ask for votes
+-- what a node is told that is up: a leader to send, and any other, where it heard of no leader for too long, to ask for votes,
+-- unless it heard of one more often than is known
 unfoldable pub note_up : Desk → Settings → ℕ → Status → Option (Note TowerBody WireLine)
 note_up desk settings now status =
     if leads status
-    then (if is_to_beat desk settings now status then Some Beat else None)
-    else (if is_over desk.led (patience settings desk.id) now then Some Timeout else None)
+    then (if is_to_beat desk settings now then Some Beat else None)
+    else (if is_over desk.led (patience settings desk.id) now then Some (Timeout desk.progress.contacts) else None)
 
 -- what a node is told of which this is known: nothing where it never was heard of, and where it is down, to start again once
 -- it waited long enough
@@ -49,42 +49,58 @@ note_for desk settings now (Some status) None = note_up desk settings now status
 abbrev pub note_at : Desk → Settings → ℕ → Option (Note TowerBody WireLine)
 note_at desk settings now = note_for desk settings now desk.status desk.down
 
--- as many notes of a node wait as may: 32 that it was given are not done
-abbrev pub is_full : Desk → Bool
-is_full desk = nat_le 32 (desk.given - desk.done)
+-- as many notes of a node wait as may: 32 of those that it was told are not done, or are requests that wait for a leader
+abbrev pub is_full : ℕ → Progress → Bool
+is_full told progress = nat_le 32 ((told - progress.done) + progress.waiting)
 
 -- a note as orders to the node
 abbrev pub told : ℕ → Option (Note TowerBody WireLine) → List Order
 told id None = []
 told id (Some note) = Tell id note ∷ []
 
--- the desk of a node that was told one more note
-abbrev pub counted : Desk → Desk
-counted desk = record desk { given = min (desk.given + 1) (2 ^ 64 - 1) }
-
 -- a timer from this moment
 abbrev pub at : ℕ → Timer
 at now = record { since = now }
 
--- a leader that was told to send: when, by which note, and what it stood at then
-abbrev pub beaten_at : Desk → ℕ → Status → Desk
-beaten_at desk now status = record (counted desk)
-    { beat = at now; beaten = (status.last, status.commit); is_answered = false; beat_note = min (desk.given + 1) (2 ^ 64 - 1) }
+-- a leader that was told to send: when, and by which note
+abbrev pub beaten_at : Ordered → Desk → ℕ → Desk
+beaten_at orders desk now = record desk { beat = at now; beat_note = next_note orders desk.id }
 
 -- a node that was told to start again waits twice as long as before until it is told next, up to a limit
 abbrev pub restarted_at : Desk → ℕ → Desk
-restarted_at desk now = record (counted desk) {
+restarted_at desk now = record desk {
   down = Some (at now);
   wait_ms = desk.backoff.next;
   backoff = record desk.backoff { next = doubled desk.backoff.most desk.backoff.next };
 }
 
 -- the desk behind what the clock told the node, if anything
-unfoldable pub desk_behind : Desk → ℕ → Option Status → Option (Note TowerBody WireLine) → Desk
-desk_behind desk now (Some status) (Some Beat) = beaten_at desk now status
-desk_behind desk now (Some status) (Some Timeout) = record (counted desk) { led = at now; has_yielded = false }
-desk_behind desk now (Some status) (Some Restart) = restarted_at desk now
-desk_behind desk now status _ = desk
+unfoldable pub desk_behind : Ordered → Desk → ℕ → Option (Note TowerBody WireLine) → Desk
+desk_behind orders desk now (Some Beat) = beaten_at orders desk now
+desk_behind orders desk now (Some (Timeout contacts)) = record desk { led = at now; has_yielded = false }
+desk_behind orders desk now (Some Restart) = restarted_at desk now
+desk_behind orders desk now _ = desk
+
+-- the desk of a node that was just started: nothing is known of it, and its first wait is a timeout
+abbrev pub new_desk : Settings → ℕ → ℕ → Desk
+new_desk settings now id = record {
+  id = id;
+  status = None;
+  progress = record { done = 0; waiting = 0; lost = 0; contacts = 0 };
+  led = at now;
+  has_yielded = false;
+  beat = at now;
+  beat_note = 0;
+  claimed = None;
+  down = None;
+  wait_ms = settings.timeout_ms;
+  backoff = record { first = settings.timeout_ms; most = 60_000; next = settings.timeout_ms };
+  heard = at now;
+  up = at now;
+  seen = None;
+  restart_note = 0;
+  has_turned_away = false;
+}
 
 -- the line that is to be claimed next: its session, where the node holds one, and its number, where there is one
 abbrev pub line_in : Option (ℕ × ℕ) → Option ℕ → Option ((ℕ × ℕ) × ℕ)
@@ -129,5 +145,5 @@ abbrev pub desk_claimed : Desk → ℕ → Bool → Option ((ℕ × ℕ) × ℕ)
 desk_claimed desk now may None = desk
 desk_claimed desk now may (Some line) =
     if may
-    then record (counted desk) { claimed = Some (record { session = line.0; number = line.1; at = at now }) }
+    then record desk { claimed = Some (record { session = line.0; number = line.1; at = at now }) }
     else desk

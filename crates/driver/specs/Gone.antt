@@ -1,10 +1,11 @@
 -- When word goes round that earlier runs of a node are gone.
-use Rattle.std.specs.Prelude.{ℕ, ◌+◌, ◌-◌, ◌*◌, ◌^◌, min, nat_lt, ◌&&◌, Bool, true, false, nat_eq, nat_le, if◌then◌else◌, List, Option, Some, None, slice_get}
+use Rattle.std.specs.Prelude.{ℕ, ◌+◌, ◌-◌, ◌*◌, ◌^◌, nat_lt, ◌&&◌, Bool, true, false, nat_eq, nat_le, if◌then◌else◌, List, [], ◌∷◌, Option, Some, None, slice_get}
 use Rattle.bouncer_tower.specs.Bodies.{TowerBody}
 use Rattle.bouncer_tower.specs.Hosting.{of_buffers}
 use Rattle.buffer_commands.specs.declared.command.Command.TheVariants.{NodeGone}
 use Rattle.buffer_commands.specs.declared.wire_line.WireLine.{WireLine}
 use Rattle.node_notes.specs.Notes.{leads}
+use Rattle.pacing.specs.declared.timer.Timer.{Timer}
 use Rattle.node_notes.specs.declared.note.Note.{Note}
 use Rattle.node_notes.specs.declared.note.Note.TheVariants.{Restart}
 use Rattle.node_notes.specs.declared.status.Status.{Status}
@@ -13,8 +14,9 @@ use Rattle.driver.specs.declared.gone.Lead.{Lead}
 use Rattle.driver.specs.declared.gone.Notice.{Notice}
 use Rattle.driver.specs.declared.gone.Progress.{Progress}
 use Rattle.driver.specs.declared.gone.Progress.TheVariants.{Told, Appended, Lost, Applied}
-use Rattle.driver.specs.Desks.{at, counted, is_over}
+use Rattle.driver.specs.Desks.{at, is_over}
 use Rattle.driver.specs.Hearing.{is_none}
+use Rattle.driver.specs.Telling.{Ordered, next_note}
 
 -- that the runs of a node with a smaller boot are gone
 abbrev pub gone_body : ℕ → ℕ → TowerBody
@@ -69,8 +71,8 @@ abbrev pub fresh : ℕ → ℕ → Notice
 fresh node floor = record { node = node; floor = floor; asked = at 0; via = node; progress = Lost }
 
 -- the notice behind an ask at this desk
-abbrev pub asked_at : Notice → ℕ → Desk → Notice
-asked_at notice now desk = asked_of notice now desk.id (counted desk).given desk.status
+abbrev pub asked_at : Ordered → Notice → ℕ → Desk → Notice
+asked_at orders notice now desk = asked_of notice now desk.id (next_note orders desk.id) desk.status
 
 -- word of which more was heard of this node, which says something of it where it was asked for there last
 abbrev pub heard_of : ℕ → Status → ℕ → Bool → Notice → Notice
@@ -84,17 +86,31 @@ heard_in node status done refused None = None
 heard_in node status done refused (Some notice) = Some (heard_of node status done refused notice)
 
 -- the greater of two boots
-abbrev pub greatest : Option ℕ → ℕ → Option ℕ
-greatest None boot = Some boot
-greatest (Some seen) boot = Some (if nat_le boot seen then seen else boot)
+abbrev pub greatest : Option ℕ → ℕ → ℕ
+greatest None boot = boot
+greatest (Some seen) boot = if nat_le boot seen then seen else boot
 
--- where a node of which this boot was seen answered nothing for ten waits, its runs up to that boot are gone
-abbrev pub gone_below : Option ℕ → Bool → Option ℕ
-gone_below None silent = None
-gone_below (Some boot) silent = if silent && nat_lt boot (2 ^ 60) then Some (boot + 1) else None
+-- a desk of which a client has an origin with this boot
+abbrev pub with_seen : ℕ → Desk → Desk
+with_seen boot desk = record desk { seen = Some (greatest desk.seen boot) }
+
+-- the runs up to this boot are gone
+abbrev pub gone_below : Option ℕ → Option ℕ
+gone_below None = None
+gone_below (Some boot) = if nat_lt boot (2 ^ 60) then Some (boot + 1) else None
+
+-- the last run of a node that is over: where it is down, that in which it was last heard of; where it answered nothing for ten
+-- waits, the last one of which a boot was seen
+abbrev pub boot_over : Option Timer → Option Status → Option ℕ → Bool → Option ℕ
+boot_over (Some since) (Some status) seen silent = Some (greatest seen status.boot)
+boot_over (Some since) None seen silent = if silent then seen else None
+boot_over None status seen silent = if silent then seen else None
+
+abbrev pub dead_boot : Desk → ℕ → ℕ → Option ℕ
+dead_boot desk wait now = boot_over desk.down desk.status desk.seen (is_over desk.heard (10 * wait) now)
 
 abbrev pub dead_below : Desk → ℕ → ℕ → Option ℕ
-dead_below desk wait now = gone_below desk.seen (is_over desk.heard (10 * wait) now)
+dead_below desk wait now = gone_below (dead_boot desk wait now)
 
 -- word of which the floor is this one, and which goes round where it is greater than that of the word before
 abbrev pub is_news : Option Notice → ℕ → Bool
@@ -119,7 +135,7 @@ is_up_below (Some status) floor = is_none status.down && nat_lt status.boot floo
 
 -- a node is to start again where it lives on in a run that is gone; but not while its last such note is not done
 abbrev pub is_to_restart : Desk → ℕ → Bool
-is_to_restart desk floor = is_up_below desk.status floor && nat_le desk.restart_note desk.done
+is_to_restart desk floor = is_up_below desk.status floor && nat_le desk.restart_note desk.progress.done
 
 -- what a node is told of which the runs below this one are gone, if they are
 abbrev pub restart_if : Desk → Option ℕ → Option (Note TowerBody WireLine)
@@ -127,14 +143,18 @@ restart_if desk None = None
 restart_if desk (Some floor) = if is_to_restart desk floor then Some Restart else None
 
 -- what is known of the node then
-abbrev pub restart_behind : Desk → Option (Note TowerBody WireLine) → Desk
-restart_behind desk None = desk
-restart_behind desk (Some note) = record (counted desk) { restart_note = min (desk.given + 1) (2 ^ 64 - 1) }
+abbrev pub restart_behind : Ordered → Desk → Option (Note TowerBody WireLine) → Desk
+restart_behind orders desk None = desk
+restart_behind orders desk (Some note) = record desk { restart_note = next_note orders desk.id }
 
 -- the word that goes round of a node, if there is one
 abbrev pub notice_in : Option (Option Notice) → Option Notice
 notice_in None = None
 notice_in (Some place) = place
+
+-- no word goes round of any of the seven
+abbrev pub no_notices : List (Option Notice)
+no_notices = None ∷ None ∷ None ∷ None ∷ None ∷ None ∷ None ∷ []
 
 abbrev pub notice_at : List (Option Notice) → ℕ → Option Notice
 notice_at all node = notice_in (slice_get all (node - 1))

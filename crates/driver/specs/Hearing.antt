@@ -1,5 +1,6 @@
 -- What is known of a node behind word of how it stands, and what an operator is told of it.
-use Rattle.std.specs.Prelude.{ℕ, ◌+◌, ◌&&◌, ◌||◌, Bool, true, false, not, min, nat_eq, nat_lt, if◌then◌else◌, List, [], ◌∷◌, ◌++◌, Option, Some, None}
+use Rattle.std.specs.Prelude.{ℕ, ◌&&◌, ◌||◌, Bool, true, false, not, max, min, nat_eq, nat_lt, if◌then◌else◌, List, [], ◌∷◌, ◌++◌, Option, Some, None}
+use Rattle.node_notes.specs.declared.progress.Progress.{Progress}
 use Rattle.node_notes.specs.declared.status.Status.{Status}
 use Rattle.node_notes.specs.Notes.{leads}
 use Rattle.pacing.specs.declared.timer.Timer.{Timer}
@@ -8,10 +9,11 @@ use Rattle.raft_log.specs.declared.role.Role.{Role}
 use Rattle.raft_log.specs.declared.role.Role.TheVariants.{Follower, Candidate, Leader}
 use Rattle.raft_node.specs.declared.node_fault.Cause.{Cause}
 use Rattle.driver.specs.declared.desk.Desk.{Desk}
-use Rattle.driver.specs.declared.news.News.TheVariants.{Down, Elected, Up}
+use Rattle.driver.specs.declared.desk.hearing.Heard.{Heard}
+use Rattle.driver.specs.declared.news.News.TheVariants.{Down, Elected, TurnedAway, Up}
 use Rattle.driver.specs.declared.order.Order.{Order}
 use Rattle.driver.specs.declared.order.Order.TheVariants.{Tells}
-use Rattle.driver.specs.Desks.{at}
+use Rattle.driver.specs.Desks.{at, is_over}
 
 -- this is of another run than what was heard before
 abbrev pub is_new_run : Option Status → Status → Bool
@@ -39,21 +41,21 @@ is_elected desk status = leads status && not (led_in desk.status status.term)
 abbrev pub elected_news : Desk → Status → List Order
 elected_news desk status = if is_elected desk status then Tells (Elected desk.id status.term) ∷ [] else []
 
--- it has sent nothing yet
-abbrev pub elected_behind : Desk → Status → Desk
-elected_behind desk status = if is_elected desk status then record desk { beaten = (0, 0) } else desk
-
 -- the first word that a node is down, since it was up
 abbrev pub down_news : ℕ → Cause → Option Timer → List Order
 down_news id cause None = Tells (Down id cause) ∷ []
 down_news id cause (Some since) = []
 
--- it is started again behind a wait, which is twice as long the next time, up to a limit
+-- how long is waited: the first wait again where the node was up for a minute
+abbrev pub wait_behind : Desk → ℕ → ℕ
+wait_behind desk now = if is_over desk.up 60_000 now then desk.backoff.first else desk.backoff.next
+
+-- it is started again behind that wait, which is twice as long the next time, up to a limit
 abbrev pub down_behind : Desk → ℕ → Option Timer → Desk
 down_behind desk now None = record desk {
   down = Some (at now);
-  wait_ms = desk.backoff.next;
-  backoff = record desk.backoff { next = doubled desk.backoff.most desk.backoff.next };
+  wait_ms = wait_behind desk now;
+  backoff = record desk.backoff { next = doubled desk.backoff.most (wait_behind desk now) };
 }
 down_behind desk now (Some since) = desk
 
@@ -63,8 +65,8 @@ up_news id boot false = Tells (Up id boot) ∷ []
 
 -- a node that came up waits for a leader from now on
 abbrev pub up_behind : Desk → ℕ → Bool → Desk
-up_behind desk now true = record desk { down = None; heard = at now }
-up_behind desk now false = record desk { down = None; heard = at now; led = at now }
+up_behind desk now true = record desk { down = None; heard = at now; has_turned_away = false }
+up_behind desk now false = record desk { down = None; heard = at now; has_turned_away = false; led = at now; up = at now }
 
 abbrev pub is_follower : Role → Bool
 is_follower Follower = true
@@ -88,21 +90,39 @@ waiting_behind desk now status led =
       has_yielded = not is_led && (desk.has_yielded || raised);
     }
 
--- it stands so, one more of the notes that it was given is done or not, and a leader was heard of or was not
-abbrev pub told_behind : Desk → ℕ → Status → Bool → Bool → Desk
-told_behind desk now status led is_last = record (waiting_behind desk now status led) {
-  status = Some status;
-  done = (if is_last then min (desk.done + 1) desk.given else desk.done);
+-- How far a worker is that was told so many notes, by what was known of it and what it tells: it never goes back, and is never
+-- further than it was told.
+abbrev pub progressed : Progress → ℕ → Progress → Progress
+progressed known told heard = record {
+  done = max known.done (min heard.done told);
+  waiting = heard.waiting;
+  lost = max known.lost (min heard.lost told);
+  contacts = max known.contacts heard.contacts;
 }
+
+-- it stands so, its worker is so far, and a leader was heard of where it had more contacts with one than were known
+abbrev pub told_behind : Desk → ℕ → ℕ → Status → Progress → Desk
+told_behind desk now told status progress =
+    record (waiting_behind desk now status (nat_lt desk.progress.contacts progress.contacts)) {
+      status = Some status;
+      progress = progressed desk.progress told progress;
+    }
 
 abbrev pub stood_behind : Desk → ℕ → Bool → Option Cause → Desk
 stood_behind desk now up None = up_behind desk now up
 stood_behind desk now up (Some cause) = down_behind desk now desk.down
 
--- what is known of the node behind this word
-abbrev pub heard_behind : Desk → ℕ → Status → Bool → Bool → Desk
-heard_behind desk now status led is_last =
-    stood_behind (told_behind (elected_behind desk status) now status led is_last) now (was_up desk.status) status.down
+-- what is known of the node behind this word, where it was told so many notes
+abbrev pub heard_behind : Desk → ℕ → ℕ → Status → Progress → Desk
+heard_behind desk now told status progress =
+    stood_behind (told_behind desk now told status progress) now (was_up desk.status) status.down
+
+-- what is new of it: a run of it began, and requests may be lost that were not known to be
+abbrev pub heard_of : Desk → ℕ → Status → Progress → Heard
+heard_of desk told status progress = record {
+  is_new = is_new_run desk.status status;
+  has_lost = nat_lt desk.progress.lost (progressed desk.progress told progress).lost;
+}
 
 abbrev pub stood_news : Desk → Status → Option Cause → List Order
 stood_news desk status None = up_news desk.id status.boot (was_up desk.status)
@@ -112,12 +132,18 @@ stood_news desk status (Some cause) = down_news desk.id cause desk.down
 abbrev pub heard_news : Desk → Status → List Order
 heard_news desk status = elected_news desk status ++ stood_news desk status status.down
 
--- a node of which this is known leads in the term of another that stands so, and has more entries
-abbrev pub is_ahead : Option Status → Status → Bool
-is_ahead None other = false
-is_ahead (Some status) other = leads status && nat_eq status.term other.term && nat_lt other.last status.last
+-- the run in which a node is up that stood so, if it is
+abbrev pub boot_if : ℕ → Option Cause → Option ℕ
+boot_if boot None = Some boot
+boot_if boot (Some cause) = None
 
--- what is known of a node once another that stands so heard of the leader of its term: it is answered where it is that leader,
--- and the other lags behind
-abbrev pub answered_by : Desk → Status → Desk
-answered_by desk other = if is_ahead desk.status other then record desk { is_answered = true } else desk
+abbrev pub boot_up : Option Status → Option ℕ
+boot_up None = None
+boot_up (Some status) = boot_if status.boot status.down
+
+-- an operator is told of a client that was turned away, once until the node is up again
+abbrev pub turned_away_news : Desk → List Order
+turned_away_news desk = if desk.has_turned_away then [] else Tells (TurnedAway desk.id) ∷ []
+
+abbrev pub turned_away : Desk → Desk
+turned_away desk = record desk { has_turned_away = true }

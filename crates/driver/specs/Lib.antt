@@ -1,3 +1,5 @@
+pub mod Arriving
+pub mod Asking
 pub mod Clients
 pub mod Crowds
 pub mod Desks
@@ -6,8 +8,15 @@ pub mod Gone
 pub mod Hearing
 pub mod Leading
 pub mod Links
+pub mod Once
+pub mod Operators
+pub mod Outages
 pub mod Passing
+pub mod Reports
 pub mod Rosters
 pub mod Rounds
+pub mod Serving
 pub mod Sessions
+pub mod Silence
+pub mod Telling
 pub mod Waking

@@ -1,5 +1,5 @@
 -- The connection to the server, and the numbers of clients.
-use Rattle.std.specs.Prelude.{◌≡◌, ℕ, ◌+◌, ◌-◌, ◌^◌, ◌&&◌, Bool, true, false, nat_eq, nat_lt, if◌then◌else◌, List, [], ◌∷◌, ◌++◌, length, Option, Some, None, slice_get}
+use Rattle.std.specs.Prelude.{◌≡◌, ℕ, ◌-◌, Bool, true, false, nat_eq, nat_lt, if◌then◌else◌, List, [], ◌∷◌, ◌++◌, length, Option, Some, None, slice_get}
 use Rattle.std.specs.Global.{Vec}
 use Rattle.std.specs.Option.{is_some, option_to_list}
 use Rattle.irc_line.specs.Lines.{Parts, cut_spelling, spelling}
@@ -14,7 +14,6 @@ use Rattle.uplink.specs.Calls.{Fed, Ended, GoesOn, IsAfter}
 use Rattle.uplink.specs.Calls as uplink
 use Rattle.uplink.specs.Sending.{first_bytes}
 use Rattle.node_notes.specs.declared.status.Status.{Status}
-use Rattle.raft_node.specs.declared.node_fault.Cause.{Cause}
 use Rattle.pacing.specs.declared.backoff.Backoff.{Backoff}
 use Rattle.pacing.specs.Pacing.{doubled}
 use Rattle.driver.specs.declared.desk.Desk.{Desk}
@@ -28,6 +27,7 @@ use Rattle.driver.specs.declared.order.Order.{Order}
 use Rattle.driver.specs.declared.order.Order.TheVariants.{Send, Tells}
 use Rattle.driver.specs.declared.settings.Settings.{Settings}
 use Rattle.driver.specs.Desks.{at, is_over}
+use Rattle.driver.specs.Telling.{Ordered, ordered}
 
 -- the node that a connection is of, if there is one
 abbrev pub node_of : Stage → Option ℕ
@@ -40,6 +40,10 @@ abbrev pub may_connect : Stage → ℕ → Bool
 may_connect (Idle since wait) now = is_over since wait now
 may_connect (Connecting node) now = false
 may_connect (Open session) now = false
+
+-- before anything failed: the first wait is a second, and the longest a minute
+abbrev pub first_backoff : Backoff
+first_backoff = record { first = 1000; most = 60_000; next = 1000 }
 
 -- the server was silent for five minutes
 abbrev pub is_silent : Stage → ℕ → Bool
@@ -87,15 +91,6 @@ is_open (Idle since wait) = false
 is_open (Connecting node) = false
 is_open (Open session) = true
 
-abbrev pub is_none : Option Cause → Bool
-is_none None = true
-is_none (Some cause) = false
-
--- a node of which this is known is up
-abbrev pub is_up : Option Status → Bool
-is_up None = false
-is_up (Some status) = is_none status.down
-
 -- how a desk's node stood when it was last heard of
 abbrev pub status_in : Option Desk → Option Status
 status_in None = None
@@ -105,20 +100,11 @@ status_in (Some desk) = desk.status
 abbrev pub status_at : List Desk → ℕ → Option Status
 status_at desks node = status_in (slice_get desks (node - 1))
 
--- the number of a client that connects: one more than the last, where its node is up and numbers are left
-abbrev pub next_number : List Desk → ℕ → ℕ → Option ℕ
-next_number desks node last = if is_up (status_at desks node) && nat_lt last (2 ^ 60) then Some (last + 1) else None
-
--- the number of the last client then
-abbrev pub last_number : ℕ → Option ℕ → ℕ
-last_number last None = last
-last_number last (Some number) = number
-
 -- A session begins, of a connection that stands: the server is sent its first bytes.
-pub record HasBegun (settings : Settings) (now node : ℕ) (before : List Order) (session : Session) (after : List Order) : Type 0 where
+pub record HasBegun (settings : Settings) (now node : ℕ) (before : Ordered) (session : Session) (after : Ordered) : Type 0 where
   pub first : Vec ℕ
   pub is_first : first.items ≡ first_bytes settings.nick settings.upstream_password
-  pub orders : after ≡ before ++ Send first ∷ []
+  pub orders : after ≡ ordered before (Send first ∷ [])
   pub node_is : session.node ≡ node
   pub since : session.since ≡ at now
   pub heard : session.heard ≡ at now
@@ -126,7 +112,7 @@ pub record HasBegun (settings : Settings) (now node : ℕ) (before : List Order)
   pub uplink_is : IsAfter session.uplink settings.nick []
 
 -- what a connection that stands comes to: nothing where none was asked for
-abbrev pub Connects : Stage → Settings → ℕ → List Order → Stage → List Order → Type 0
+abbrev pub Connects : Stage → Settings → ℕ → Ordered → Stage → Ordered → Type 0
 Connects (Idle since wait) settings now before stage after = (stage ≡ Idle since wait) × (after ≡ before)
 Connects (Connecting node) settings now before stage after =
     (session : Session) × HasBegun settings now node before session after × (stage ≡ Open session)
@@ -148,11 +134,11 @@ send_some bytes [] = []
 send_some bytes (byte ∷ more) = Send bytes ∷ []
 
 -- Bytes came of a session: its uplink was fed, what that wrote goes to the server, and what it gave to the node.
-pub record HasReceived (now : ℕ) (moment : Moment) (bytes : List ℕ) (old : Session) (before : List Order) (new : Session) (notes : List (Note TowerBody WireLine)) (after : List Order) : Type 0 where
+pub record HasReceived (now : ℕ) (moment : Moment) (bytes : List ℕ) (old : Session) (before : Ordered) (new : Session) (notes : List (Note TowerBody WireLine)) (after : Ordered) : Type 0 where
   pub given : List UplinkInput
   pub reply : Vec ℕ
   pub goes_on : GoesOn old.uplink (Fed bytes) new.uplink given reply.items
-  pub orders : after ≡ before ++ send_some reply reply.items
+  pub orders : after ≡ ordered before (send_some reply reply.items)
   pub are_notes : notes ≡ notes_of moment given
   pub node_is : new.node ≡ old.node
   pub since : new.since ≡ old.since
@@ -160,7 +146,7 @@ pub record HasReceived (now : ℕ) (moment : Moment) (bytes : List ℕ) (old : S
   pub heard : new.heard ≡ at now
 
 -- what bytes come to: nothing where there is no session
-abbrev pub Receives : Stage → ℕ → Moment → List ℕ → List Order → Stage → List (Note TowerBody WireLine) → List Order → Type 0
+abbrev pub Receives : Stage → ℕ → Moment → List ℕ → Ordered → Stage → List (Note TowerBody WireLine) → Ordered → Type 0
 Receives (Idle since wait) now moment bytes before stage notes after = (stage ≡ Idle since wait) × (notes ≡ []) × (after ≡ before)
 Receives (Connecting node) now moment bytes before stage notes after = (stage ≡ Connecting node) × (notes ≡ []) × (after ≡ before)
 Receives (Open session) now moment bytes before stage notes after =
@@ -175,12 +161,12 @@ IsLost (Open session) lost =
     × (lost ≡ is_some given)
 
 -- a line goes to the server, cut to what fits into a line
-pub record IsSent (line : Parts) (before after : List Order) : Type 0 where
+pub record IsSent (line : Parts) (before after : Ordered) : Type 0 where
   pub bytes : Vec ℕ
   pub are : bytes.items ≡ cut_spelling line
-  pub orders : after ≡ before ++ Send bytes ∷ []
+  pub orders : after ≡ ordered before (Send bytes ∷ [])
 
-abbrev pub SendsIf : Bool → Parts → List Order → List Order → Type 0
+abbrev pub SendsIf : Bool → Parts → Ordered → Ordered → Type 0
 SendsIf true line before after = IsSent line before after
 SendsIf false line before after = after ≡ before
 
@@ -191,5 +177,5 @@ is_session_of (Connecting other) node = false
 is_session_of (Open session) node = nat_eq session.node node
 
 -- a node's line goes to the server in a session of this node, and nowhere else
-abbrev pub Sends : Stage → ℕ → Parts → List Order → List Order → Type 0
+abbrev pub Sends : Stage → ℕ → Parts → Ordered → Ordered → Type 0
 Sends stage node line before after = SendsIf (is_session_of stage node) line before after

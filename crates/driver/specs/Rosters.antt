@@ -1,20 +1,16 @@
 -- What happens to one of all clients.
-use Rattle.std.specs.Prelude.{◌≡◌, ◌⊎◌, ◌++◌, ◌-◌, ◌&&◌, ℕ, Bool, true, false, not, if◌then◌else◌, List, [], ◌∷◌, Option, Some, None, slice_get}
+use Rattle.std.specs.Prelude.{◌≡◌, ◌-◌, ◌&&◌, ℕ, Bool, true, false, not, nat_le, if◌then◌else◌, List, length, Option, Some, None, slice_get}
 use Rattle.std.specs.Ordering.{nat_cmp}
 use Rattle.std.specs.BTreeMap.{get}
 use Rattle.client_gate.specs.declared.settings.Settings.{Settings}
-use Rattle.client_gate.specs.Calls.{Call, Feed, Held, Stands, fed_answer, gate}
-use Rattle.client_gate.specs.Gates.{GateEffect, last_request}
-use Rattle.client_gate.specs.Made.{made}
-use Rattle.node_notes.specs.declared.status.Status.{Status}
-use Rattle.wire_bytes.specs.declared.moment.Moment.{Moment}
+use Rattle.client_gate.specs.Calls.{Call, Held, Stands, gate}
 use Rattle.wire_bytes.specs.declared.origin.Origin.{Origin}
 use Rattle.driver.specs.declared.client.Client.{Client}
 use Rattle.driver.specs.declared.clients.Clients.{Clients}
-use Rattle.driver.specs.declared.order.Order.{Order}
 use Rattle.driver.specs.declared.desk.Desk.{Desk}
 use Rattle.driver.specs.Desks.{at, is_full}
-use Rattle.driver.specs.Clients.{HasHeard, HasPassed, IsCutOff, StandsSo, ended, is_done, parting_unless}
+use Rattle.driver.specs.Asking.{is_idle}
+use Rattle.driver.specs.Telling.{Ordered, told_to}
 
 -- the client of this number, if there is one
 abbrev pub client_at : Clients → ℕ → Option Client
@@ -25,15 +21,30 @@ abbrev pub node_in : Option Client → Option ℕ
 node_in None = None
 node_in (Some client) = Some client.origin.0
 
+-- a client registered at its node, if there is one
+abbrev pub is_attached_in : Option Client → Bool
+is_attached_in None = false
+is_attached_in (Some client) = client.is_attached
+
 -- bytes are read that may bring notes to a node of which this is known: not while as many as may wait already
-abbrev pub takes_notes : Option Desk → Bool
-takes_notes None = true
-takes_notes (Some desk) = not (is_full desk)
+abbrev pub takes_notes : Ordered → Option Desk → Bool
+takes_notes orders None = true
+takes_notes orders (Some desk) = not (is_full (told_to orders desk.id) desk.progress)
 
 -- bytes are read that may bring notes to this node, if they are for one
-abbrev pub is_read_for : List Desk → Option ℕ → Bool
-is_read_for desks None = true
-is_read_for desks (Some node) = takes_notes (slice_get desks (node - 1))
+abbrev pub is_read_for : Ordered → List Desk → Option ℕ → Bool
+is_read_for orders desks None = true
+is_read_for orders desks (Some node) = takes_notes orders (slice_get desks (node - 1))
+
+-- As many requests of a client wait at its gate, behind whatever calls of it, as may while more is read.
+abbrev pub IsFullIn : Bool → Option Client → Type 0
+IsFullIn full None = full ≡ false
+IsFullIn full (Some c) = (s : Settings) (calls : List Call) → Stands s calls c.gate → full ≡ nat_le 48 (length (gate s calls).waiting)
+
+-- Bytes are read of a client, if there is one: not while as many notes of its node wait as may, or as many of its requests.
+abbrev pub IsReadOf : Bool → Ordered → List Desk → Option Client → Type 0
+IsReadOf reads orders desks client =
+    (full : Bool) × IsFullIn full client × (reads ≡ (is_read_for orders desks (node_in client) && not full))
 
 -- all other numbers have the clients that they had
 abbrev pub AreOthersSame : ℕ → Clients → Clients → Type 0
@@ -41,7 +52,7 @@ AreOthersSame number old new = (other : ℕ) → (number ≡ other → ⊥) → 
 
 -- a client behind these calls of its gate is kept, unless its connection is gone and all that it asked for is done
 abbrev pub kept : Settings → List Call → Client → Option Client
-kept s calls c = if c.is_gone && is_done (gate s calls).waiting then None else Some c
+kept s calls c = if c.is_gone && is_idle (gate s calls).waiting then None else Some c
 
 -- the client of this number, where there is one, is kept or not
 abbrev pub IsKept : ℕ → Clients → Clients → Type 0
@@ -59,43 +70,14 @@ abbrev pub Serves : (Client → Type 0) → (Settings → List Call → Client �
 Serves is_meant happens number new =
     (s : Settings) (calls : List Call) (c : Client) → is_meant c → Stands s calls c.gate → Becomes (happens s calls c) number s new
 
--- bytes came from a client, whose connection may be gone
-pub record Receives (bytes : List ℕ) (at : Moment) (s : Settings) (calls : List Call) (old : Client) (before : List Order) (new : Client) (after : List Order) : Type 0 where
-  pub stays :
-      old.is_gone ≡ false
-      → HasPassed s (Feed bytes ∷ calls) (fed_answer s calls bytes) at old before new after
-      ⊎ IsCutOff s calls at old before new after
-  pub gone : old.is_gone ≡ true → (new ≡ old) × (after ≡ before)
-
--- something came of a request of a client
-abbrev pub Hears : GateEffect → Moment → Settings → List Call → Client → List Order → Client → List Order → Type 0
-Hears effect at s calls old before new after = HasHeard s calls effect at old before new after ⊎ IsCutOff s calls at old before new after
-
--- a client's connection is gone
-pub record IsLost (at : Moment) (s : Settings) (calls : List Call) (old : Client) (before : List Order) (new : Client) (after : List Order) : Type 0 where
-  pub orders : after ≡ before ++ parting_unless old.is_gone old.origin at (last_request (gate s calls))
-  pub stands : StandsSo s (ended old.is_gone calls) true old new
-
 -- A client that has just connected: nothing was asked of it, or by it.
 pub record IsNew (origin : Origin) (held : Held) (now : ℕ) (client : Client) : Type 0 where
   pub origin_is : client.origin ≡ origin
   pub gate_is : client.gate ≡ held
   pub since : client.since ≡ at now
   pub heard : client.heard ≡ at now
+  pub asked_is : client.asked ≡ record { note = 0; at = at now }
+  pub is_not_held_up : client.is_held_up ≡ false
   pub is_not_attached : client.is_attached ≡ false
-  pub is_not_asked : client.is_asked ≡ false
+  pub is_not_pinged : client.is_pinged ≡ false
   pub is_not_gone : client.is_gone ≡ false
-
--- A client of this origin has connected; its gate is a new one of this password and this nick.
-pub record Arrives (origin : Origin) (password nick : List ℕ) (now : ℕ) (new : Clients) : Type 0 where
-  pub client : Client
-  pub is_there : client_at new origin.2 ≡ Some client
-  pub held : Held
-  pub is_new : IsNew origin held now client
-  pub is_made : Stands (made origin password nick) [] held
-
--- a client has connected to a node that stands so, if it was given a number
-abbrev pub ArrivesIf : Option Status → Option ℕ → ℕ → List ℕ → List ℕ → ℕ → Clients → Clients → Type 0
-ArrivesIf None number node password nick now old new = new ≡ old
-ArrivesIf (Some status) None node password nick now old new = new ≡ old
-ArrivesIf (Some status) (Some number) node password nick now old new = Arrives (node, status.boot, number) password nick now new

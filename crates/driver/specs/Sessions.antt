@@ -8,11 +8,10 @@ use Rattle.node_notes.specs.declared.note.Note.TheVariants as note
 use Rattle.driver.specs.declared.driver.Driver.{Driver}
 use Rattle.driver.specs.declared.news.News.TheVariants.{Opened}
 use Rattle.driver.specs.declared.order.Order.{Order}
-use Rattle.driver.specs.declared.order.Order.TheVariants.{Tells}
-use Rattle.driver.specs.Desks.{counted, told}
-use Rattle.driver.specs.Driving.{changed_at, orders_at}
+use Rattle.driver.specs.declared.order.Order.TheVariants.{Tell, Tells}
 use Rattle.driver.specs.declared.link.Link.{Link}
 use Rattle.driver.specs.Links.{Receives, opened}
+use Rattle.driver.specs.Telling.{ordered}
 
 -- an operator is told that the server gave a session, where a note says so
 abbrev pub opened_of : ℕ → Note TowerBody WireLine → List Order
@@ -26,11 +25,8 @@ link_behind other link = link
 
 -- The node of a session is told what came, and an operator where it is that the session opened.
 pub record TellsOf (node : ℕ) (came : Note TowerBody WireLine) (old new : Driver) : Type 0 where
-  pub desks : new.desks ≡ changed_at counted old.desks node
-  pub orders :
-      new.orders.items
-      ≡ (old.orders.items ++ opened_of node came) ++ orders_at (λ desk. told desk.id (Some came)) old.desks node
-  pub rest : new ≡ record old { desks = new.desks; orders = new.orders; link = link_behind came old.link }
+  pub orders : new.orders ≡ ordered old.orders (opened_of node came ++ Tell node came ∷ [])
+  pub rest : new ≡ record old { orders = new.orders; link = link_behind came old.link }
 
 -- It is told all that came, in turn.
 unfoldable pub TellsAllOf : ℕ → List (Note TowerBody WireLine) → Driver → Driver → Type 0
@@ -41,7 +37,7 @@ TellsAllOf node (came ∷ more) old new = (behind : Driver) × TellsOf node came
 pub record Takes (now : ℕ) (moment : Moment) (bytes : List ℕ) (node : ℕ) (old new : Driver) : Type 0 where
   pub taken : Driver
   pub notes : List (Note TowerBody WireLine)
-  pub receives : Receives old.link.stage now moment bytes old.orders.items taken.link.stage notes taken.orders.items
+  pub receives : Receives old.link.stage now moment bytes old.orders taken.link.stage notes taken.orders
   pub rest : taken ≡ record old { link = record old.link { stage = taken.link.stage }; orders = taken.orders }
   pub tells : TellsAllOf node notes taken new
 

@@ -1,27 +1,40 @@
 //! One client's connection.
-ghost use Rattle.std.specs.Prelude.{◌≡◌, ◌⊎◌, ◌++◌, ◌∷◌, ◌&&◌, ◌||◌, true, false, List, IfOk, OnOk};
-ghost use Rattle.client_gate.specs.Calls.{Call, Feed, Stands, fed_answer, gate};
+ghost use Rattle.std.specs.Prelude.{◌≡◌, ◌∷◌, ◌&&◌, ◌||◌, length, nat_le, true, false, List, OnOk};
+ghost use Rattle.client_gate.specs.Calls.{Call, Stands, gate};
 ghost use Rattle.client_gate.specs.Gates.{last_request};
 ghost use Rattle.client_gate.specs.declared.settings.Settings.{Settings};
-ghost use Rattle.driver.specs.Clients.{HasHeard, HasPassed, IsCutOff, IsSameClock, StandsSo};
-ghost use Rattle.driver.specs.Clients.{ask_of, asked_all, asked_behind, asks_of, ended, ended_if, is_done};
-ghost use Rattle.driver.specs.Clients.{parting_unless, passed};
-ghost use Rattle.driver.specs.Desks.{at};
+ghost use Rattle.driver.specs.Asking.{held_behind, is_idle};
+ghost use Rattle.driver.specs.Clients.{behind_fed, parting_unless, passed};
 ghost use Rattle.driver.specs.Rosters.{IsNew};
+ghost use Rattle.driver.specs.Serving.{Hears, IsLost, Receives, StandsSo, ended, ended_if};
+ghost use Rattle.driver.specs.Telling.{ordered};
 
+mod asking;
 mod silence;
+mod word;
 
+use crate::client::asking::asks;
 use crate::news::News;
-use crate::order::{Now, Order};
-use bouncer_tower::{Tower, TowerEffect};
-use client_gate::{ClientGate, Fed, Request};
-use machine_laws::Hosted;
-use node_notes::Note;
+use crate::order::Now;
+use crate::orders::Orders;
+use bouncer_tower::TowerEffect;
+use client_gate::{ClientGate, Fed};
 use pacing::Timer;
 use raft_log::NodeId;
 use request_once::Answer;
 use std::alloc::{AllocError, Global};
 use wire_bytes::Origin;
+
+/// The most requests that may wait at a client's gate while more is read of the client: a piece of 512 bytes
+/// has at most some 42 requests, and the gate takes 100.
+const MOST_WAITING: usize = 48;
+
+/// By which note of its node, and when, the oldest of the requests that wait was told.
+#[derive(Clone, Copy)]
+struct Asked {
+    note: u64,
+    at: Timer,
+}
 
 /// A client's connection to its node.
 #[derive(Drop)]
@@ -33,11 +46,14 @@ pub struct Client {
     since: Timer,
     /// When it was last heard of.
     heard: Timer,
-    /// When its requests were last asked for.
-    asked: Timer,
+    /// Of what waits; where nothing waits it says nothing.
+    asked: Asked,
+    /// A request was left out, or a turn of its node was refused, and nothing was done for it since: what waits
+    /// may be lost.
+    is_held_up: bool,
     is_attached: bool,
     /// It was asked for a word since it was last heard of.
-    is_asked: bool,
+    is_pinged: bool,
     /// Its connection is gone, or is to be closed.
     is_gone: bool,
 }
@@ -53,9 +69,13 @@ impl Client {
             gate,
             since: Timer::from(now.ms),
             heard: Timer::from(now.ms),
-            asked: Timer::from(now.ms),
+            asked: Asked {
+                note: 0,
+                at: Timer::from(now.ms),
+            },
+            is_held_up: false,
             is_attached: false,
-            is_asked: false,
+            is_pinged: false,
             is_gone: false,
         }
     }
@@ -67,31 +87,48 @@ impl Client {
         self.origin
     }
 
+    /// Its node.
+    pub fn node(&self) -> NodeId
+        ensures { result ≡ self.now.origin.0 }
+    {
+        NodeId::new(self.origin.node())
+    }
+
+    /// Whether it registered at its node.
+    pub fn is_attached(&self) -> bool
+        ensures { result ≡ self.now.is_attached }
+    {
+        self.is_attached
+    }
+
+    /// Whether as many of its requests wait as may while more is read of it.
+    pub fn is_full(&self) -> bool
+        ensures { (s : Settings) (calls : List Call) → Stands s calls self.now.gate →
+            result ≡ nat_le 48 (length (gate s calls).waiting) }
+    {
+        self.gate.waiting() >= MOST_WAITING
+    }
+
     /// Its bytes came, however they are cut.
     pub fn receive(
         &mut self,
         now: &Now,
         bytes: &[u8],
-        orders: &mut Vec<Order>,
+        orders: &mut Orders,
     ) -> Result<(), AllocError>
-        ensures passed { (s : Settings) (calls : List Call) → Stands s calls self.old.gate →
-            self.old.is_gone ≡ false → OnOk result
-            (HasPassed s (Feed bytes.now ∷ calls) (fed_answer s calls bytes.now) now.now.at
-            self.old orders.old.items self.new orders.new.items
-            ⊎ IsCutOff s calls now.now.at self.old orders.old.items self.new orders.new.items) }
-        ensures heard { self.old.is_gone ≡ false → (self.new.heard ≡ at now.now.ms)
-            × (self.new.is_asked ≡ false) }
-        ensures gone { self.old.is_gone ≡ true → (self.new ≡ self.old)
-            × (orders.new.items ≡ orders.old.items) }
+        ensures { (s : Settings) (calls : List Call) → Stands s calls self.old.gate →
+            OnOk result (Receives bytes.now now.now.ms now.now.at s calls
+            self.old orders.old self.new orders.new) }
     {
         if self.is_gone {
             return Ok(());
         }
+        self.begin_asking(now, orders);
         self.heard = Timer::from(now.ms);
-        self.is_asked = false;
+        self.is_pinged = false;
         match self.gate.feed(bytes) {
             Ok(fed) => self.pass(now, fed, orders)?,
-            Err(_) => self.hang_up(now, orders)?,
+            Err(_) => self.part(now, orders)?,
         }
         Ok(())
     }
@@ -101,53 +138,31 @@ impl Client {
         &mut self,
         now: &Now,
         effect: &TowerEffect,
-        orders: &mut Vec<Order>,
+        orders: &mut Orders,
     ) -> Result<(), AllocError>
-        ensures heard { (s : Settings) (calls : List Call) → Stands s calls self.old.gate →
-            OnOk result (HasHeard s calls effect.now now.now.at
-            self.old orders.old.items self.new orders.new.items
-            ⊎ IsCutOff s calls now.now.at self.old orders.old.items self.new orders.new.items) }
-        ensures clock { IsSameClock self.old self.new }
+        ensures { (s : Settings) (calls : List Call) → Stands s calls self.old.gate →
+            OnOk result (Hears effect.now now.now.ms now.now.at s calls
+            self.old orders.old self.new orders.new) }
     {
+        self.begin_asking(now, orders);
         match self.gate.on_effect(effect) {
             Ok(fed) => {
+                self.is_held_up = is_held_behind(effect, self.is_held_up);
                 self.pass(now, fed, orders)?;
-                self.ask_behind(now, effect, orders)?;
             }
-            Err(_) => self.hang_up(now, orders)?,
+            Err(_) => self.part(now, orders)?,
         }
         Ok(())
     }
 
-    /// Where a number was left out, the requests that are not known to be done are asked for again.
-    fn ask_behind(
-        &mut self,
-        now: &Now,
-        effect: &TowerEffect,
-        orders: &mut Vec<Order>,
-    ) -> Result<(), AllocError>
-        ensures asked { (s : Settings) (calls : List Call) → Stands s calls self.old.gate →
-            OnOk result (orders.new.items ≡ orders.old.items
-            ++ asked_behind effect.now self.old.origin now.now.at (gate s calls).waiting) }
-        ensures stands { (s : Settings) (calls : List Call) → Stands s calls self.old.gate →
-            StandsSo s calls self.old.is_gone self.old self.new }
-        ensures clock { IsSameClock self.old self.new }
-    {
-        match effect {
-            Answer::Gap(_, _) => self.ask_again(now, orders),
-            _ => Ok(()),
-        }
-    }
-
     /// What its gate answered goes on: the bytes to the client, the requests to its node.
-    fn pass(&mut self, now: &Now, fed: Fed, orders: &mut Vec<Order>) -> Result<(), AllocError>
+    fn pass(&mut self, now: &Now, fed: Fed, orders: &mut Orders) -> Result<(), AllocError>
         ensures passed { (s : Settings) (calls : List Call) → Stands s calls self.old.gate →
-            OnOk result (orders.new.items ≡ orders.old.items
-            ++ passed self.old now.now.at (last_request (gate s calls)) fed) }
+            OnOk result (orders.new ≡ ordered orders.old
+            (passed self.old now.now.at (last_request (gate s calls)) fed)) }
         ensures stands { (s : Settings) (calls : List Call) → Stands s calls self.old.gate →
             OnOk result (StandsSo s (ended_if fed.close self.old.is_gone calls)
-            (self.old.is_gone || fed.close) self.old self.new) }
-        ensures clock { IsSameClock self.old self.new }
+            (behind_fed self.old fed) self.new) }
     {
         let Fed {
             requests,
@@ -155,116 +170,68 @@ impl Client {
             close,
         } = fed;
         if !reply.is_empty() && !self.is_gone {
-            orders.push(Order::Write(self.origin.client(), reply))?;
+            orders.write(self.origin.client(), reply)?;
         }
         self.ask_all(now, requests, orders)?;
         if close {
-            self.hang_up(now, orders)?;
+            self.part(now, orders)?;
         }
         Ok(())
     }
 
-    /// Its requests are asked for. The first one is that it is attached.
-    #[tactic(auto, unfolding(crate::specs::Clients::asked_all))]
-    fn ask_all(
-        &mut self,
-        now: &Now,
-        requests: Vec<Request>,
-        orders: &mut Vec<Order>,
-    ) -> Result<(), AllocError>
-        ensures asked { OnOk result (orders.new.items ≡ orders.old.items
-            ++ asked_all self.old.is_attached self.old.origin now.now.at requests.items) }
-        ensures gate { self.new.gate ≡ self.old.gate }
-        ensures gone { self.new.is_gone ≡ self.old.is_gone }
-        ensures origin { self.new.origin ≡ self.old.origin }
-        ensures clock { IsSameClock self.old self.new }
-    {
-        if requests.is_empty() {
-            return Ok(());
-        }
-        if !self.is_attached {
-            self.is_attached = true;
-            orders.push(Order::Tells(News::Attached(self.origin)))?;
-        }
-        self.asked = Timer::from(now.ms);
-        ask_each(self.origin, now, requests, orders)
-    }
-
-    /// The requests that are not known to be done are asked for again.
-    fn ask_again(&mut self, now: &Now, orders: &mut Vec<Order>) -> Result<(), AllocError>
-        ensures asked { (s : Settings) (calls : List Call) → Stands s calls self.old.gate →
-            OnOk result (orders.new.items ≡ orders.old.items
-            ++ asks_of self.old.origin now.now.at (gate s calls).waiting) }
-        ensures gate { self.new.gate ≡ self.old.gate }
-        ensures gone { self.new.is_gone ≡ self.old.is_gone }
-        ensures origin { self.new.origin ≡ self.old.origin }
-        ensures clock { IsSameClock self.old self.new }
-    {
-        let waiting = self.gate.again()?;
-        self.asked = Timer::from(now.ms);
-        ask_each(self.origin, now, waiting, orders)
-    }
-
     /// Its connection is closed.
     #[tactic(auto, unfolding(crate::specs::Clients::parting_unless))]
-    pub fn hang_up(&mut self, now: &Now, orders: &mut Vec<Order>) -> Result<(), AllocError>
+    pub fn hang_up(&mut self, now: &Now, orders: &mut Orders) -> Result<(), AllocError>
+        ensures { (s : Settings) (calls : List Call) → Stands s calls self.old.gate →
+            OnOk result (IsLost now.now.ms now.now.at s calls
+            self.old orders.old self.new orders.new) }
+    {
+        if self.is_gone {
+            return Ok(());
+        }
+        self.begin_asking(now, orders);
+        self.part(now, orders)
+    }
+
+    /// Its connection is closed, and its last request goes to its node.
+    #[tactic(auto, unfolding(crate::specs::Clients::parting_unless))]
+    fn part(&mut self, now: &Now, orders: &mut Orders) -> Result<(), AllocError>
         ensures told { (s : Settings) (calls : List Call) → Stands s calls self.old.gate →
-            OnOk result (orders.new.items ≡ orders.old.items ++ parting_unless self.old.is_gone
-            self.old.origin now.now.at (last_request (gate s calls))) }
+            OnOk result (orders.new ≡ ordered orders.old (parting_unless self.old.is_gone
+            self.old.origin now.now.at (last_request (gate s calls)))) }
         ensures stands { (s : Settings) (calls : List Call) → Stands s calls self.old.gate →
-            OnOk result (StandsSo s (ended self.old.is_gone calls) true self.old self.new) }
-        ensures gone { self.new.is_gone ≡ true }
-        ensures origin { self.new.origin ≡ self.old.origin }
-        ensures clock { IsSameClock self.old self.new }
+            OnOk result (StandsSo s (ended self.old.is_gone calls)
+            (record self.old { is_gone = true }) self.new) }
     {
         if self.is_gone {
             return Ok(());
         }
         self.is_gone = true;
-        orders.push(Order::Close(self.origin.client()))?;
-        orders.push(Order::Tells(News::Left(self.origin)))?;
+        orders.close(self.origin.client())?;
+        orders.announce(News::Left(self.origin))?;
         if let Some(request) = self.gate.end() {
-            orders.push(asks(self.origin, now, request))?;
+            orders.tell(self.node(), asks(self.origin, now, request))?;
         }
         Ok(())
     }
 
     /// Whether nothing is left to do for it: its connection is gone, and all that it asked for is done.
-    pub fn is_over(&self) -> Result<bool, AllocError>
+    pub fn is_over(&self) -> bool
         ensures { (s : Settings) (calls : List Call) → Stands s calls self.now.gate →
-            IfOk result (λ over. over ≡ (self.now.is_gone && is_done (gate s calls).waiting)) }
+            result ≡ (self.now.is_gone && is_idle (gate s calls).waiting) }
     {
-        if !self.is_gone {
-            return Ok(false);
-        }
-        let waiting = self.gate.again()?;
-        Ok(waiting.is_empty())
+        self.is_gone && self.gate.waiting() == 0
     }
 }
 
-/// Each request goes to its client's node, in order.
-#[tactic(auto, unfolding(crate::specs::Clients::asks_of))]
-fn ask_each(
-    origin: Origin,
-    now: &Now,
-    requests: Vec<Request>,
-    orders: &mut Vec<Order>,
-) -> Result<(), AllocError>
-    ensures { OnOk result (orders.new.items
-        ≡ orders.old.items ++ asks_of origin now.now.at requests.items) }
+/// Whether a client is held up that was or was not, behind what came of a request: a number that was left
+/// out holds it up, and what is done for it ends that.
+fn is_held_behind(effect: &TowerEffect, is_held_up: bool) -> bool
+    ensures { result ≡ held_behind effect.now is_held_up }
 {
-    for request in requests {
-        orders.push(asks(origin, now, request))?;
+    match effect {
+        Answer::Gap(_, _) => true,
+        Answer::Done(_, _) | Answer::Repeat(_, _) => false,
+        Answer::Effect(_) | Answer::Marked(_) => is_held_up,
     }
-    Ok(())
-}
-
-/// A request goes to its client's node.
-fn asks(origin: Origin, now: &Now, request: Request) -> Order
-    ensures { result ≡ ask_of origin now.now.at request }
-{
-    let node = NodeId::new(origin.node());
-    let Request { number, action } = request;
-    let body = <Tower as Hosted>::asked(origin, number, now.at, action);
-    Order::Tell(node, Note::Ask(body))
 }

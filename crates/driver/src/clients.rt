@@ -1,15 +1,18 @@
 //! All clients.
-ghost use Rattle.std.specs.Prelude.{◌≡◌, ◌++◌, List, true, false, Option, None, Some, IfOk, OnOk, OnErr};
+ghost use Rattle.std.specs.Prelude.{◌≡◌, ℕ, List, true, false, Option, None, Some, IfOk, OnOk, OnErr};
 ghost use Rattle.std.specs.BTreeMap.{keys};
-ghost use Rattle.client_gate.specs.Calls.{Call, Stands, gate};
-ghost use Rattle.client_gate.specs.Gates.{last_request};
+ghost use Rattle.client_gate.specs.Calls.{Call, Stands};
 ghost use Rattle.client_gate.specs.declared.settings.Settings.{Settings};
-ghost use Rattle.driver.specs.Clients.{parting_unless};
-ghost use Rattle.driver.specs.Rosters.{AreOthersSame, Hears, IsKept, IsLost, Receives, Serves, client_at, node_in};
-ghost use Rattle.driver.specs.Crowds.{LeaveEach, TickEach, Ticks, is_below, is_one_below, told};
+ghost use Rattle.driver.specs.Crowds.{TickEach, Ticks, told};
+ghost use Rattle.driver.specs.Rosters.{AreOthersSame, IsFullIn, IsKept, Serves, client_at, is_attached_in, node_in};
+ghost use Rattle.driver.specs.Serving.{Hears, IsLost, Receives};
+
+mod leaving;
+mod news;
 
 use crate::client::Client;
-use crate::order::{Now, Order};
+use crate::order::Now;
+use crate::orders::Orders;
 use bouncer_tower::TowerEffect;
 use raft_log::NodeId;
 use std::alloc::{AllocError, Global};
@@ -24,7 +27,10 @@ pub struct Clients {
 }
 
 impl Clients {
-    pub fn new(alloc: Global) -> Clients {
+    /// There is none.
+    pub fn new(alloc: Global) -> Clients
+        ensures { (number : ℕ) → client_at result number ≡ None }
+    {
         Clients {
             alloc,
             all: BTreeMap::new(alloc),
@@ -50,20 +56,21 @@ impl Clients {
         now: &Now,
         number: u64,
         bytes: &[u8],
-        orders: &mut Vec<Order>,
+        orders: &mut Orders,
     ) -> Result<(), AllocError>
         ensures others { AreOthersSame number self.old self.new }
         ensures nobody { client_at self.old number ≡ None →
-            (self.new ≡ self.old) × (orders.new.items ≡ orders.old.items) }
+            (self.new ≡ self.old) × (orders.new ≡ orders.old) }
         ensures served { OnOk result (Serves (λ c. client_at self.old number ≡ Some c)
-            (λ s calls c new. Receives bytes.now now.now.at s calls c orders.old.items
-            new orders.new.items) number self.new) }
+            (λ s calls c new. Receives bytes.now now.now.ms now.now.at s calls c orders.old
+            new orders.new) number self.new) }
     {
         let Some(client) = self.all.get_mut(&number) else {
             return Ok(());
         };
         client.receive(now, bytes, orders)?;
-        self.forget_if_over(number)
+        self.forget_if_over(number);
+        Ok(())
     }
 
     /// Something came of a request of the client of this origin.
@@ -72,15 +79,15 @@ impl Clients {
         now: &Now,
         origin: Origin,
         effect: &TowerEffect,
-        orders: &mut Vec<Order>,
+        orders: &mut Orders,
     ) -> Result<(), AllocError>
         ensures others { AreOthersSame origin.2 self.old self.new }
         ensures nobody { client_at self.old origin.2 ≡ None →
-            (self.new ≡ self.old) × (orders.new.items ≡ orders.old.items) }
+            (self.new ≡ self.old) × (orders.new ≡ orders.old) }
         ensures served { OnOk result (Serves
             (λ c. (client_at self.old origin.2 ≡ Some c) × (c.origin ≡ origin))
-            (λ s calls c new. Hears effect.now now.now.at s calls c orders.old.items
-            new orders.new.items) origin.2 self.new) }
+            (λ s calls c new. Hears effect.now now.now.ms now.now.at s calls c orders.old
+            new orders.new) origin.2 self.new) }
     {
         let Some(client) = self.all.get_mut(&origin.client()) else {
             return Ok(());
@@ -89,43 +96,39 @@ impl Clients {
             return Ok(());
         }
         client.hear(now, effect, orders)?;
-        self.forget_if_over(origin.client())
+        self.forget_if_over(origin.client());
+        Ok(())
     }
 
     /// A client's connection is gone.
-    pub fn lose(
-        &mut self,
-        now: &Now,
-        number: u64,
-        orders: &mut Vec<Order>,
-    ) -> Result<(), AllocError>
+    pub fn lose(&mut self, now: &Now, number: u64, orders: &mut Orders) -> Result<(), AllocError>
         ensures others { AreOthersSame number self.old self.new }
         ensures nobody { client_at self.old number ≡ None →
-            (self.new ≡ self.old) × (orders.new.items ≡ orders.old.items) }
+            (self.new ≡ self.old) × (orders.new ≡ orders.old) }
         ensures served { OnOk result (Serves (λ c. client_at self.old number ≡ Some c)
-            (λ s calls c new. IsLost now.now.at s calls c orders.old.items
-            new orders.new.items) number self.new) }
+            (λ s calls c new. IsLost now.now.ms now.now.at s calls c orders.old
+            new orders.new) number self.new) }
     {
         let Some(client) = self.all.get_mut(&number) else {
             return Ok(());
         };
         client.hang_up(now, orders)?;
-        self.forget_if_over(number)
+        self.forget_if_over(number);
+        Ok(())
     }
 
     /// The client of this number is forgotten where nothing is left to do for it.
-    fn forget_if_over(&mut self, number: u64) -> Result<(), AllocError>
+    fn forget_if_over(&mut self, number: u64)
         ensures others { AreOthersSame number self.old self.new }
         ensures nobody { client_at self.old number ≡ None → self.new ≡ self.old }
-        ensures kept { OnOk result (IsKept number self.old self.new) }
+        ensures kept { IsKept number self.old self.new }
     {
         let Some(client) = self.all.get(&number) else {
-            return Ok(());
+            return;
         };
-        if client.is_over()? {
+        if client.is_over() {
             self.all.remove(&number);
         }
-        Ok(())
     }
 
     /// The node of the client of this number, if there is one.
@@ -133,8 +136,28 @@ impl Clients {
         ensures { result ≡ node_in (client_at self.now number) }
     {
         match self.all.get(&number) {
-            Some(client) => Some(NodeId::new(client.origin().node())),
+            Some(client) => Some(client.node()),
             None => None,
+        }
+    }
+
+    /// Whether as many requests of the client of this number wait as may, if there is one.
+    pub fn is_full(&self, number: u64) -> bool
+        ensures { IsFullIn result (client_at self.now number) }
+    {
+        match self.all.get(&number) {
+            Some(client) => client.is_full(),
+            None => false,
+        }
+    }
+
+    /// Whether the client of this number registered, if there is one.
+    pub fn is_attached(&self, number: u64) -> bool
+        ensures { result ≡ is_attached_in (client_at self.now number) }
+    {
+        match self.all.get(&number) {
+            Some(client) => client.is_attached(),
+            None => false,
         }
     }
 
@@ -143,10 +166,10 @@ impl Clients {
         &mut self,
         now: &Now,
         timeout_ms: u16,
-        orders: &mut Vec<Order>,
+        orders: &mut Orders,
     ) -> Result<(), AllocError>
         ensures { OnOk result (TickEach now.now.at timeout_ms now.now.ms (keys self.old.all)
-            (told self.old orders.old.items) (told self.new orders.new.items)) }
+            (told self.old orders.old) (told self.new orders.new)) }
     {
         let numbers = self.numbers()?;
         for number in numbers {
@@ -161,83 +184,21 @@ impl Clients {
         now: &Now,
         timeout_ms: u16,
         number: u64,
-        orders: &mut Vec<Order>,
+        orders: &mut Orders,
     ) -> Result<(), AllocError>
         ensures others { AreOthersSame number self.old self.new }
         ensures nobody { client_at self.old number ≡ None →
-            (self.new ≡ self.old) × (orders.new.items ≡ orders.old.items) }
+            (self.new ≡ self.old) × (orders.new ≡ orders.old) }
         ensures served { OnOk result (Serves (λ c. client_at self.old number ≡ Some c)
-            (λ s calls c new. Ticks s calls now.now.at timeout_ms now.now.ms c
-            orders.old.items new orders.new.items) number self.new) }
+            (λ s calls c new. Ticks timeout_ms now.now.ms now.now.at s calls c
+            orders.old new orders.new) number self.new) }
     {
         let Some(client) = self.all.get_mut(&number) else {
             return Ok(());
         };
         client.tick(now, timeout_ms, orders)?;
-        self.forget_if_over(number)?;
+        self.forget_if_over(number);
         Ok(())
-    }
-
-    /// A run of a node began, with this boot: the connections of earlier runs' clients are closed, and
-    /// nothing more is done for these.
-    pub fn leave_runs_below(
-        &mut self,
-        now: &Now,
-        node: u8,
-        boot: u64,
-        orders: &mut Vec<Order>,
-    ) -> Result<(), AllocError>
-        ensures { OnOk result (LeaveEach now.now.at node boot (keys self.old.all)
-            (told self.old orders.old.items) (told self.new orders.new.items)) }
-    {
-        let numbers = self.numbers()?;
-        for number in numbers {
-            self.leave_if_below(now, node, boot, number, orders)?;
-        }
-        Ok(())
-    }
-
-    /// The client of this number is left where it is of a run of this node below this boot.
-    fn leave_if_below(
-        &mut self,
-        now: &Now,
-        node: u8,
-        boot: u64,
-        number: u64,
-        orders: &mut Vec<Order>,
-    ) -> Result<(), AllocError>
-        ensures others { AreOthersSame number self.old self.new }
-        ensures nobody { client_at self.old number ≡ None →
-            (self.new ≡ self.old) × (orders.new.items ≡ orders.old.items) }
-        ensures stays { (c : Client) → client_at self.old number ≡ Some c →
-            is_below c.origin node boot ≡ false →
-            (self.new ≡ self.old) × (orders.new.items ≡ orders.old.items) }
-        ensures leaves { (c : Client) → client_at self.old number ≡ Some c →
-            is_below c.origin node boot ≡ true → OnOk result (client_at self.new number ≡ None) }
-        ensures told { (s : Settings) (calls : List Call) (c : Client) →
-            client_at self.old number ≡ Some c → is_below c.origin node boot ≡ true →
-            Stands s calls c.gate → OnOk result (orders.new.items ≡ orders.old.items
-            ++ parting_unless c.is_gone c.origin now.now.at (last_request (gate s calls))) }
-    {
-        if !self.is_below(node, boot, number) {
-            return Ok(());
-        }
-        let Some(client) = self.all.get_mut(&number) else {
-            return Ok(());
-        };
-        client.hang_up(now, orders)?;
-        self.all.remove(&number);
-        Ok(())
-    }
-
-    /// Whether the client of this number is of a run of this node below this boot.
-    fn is_below(&self, node: u8, boot: u64, number: u64) -> bool
-        ensures { result ≡ is_one_below (client_at self.now number) node boot }
-    {
-        match self.all.get(&number) {
-            Some(client) => client.origin().node() == node && client.origin().boot() < boot,
-            None => false,
-        }
     }
 
     /// The numbers of the clients, in order.

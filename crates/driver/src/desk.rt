@@ -1,18 +1,21 @@
 //! What the driver knows of one node.
-ghost use Rattle.std.specs.Prelude.{◌≡◌, ◌++◌, ◌∷◌, [], min, ◌+◌, OnOk, Some, None, ◌^◌, ◌-◌, if◌then◌else◌};
-ghost use Rattle.node_notes.specs.Notes.{leads};
-ghost use Rattle.node_notes.specs.declared.note.Note.TheVariants.{Beat};
-ghost use Rattle.driver.specs.Gone.{dead_below, greatest, is_to_restart, restart_behind, restart_if};
-ghost use Rattle.driver.specs.Desks.{is_full, told};
+ghost use Rattle.std.specs.Prelude.{◌≡◌, ◌++◌, OnOk, Some, None};
+ghost use Rattle.driver.specs.Desks.{is_full, new_desk, told};
+ghost use Rattle.driver.specs.Gone.{dead_below, dead_boot, greatest, is_to_restart, restart_behind, restart_if, with_seen};
 ghost use Rattle.driver.specs.Leading.{term_of};
+ghost use Rattle.driver.specs.Hearing.{boot_up, turned_away, turned_away_news};
+ghost use Rattle.driver.specs.Telling.{ordered, told_to};
 ghost use Rattle.driver.specs.Waking.{waited_longer};
 
 mod clock;
 mod hearing;
 
-use crate::order::{Now, Order, TowerNote};
+use crate::news::News;
+use crate::order::Now;
+use crate::orders::Orders;
 use crate::settings::Settings;
-use node_notes::{Note, Status};
+pub use hearing::Heard;
+use node_notes::{Note, Progress, Status};
 use pacing::{Backoff, Pace, Timer};
 use raft_log::NodeId;
 use std::alloc::AllocError;
@@ -45,54 +48,59 @@ struct Claimed {
 pub struct Desk {
     id: NodeId,
     status: Option<Status>,
-    /// How many notes it was given, and how many of them are done.
-    given: u64,
-    done: u64,
+    /// How far its worker is.
+    progress: Progress,
     /// When it last heard of a leader, or asked for votes.
     led: Timer,
     /// It waited anew for a node that asks for votes, since it last heard of a leader or asked itself.
     has_yielded: bool,
-    /// When it last sent as a leader, by which of its notes, and the last and the agreed place then.
+    /// When it was last told to send as a leader, and by which of its notes.
     beat: Timer,
     beat_note: u64,
-    beaten: (Number, Number),
-    /// Another node that lags behind it answered since then.
-    is_answered: bool,
     claimed: Option<Claimed>,
     /// Since when it is down, if it is, and how long until it is started again.
     down: Option<Timer>,
     wait_ms: u32,
     backoff: Backoff,
-    /// When it last told that it is up.
+    /// When it last told that it is up, and when it last came up.
     heard: Timer,
+    up: Timer,
     /// The greatest boot in the origin of a client of it, if it had one.
     seen: Option<Number>,
     /// By which of its notes it was last told to start again though it was up.
     restart_note: u64,
+    /// An operator was told that a client was turned away, since it was last up.
+    has_turned_away: bool,
 }
 
 impl Desk {
     /// The desk of a node that was just started.
-    pub fn new(id: NodeId, settings: &Settings, now: &Now) -> Desk {
+    pub fn new(id: NodeId, settings: &Settings, now: &Now) -> Desk
+        ensures { result ≡ new_desk settings.now now.now.ms id }
+    {
         let first = settings.timeout_ms as u32;
         Desk {
             id,
             status: None,
-            given: 0,
-            done: 0,
+            progress: Progress {
+                done: 0,
+                waiting: 0,
+                lost: 0,
+                contacts: 0,
+            },
             led: Timer::from(now.ms),
             has_yielded: false,
             beat: Timer::from(now.ms),
             beat_note: 0,
-            beaten: (Number::new(0), Number::new(0)),
-            is_answered: false,
             claimed: None,
             down: None,
             wait_ms: first,
             backoff: Backoff::new(first, LONGEST),
             heard: Timer::from(now.ms),
+            up: Timer::from(now.ms),
             seen: None,
             restart_note: 0,
+            has_turned_away: false,
         }
     }
 
@@ -102,70 +110,101 @@ impl Desk {
         self.id
     }
 
-    /// How many notes it was given.
-    pub fn given(&self) -> u64
-        ensures { result ≡ self.now.given }
+    /// How far its worker is.
+    pub fn progress(&self) -> Progress
+        ensures { result ≡ self.now.progress }
     {
-        self.given
-    }
-
-    /// How many of its notes are done.
-    pub fn done(&self) -> u64
-        ensures { result ≡ self.now.done }
-    {
-        self.done
+        self.progress
     }
 
     /// Whether as many of its notes wait as may.
-    pub fn is_full(&self) -> bool
-        ensures { result ≡ is_full self.now }
+    pub fn is_full(&self, orders: &Orders) -> bool
+        ensures { result ≡ is_full (told_to orders.now self.now.id) self.now.progress }
     {
-        self.given.saturating_sub(self.done) >= MOST_WAITING
+        let told = orders.told_to(self.id);
+        let begun = self.progress.waiting;
+        told.saturating_sub(self.progress.done)
+            .saturating_add(begun)
+            >= MOST_WAITING
+    }
+
+    /// The run in which it is up, if it is.
+    pub fn boot(&self) -> Option<Number>
+        ensures { result ≡ boot_up self.now.status }
+    {
+        let Some(status) = &self.status else {
+            return None;
+        };
+        match status.down {
+            Some(_) => None,
+            None => Some(status.boot),
+        }
     }
 
     /// A client of it has an origin with this boot.
     pub fn see(&mut self, boot: Number)
-        ensures { self.new ≡ record self.old { seen = greatest self.old.seen boot } }
+        ensures { self.new ≡ with_seen boot self.old }
     {
-        self.seen = match self.seen {
-            Some(seen) if boot.value() <= seen.value() => Some(seen),
-            _ => Some(boot),
-        };
+        self.seen = Some(self.greatest_seen(boot));
     }
 
-    /// The boot of the first run of which word is to go round, as the node answered nothing for ten
-    /// timeouts: the one behind the greatest boot seen in an origin, where one was.
+    /// The greater of this boot and the greatest in the origin of a client of it.
+    fn greatest_seen(&self, boot: Number) -> Number
+        ensures { result ≡ greatest self.now.seen boot }
+    {
+        match self.seen {
+            Some(seen) if boot.value() <= seen.value() => seen,
+            _ => boot,
+        }
+    }
+
+    /// A client connected though it is not up: an operator is told, once until it is up again.
+    pub fn turn_away(&mut self, orders: &mut Orders) -> Result<(), AllocError>
+        ensures told { OnOk result (orders.new ≡ ordered orders.old (turned_away_news self.old)) }
+        ensures desk { OnOk result (self.new ≡ turned_away self.old) }
+    {
+        if !self.has_turned_away {
+            self.has_turned_away = true;
+            orders.announce(News::TurnedAway(self.id))?;
+        }
+        Ok(())
+    }
+
+    /// The boot of the first run of which word is to go round: where the node is down, the one behind the
+    /// greatest boot known of it; where it answered nothing for ten timeouts, the one behind the greatest
+    /// boot seen in an origin, where one was.
     pub fn dead_below(&self, now: &Now, settings: &Settings) -> Option<Number>
         ensures { result ≡ dead_below self.now settings.now.timeout_ms now.now.ms }
     {
-        let seen = self.seen?;
-        if !self
-            .heard
-            .has_passed(DEAD * settings.timeout_ms as u64, now.ms)
-        {
+        let boot = self.dead_boot(now, settings)?;
+        if boot.value() >= MOST_BOOT {
             return None;
         }
-        if seen.value() >= MOST_BOOT {
-            return None;
+        Some(Number::new(boot.value() + 1))
+    }
+
+    /// The last of its runs that is over, as far as is known.
+    fn dead_boot(&self, now: &Now, settings: &Settings) -> Option<Number>
+        ensures { result ≡ dead_boot self.now settings.now.timeout_ms now.now.ms }
+    {
+        let silence = DEAD * settings.timeout_ms as u64;
+        match (self.down, self.status) {
+            (Some(_), Some(status)) => Some(self.greatest_seen(status.boot)),
+            _ if self.heard.has_passed(silence, now.ms) => self.seen,
+            _ => None,
         }
-        Some(Number::new(seen.value() + 1))
     }
 
     /// The runs of the node below this one are gone for all nodes: where it is up in one of them it is told
     /// to start again, so that it gets a run whose clients count. At most one such note waits.
-    pub fn restart_below(
-        &mut self,
-        floor: Number,
-        orders: &mut Vec<Order>,
-    ) -> Result<(), AllocError>
-        ensures told { OnOk result (orders.new.items
-            ≡ orders.old.items ++ told self.old.id (restart_if self.old (Some floor))) }
+    pub fn restart_below(&mut self, floor: Number, orders: &mut Orders) -> Result<(), AllocError>
+        ensures told { OnOk result (orders.new
+            ≡ ordered orders.old (told self.old.id (restart_if self.old (Some floor)))) }
         ensures desk { OnOk result (self.new
-            ≡ restart_behind self.old (restart_if self.old (Some floor))) }
+            ≡ restart_behind orders.old self.old (restart_if self.old (Some floor))) }
     {
         if self.is_to_restart(floor) {
-            self.tell(Note::Restart, orders)?;
-            self.restart_note = self.given;
+            self.restart_note = orders.tell(self.id, Note::Restart)?;
         }
         Ok(())
     }
@@ -174,12 +213,10 @@ impl Desk {
     fn is_to_restart(&self, floor: Number) -> bool
         ensures { result ≡ is_to_restart self.now floor }
     {
-        let Some(status) = &self.status else {
+        let Some(boot) = self.boot() else {
             return false;
         };
-        status.down.is_none()
-            && status.boot.value() < floor.value()
-            && self.restart_note <= self.done
+        boot.value() < floor.value() && self.restart_note <= self.progress.done
     }
 
     /// How the node stood when it was last heard of.
@@ -210,17 +247,5 @@ impl Desk {
     {
         self.heard = Timer::from(self.heard.since.saturating_add(ms));
         self.led = Timer::from(self.led.since.saturating_add(ms));
-    }
-
-    /// The node is told this.
-    pub fn tell(&mut self, note: TowerNote, orders: &mut Vec<Order>) -> Result<(), AllocError>
-        ensures told { OnOk result
-            (orders.new.items ≡ orders.old.items ++ told self.old.id (Some note)) }
-        ensures given { OnOk result (self.new ≡ record self.old
-            { given = min (self.old.given + 1) (2 ^ 64 - 1) }) }
-    {
-        orders.push(Order::Tell(self.id, note))?;
-        self.given = self.given.saturating_add(1);
-        Ok(())
     }
 }

@@ -1,7 +1,14 @@
 //! The driver: what happened is told to it, and it gives orders.
-ghost use Rattle.std.specs.Prelude.{◌≡◌, [], IfOk, IfSome, None, OnErr, OnOk, Some};
-ghost use Rattle.driver.specs.Links.{Sends, last_number, next_number, status_at};
-ghost use Rattle.driver.specs.Rosters.{AreOthersSame, ArrivesIf, IsLost, Receives, Serves, client_at};
+ghost use Rattle.std.specs.Prelude.{◌≡◌, IfOk, IfSome, None, OnErr, OnOk};
+ghost use Rattle.driver.specs.Arriving.{Arrives, ArrivesIf, IsNewDriver, boot_at, desks_behind};
+ghost use Rattle.driver.specs.Arriving.{last_number, new_desks, next_number, turned_away_at};
+ghost use Rattle.driver.specs.Driving.{changed_at, orders_at};
+ghost use Rattle.driver.specs.Gone.{with_seen};
+ghost use Rattle.driver.specs.Hearing.{turned_away, turned_away_news};
+ghost use Rattle.driver.specs.Links.{Sends};
+ghost use Rattle.driver.specs.Rosters.{AreOthersSame, Serves, client_at, is_attached_in};
+ghost use Rattle.driver.specs.Serving.{IsLost, Receives};
+ghost use Rattle.driver.specs.Telling.{emptied, ordered};
 
 mod hearing;
 mod reading;
@@ -14,14 +21,14 @@ use crate::desk::Desk;
 use crate::link::Link;
 use crate::notices::Notices;
 use crate::order::{Now, Order};
+use crate::orders::Orders;
 use crate::settings::Settings;
 use client_gate::ClientGate;
 use irc_line::Line;
-use node_notes::Status;
 use pacing::{Pace, Timer};
 use raft_log::NodeId;
 use std::alloc::{AllocError, Global};
-use wire_bytes::Origin;
+use wire_bytes::{Number, Origin};
 
 /// The most nodes that there may be.
 const MOST_NODES: usize = 7;
@@ -44,12 +51,14 @@ pub struct Driver {
     pace: Pace,
     /// When it last heard of a node, or was told that time passed.
     ran: Timer,
-    orders: Vec<Order>,
+    orders: Orders,
 }
 
 impl Driver {
     /// A driver of nodes that were just started; it knows each by what its worker tells.
-    pub fn new(alloc: Global, settings: Settings, now: &Now) -> Driver {
+    pub fn new(alloc: Global, settings: Settings, now: &Now) -> Driver
+        ensures { IsNewDriver settings now.now.ms result }
+    {
         let pace = Pace::new(settings.flood_burst, settings.flood_ms);
         let desks = desks_of(&settings, now);
         Driver {
@@ -62,50 +71,99 @@ impl Driver {
             link: Link::new(alloc, now),
             pace,
             ran: Timer::from(now.ms),
-            orders: Vec::new(alloc),
+            orders: Orders::new(alloc),
         }
     }
 
     /// What is to be done, in this order. None of it is given again.
     pub fn orders(&mut self) -> Vec<Order>
         ensures given { result.items ≡ self.old.orders.items }
-        ensures left { self.new.orders.items ≡ [] }
+        ensures left { self.new ≡ record self.old { orders = emptied self.old.orders } }
     {
-        std::mem::replace(&mut self.orders, Vec::new(self.alloc))
+        self.orders.take()
     }
 
     /// A client has connected to this node. Its number; none where the node is not up, or the numbers
-    /// are spent: its connection is then to be closed.
+    /// are spent: its connection is then to be closed. An operator is told of the first that was turned
+    /// away since the node was up.
     pub fn connect(&mut self, now: &Now, node: NodeId) -> Result<Option<u64>, AllocError>
         ensures number { IfOk result (λ number.
             number ≡ next_number self.old.desks node self.old.numbered) }
         ensures last { OnOk result (self.new.numbered ≡ last_number self.old.numbered
             (next_number self.old.desks node self.old.numbered)) }
         ensures kept { OnErr result (self.new.numbered ≡ self.old.numbered) }
-        ensures arrived { IfOk result (λ number. ArrivesIf (status_at self.old.desks node) number
+        ensures arrived { IfOk result (λ number. ArrivesIf self.old.desks number
             node self.old.settings.password.items self.old.settings.nick now.now.ms
             self.old.clients self.new.clients) }
         ensures others { IfOk result (λ number. IfSome number (λ number.
             AreOthersSame number self.old.clients self.new.clients)) }
+        ensures desks { OnOk result (self.new.desks
+            ≡ desks_behind self.old.desks node self.old.numbered) }
+        ensures told { OnOk result (self.new.orders
+            ≡ ordered self.old.orders (turned_away_at self.old.desks node)) }
+        ensures rest { OnOk result (self.new ≡ record self.old {
+          desks = self.new.desks;
+          clients = self.new.clients;
+          numbered = self.new.numbered;
+          orders = self.new.orders;
+        }) }
     {
-        let Some(status) = self.status(node) else {
+        let Some(boot) = self.boot_of(node) else {
+            self.turn_away(node)?;
             return Ok(None);
         };
-        if status.down.is_some() || self.numbered >= MOST_NUMBER {
+        if self.numbered >= MOST_NUMBER {
             return Ok(None);
         }
         let number = self.numbered + 1;
-        let origin = Origin::new(node.value(), status.boot.value(), number);
+        let origin = Origin::new(node.value(), boot.value(), number);
+        self.admit(now, origin)?;
+        self.numbered = number;
+        self.see(node, boot);
+        Ok(Some(number))
+    }
+
+    /// The run in which a node is up, if it is.
+    fn boot_of(&self, node: NodeId) -> Option<Number>
+        ensures { result ≡ boot_at self.now.desks node }
+    {
+        let desk = self.desks.get(node.value() as usize - 1)?;
+        desk.boot()
+    }
+
+    /// A client connected to a node that is not up.
+    fn turn_away(&mut self, node: NodeId) -> Result<(), AllocError>
+        ensures desks { OnOk result
+            (self.new.desks ≡ changed_at turned_away self.old.desks node) }
+        ensures told { OnOk result (self.new.orders
+            ≡ ordered self.old.orders (orders_at turned_away_news self.old.desks node)) }
+        ensures rest { self.new ≡ record self.old
+            { desks = self.new.desks; orders = self.new.orders } }
+    {
+        self.desks[node.value() as usize - 1].turn_away(&mut self.orders)
+    }
+
+    /// A client of this run of a node connected.
+    fn see(&mut self, node: NodeId, boot: Number)
+        ensures { self.new ≡ record self.old
+            { desks = changed_at (with_seen boot) self.old.desks node } }
+    {
+        self.desks[node.value() as usize - 1].see(boot);
+    }
+
+    /// A client of this origin has connected.
+    fn admit(&mut self, now: &Now, origin: Origin) -> Result<(), AllocError>
+        ensures arrived { OnOk result (Arrives origin self.old.settings.password.items
+            self.old.settings.nick now.now.ms self.new.clients) }
+        ensures others { AreOthersSame origin.2 self.old.clients self.new.clients }
+        ensures rest { self.new ≡ record self.old { clients = self.new.clients } }
+    {
         let password = Vec::from_slice(self.alloc, self.settings.password.as_slice())?;
         let nick = self.settings.nick.copy(self.alloc)?;
         let gate = ClientGate::new(self.alloc, origin, password, nick)?;
         self.clients
             .insert(Client::new(self.alloc, origin, gate, now))?;
-        self.numbered = number;
-        if let Some(desk) = self.desks.get_mut(node.value() as usize - 1) {
-            desk.see(status.boot);
-        }
-        Ok(Some(number))
+        Ok(())
     }
 
     /// Bytes came from a client, however they are cut.
@@ -113,10 +171,10 @@ impl Driver {
         ensures others { AreOthersSame number self.old.clients self.new.clients }
         ensures nobody { client_at self.old.clients number ≡ None →
             (self.new.clients ≡ self.old.clients)
-            × (self.new.orders.items ≡ self.old.orders.items) }
+            × (self.new.orders ≡ self.old.orders) }
         ensures served { OnOk result (Serves (λ c. client_at self.old.clients number ≡ Some c)
-            (λ s calls c new. Receives bytes.now now.now.at s calls c self.old.orders.items
-            new self.new.orders.items) number self.new.clients) }
+            (λ s calls c new. Receives bytes.now now.now.ms now.now.at s calls c self.old.orders
+            new self.new.orders) number self.new.clients) }
         ensures rest { self.new ≡ record self.old
             { clients = self.new.clients; orders = self.new.orders } }
     {
@@ -128,28 +186,27 @@ impl Driver {
         ensures others { AreOthersSame number self.old.clients self.new.clients }
         ensures nobody { client_at self.old.clients number ≡ None →
             (self.new.clients ≡ self.old.clients)
-            × (self.new.orders.items ≡ self.old.orders.items) }
+            × (self.new.orders ≡ self.old.orders) }
         ensures served { OnOk result (Serves (λ c. client_at self.old.clients number ≡ Some c)
-            (λ s calls c new. IsLost now.now.at s calls c self.old.orders.items
-            new self.new.orders.items) number self.new.clients) }
+            (λ s calls c new. IsLost now.now.ms now.now.at s calls c self.old.orders
+            new self.new.orders) number self.new.clients) }
         ensures rest { self.new ≡ record self.old
             { clients = self.new.clients; orders = self.new.orders } }
     {
         self.clients.lose(now, number, &mut self.orders)
     }
 
-    /// How a node stood when it was last heard of.
-    fn status(&self, node: NodeId) -> Option<Status>
-        ensures { result ≡ status_at self.now.desks node }
+    /// Whether the client of this number registered at its node.
+    pub fn is_attached(&self, number: u64) -> bool
+        ensures { result ≡ is_attached_in (client_at self.now.clients number) }
     {
-        let desk = self.desks.get(node.value() as usize - 1)?;
-        desk.status()
+        self.clients.is_attached(number)
     }
 
     /// A line was handed out by a node, for its session.
     pub fn hand(&mut self, node: NodeId, line: &Line) -> Result<(), AllocError>
-        ensures sent { OnOk result (Sends self.old.link.stage node line.now self.old.orders.items
-            self.new.orders.items) }
+        ensures sent { OnOk result (Sends self.old.link.stage node line.now self.old.orders
+            self.new.orders) }
         ensures rest { self.new ≡ record self.old { orders = self.new.orders } }
     {
         self.link.send(node, line, &mut self.orders)
@@ -157,7 +214,9 @@ impl Driver {
 }
 
 /// A desk for each node that there may be.
-fn desks_of(settings: &Settings, now: &Now) -> [Desk; MOST_NODES] {
+fn desks_of(settings: &Settings, now: &Now) -> [Desk; MOST_NODES]
+    ensures { result ≡ new_desks settings.now now.now.ms }
+{
     [
         Desk::new(NodeId::new(1), settings, now),
         Desk::new(NodeId::new(2), settings, now),

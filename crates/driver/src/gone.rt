@@ -1,11 +1,14 @@
 //! Word that earlier runs of a node are gone.
-ghost use Rattle.std.specs.Prelude.{◌≡◌, ◌++◌, ◌∷◌, [], OnOk, Some, nat_eq};
+ghost use Rattle.std.specs.Prelude.{◌≡◌, OnOk, Some, nat_eq};
 ghost use Rattle.node_notes.specs.declared.note.Note.TheVariants.{Ask};
-ghost use Rattle.driver.specs.Desks.{counted, told};
-ghost use Rattle.driver.specs.Gone.{applied_floor, appended_by, asked_of, fresh, gone_body, is_due, lead_of, progress_after, standing_by};
+ghost use Rattle.driver.specs.Desks.{told};
+ghost use Rattle.driver.specs.Gone.{applied_floor, appended_by, asked_at, fresh, gone_body, is_due};
+ghost use Rattle.driver.specs.Gone.{lead_of, progress_after, standing_by};
+ghost use Rattle.driver.specs.Telling.{ordered};
 
 use crate::desk::Desk;
-use crate::order::{Now, Order};
+use crate::order::Now;
+use crate::orders::Orders;
 use crate::settings::Settings;
 use bouncer_tower::Tower;
 use machine_laws::Hosted;
@@ -95,27 +98,21 @@ impl Notice {
     }
 
     /// It is asked for at a node.
-    pub fn ask(
-        &mut self,
-        now: &Now,
-        desk: &mut Desk,
-        orders: &mut Vec<Order>,
-    ) -> Result<(), AllocError>
-        ensures told { OnOk result (orders.new.items ≡ orders.old.items
-            ++ told desk.old.id (Some (Ask (gone_body self.old.node self.old.floor)))) }
+    pub fn ask(&mut self, now: &Now, desk: &Desk, orders: &mut Orders) -> Result<(), AllocError>
+        ensures told { OnOk result (orders.new ≡ ordered orders.old
+            (told desk.now.id (Some (Ask (gone_body self.old.node self.old.floor))))) }
         ensures notice { OnOk result
-            (self.new ≡ asked_of self.old now.now.ms desk.old.id desk.new.given desk.old.status) }
-        ensures desk { OnOk result (desk.new ≡ counted desk.old) }
+            (self.new ≡ asked_at orders.old self.old now.now.ms desk.now) }
     {
         let lead = match desk.status() {
             Some(status) => lead_of(&status),
             None => None,
         };
         let body = <Tower as Hosted>::node_gone(self.node.value(), self.floor);
-        desk.tell(Note::Ask(body), orders)?;
+        let note = orders.tell(desk.id(), Note::Ask(body))?;
         self.asked = Timer::from(now.ms);
         self.via = desk.id();
-        self.progress = Progress::Told(desk.given(), lead);
+        self.progress = Progress::Told(note, lead);
         Ok(())
     }
 

@@ -7,11 +7,13 @@ mod clients;
 mod desk;
 mod driver;
 mod gone;
+pub mod laws;
 mod leader;
 mod link;
 mod news;
 mod notices;
 mod order;
+mod orders;
 mod settings;
 
 pub use driver::Driver;

@@ -3,15 +3,19 @@ ghost use Rattle.std.specs.Prelude.{◌≡◌, ◌++◌, ◌∷◌, [], if◌the
 ghost use Rattle.std.specs.Option.{is_some, option_to_list};
 ghost use Rattle.uplink.specs.declared.input.UplinkInput.{UplinkInput};
 ghost use Rattle.uplink.specs.Calls.{Ended, GoesOn};
+ghost use Rattle.driver.specs.declared.order.Order.TheVariants.{Connect};
 ghost use Rattle.driver.specs.Links.{Connects, HasBegun, HasReceived, IsLost, Receives, Sends};
 ghost use Rattle.driver.specs.Links.{backoff_behind, ending, idle_behind, is_session_of, is_silent, may_connect, node_of, opened};
-ghost use Rattle.driver.specs.Links.{notes_of, send_some};
+ghost use Rattle.driver.specs.Links.{first_backoff, notes_of, send_some};
+ghost use Rattle.driver.specs.Desks.{at};
+ghost use Rattle.driver.specs.Telling.{ordered};
 
 mod notes;
 
 use crate::link::notes::notes_of;
 use crate::news::{Ending, News};
-use crate::order::{Now, Order, TowerNote};
+use crate::order::{Now, TowerNote};
+use crate::orders::Orders;
 use crate::settings::Settings;
 use irc_line::Line;
 use pacing::{Backoff, Timer};
@@ -61,7 +65,11 @@ pub struct Link {
 }
 
 impl Link {
-    pub fn new(alloc: Global, now: &Now) -> Link {
+    /// There is no connection, and one may be tried.
+    pub fn new(alloc: Global, now: &Now) -> Link
+        ensures stage { result.stage ≡ Stage.Idle (at now.now.ms) 0 }
+        ensures backoff { result.backoff ≡ first_backoff }
+    {
         Link {
             alloc,
             stage: Stage::Idle(Timer::from(now.ms), 0),
@@ -85,10 +93,10 @@ impl Link {
         &mut self,
         now: &Now,
         node: NodeId,
-        orders: &mut Vec<Order>,
+        orders: &mut Orders,
     ) -> Result<(), AllocError>
-        ensures told { OnOk result (orders.new.items ≡ orders.old.items
-            ++ (if may_connect self.old.stage now.now.ms then Order.Connect ∷ [] else [])) }
+        ensures told { OnOk result (orders.new ≡ ordered orders.old
+            (if may_connect self.old.stage now.now.ms then Connect ∷ [] else [])) }
         ensures stage { OnOk result (self.new.stage ≡ (if may_connect self.old.stage now.now.ms
             then Stage.Connecting node else self.old.stage)) }
         ensures rest { self.new ≡ record self.old { stage = self.new.stage } }
@@ -101,7 +109,7 @@ impl Link {
             }
             Stage::Connecting(_) | Stage::Open(_) => return Ok(()),
         }
-        orders.push(Order::Connect)?;
+        orders.connect()?;
         self.stage = Stage::Connecting(node);
         Ok(())
     }
@@ -111,10 +119,10 @@ impl Link {
         &mut self,
         now: &Now,
         settings: &Settings,
-        orders: &mut Vec<Order>,
+        orders: &mut Orders,
     ) -> Result<(), AllocError>
         ensures stands { OnOk result (Connects self.old.stage settings.now now.now.ms
-            orders.old.items self.new.stage orders.new.items) }
+            orders.old self.new.stage orders.new) }
         ensures rest { self.new ≡ record self.old { stage = self.new.stage } }
     {
         if let Stage::Connecting(node) = &self.stage {
@@ -129,10 +137,10 @@ impl Link {
         &mut self,
         now: &Now,
         bytes: &[u8],
-        orders: &mut Vec<Order>,
+        orders: &mut Orders,
     ) -> Result<Vec<TowerNote>, AllocError>
         ensures received { IfOk result (λ notes. Receives self.old.stage now.now.ms now.now.at
-            bytes.now orders.old.items self.new.stage notes.items orders.new.items) }
+            bytes.now orders.old self.new.stage notes.items orders.new) }
         ensures rest { self.new ≡ record self.old { stage = self.new.stage } }
     {
         match &mut self.stage {
@@ -154,14 +162,8 @@ impl Link {
     }
 
     /// The connection is gone, or could not be made. Whether its node has to be told.
-    pub fn lose(
-        &mut self,
-        now: &Now,
-        why: Ending,
-        orders: &mut Vec<Order>,
-    ) -> Result<bool, AllocError>
-        ensures told { OnOk result
-            (orders.new.items ≡ orders.old.items ++ ending self.old.stage why) }
+    pub fn lose(&mut self, now: &Now, why: Ending, orders: &mut Orders) -> Result<bool, AllocError>
+        ensures told { OnOk result (orders.new ≡ ordered orders.old (ending self.old.stage why)) }
         ensures stage { OnOk result
             (self.new.stage ≡ idle_behind self.old.stage self.old.backoff now.now.ms) }
         ensures lost { IfOk result (λ lost. IsLost self.old.stage lost) }
@@ -171,7 +173,7 @@ impl Link {
         let lost = match &mut self.stage {
             Stage::Idle(_, _) => return Ok(false),
             Stage::Connecting(node) => {
-                orders.push(Order::Tells(News::Unopened(*node, why)))?;
+                orders.announce(News::Unopened(*node, why))?;
                 false
             }
             Stage::Open(session) => {
@@ -179,7 +181,7 @@ impl Link {
                     self.backoff.reset();
                 }
                 let news = News::of_end(session.is_opened, session.node, why);
-                orders.push(Order::Tells(news))?;
+                orders.announce(news)?;
                 end(&mut session.uplink)
             }
         };
@@ -208,16 +210,16 @@ impl Link {
     }
 
     /// A line of this node's session goes to the server.
-    pub fn send(&self, node: NodeId, line: &Line, orders: &mut Vec<Order>) -> Result<(), AllocError>
-        ensures { OnOk result (Sends self.now.stage node line.now orders.old.items
-            orders.new.items) }
+    pub fn send(&self, node: NodeId, line: &Line, orders: &mut Orders) -> Result<(), AllocError>
+        ensures { OnOk result (Sends self.now.stage node line.now orders.old
+            orders.new) }
     {
         if !self.is_session_of(node) {
             return Ok(());
         }
         let mut bytes = Vec::new(self.alloc);
         line.write_cut(&mut bytes)?;
-        orders.push(Order::Send(bytes))?;
+        orders.send(bytes)?;
         Ok(())
     }
 }
@@ -228,14 +230,14 @@ fn begin(
     node: NodeId,
     now: &Now,
     settings: &Settings,
-    orders: &mut Vec<Order>,
+    orders: &mut Orders,
 ) -> Result<Session, AllocError>
     ensures { IfOk result (λ session. HasBegun settings.now now.now.ms node
-        orders.old.items session orders.new.items) }
+        orders.old session orders.new) }
 {
     let nick = settings.nick.copy(alloc)?;
     let (uplink, first) = Uplink::new(alloc, nick, settings.upstream_password.as_ref())?;
-    orders.push(Order::Send(first))?;
+    orders.send(first)?;
     Ok(Session {
         node,
         uplink,
@@ -251,10 +253,10 @@ fn receive_in(
     session: &mut Session,
     now: &Now,
     bytes: &[u8],
-    orders: &mut Vec<Order>,
+    orders: &mut Orders,
 ) -> Result<Vec<TowerNote>, AllocError>
     ensures { IfOk result (λ notes. HasReceived now.now.ms now.now.at bytes.now session.old
-        orders.old.items session.new notes.items orders.new.items) }
+        orders.old session.new notes.items orders.new) }
 {
     session.heard = Timer::from(now.ms);
     let Passed { inputs, reply } = session.uplink.feed(bytes)?;
@@ -264,14 +266,13 @@ fn receive_in(
 }
 
 /// What an uplink writes goes to the server, if it is something.
-fn send_back(reply: Vec<u8>, orders: &mut Vec<Order>) -> Result<(), AllocError>
-    ensures { OnOk result (orders.new.items ≡ orders.old.items ++ send_some reply reply.items) }
+fn send_back(reply: Vec<u8>, orders: &mut Orders) -> Result<(), AllocError>
+    ensures { OnOk result (orders.new ≡ ordered orders.old (send_some reply reply.items)) }
 {
     if reply.is_empty() {
         return Ok(());
     }
-    orders.push(Order::Send(reply))?;
-    Ok(())
+    orders.send(reply)
 }
 
 /// The end of a session is told to its uplink. Whether that gives it on.

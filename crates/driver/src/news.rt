@@ -1,6 +1,7 @@
 //! What an operator is told.
 ghost use Rattle.std.specs.Prelude.{◌≡◌};
 ghost use Rattle.driver.specs.Links.{end_of};
+ghost use Rattle.driver.specs.Operators.{node_of};
 
 use raft_log::NodeId;
 use raft_node::Cause;
@@ -56,6 +57,8 @@ pub enum News {
     Down(NodeId, Cause),
     /// A node is up, in its run of this number.
     Up(NodeId, Number),
+    /// A client connected to a node that is not up.
+    TurnedAway(NodeId),
 }
 
 impl News {
@@ -71,12 +74,15 @@ impl News {
     }
 
     /// The node that it is of.
-    pub fn node(&self) -> u8 {
+    pub fn node(&self) -> u8
+        ensures { result ≡ node_of self.now }
+    {
         match self {
             News::Attached(origin) | News::Left(origin) => origin.node(),
             News::Elected(node, _) | News::Opened(node) => node.value(),
             News::Unopened(node, _) | News::Closed(node, _) => node.value(),
             News::Down(node, _) | News::Up(node, _) => node.value(),
+            News::TurnedAway(node) => node.value(),
         }
     }
 }
@@ -92,6 +98,7 @@ impl fmt::Display for News {
             News::Closed(_, why) => write!(f, "upstream closed: {why}"),
             News::Down(_, cause) => write!(f, "down: {cause}"),
             News::Up(_, boot) => write!(f, "up, run {}", boot.value()),
+            News::TurnedAway(_) => write!(f, "client turned away: the node is down"),
         }
     }
 }

@@ -1,15 +1,18 @@
 //! Word of all nodes whose earlier runs are gone.
-ghost use Rattle.std.specs.Prelude.{◌≡◌, ◌++◌, OnOk, map};
-ghost use Rattle.driver.specs.Desks.{counted, told};
-ghost use Rattle.driver.specs.Driving.{tick_orders, ticked};
-ghost use Rattle.driver.specs.Gone.{applied_floor, fresh, heard_in, is_news, notice_at, restart_at, restart_behind};
+ghost use Rattle.std.specs.Prelude.{◌≡◌, ◌-◌, OnOk, map, slice_get};
+ghost use Rattle.driver.specs.Desks.{told};
+ghost use Rattle.driver.specs.Driving.{orders_at, tick_orders, ticked};
+ghost use Rattle.driver.specs.Gone.{applied_floor, fresh, heard_in, is_news, no_notices};
+ghost use Rattle.driver.specs.Gone.{notice_at, restart_at, restart_behind};
 ghost use Rattle.driver.specs.Rounds.{GoesRound, Spreads, SpreadsAll, round, word_told};
-ghost use Rattle.driver.specs.Rounds.{ask_orders, begun_all, buried, desk_asked, place_asked, word_due};
+ghost use Rattle.driver.specs.Rounds.{ask_orders, buried, place_asked, word_begun, word_due};
+ghost use Rattle.driver.specs.Telling.{ordered};
 
 use crate::desk::Desk;
 use crate::gone::Notice;
 use crate::leader::leader_of;
-use crate::order::{Now, Order};
+use crate::order::Now;
+use crate::orders::Orders;
 use crate::settings::Settings;
 use node_notes::Status;
 use raft_log::NodeId;
@@ -28,7 +31,9 @@ pub struct Notices {
 
 impl Notices {
     /// There is none.
-    pub fn new() -> Notices {
+    pub fn new() -> Notices
+        ensures { result.all ≡ no_notices }
+    {
         Notices {
             all: [None, None, None, None, None, None, None],
         }
@@ -39,16 +44,17 @@ impl Notices {
     pub fn begin(
         &mut self,
         now: &Now,
-        desk: &mut Desk,
+        desks: &[Desk; MOST_NODES],
+        node: NodeId,
         boot: Number,
-        orders: &mut Vec<Order>,
+        orders: &mut Orders,
     ) -> Result<(), AllocError>
-        ensures notices { OnOk result
-            (self.new.all ≡ begun_all self.old.all now.now.ms boot desk.old) }
-        ensures desk { OnOk result (desk.new ≡ counted desk.old) }
-        ensures told { OnOk result (orders.new.items ≡ orders.old.items
-            ++ word_told (fresh desk.old.id boot) desk.old) }
+        ensures notices { OnOk result (self.new.all ≡ word_begun orders.old now.now.ms boot
+            (slice_get desks.now (node - 1)) self.old.all) }
+        ensures told { OnOk result (orders.new ≡ ordered orders.old
+            (orders_at (λ desk. word_told (fresh desk.id boot) desk) desks.now node)) }
     {
+        let desk = &desks[node.value() as usize - 1];
         let mut notice = Notice::new(desk.id(), boot);
         notice.ask(now, desk, orders)?;
         self.all[desk.id().value() as usize - 1] = Some(notice);
@@ -64,17 +70,16 @@ impl Notices {
     }
 
     /// Time passed: what may be lost is asked for again, at the node that leads; so is word of a node
-    /// that answered nothing for ten timeouts.
+    /// that is down, or answered nothing for ten timeouts.
     pub fn tick(
         &mut self,
         now: &Now,
         settings: &Settings,
-        desks: &mut [Desk; MOST_NODES],
-        orders: &mut Vec<Order>,
+        desks: &[Desk; MOST_NODES],
+        orders: &mut Orders,
     ) -> Result<(), AllocError>
-        ensures { OnOk result (GoesRound settings.now now.now.ms
-            (round self.old.all desks.old orders.old.items)
-            (round self.new.all desks.new orders.new.items)) }
+        ensures { OnOk result (GoesRound settings.now now.now.ms desks.now
+            (round self.old.all orders.old) (round self.new.all orders.new)) }
     {
         let Some(leader) = leader_of(desks) else {
             return Ok(());
@@ -89,12 +94,11 @@ impl Notices {
         now: &Now,
         settings: &Settings,
         leader: NodeId,
-        desks: &mut [Desk; MOST_NODES],
-        orders: &mut Vec<Order>,
+        desks: &[Desk; MOST_NODES],
+        orders: &mut Orders,
     ) -> Result<(), AllocError>
-        ensures { OnOk result (SpreadsAll 7 settings.now now.now.ms leader 1
-            (round self.old.all desks.old orders.old.items)
-            (round self.new.all desks.new orders.new.items)) }
+        ensures { OnOk result (SpreadsAll 7 settings.now now.now.ms leader 1 desks.now
+            (round self.old.all orders.old) (round self.new.all orders.new)) }
     {
         for id in 1..MOST_NODES as u8 + 1 {
             self.spread(now, settings, leader, NodeId::new(id), desks, orders)?;
@@ -102,25 +106,24 @@ impl Notices {
         Ok(())
     }
 
-    /// A node's turn: where it answered nothing for ten timeouts, word goes round of its run; and word of
-    /// it that is due is asked for at the node that leads.
+    /// A node's turn: where it is down, or answered nothing for ten timeouts, word goes round of its run;
+    /// and word of it that is due is asked for at the node that leads.
     fn spread(
         &mut self,
         now: &Now,
         settings: &Settings,
         leader: NodeId,
         node: NodeId,
-        desks: &mut [Desk; MOST_NODES],
-        orders: &mut Vec<Order>,
+        desks: &[Desk; MOST_NODES],
+        orders: &mut Orders,
     ) -> Result<(), AllocError>
-        ensures { OnOk result (Spreads settings.now now.now.ms leader node
-            (round self.old.all desks.old orders.old.items)
-            (round self.new.all desks.new orders.new.items)) }
+        ensures { OnOk result (Spreads settings.now now.now.ms leader node desks.now
+            (round self.old.all orders.old) (round self.new.all orders.new)) }
     {
         let place = &mut self.all[node.value() as usize - 1];
         bury(place, now, settings, &desks[node.value() as usize - 1]);
-        let desk = &mut desks[leader.value() as usize - 1];
-        ask_if_due(place, now, settings, desk, orders)?;
+        let via = &desks[leader.value() as usize - 1];
+        ask_if_due(place, now, settings, via, orders)?;
         Ok(())
     }
 
@@ -130,12 +133,12 @@ impl Notices {
         now: &Now,
         settings: &Settings,
         desk: &mut Desk,
-        orders: &mut Vec<Order>,
+        orders: &mut Orders,
     ) -> Result<(), AllocError>
         ensures desk { OnOk result
-            (desk.new ≡ ticked self.now.all settings.now now.now.ms desk.old) }
-        ensures told { OnOk result (orders.new.items ≡ orders.old.items
-            ++ tick_orders self.now.all settings.now now.now.ms desk.old) }
+            (desk.new ≡ ticked orders.old self.now.all settings.now now.now.ms desk.old) }
+        ensures told { OnOk result (orders.new ≡ ordered orders.old
+            (tick_orders orders.old self.now.all settings.now now.now.ms desk.old)) }
     {
         desk.tick(now, settings, orders)?;
         self.restart_outlived(desk, orders)?;
@@ -144,11 +147,11 @@ impl Notices {
 
     /// A node that lives on in a run that is gone for all nodes is started again: what its clients ask for
     /// is refused from then on.
-    fn restart_outlived(&self, desk: &mut Desk, orders: &mut Vec<Order>) -> Result<(), AllocError>
-        ensures told { OnOk result (orders.new.items ≡ orders.old.items
-            ++ told desk.old.id (restart_at self.now.all desk.old)) }
+    fn restart_outlived(&self, desk: &mut Desk, orders: &mut Orders) -> Result<(), AllocError>
+        ensures told { OnOk result (orders.new
+            ≡ ordered orders.old (told desk.old.id (restart_at self.now.all desk.old))) }
         ensures desk { OnOk result
-            (desk.new ≡ restart_behind desk.old (restart_at self.now.all desk.old)) }
+            (desk.new ≡ restart_behind orders.old desk.old (restart_at self.now.all desk.old)) }
     {
         match self.applied_floor(desk.id()) {
             Some(floor) => desk.restart_below(floor, orders),
@@ -193,7 +196,7 @@ fn hear_at(place: &mut Option<Notice>, node: NodeId, status: &Status, done: u64,
     }
 }
 
-/// Where a node answered nothing for ten timeouts, word goes round of its run.
+/// Where a node is down, or answered nothing for ten timeouts, word goes round of its run.
 fn bury(place: &mut Option<Notice>, now: &Now, settings: &Settings, desk: &Desk)
     ensures { place.new ≡ buried settings.now now.now.ms desk.now place.old }
 {
@@ -210,15 +213,13 @@ fn ask_if_due(
     place: &mut Option<Notice>,
     now: &Now,
     settings: &Settings,
-    desk: &mut Desk,
-    orders: &mut Vec<Order>,
+    desk: &Desk,
+    orders: &mut Orders,
 ) -> Result<(), AllocError>
-    ensures place { OnOk result (place.new ≡ place_asked
-        (word_due settings.now now.now.ms place.old) now.now.ms desk.old place.old) }
-    ensures desk { OnOk result (desk.new
-        ≡ desk_asked (word_due settings.now now.now.ms place.old) desk.old) }
-    ensures told { OnOk result (orders.new.items ≡ orders.old.items
-        ++ ask_orders (word_due settings.now now.now.ms place.old) desk.old) }
+    ensures place { OnOk result (place.new ≡ place_asked orders.old
+        (word_due settings.now now.now.ms place.old) now.now.ms desk.now place.old) }
+    ensures told { OnOk result (orders.new ≡ ordered orders.old
+        (ask_orders (word_due settings.now now.now.ms place.old) desk.now)) }
 {
     let Some(notice) = place else {
         return Ok(());

@@ -1,5 +1,7 @@
 //! What is told by hand to what drives the nodes, and the orders that must come of it.
+mod asking;
 mod node_stories;
+mod outages;
 mod paces;
 mod stories;
 mod story;

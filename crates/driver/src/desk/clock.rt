@@ -1,13 +1,16 @@
 //! What the clock tells a node, and when.
-ghost use Rattle.std.specs.Prelude.{◌≡◌, ◌++◌, OnOk, Some, None, if◌then◌else◌};
+ghost use Rattle.std.specs.Prelude.{◌≡◌, OnOk, Some, None, if◌then◌else◌};
 ghost use Rattle.node_notes.specs.declared.note.Note.TheVariants.{Beat};
-ghost use Rattle.driver.specs.Desks.{beaten_at, claim_at, claim_due, desk_behind, desk_claimed, is_claimed, is_to_beat, line_to_claim, note_at, paced, told};
+ghost use Rattle.driver.specs.Desks.{beaten_at, claim_at, claim_due, desk_behind, desk_claimed};
+ghost use Rattle.driver.specs.Desks.{is_claimed, is_to_beat, line_to_claim, note_at, paced, told};
+ghost use Rattle.driver.specs.Telling.{ordered};
 ghost use Rattle.pacing.specs.Pacing.{may_go};
 
 use crate::desk::{Claimed, Desk};
-use crate::order::{Now, Order};
+use crate::order::Now;
+use crate::orders::Orders;
 use crate::settings::Settings;
-use node_notes::{Note, Status};
+use node_notes::Note;
 use pacing::{Pace, Timer};
 use std::alloc::AllocError;
 use wire_bytes::{Number, SessionId};
@@ -16,18 +19,18 @@ use wire_bytes::{Number, SessionId};
 const APART: u64 = 50;
 
 impl Desk {
-    /// Time passed, or something was heard of the node: a leader sends on news and now and then, a node
-    /// that heard of no leader asks for votes, and one that is down is started again.
+    /// Time passed, or something was heard of the node: a leader sends now and then, a node that heard of
+    /// no leader asks for votes, and one that is down is started again.
     #[tactic(auto, unfolding(crate::specs::Desks::note_for, crate::specs::Desks::note_up, crate::specs::Desks::desk_behind))]
     pub fn tick(
         &mut self,
         now: &Now,
         settings: &Settings,
-        orders: &mut Vec<Order>,
+        orders: &mut Orders,
     ) -> Result<(), AllocError>
-        ensures told { OnOk result (orders.new.items
-            ≡ orders.old.items ++ told self.old.id (note_at self.old settings.now now.now.ms)) }
-        ensures desk { OnOk result (self.new ≡ desk_behind self.old now.now.ms self.old.status
+        ensures told { OnOk result (orders.new
+            ≡ ordered orders.old (told self.old.id (note_at self.old settings.now now.now.ms))) }
+        ensures desk { OnOk result (self.new ≡ desk_behind orders.old self.old now.now.ms
             (note_at self.old settings.now now.now.ms)) }
     {
         let Some(status) = self.status else {
@@ -37,56 +40,49 @@ impl Desk {
             if since.has_passed(self.wait_ms as u64, now.ms) {
                 self.down = Some(Timer::from(now.ms));
                 self.wait_ms = self.backoff.fail();
-                self.tell(Note::Restart, orders)?;
+                orders.tell(self.id, Note::Restart)?;
             }
             return Ok(());
         }
         if status.leads() {
-            return self.tick_leader(now, settings, &status, orders);
+            return self.tick_leader(now, settings, orders);
         }
         let wait = settings.timeout_ms as u64 + APART * self.id.value() as u64;
         if self.led.has_passed(wait, now.ms) {
             self.led = Timer::from(now.ms);
             self.has_yielded = false;
-            self.tell(Note::Timeout, orders)?;
+            orders.tell(self.id, Note::Timeout(self.progress.contacts))?;
         }
         Ok(())
     }
 
-    /// A leader sends where its log or what is agreed of it grew, where a node that lags behind it
-    /// answered, or where it sent nothing for a while; at most one such note waits.
+    /// A leader sends where it was not told to for a while; at most one such note waits. On news it sends
+    /// by itself.
     fn tick_leader(
         &mut self,
         now: &Now,
         settings: &Settings,
-        status: &Status,
-        orders: &mut Vec<Order>,
+        orders: &mut Orders,
     ) -> Result<(), AllocError>
-        ensures told { OnOk result (orders.new.items ≡ orders.old.items ++ told self.old.id
-            (if is_to_beat self.old settings.now now.now.ms status.now then Some Beat else None)) }
+        ensures told { OnOk result (orders.new ≡ ordered orders.old (told self.old.id
+            (if is_to_beat self.old settings.now now.now.ms then Some Beat else None))) }
         ensures desk { OnOk result (self.new ≡ (if is_to_beat self.old settings.now now.now.ms
-            status.now then beaten_at self.old now.now.ms status.now else self.old)) }
+            then beaten_at orders.old self.old now.now.ms else self.old)) }
     {
-        if !self.is_to_beat(now, settings, status) {
+        if !self.is_to_beat(now, settings) {
             return Ok(());
         }
         self.beat = Timer::from(now.ms);
-        self.beaten = (status.last, status.commit);
-        self.is_answered = false;
-        self.tell(Note::Beat, orders)?;
-        self.beat_note = self.given;
+        self.beat_note = orders.tell(self.id, Note::Beat)?;
         Ok(())
     }
 
-    /// Whether a leader that stands so is to send.
-    #[tactic(auto, unfolding(crate::specs::Desks::is_to_beat))]
-    fn is_to_beat(&self, now: &Now, settings: &Settings, status: &Status) -> bool
-        ensures { result ≡ is_to_beat self.now settings.now now.now.ms status.now }
+    /// Whether it is to send, where it leads.
+    fn is_to_beat(&self, now: &Now, settings: &Settings) -> bool
+        ensures { result ≡ is_to_beat self.now settings.now now.now.ms }
     {
-        let (last, commit) = self.beaten;
-        let has_news = last.value() < status.last.value() || commit.value() < status.commit.value();
-        let is_over = self.beat.has_passed(settings.beat_ms as u64, now.ms);
-        (has_news || self.is_answered || is_over) && self.beat_note <= self.done
+        self.beat.has_passed(settings.beat_ms as u64, now.ms)
+            && self.beat_note <= self.progress.done
     }
 
     /// The next line is claimed for the session, where the node has one, and where the pace allows it.
@@ -96,10 +92,10 @@ impl Desk {
         now: &Now,
         settings: &Settings,
         pace: &mut Pace,
-        orders: &mut Vec<Order>,
+        orders: &mut Orders,
     ) -> Result<(), AllocError>
-        ensures told { OnOk result (orders.new.items ≡ orders.old.items
-            ++ told self.old.id (claim_at self.old settings.now now.now.ms pace.old)) }
+        ensures told { OnOk result (orders.new ≡ ordered orders.old
+            (told self.old.id (claim_at self.old settings.now now.now.ms pace.old))) }
         ensures desk { OnOk result (self.new ≡ desk_claimed self.old now.now.ms
             (may_go pace.old.burst pace.old.line_ms pace.old.free_at now.now.ms)
             (claim_due self.old settings.now now.now.ms)) }
@@ -117,7 +113,8 @@ impl Desk {
             number,
             at: Timer::from(now.ms),
         });
-        self.tell(Note::Claim, orders)
+        orders.tell(self.id, Note::Claim)?;
+        Ok(())
     }
 
     /// The line that is to be claimed, if there is one that was not claimed just before.

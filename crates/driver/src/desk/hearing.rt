@@ -1,71 +1,64 @@
 //! What a node's worker tells of how the node stands.
 ghost use Rattle.std.specs.Prelude.{◌≡◌, ◌++◌, IfOk, OnOk, None, Some};
-ghost use Rattle.driver.specs.Hearing.{down_behind, down_news, elected_behind, elected_news, heard_behind, heard_news};
-ghost use Rattle.driver.specs.Hearing.{answered_by, is_ahead, is_new_run, is_raised, led_in, up_behind, up_news};
-ghost use Rattle.driver.specs.Hearing.{waiting_behind, was_up};
+ghost use Rattle.driver.specs.Hearing.{down_behind, down_news, elected_news, heard_behind, heard_news};
+ghost use Rattle.driver.specs.Hearing.{heard_of, is_new_run, is_raised, led_in, up_behind, up_news};
+ghost use Rattle.driver.specs.Hearing.{progressed, waiting_behind, was_up};
+ghost use Rattle.driver.specs.Telling.{ordered, told_to};
 
 use crate::desk::Desk;
 use crate::news::News;
-use crate::order::{Now, Order};
-use node_notes::Status;
+use crate::order::Now;
+use crate::orders::Orders;
+use node_notes::{Progress, Status};
 use pacing::Timer;
 use raft_log::Role;
 use raft_node::Cause;
 use std::alloc::AllocError;
 use wire_bytes::Number;
 
+/// How long a node has to be up so that what failed before does not count any more, in milliseconds: one
+/// that fails again and again within a minute is started less and less often.
+const GOOD_RUN: u64 = 60_000;
+
+/// What is new of a node that was heard of.
+#[derive(Clone, Copy)]
+pub struct Heard {
+    /// A run of it began.
+    pub is_new: bool,
+    /// Requests that it was told may be lost, and were not known to be.
+    pub has_lost: bool,
+}
+
 impl Desk {
-    /// The node's worker told how it stands: `led` where a leader was heard of, `is_last` where this is
-    /// the last of what a note brought about. Whether a run of the node began.
+    /// The node's worker told how the node stands, and how far the worker is. What is new of it.
     pub fn hear(
         &mut self,
         now: &Now,
         status: &Status,
-        led: bool,
-        is_last: bool,
-        orders: &mut Vec<Order>,
-    ) -> Result<bool, AllocError>
-        ensures new { IfOk result (λ new. new ≡ is_new_run self.old.status status.now) }
-        ensures told { OnOk result (orders.new.items
-            ≡ orders.old.items ++ heard_news self.old status.now) }
-        ensures desk { OnOk result
-            (self.new ≡ heard_behind self.old now.now.ms status.now led is_last) }
+        progress: &Progress,
+        orders: &mut Orders,
+    ) -> Result<Heard, AllocError>
+        ensures new { IfOk result (λ heard. heard
+            ≡ heard_of self.old (told_to orders.old self.old.id) status.now progress.now) }
+        ensures told { OnOk result (orders.new
+            ≡ ordered orders.old (heard_news self.old status.now)) }
+        ensures desk { OnOk result (self.new ≡ heard_behind self.old now.now.ms
+            (told_to orders.old self.old.id) status.now progress.now) }
     {
         let is_new = self.is_new_run(status);
         let was_up = self.is_up();
+        let lost = self.progress.lost;
+        let told = orders.told_to(self.id);
         self.hear_leading(status, orders)?;
-        self.hear_term(now, status, led);
+        self.hear_term(now, status, self.progress.contacts < progress.contacts);
         self.status = Some(*status);
-        if is_last {
-            self.done = self.done.saturating_add(1).min(self.given);
-        }
+        self.progress = progressed(&self.progress, told, progress);
         match status.down {
             Some(cause) => self.hear_down(now, cause, orders)?,
             None => self.hear_up(now, was_up, status.boot, orders)?,
         }
-        Ok(is_new)
-    }
-
-    /// A node that stands so heard of the leader of its term: where that is this node, and the other one
-    /// lags behind it, the next entries are to go out at once.
-    pub fn hear_answer(&mut self, other: &Status)
-        ensures { self.new ≡ answered_by self.old other.now }
-    {
-        if self.is_ahead_of(other) {
-            self.is_answered = true;
-        }
-    }
-
-    /// Whether it leads in the term of a node that stands so, and has more entries than that.
-    fn is_ahead_of(&self, other: &Status) -> bool
-        ensures { result ≡ is_ahead self.now.status other.now }
-    {
-        let Some(status) = &self.status else {
-            return false;
-        };
-        status.leads()
-            && status.term.value() == other.term.value()
-            && other.last.value() < status.last.value()
+        let has_lost = lost < self.progress.lost;
+        Ok(Heard { is_new, has_lost })
     }
 
     /// A leader was heard of, or the term of a node that follows rose, so that it may have granted its vote:
@@ -124,36 +117,33 @@ impl Desk {
         }
     }
 
-    /// One that leads, and was not heard to lead in this term, was elected: it has sent nothing yet.
-    fn hear_leading(&mut self, status: &Status, orders: &mut Vec<Order>) -> Result<(), AllocError>
-        ensures told { OnOk result (orders.new.items
-            ≡ orders.old.items ++ elected_news self.old status.now) }
-        ensures desk { OnOk result (self.new ≡ elected_behind self.old status.now) }
+    /// One that leads, and was not heard to lead in this term, was elected.
+    fn hear_leading(&self, status: &Status, orders: &mut Orders) -> Result<(), AllocError>
+        ensures { OnOk result (orders.new
+            ≡ ordered orders.old (elected_news self.now status.now)) }
     {
         if status.leads() && !self.led_in(status.term) {
-            self.beaten = (Number::new(0), Number::new(0));
-            orders.push(Order::Tells(News::Elected(self.id, status.term)))?;
+            orders.announce(News::Elected(self.id, status.term))?;
         }
         Ok(())
     }
 
-    /// It is down: it is started again behind a wait from the first word of it on.
-    fn hear_down(
-        &mut self,
-        now: &Now,
-        cause: Cause,
-        orders: &mut Vec<Order>,
-    ) -> Result<(), AllocError>
-        ensures told { OnOk result (orders.new.items
-            ≡ orders.old.items ++ down_news self.old.id cause self.old.down) }
+    /// It is down: it is started again behind a wait from the first word of it on, and behind the first
+    /// wait again where it was up for a minute.
+    fn hear_down(&mut self, now: &Now, cause: Cause, orders: &mut Orders) -> Result<(), AllocError>
+        ensures told { OnOk result (orders.new
+            ≡ ordered orders.old (down_news self.old.id cause self.old.down)) }
         ensures desk { OnOk result (self.new ≡ down_behind self.old now.now.ms self.old.down) }
     {
-        if self.down.is_none() {
-            self.down = Some(Timer::from(now.ms));
-            self.wait_ms = self.backoff.fail();
-            orders.push(Order::Tells(News::Down(self.id, cause)))?;
+        if self.down.is_some() {
+            return Ok(());
         }
-        Ok(())
+        if self.up.has_passed(GOOD_RUN, now.ms) {
+            self.backoff.reset();
+        }
+        self.down = Some(Timer::from(now.ms));
+        self.wait_ms = self.backoff.fail();
+        orders.announce(News::Down(self.id, cause))
     }
 
     /// It is up.
@@ -162,18 +152,33 @@ impl Desk {
         now: &Now,
         was_up: bool,
         boot: Number,
-        orders: &mut Vec<Order>,
+        orders: &mut Orders,
     ) -> Result<(), AllocError>
-        ensures told { OnOk result (orders.new.items
-            ≡ orders.old.items ++ up_news self.old.id boot was_up) }
+        ensures told { OnOk result (orders.new
+            ≡ ordered orders.old (up_news self.old.id boot was_up)) }
         ensures desk { OnOk result (self.new ≡ up_behind self.old now.now.ms was_up) }
     {
         self.down = None;
         self.heard = Timer::from(now.ms);
+        self.has_turned_away = false;
         if !was_up {
             self.led = Timer::from(now.ms);
-            orders.push(Order::Tells(News::Up(self.id, boot)))?;
+            self.up = Timer::from(now.ms);
+            orders.announce(News::Up(self.id, boot))?;
         }
         Ok(())
+    }
+}
+
+/// How far a worker is that was told so many notes, by what was known of it and what it tells: it never goes
+/// back, and is never further than it was told.
+fn progressed(known: &Progress, told: u64, heard: &Progress) -> Progress
+    ensures { result ≡ progressed known.now told heard.now }
+{
+    Progress {
+        done: known.done.max(heard.done.min(told)),
+        waiting: heard.waiting,
+        lost: known.lost.max(heard.lost.min(told)),
+        contacts: known.contacts.max(heard.contacts),
     }
 }

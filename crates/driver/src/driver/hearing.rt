@@ -1,19 +1,20 @@
 //! What a node's worker tells, and what comes of it.
-ghost use Rattle.std.specs.Prelude.{◌≡◌, ◌&&◌, ◌++◌, ◌-◌, is_some, slice_get, map, IfOk, OnOk};
+ghost use Rattle.std.specs.Prelude.{◌≡◌, ◌-◌, is_some, slice_get, IfOk, OnOk};
 ghost use Rattle.bouncer_tower.specs.Hosting.{class_of};
 ghost use Rattle.driver.specs.Passing.{PassEach, PassesBy};
-ghost use Rattle.driver.specs.Driving.{Begins, BeginsIf, Hears, Stands, answered_if, changed_at, is_new_at, orders_at, told_of, word_begun};
-ghost use Rattle.driver.specs.Desks.{counted};
+ghost use Rattle.driver.specs.Driving.{changed_at, orders_at, told_of};
 ghost use Rattle.driver.specs.Gone.{fresh};
-ghost use Rattle.driver.specs.Rounds.{word_told};
-ghost use Rattle.driver.specs.Hearing.{answered_by, heard_behind, heard_news};
+ghost use Rattle.driver.specs.Rounds.{word_begun, word_told};
+ghost use Rattle.driver.specs.Hearing.{heard_behind, heard_news, heard_of};
+ghost use Rattle.driver.specs.Reports.{Begins, BeginsIf, Hears, Stands, WordsBy, heard_at};
+ghost use Rattle.driver.specs.Telling.{ordered, told_to};
 
-use crate::desk::Desk;
+use crate::desk::Heard;
 use crate::driver::Driver;
 use crate::order::{Now, TowerReport};
 use bouncer_tower::{Tower, TowerEffect};
 use machine_laws::{Class, Hosted};
-use node_notes::{Report, Status};
+use node_notes::{Progress, Report, Status};
 use raft_log::NodeId;
 use std::alloc::AllocError;
 use wire_bytes::Number;
@@ -22,78 +23,70 @@ impl Driver {
     /// A node's worker told something.
     pub fn hear(&mut self, now: &Now, report: TowerReport) -> Result<(), AllocError>
         ensures { OnOk result (Hears now.now.ms now.now.at report.node report.status
-            report.effects.items report.led report.is_last (is_some report.fault)
-            self.old self.new) }
+            report.effects.items report.progress (is_some report.fault) self.old self.new) }
     {
         let Report {
             node,
             status,
             effects,
-            led,
+            progress,
             fault,
-            is_last,
         } = report;
         self.wake(now);
-        let is_new = self.hear_node(now, node, &status, led, is_last, fault.is_some())?;
+        let heard = self.hear_node(now, node, &status, &progress, fault.is_some())?;
         self.pass_all(now, node, effects.as_slice())?;
-        self.begin_if(is_new, now, node, status.boot)?;
+        self.hear_word(now, node, &status, fault.is_some(), heard)?;
+        self.begin_if(heard.is_new, now, node, status.boot)?;
         self.tick_node(now, node)?;
         Ok(())
     }
 
-    /// How a node stands was told, whether it heard of the leader of its term, whether a note of it is
-    /// done, and whether it was refused. Whether a run of it began.
+    /// How a node stands was told, how far its worker is, and whether a turn of it was refused. What is new
+    /// of it.
     fn hear_node(
         &mut self,
         now: &Now,
         node: NodeId,
         status: &Status,
-        led: bool,
-        is_last: bool,
+        progress: &Progress,
         is_refused: bool,
-    ) -> Result<bool, AllocError>
-        ensures new { IfOk result (λ new. new ≡ is_new_at self.old.desks node status.now) }
-        ensures stands { OnOk result (Stands now.now.ms node status.now led is_last is_refused
-            self.old self.new) }
+    ) -> Result<Heard, AllocError>
+        ensures new { IfOk result (λ heard.
+            heard ≡ heard_at self.old node status.now progress.now) }
+        ensures stands { OnOk result
+            (Stands now.now.ms node status.now progress.now is_refused self.old self.new) }
     {
-        let is_new = self.hear_status(now, node, status, led, is_last)?;
-        self.hear_answer(led, !is_refused, status);
-        let done = self.desks[node.value() as usize - 1].done();
+        let desk = &mut self.desks[node.value() as usize - 1];
+        let heard = desk.hear(now, status, progress, &mut self.orders)?;
+        let done = desk.progress().done;
         self.notices.hear(node, status, done, is_refused);
-        Ok(is_new)
+        Ok(heard)
     }
 
-    /// How a node stands was told. Whether a run of it began.
-    fn hear_status(
+    /// What a node told is heard by its clients: that it is down, or that what it was told may be lost, or
+    /// that it refused a turn.
+    fn hear_word(
         &mut self,
         now: &Now,
         node: NodeId,
         status: &Status,
-        led: bool,
-        is_last: bool,
-    ) -> Result<bool, AllocError>
-        ensures new { IfOk result (λ new. new ≡ is_new_at self.old.desks node status.now) }
-        ensures desks { OnOk result (self.new.desks
-            ≡ changed_at (λ desk. heard_behind desk now.now.ms status.now led is_last)
-            self.old.desks node) }
-        ensures told { OnOk result (self.new.orders.items ≡ self.old.orders.items
-            ++ orders_at (λ desk. heard_news desk status.now) self.old.desks node) }
+        is_refused: bool,
+        heard: Heard,
+    ) -> Result<(), AllocError>
+        ensures words { OnOk result (WordsBy status.now.down is_refused heard.has_lost
+            now.now.ms now.now.at node self.old (told_of self.old) (told_of self.new)) }
         ensures rest { self.new ≡ record self.old
-            { desks = self.new.desks; orders = self.new.orders } }
+            { clients = self.new.clients; orders = self.new.orders } }
     {
-        let desk = &mut self.desks[node.value() as usize - 1];
-        desk.hear(now, status, led, is_last, &mut self.orders)
-    }
-
-    /// A node that stands so heard of the leader of its term, or did not, and did what it was to do, or did
-    /// not: where it did both, that leader is to know where the node lags behind.
-    fn hear_answer(&mut self, led: bool, is_done: bool, status: &Status)
-        ensures { self.new ≡ record self.old
-            { desks = answered_if (led && is_done) status.now self.old.desks } }
-    {
-        if led && is_done {
-            answer_each(self.desks.as_mut_slice(), status);
+        if status.down.is_some() {
+            return self.clients.cut_off(node, &mut self.orders);
         }
+        if !is_refused && !heard.has_lost {
+            return Ok(());
+        }
+        let lost = self.desks[node.value() as usize - 1].progress().lost;
+        self.clients
+            .hear_node(now, node, lost, is_refused, &mut self.orders)
     }
 
     /// Effects that left a node go to its clients, or to the server.
@@ -103,7 +96,7 @@ impl Driver {
         node: NodeId,
         effects: &[TowerEffect],
     ) -> Result<(), AllocError>
-        ensures passes { OnOk result (PassEach now.now.at self.old.link.stage node effects.now
+        ensures passes { OnOk result (PassEach now.now.ms now.now.at self.old.link.stage node effects.now
             (told_of self.old) (told_of self.new)) }
         ensures rest { self.new ≡ record self.old
             { clients = self.new.clients; orders = self.new.orders } }
@@ -116,8 +109,8 @@ impl Driver {
 
     /// An effect that left a node goes to its client, or to the server.
     fn pass(&mut self, now: &Now, node: NodeId, effect: &TowerEffect) -> Result<(), AllocError>
-        ensures passes { OnOk result (PassesBy (class_of effect.now) now.now.at
-            self.old.link.stage node effect.now (told_of self.old) (told_of self.new)) }
+        ensures passes { OnOk result (PassesBy (class_of effect.now) now.now.ms
+            now.now.at self.old.link.stage node effect.now (told_of self.old) (told_of self.new)) }
         ensures rest { self.new ≡ record self.old
             { clients = self.new.clients; orders = self.new.orders } }
     {
@@ -157,27 +150,14 @@ impl Driver {
 
     /// A node is asked for word that its runs below this boot are gone.
     fn spread_word(&mut self, now: &Now, node: NodeId, boot: Number) -> Result<(), AllocError>
-        ensures desks { OnOk result (self.new.desks ≡ changed_at counted self.old.desks node) }
-        ensures word { OnOk result (self.new.notices.all ≡ word_begun now.now.ms boot
-            (slice_get self.old.desks (node - 1)) self.old.notices.all) }
-        ensures told { OnOk result (self.new.orders.items ≡ self.old.orders.items
-            ++ orders_at (λ desk. word_told (fresh desk.id boot) desk) self.old.desks node) }
-        ensures rest { self.new ≡ record self.old {
-          desks = self.new.desks;
-          notices = self.new.notices;
-          orders = self.new.orders;
-        } }
+        ensures word { OnOk result (self.new.notices.all ≡ word_begun self.old.orders
+            now.now.ms boot (slice_get self.old.desks (node - 1)) self.old.notices.all) }
+        ensures told { OnOk result (self.new.orders ≡ ordered self.old.orders
+            (orders_at (λ desk. word_told (fresh desk.id boot) desk) self.old.desks node)) }
+        ensures rest { self.new ≡ record self.old
+            { notices = self.new.notices; orders = self.new.orders } }
     {
-        let desk = &mut self.desks[node.value() as usize - 1];
-        self.notices.begin(now, desk, boot, &mut self.orders)
-    }
-}
-
-/// A node that stands so heard of the leader of its term, which is one of these where it leads.
-fn answer_each(desks: &mut [Desk], status: &Status)
-    ensures { desks.new ≡ map (λ desk. answered_by desk status.now) desks.old }
-{
-    for desk in desks.iter_mut() {
-        desk.hear_answer(status);
+        self.notices
+            .begin(now, &self.desks, node, boot, &mut self.orders)
     }
 }

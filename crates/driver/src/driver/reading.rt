@@ -1,7 +1,7 @@
 //! From whom is to be read: not where what comes would only wait for its node.
-ghost use Rattle.std.specs.Prelude.{◌≡◌, Some};
+ghost use Rattle.std.specs.Prelude.{◌≡◌};
 ghost use Rattle.driver.specs.Links.{node_of};
-ghost use Rattle.driver.specs.Rosters.{client_at, is_read_for, node_in};
+ghost use Rattle.driver.specs.Rosters.{IsReadOf, client_at, is_read_for};
 
 use crate::driver::Driver;
 use raft_log::NodeId;
@@ -10,32 +10,31 @@ impl Driver {
     /// Whether the server's bytes are to be read. Where they are not, they are once `hear` was told that
     /// notes of the session's node are done; what is given to `receive_line` meanwhile is not lost.
     pub fn reads_server(&self) -> bool
-        ensures { result ≡ is_read_for self.now.desks (node_of self.now.link.stage) }
+        ensures { result ≡ is_read_for self.now.orders self.now.desks
+            (node_of self.now.link.stage) }
     {
-        match self.link.node() {
-            Some(node) => self.takes_notes(node),
-            None => true,
-        }
+        self.reads_for(self.link.node())
     }
 
     /// Whether this client's bytes are to be read. Where they are not, they are once `hear` was told that
-    /// notes of its node are done; what is given to `receive` meanwhile is not lost.
+    /// notes of its node are done, or requests of it; what is given to `receive` meanwhile is not lost.
     pub fn reads_client(&self, number: u64) -> bool
-        ensures { result ≡ is_read_for self.now.desks
-            (node_in (client_at self.now.clients number)) }
+        ensures { IsReadOf result self.now.orders self.now.desks
+            (client_at self.now.clients number) }
     {
-        match self.clients.node_of(number) {
-            Some(node) => self.takes_notes(node),
-            None => true,
-        }
+        let is_full = self.clients.is_full(number);
+        !is_full && self.reads_for(self.clients.node_of(number))
     }
 
-    /// Whether fewer notes of a node wait than may.
-    fn takes_notes(&self, node: NodeId) -> bool
-        ensures { result ≡ is_read_for self.now.desks (Some node) }
+    /// Whether fewer notes of a node wait than may, if it is for one.
+    fn reads_for(&self, node: Option<NodeId>) -> bool
+        ensures { result ≡ is_read_for self.now.orders self.now.desks node }
     {
+        let Some(node) = node else {
+            return true;
+        };
         match self.desks.get(node.value() as usize - 1) {
-            Some(desk) => !desk.is_full(),
+            Some(desk) => !desk.is_full(&self.orders),
             None => true,
         }
     }

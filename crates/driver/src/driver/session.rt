@@ -1,15 +1,14 @@
 //! The connection to the server, as the driver has it.
-ghost use Rattle.std.specs.Prelude.{◌≡◌, ◌++◌, OnOk, Some, if◌then◌else◌};
+ghost use Rattle.std.specs.Prelude.{◌≡◌, OnOk};
 ghost use Rattle.driver.specs.declared.news.Ending.TheVariants.{LedNoMore, Silent};
-ghost use Rattle.driver.specs.Desks.{counted, told};
-ghost use Rattle.driver.specs.Driving.{Connects, Ends, Leaves, LeavesIf, changed_at, orders_at};
+ghost use Rattle.driver.specs.Driving.{Connects, Ends, Leaves, LeavesIf};
 ghost use Rattle.driver.specs.Leading.{is_older, is_that};
 ghost use Rattle.driver.specs.Links.{Connects as IsConnected, is_silent, node_of};
 ghost use Rattle.driver.specs.Sessions.{TakesIf, TellsAllOf, TellsOf};
 
 use crate::driver::Driver;
 use crate::news::{Ending, News};
-use crate::order::{Now, Order, TowerNote};
+use crate::order::{Now, TowerNote};
 use node_notes::Note;
 use raft_log::NodeId;
 use std::alloc::AllocError;
@@ -18,7 +17,7 @@ impl Driver {
     /// The server is connected to.
     pub fn connected(&mut self, now: &Now) -> Result<(), AllocError>
         ensures stands { OnOk result (IsConnected self.old.link.stage self.old.settings now.now.ms
-            self.old.orders.items self.new.link.stage self.new.orders.items) }
+            self.old.orders self.new.link.stage self.new.orders) }
         ensures link { self.new.link ≡ record self.old.link { stage = self.new.link.stage } }
         ensures rest { self.new ≡ record self.old
             { link = self.new.link; orders = self.new.orders } }
@@ -55,9 +54,10 @@ impl Driver {
     {
         if let Note::Opened = &note {
             self.link.open();
-            self.orders.push(Order::Tells(News::Opened(node)))?;
+            self.orders.announce(News::Opened(node))?;
         }
-        self.tell(node, note)
+        self.orders.tell(node, note)?;
+        Ok(())
     }
 
     /// The connection to the server is gone, or could not be made.
@@ -65,17 +65,6 @@ impl Driver {
         ensures { OnOk result (Ends now.now.ms why self.old self.new) }
     {
         self.end_session(now, why)
-    }
-
-    /// A node is told this.
-    fn tell(&mut self, node: NodeId, note: TowerNote) -> Result<(), AllocError>
-        ensures desks { OnOk result (self.new.desks ≡ changed_at counted self.old.desks node) }
-        ensures orders { OnOk result (self.new.orders.items ≡ self.old.orders.items
-            ++ orders_at (λ desk. told desk.id (Some note)) self.old.desks node) }
-        ensures rest { self.new ≡ record self.old
-            { desks = self.new.desks; orders = self.new.orders } }
-    {
-        self.desks[node.value() as usize - 1].tell(note, &mut self.orders)
     }
 
     /// There is no connection to the server, or none any more.
@@ -86,7 +75,7 @@ impl Driver {
             return Ok(());
         };
         if self.link.lose(now, why, &mut self.orders)? {
-            self.tell(node, Note::Closed)?;
+            self.orders.tell(node, Note::Closed)?;
         }
         Ok(())
     }
@@ -95,7 +84,7 @@ impl Driver {
     fn leave(&mut self, now: &Now, why: Ending) -> Result<(), AllocError>
         ensures { OnOk result (Leaves now.now.ms why self.old self.new) }
     {
-        self.orders.push(Order::Disconnect)?;
+        self.orders.disconnect()?;
         self.end_session(now, why)?;
         Ok(())
     }

@@ -24,7 +24,7 @@ impl Driver {
         self.clients.tick(now, timeout, &mut self.orders)?;
         self.tick_nodes(now)?;
         self.notices
-            .tick(now, &self.settings, &mut self.desks, &mut self.orders)?;
+            .tick(now, &self.settings, &self.desks, &mut self.orders)?;
         Ok(())
     }
 

@@ -1,6 +1,6 @@
 //! What a driver orders of nodes that are gone, have much to do, or lag behind, by stories.
 use crate::drive::story::{Step, follow};
-use crate::drive::telling::{applied, in_second_run, in_term, standing};
+use crate::drive::telling::{applied, in_run, in_term, standing, waiting};
 use raft_log::{NodeId, Role};
 use std::test::Fail;
 
@@ -9,18 +9,18 @@ use std::test::Fail;
 fn buried() -> [Step<'static>; 13] {
     let (one, two) = (NodeId::new(1), NodeId::new(2));
     [
-        Step::Stands(0, one, standing(Role::Leader, 0), false),
-        Step::Stands(0, two, standing(Role::Follower, 0), false),
-        Step::Connects(0, two, Some(1)),
+        Step::Stands(0, one, standing(Role::Leader, 0), 0),
+        Step::Stands(0, two, standing(Role::Follower, 0), 0),
+        Step::Connects(400, two, Some(1)),
         Step::Ordered,
         Step::Passes(0, 19),
         Step::Ordered,
         Step::Ticks(10_000),
         Step::Orders("ask@1 "),
-        Step::Stands(10_010, one, applied(0), true),
-        Step::Stands(10_011, one, applied(1), true),
+        Step::Stands(10_010, one, applied(0), 1),
+        Step::Stands(10_011, one, applied(1), 2),
         Step::Orders("beat@1 "),
-        Step::Stands(10_012, one, applied(2), true),
+        Step::Stands(10_012, one, applied(2), 3),
         Step::Orders(""),
     ]
 }
@@ -31,14 +31,14 @@ fn a_node_that_lives_on_in_a_run_that_is_gone_is_started_again(
 ) -> Result<(), Fail> {
     let node = NodeId::new(2);
     let story = [
-        Step::Stands(10_020, node, standing(Role::Follower, 0), false),
+        Step::Stands(10_020, node, standing(Role::Follower, 0), 0),
         Step::Orders("restart@2 "),
-        Step::Stands(10_030, node, standing(Role::Follower, 0), true),
-        Step::Stands(10_040, node, standing(Role::Follower, 0), true),
+        Step::Stands(10_030, node, standing(Role::Follower, 0), 1),
+        Step::Stands(10_040, node, standing(Role::Follower, 0), 2),
         Step::Orders(""),
-        Step::Stands(10_050, node, in_second_run(), true),
+        Step::Stands(10_050, node, in_run(2), 3),
         Step::Orders("close@1 news@2 [client 1 left] ask@2 "),
-        Step::Stands(10_060, node, in_second_run(), true),
+        Step::Stands(10_060, node, in_run(2), 4),
         Step::Orders(""),
     ];
     follow(&rt, rt.alloc(), &buried(), &story)
@@ -49,8 +49,8 @@ fn a_node_that_lives_on_in_a_run_that_is_gone_is_started_again(
 fn flooded() -> [Step<'static>; 7] {
     let (one, two) = (NodeId::new(1), NodeId::new(2));
     [
-        Step::Stands(0, one, standing(Role::Leader, 0), false),
-        Step::Stands(0, two, standing(Role::Follower, 0), false),
+        Step::Stands(0, one, standing(Role::Leader, 0), 0),
+        Step::Stands(0, two, standing(Role::Follower, 0), 0),
         Step::Connects(0, one, Some(1)),
         Step::Connects(0, two, Some(2)),
         Step::Connected(0),
@@ -71,50 +71,16 @@ fn nothing_is_read_for_a_node_while_32_of_its_notes_wait(rt: HostRuntime) -> Res
         Step::ReadsClient(1, false),
         Step::ReadsClient(2, true),
         Step::ReadsClient(3, true),
-        Step::Stands(10, node, standing(Role::Leader, 0), false),
+        Step::Stands(10, node, standing(Role::Leader, 0), 0),
         Step::ReadsServer(false),
-        Step::Stands(10, node, standing(Role::Leader, 0), true),
+        Step::Stands(10, node, standing(Role::Leader, 0), 1),
         Step::ReadsServer(true),
         Step::ReadsClient(1, true),
+        // a request that waits for a leader is not done
+        Step::Tells(10, node, standing(Role::Leader, 0), waiting(1, 1)),
+        Step::ReadsServer(false),
     ];
     follow(&rt, rt.alloc(), &flooded(), &story)
-}
-
-/// Node 1 leads and has 5 entries, node 2 has 3; the leader sent at 20 ms, and that note is done.
-fn lagging() -> [Step<'static>; 8] {
-    let (one, two) = (NodeId::new(1), NodeId::new(2));
-    [
-        Step::Stands(0, one, standing(Role::Leader, 0), false),
-        Step::Stands(0, two, standing(Role::Follower, 3), false),
-        Step::Ordered,
-        Step::Stands(20, one, standing(Role::Leader, 5), true),
-        Step::Orders("beat@1 "),
-        Step::Stands(21, one, standing(Role::Leader, 5), true),
-        Step::Ticks(22),
-        Step::Orders(""),
-    ]
-}
-
-#[test]
-fn a_leader_beats_once_at_each_answer_of_a_node_that_lags(rt: HostRuntime) -> Result<(), Fail> {
-    let (one, two) = (NodeId::new(1), NodeId::new(2));
-    let story = [
-        Step::Answers(22, two, standing(Role::Follower, 3)),
-        Step::Ticks(22),
-        Step::Orders("beat@1 "),
-        Step::Answers(23, two, standing(Role::Follower, 3)),
-        Step::Ticks(23),
-        Step::Orders(""),
-        Step::Stands(24, one, standing(Role::Leader, 5), true),
-        Step::Orders("beat@1 "),
-        Step::Stands(25, one, standing(Role::Leader, 5), true),
-        Step::Ticks(26),
-        Step::Orders(""),
-        Step::Answers(27, two, standing(Role::Follower, 5)),
-        Step::Ticks(28),
-        Step::Orders(""),
-    ];
-    follow(&rt, rt.alloc(), &lagging(), &story)
 }
 
 #[test]
@@ -123,11 +89,11 @@ fn the_server_is_left_and_connected_to_for_a_leader_of_a_greater_term(
 ) -> Result<(), Fail> {
     let (one, two) = (NodeId::new(1), NodeId::new(2));
     let story = [
-        Step::Stands(0, one, standing(Role::Leader, 0), false),
+        Step::Stands(0, one, standing(Role::Leader, 0), 0),
         Step::Connected(5),
         Step::Server(6, b":s 001 me :hi\r\n", 1),
         Step::Ordered,
-        Step::Stands(10, two, in_term(Role::Leader, 2), false),
+        Step::Stands(10, two, in_term(Role::Leader, 2), 0),
         Step::Orders(
             "news@2 [leads in term 2] news@2 [up, run 1] ask@2 disconnect \
                 news@1 [upstream closed: the node leads no more] closed@1 ",
@@ -137,7 +103,7 @@ fn the_server_is_left_and_connected_to_for_a_leader_of_a_greater_term(
         Step::Ticks(1010),
         Step::Orders("connect "),
         // node 1 does not know yet
-        Step::Stands(1020, one, in_term(Role::Leader, 1), false),
+        Step::Stands(1020, one, in_term(Role::Leader, 1), 0),
         Step::Orders(""),
         Step::Connected(1030),
         Step::Orders("send NICK me\r\nUSER me 0 * me\r\n"),
@@ -149,11 +115,11 @@ fn the_server_is_left_and_connected_to_for_a_leader_of_a_greater_term(
 fn no_node_was_silent_while_the_driver_did_not_run(rt: HostRuntime) -> Result<(), Fail> {
     let (one, two) = (NodeId::new(1), NodeId::new(2));
     let story = [
-        Step::Stands(0, one, standing(Role::Leader, 0), false),
-        Step::Stands(0, two, standing(Role::Follower, 0), false),
-        Step::Connects(0, two, Some(1)),
+        Step::Stands(0, one, standing(Role::Leader, 0), 0),
+        Step::Stands(0, two, standing(Role::Follower, 0), 0),
         Step::Ordered,
         Step::Ticks(100),
+        Step::Connects(19_999, two, Some(1)),
         Step::Ticks(20_000),
         Step::Orders("beat@1 "),
         // 100 ms and half a timeout count
@@ -175,13 +141,13 @@ fn no_node_was_silent_while_the_driver_did_not_run(rt: HostRuntime) -> Result<()
 fn a_node_whose_term_rises_waits_anew_for_a_leader_once(rt: HostRuntime) -> Result<(), Fail> {
     let node = NodeId::new(2);
     let story = [
-        Step::Stands(0, node, standing(Role::Follower, 0), false),
+        Step::Stands(0, node, standing(Role::Follower, 0), 0),
         Step::Passes(0, 2),
-        Step::Stands(1050, node, in_term(Role::Follower, 2), false),
+        Step::Stands(1050, node, in_term(Role::Follower, 2), 0),
         Step::Passes(1050, 1),
         Step::Ordered,
         Step::Ticks(2000),
-        Step::Stands(2000, node, in_term(Role::Follower, 3), false),
+        Step::Stands(2000, node, in_term(Role::Follower, 3), 0),
         Step::Ticks(2149),
         Step::Orders(""),
         Step::Ticks(2150),

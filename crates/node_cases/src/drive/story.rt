@@ -1,7 +1,7 @@
 //! Stories: what a driver is told, step by step, and the orders that must come of it.
-use crate::drive::telling::{answer, at, new_driver, report, told};
+use crate::drive::telling::{at, done, new_driver, refusal, report, told};
 use driver::{Driver, Ending};
-use node_notes::Status;
+use node_notes::{Progress, Status};
 use raft_log::NodeId;
 use std::alloc::Global;
 use std::process::Abort;
@@ -10,10 +10,12 @@ use std::test::Fail;
 /// A step of a story; its moment, in milliseconds, comes first.
 #[derive(Clone, Copy)]
 pub enum Step<'a> {
-    /// A node stands so; whether its last note is done.
-    Stands(u64, NodeId, Status, bool),
-    /// A node heard of the leader of its term, and stands so.
-    Answers(u64, NodeId, Status),
+    /// A node stands so, and so many of its notes are done.
+    Stands(u64, NodeId, Status, u64),
+    /// A node stands so, and its worker is so far.
+    Tells(u64, NodeId, Status, Progress),
+    /// The same, where a turn was refused.
+    Refuses(u64, NodeId, Status, Progress),
     /// Time passed.
     Ticks(u64),
     /// So many half seconds pass from then on, with a tick behind each.
@@ -22,6 +24,8 @@ pub enum Step<'a> {
     Connects(u64, NodeId, Option<u64>),
     /// The client of this number sends these bytes.
     Sends(u64, u64, &'a [u8]),
+    /// The client of this number sends these bytes, so many times.
+    Says(u64, u64, &'a [u8], u8),
     /// The connection of the client of this number is gone.
     Leaves(u64, u64),
     /// The connection to the server stands.
@@ -38,6 +42,8 @@ pub enum Step<'a> {
     ReadsServer(bool),
     /// Whether the client of this number is to be read.
     ReadsClient(u64, bool),
+    /// Whether the client of this number registered.
+    IsAttached(u64, bool),
 }
 
 /// A new driver is told how a story begins and how it goes on.
@@ -72,14 +78,20 @@ fn follow_one(
     step: &Step<'_>,
 ) -> Result<(), Fail> {
     match step {
-        Step::Stands(ms, node, status, is_last) => {
-            driver.hear(&at(*ms), report(alloc, *node, *status, *is_last))?
+        Step::Stands(ms, node, status, notes) => {
+            driver.hear(&at(*ms), report(alloc, *node, *status, done(*notes)))?
         }
-        Step::Answers(ms, node, status) => driver.hear(&at(*ms), answer(alloc, *node, *status))?,
+        Step::Tells(ms, node, status, progress) => {
+            driver.hear(&at(*ms), report(alloc, *node, *status, *progress))?
+        }
+        Step::Refuses(ms, node, status, progress) => {
+            driver.hear(&at(*ms), refusal(alloc, *node, *status, *progress))?
+        }
         Step::Ticks(ms) => driver.tick(&at(*ms))?,
         Step::Passes(ms, halves) => pass(driver, *ms, *halves)?,
         Step::Connects(ms, node, number) => connect(rt, driver, *ms, *node, *number)?,
         Step::Sends(ms, number, bytes) => driver.receive(&at(*ms), *number, bytes)?,
+        Step::Says(ms, number, bytes, times) => say(driver, *ms, *number, bytes, *times)?,
         Step::Leaves(ms, number) => driver.lose(&at(*ms), *number)?,
         Step::Connected(ms) => driver.connected(&at(*ms))?,
         Step::Server(ms, bytes, times) => receive(driver, *ms, bytes, *times)?,
@@ -87,6 +99,7 @@ fn follow_one(
         Step::Ordered => forget(alloc, driver)?,
         Step::Orders(wanted) => check(rt, alloc, driver, wanted)?,
         Step::ReadsServer(reads) => assert!(rt; driver.reads_server() == *reads),
+        Step::IsAttached(number, is) => assert!(rt; driver.is_attached(*number) == *is),
         Step::ReadsClient(number, reads) => assert!(rt; driver.reads_client(*number) == *reads),
     }
     Ok(())
@@ -108,6 +121,13 @@ fn connect(
     number: Option<u64>,
 ) -> Result<(), Fail> {
     assert!(rt; driver.connect(&at(ms), node)? == number);
+    Ok(())
+}
+
+fn say(driver: &mut Driver, ms: u64, number: u64, bytes: &[u8], times: u8) -> Result<(), Fail> {
+    for _ in 0..times {
+        driver.receive(&at(ms), number, bytes)?;
+    }
     Ok(())
 }
 

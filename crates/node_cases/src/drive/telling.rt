@@ -1,8 +1,10 @@
 //! Drivers, how nodes stand, and orders as text.
 use driver::{Driver, News, Now, Order, Settings, TowerReport};
 use irc_line::Name;
-use node_notes::{Note, Report, Status};
+use node_notes::{Note, Progress, Report, Status};
+use node_steps::Refusal;
 use raft_log::{NodeId, Role};
+use raft_node::{Cause, NodeFault};
 use std::alloc::Global;
 use std::test::Fail;
 use wire_bytes::{Moment, Number, SessionId};
@@ -76,30 +78,62 @@ pub fn claiming(number: u64) -> Status {
     status
 }
 
-/// A follower in its second run, with an empty log.
-pub fn in_second_run() -> Status {
+/// A follower in this run, with an empty log.
+pub fn in_run(boot: u64) -> Status {
     let mut status = standing(Role::Follower, 0);
-    status.boot = Number::new(2);
+    status.boot = Number::new(boot.min(9));
     status
 }
 
-/// A node's report of how it stands, with no effect.
-pub fn report(alloc: Global, node: NodeId, status: Status, is_last: bool) -> TowerReport {
+/// A node that is down since its store failed in this run.
+pub fn down_in(boot: u64) -> Status {
+    let mut status = in_run(boot);
+    status.down = Some(Cause::Store);
+    status
+}
+
+/// So many notes of a node are done.
+pub fn done(done: u64) -> Progress {
+    Progress {
+        done,
+        waiting: 0,
+        lost: 0,
+        contacts: 0,
+    }
+}
+
+/// So many notes of a node are done, and so many requests of these wait for a leader.
+pub fn waiting(notes: u64, waiting: u64) -> Progress {
+    Progress {
+        waiting,
+        ..done(notes)
+    }
+}
+
+/// So many notes of a node are done, and what it was told up to this one may be lost.
+pub fn losing(notes: u64, lost: u64) -> Progress {
+    Progress {
+        lost,
+        ..done(notes)
+    }
+}
+
+/// A node's report of how it stands and how far its worker is, with no effect.
+pub fn report(alloc: Global, node: NodeId, status: Status, progress: Progress) -> TowerReport {
     Report {
         node,
         status,
         effects: Vec::new(alloc),
-        led: false,
+        progress,
         fault: None,
-        is_last,
     }
 }
 
-/// A node's report that it heard of the leader of its term, and stands so.
-pub fn answer(alloc: Global, node: NodeId, status: Status) -> TowerReport {
+/// The same, where a turn was refused.
+pub fn refusal(alloc: Global, node: NodeId, status: Status, progress: Progress) -> TowerReport {
     Report {
-        led: true,
-        ..report(alloc, node, status, false)
+        fault: Some(NodeFault::Refused(Refusal::NoLeader)),
+        ..report(alloc, node, status, progress)
     }
 }
 
@@ -142,7 +176,7 @@ fn tell(alloc: Global, out: &mut Vec<u8>, order: &Order) -> Result<(), Fail> {
 
 fn word_of<B: wire_bytes::Wire, L>(note: &Note<B, L>) -> &'static str {
     match note {
-        Note::Timeout => "timeout",
+        Note::Timeout(_) => "timeout",
         Note::Beat => "beat",
         Note::Ask(_) => "ask",
         Note::Opened => "opened",

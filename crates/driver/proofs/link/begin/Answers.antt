@@ -6,7 +6,7 @@ returns c =
     record {
       first = c.in_ok-uplink.first;
       is_first = search rules;
-      orders = c.in_ok-push.ensures.items;
+      orders = c.in_ok-send.ensures;
       node_is = refl;
       since = search rules;
       heard = search rules;

@@ -1,22 +1,26 @@
-use Rattle.std.proofs.Common.{rules, ◌∷◌, ◌∙◌, inl}
-use Rattle.client_gate.specs.Calls.{Hear}
-use Rattle.driver.specs.Clients.{ended_if}
+use Rattle.std.proofs.Common.{rules, ◌∷◌, sym, subst, inl}
+use Rattle.client_gate.specs.Calls.{Hear, Stands}
+use Rattle.client_gate.specs.Gates.{given_effect}
+use Rattle.driver.specs.declared.client.Client.{Client}
+use Rattle.driver.specs.Asking.{held_behind}
+use Rattle.driver.specs.Serving.{HasPassed}
 use Rattle.driver.proofs.client.Client.hear.Goals as goal
 
-pub returns-in_ok-ask_behind-in-Ok-clause-heard : goal.returns-in_ok-ask_behind-in-Ok-clause-heard
-returns-in_ok-ask_behind-in-Ok-clause-heard c s calls stands =
-    let heard = Hear c.args.effect.now ∷ calls in
-    let behind = c.in-Ok.ensures.stands s calls stands in
+pub returns-in_ok-pass-in-Ok : goal.returns-in_ok-pass-in-Ok
+returns-in_ok-pass-in-Ok c s calls stands =
+    let effect = c.args.effect.now in
+    let heard = Hear effect ∷ calls in
+    let begun = c.begin_asking.ensures s calls stands in
+    let kept = subst (λ (client : Client). Stands s calls client.gate) (sym begun) stands in
+    let behind = c.in-Ok.ensures.stands s calls kept in
     let so = c.in_ok-pass-in-Ok.ensures.stands s heard behind in
-    let ended = ended_if c.in-Ok.fed.close c.args.self.now.is_gone heard in
-    let last = c.in_ok-ask_behind-in-Ok.ensures.stands s ended so.gate in
-    inl (record {
-      told = c.pass.new.orders.items;
-      passed_on = record {
-        fed = c.in-Ok.fed;
-        is = search rules;
-        orders = c.in_ok-pass-in-Ok.ensures.passed s heard behind;
-        stands = record { gate = last.gate; gone_is = last.gone_is ∙ so.gone_is; origin = last.origin ∙ so.origin };
-      };
-      again = search rules;
-    })
+    inl
+    (subst
+    (λ (x : Client). HasPassed s heard (given_effect s effect) c.args.now.now.at (record x { is_held_up = held_behind effect x.is_held_up }) c.args.orders.now c.pass.new.self c.pass.new.orders)
+    begun
+    (record {
+      fed = c.in-Ok.fed;
+      is = search rules;
+      orders = c.in_ok-pass-in-Ok.ensures.passed s heard behind;
+      stands = record { gate = so.gate; rest = search rules };
+    }))

@@ -7,8 +7,8 @@ use Rattle.driver.proofs.clients.Clients.leave_runs_below.Goals as goal
 
 pub loop-number-preserved : goal.loop-number-preserved
 loop-number-preserved c new more =
-    let old = told c.loop-number.self c.loop-number.orders.items in
-    let behind = told c.leave_if_below.new.self c.leave_if_below.new.orders.items in
+    let old = told c.loop-number.self c.loop-number.orders in
+    let behind = told c.leave_if_below.new.self c.leave_if_below.new.orders in
     let always = c.leave_if_below.ensures in
     let done = c.in_ok-leave_if_below.ensures in
     let does : LeavesClient c.args.now.now.at c.args.node c.args.boot c.in-Some.number old behind =
@@ -19,6 +19,6 @@ loop-number-preserved c new more =
 pub returns : goal.returns
 returns c =
     let left = into_iter_items c.loop-number.number-iterator in
-    let last = told c.loop-number.self c.loop-number.orders.items in
+    let last = told c.loop-number.self c.loop-number.orders in
     let none : left ≡ [] = nil_from_length left (sym c.loop-number.number-iterator.rest.ok.0 ∙ c.in-None.ensures.steps.0) in
     c.loop-number.invariant last (leave_none c.args.now.now.at c.args.node c.args.boot left last none)

@@ -6,5 +6,5 @@ use Rattle.driver.proofs.clients.Clients.leave_runs_below.Given as goal
 -- once it comes to what is left, it came to all
 abbrev pub invariant-loop-number : goal.invariant-loop-number
 invariant-loop-number l =
-    (new : Told) → LeaveEach l.now.at l.node l.boot (into_iter_items l.number-iterator) (told l.self l.orders.items) new
-    → LeaveEach l.now.at l.node l.boot (keys l.initial.self.all) (told l.initial.self l.initial.orders.items) new
+    (new : Told) → LeaveEach l.now.at l.node l.boot (into_iter_items l.number-iterator) (told l.self l.orders) new
+    → LeaveEach l.now.at l.node l.boot (keys l.initial.self.all) (told l.initial.self l.initial.orders) new

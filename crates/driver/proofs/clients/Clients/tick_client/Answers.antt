@@ -5,6 +5,6 @@ pub returns-clause-served : goal.returns-clause-served
 returns-clause-served c s calls d is stands =
     record {
       client = c.tick.new.self;
-      happened = record { ticked = search rules; stands = search rules };
+      happened = record { slow = search rules; kept = search rules };
       is_kept = search rules;
     }

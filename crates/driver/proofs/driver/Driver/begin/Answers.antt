@@ -5,11 +5,10 @@ use Rattle.driver.proofs.driver.Driver.begin.Goals as goal
 pub returns : goal.returns
 returns c =
     record {
-      left = told c.leave_runs_below.new.self c.leave_runs_below.new.orders.items;
+      left = told c.leave_runs_below.new.self c.leave_runs_below.new.orders;
       leaves = search rules;
       clients = search rules;
       orders = search rules;
-      desks = search rules;
       word = search rules;
       rest = search rules;
     }

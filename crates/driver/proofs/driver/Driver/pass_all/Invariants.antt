@@ -8,7 +8,7 @@ use Rattle.driver.proofs.driver.Driver.pass_all.Given as goal
 abbrev pub invariant-loop-effect : goal.invariant-loop-effect
 invariant-loop-effect l = record {
   passes :
-      (new : Told) → PassEach l.now.at l.initial.self.link.stage l.node (drop l.effect-index l.effects) (told_of l.self) new
-      → PassEach l.now.at l.initial.self.link.stage l.node l.effects (told_of l.initial.self) new;
+      (new : Told) → PassEach l.now.ms l.now.at l.initial.self.link.stage l.node (drop l.effect-index l.effects) (told_of l.self) new
+      → PassEach l.now.ms l.now.at l.initial.self.link.stage l.node l.effects (told_of l.initial.self) new;
   rest : l.self ≡ record l.initial.self { clients = l.self.clients; orders = l.self.orders };
 }

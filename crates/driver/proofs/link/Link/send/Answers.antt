@@ -6,6 +6,6 @@ pub returns : goal.returns
 returns c =
     let own : is_session_of c.args.self.now.stage c.args.node ≡ true = search rules in
     subst
-    (λ (b : Bool). SendsIf b c.args.line.now c.args.orders.now.items c.push.new.self.items)
+    (λ (b : Bool). SendsIf b c.args.line.now c.args.orders.now c.send.new.self)
     (sym own)
-    (record { bytes = c.write_cut.new.out; are = search rules; orders = c.in_ok-push.ensures.items })
+    (record { bytes = c.write_cut.new.out; are = search rules; orders = c.in_ok-send.ensures })

@@ -8,13 +8,13 @@ loop-id-preserved c new more =
     let settings = c.args.settings.now in
     let now = c.args.now.now.ms in
     let leader = c.args.leader in
-    let old = round c.loop-id.self.all c.loop-id.desks c.loop-id.orders.items in
-    let behind = round c.spread.new.self.all c.spread.new.desks c.spread.new.orders.items in
-    let spreads = subst (λ (node : ℕ). Spreads settings now leader node old behind) c.new.ensures c.in_ok-spread.ensures in
-    c.loop-id.invariant new (spread_more settings now leader c.loop-id.id old behind new c.loop-id-test.true spreads more)
+    let old = round c.loop-id.self.all c.loop-id.orders in
+    let behind = round c.spread.new.self.all c.spread.new.orders in
+    let spreads = subst (λ (node : ℕ). Spreads settings now leader node c.args.desks.now old behind) c.new.ensures c.in_ok-spread.ensures in
+    c.loop-id.invariant new (spread_more settings now leader c.loop-id.id c.args.desks.now old behind new c.loop-id-test.true spreads more)
 
 pub returns : goal.returns
 returns c =
-    let last = round c.loop-id.self.all c.loop-id.desks c.loop-id.orders.items in
+    let last = round c.loop-id.self.all c.loop-id.orders in
     let over : 8 ≤ c.loop-id.id = search rules in
-    c.loop-id.invariant last (spread_none c.args.settings.now c.args.now.now.ms c.args.leader c.loop-id.id last over)
+    c.loop-id.invariant last (spread_none c.args.settings.now c.args.now.now.ms c.args.leader c.loop-id.id c.args.desks.now last over)

@@ -6,5 +6,5 @@ use Rattle.driver.proofs.notices.Notices.spread_all.Given as goal
 abbrev pub invariant-loop-id : goal.invariant-loop-id
 invariant-loop-id l =
     (new : Round)
-    → SpreadsAll (8 - l.id) l.settings l.now.ms l.leader l.id (round l.self.all l.desks l.orders.items) new
-    → SpreadsAll 7 l.settings l.now.ms l.leader 1 (round l.initial.self.all l.initial.desks l.initial.orders.items) new
+    → SpreadsAll (8 - l.id) l.settings l.now.ms l.leader l.id l.desks (round l.self.all l.orders) new
+    → SpreadsAll 7 l.settings l.now.ms l.leader 1 l.desks (round l.initial.self.all l.initial.orders) new

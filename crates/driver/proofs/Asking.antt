@@ -1,0 +1,261 @@
+-- Each request of a client is told once, where nothing is asked again.
+use Rattle.std.proofs.Common.{◌≡◌, ◌∙◌, ◌++◌, ◌||◌, ℕ, Bool, true, false, List, [], ◌∷◌, Option, Some, None, map, refl, sym, ap, subst, inl, inr, ⊎_elim}
+use Rattle.std.specs.Prelude.{flat_map, option_to_list, if◌then◌else◌}
+use Rattle.std.specs.Global.{Vec}
+use Rattle.std.proofs.lemmas.List.{append_assoc, append-nil, map-append}
+use Rattle.std.proofs.lemmas.Grind.{flat_map-append}
+use Rattle.machine_laws.specs.Origins.{same_origin}
+use Rattle.wire_bytes.specs.declared.moment.Moment.{Moment}
+use Rattle.wire_bytes.specs.declared.origin.Origin.{Origin}
+use Rattle.buffer_commands.specs.declared.effect.Effect.TheVariants as effect
+use Rattle.session_fence.specs.declared.effect.FenceEffect.TheVariants as fence
+use Rattle.upstream_claim.specs.declared.effect.ClaimsEffect.TheVariants as claims
+use Rattle.request_once.specs.declared.answer.Answer.TheVariants as answer
+use Rattle.client_gate.specs.declared.fed.Fed.{Fed}
+use Rattle.client_gate.specs.declared.request.Request.{Request}
+use Rattle.client_gate.specs.declared.settings.Settings.{Settings}
+use Rattle.client_gate.specs.Answers.{given_in}
+use Rattle.client_gate.specs.Calls.{Call, End, Feed, Hear, Refused, Stands, fed_answer, gate}
+use Rattle.client_gate.specs.Gates.{GateEffect, Given, given_effect, last_request}
+use Rattle.client_gate.specs.Numbers.{all_requests, numbered_by}
+use Rattle.driver.specs.declared.client.Client.{Client}
+use Rattle.driver.specs.declared.order.Order.{Order}
+use Rattle.driver.specs.Asking.{HearsNode, anew_if, asks_if, held_if, is_stuck, may_be_lost, now_asked}
+use Rattle.driver.specs.Clients.{asked_all, asks_of, parting_unless, passed, welcome, write_some, written}
+use Rattle.driver.specs.Crowds.{Ticks}
+use Rattle.driver.specs.Once.{AreQuiet, AsksOnce, Event, Happening, IsQuiet, TellsOnce, number_told, numbers_of, numbers_told}
+use Rattle.driver.specs.Once.{Goes, Learns, Speaks, Waits, Words}
+use Rattle.driver.specs.Serving.{HasPassed, Hears, IsCutOff, IsLost, Receives, ended, ended_if}
+use Rattle.driver.specs.Silence.{IsKept, IsPing, is_silent, is_too_slow}
+use Rattle.driver.specs.Telling.{Ordered, ordered}
+
+-- what orders tell, and those behind them
+told_append : (xs ys : List Order) → numbers_told (xs ++ ys) ≡ numbers_told xs ++ numbers_told ys
+told_append xs ys = flat_map-append number_told xs ys
+
+-- the requests of a client, as they are told
+told_asks : (origin : Origin) (at : Moment) (requests : List Request) → numbers_told (asks_of origin at requests) ≡ numbers_of requests
+unfolding asks_of
+told_asks origin at [] = refl
+told_asks origin at (request ∷ requests) = ap (λ numbers. request.number ∷ numbers) (told_asks origin at requests)
+
+told_welcome : (attached : Bool) (origin : Origin) → numbers_told (welcome attached origin) ≡ []
+told_welcome true origin = refl
+told_welcome false origin = refl
+
+told_all : (attached : Bool) (origin : Origin) (at : Moment) (requests : List Request) → numbers_told (asked_all attached origin at requests) ≡ numbers_of requests
+unfolding asked_all
+told_all attached origin at [] = refl
+told_all attached origin at (request ∷ requests) =
+    told_append (welcome attached origin) (asks_of origin at (request ∷ requests))
+    ∙ ap (λ numbers. numbers ++ numbers_told (asks_of origin at (request ∷ requests))) (told_welcome attached origin)
+    ∙ told_asks origin at (request ∷ requests)
+
+told_some : (client : ℕ) (bytes : Vec ℕ) (items : List ℕ) → numbers_told (write_some client bytes items) ≡ []
+told_some client bytes [] = refl
+told_some client bytes (byte ∷ more) = refl
+
+told_written : (gone : Bool) (client : ℕ) (bytes : Vec ℕ) → numbers_told (written gone client bytes) ≡ []
+told_written true client bytes = refl
+told_written false client bytes = told_some client bytes bytes.items
+
+told_last : (origin : Origin) (at : Moment) (last : Option Request) → numbers_told (parting_unless false origin at last) ≡ numbers_of (option_to_list last)
+unfolding parting_unless
+told_last origin at None = refl
+told_last origin at (Some request) = refl
+
+-- a gate that is ended numbers what the parting tells
+ended_once : (gone : Bool) (s : Settings) (calls : List Call) (origin : Origin) (at : Moment) → numbers_of (all_requests s (ended gone calls)) ≡ numbers_of (all_requests s calls) ++ numbers_told (parting_unless gone origin at (last_request (gate s calls)))
+unfolding all_requests parting_unless
+ended_once true s calls origin at = sym (append-nil (numbers_of (all_requests s calls)))
+ended_once false s calls origin at =
+    map-append (λ (request : Request). request.number) (all_requests s calls) (option_to_list (last_request (gate s calls)))
+    ∙ ap (λ numbers. numbers_of (all_requests s calls) ++ numbers) (sym (told_last origin at (last_request (gate s calls))))
+
+-- where it is closed
+closed_once : (close gone : Bool) (s : Settings) (calls : List Call) (origin : Origin) (at : Moment) → numbers_of (all_requests s (ended_if close gone calls)) ≡ numbers_of (all_requests s calls) ++ numbers_told (if close then parting_unless gone origin at (last_request (gate s calls)) else [])
+closed_once false gone s calls origin at = sym (append-nil (numbers_of (all_requests s calls)))
+closed_once true gone s calls origin at = ended_once gone s calls origin at
+
+-- what a gate answered is told, where it numbered just that
+numbered_once : (s : Settings) (calls : List Call) (c : Client) (at : Moment) (fed : Fed) (earlier : List ℕ) → numbers_of (all_requests s calls) ≡ earlier ++ numbers_of fed.requests.items → numbers_of (all_requests s (ended_if fed.close c.is_gone calls)) ≡ earlier ++ numbers_told (passed c at (last_request (gate s calls)) fed)
+numbered_once s calls c at fed earlier is =
+    let bytes = written c.is_gone c.origin.2 fed.reply in
+    let asks = asked_all c.is_attached c.origin at fed.requests.items in
+    let end = if fed.close then parting_unless c.is_gone c.origin at (last_request (gate s calls)) else [] in
+    let requests = numbers_of fed.requests.items in
+    let told =
+    told_append (bytes ++ asks) end
+    ∙ ap (λ numbers. numbers ++ numbers_told end) (told_append bytes asks ∙ ap (λ numbers. numbers ++ numbers_told asks) (told_written c.is_gone c.origin.2 fed.reply) ∙ told_all c.is_attached c.origin at fed.requests.items)
+    in
+    closed_once fed.close c.is_gone s calls c.origin at
+    ∙ ap (λ numbers. numbers ++ numbers_told end) is
+    ∙ append_assoc earlier requests (numbers_told end)
+    ∙ ap (λ numbers. earlier ++ numbers) (sym told)
+
+passed_once : (s : Settings) (calls behind : List Call) (answer : Given) (at : Moment) (c new : Client) (before after : Ordered) → numbers_of (all_requests s behind) ≡ numbers_of (all_requests s calls) ++ numbers_of answer.requests → HasPassed s behind answer at c before new after → TellsOnce s calls before new after
+passed_once s calls behind answer at c new before after more h = record {
+  behind = ended_if h.fed.close c.is_gone behind;
+  stands = h.stands.gate;
+  told = passed c at (last_request (gate s behind)) h.fed;
+  orders = h.orders;
+  once = numbered_once s behind c at h.fed (numbers_of (all_requests s calls)) (more ∙ ap (λ (given : Given). numbers_of (all_requests s calls) ++ numbers_of given.requests) (sym h.is));
+}
+
+feed_numbers : (s : Settings) (calls : List Call) (bytes : List ℕ) → numbers_of (all_requests s (Feed bytes ∷ calls)) ≡ numbers_of (all_requests s calls) ++ numbers_of (fed_answer s calls bytes).requests
+unfolding all_requests
+feed_numbers s calls bytes = map-append (λ (request : Request). request.number) (all_requests s calls) (fed_answer s calls bytes).requests
+
+none_by : (b : Bool) (first other : Given) → first.requests ≡ [] → other.requests ≡ [] → (if b then first else other).requests ≡ []
+none_by true first other own none = own
+none_by false first other own none = none
+
+-- what comes of a request asks for nothing
+hear_asks_none : (s : Settings) (e : GateEffect) → (given_effect s e).requests ≡ []
+hear_asks_none s (answer.Effect (claims.Inner (fence.Inner (effect.Close o)))) = none_by (same_origin s.origin o) _ _ refl refl
+hear_asks_none s (answer.Effect (claims.Inner (fence.Inner (effect.Show o x)))) = none_by (same_origin s.origin o) _ _ refl refl
+hear_asks_none s (answer.Effect (claims.Inner (fence.Inner (effect.Send o x)))) = refl
+hear_asks_none s (answer.Effect (claims.Inner (fence.Inner (effect.Rejoin x)))) = refl
+hear_asks_none s (answer.Effect (claims.Inner (fence.Rejoin id x))) = refl
+hear_asks_none s (answer.Effect (claims.Busy o)) = none_by (same_origin s.origin o) _ _ refl refl
+hear_asks_none s (answer.Effect (claims.Hand id n x)) = refl
+hear_asks_none s (answer.Done o n) = refl
+hear_asks_none s (answer.Repeat o n) = refl
+hear_asks_none s (answer.Gap o n) = refl
+hear_asks_none s (answer.Marked m) = refl
+
+hear_numbers : (s : Settings) (calls : List Call) (e : GateEffect) → numbers_of (all_requests s (Hear e ∷ calls)) ≡ numbers_of (all_requests s calls) ++ numbers_of (given_effect s e).requests
+unfolding all_requests
+hear_numbers s calls e =
+    map-append (λ (request : Request). request.number) (all_requests s calls) []
+    ∙ ap (λ (requests : List Request). numbers_of (all_requests s calls) ++ numbers_of requests) (sym (hear_asks_none s e))
+
+refused_numbers : (s : Settings) (calls : List Call) → numbers_of (all_requests s (Refused ∷ calls)) ≡ numbers_of (all_requests s calls)
+unfolding all_requests
+refused_numbers s calls = ap (λ (requests : List Request). numbers_of requests) (append-nil (all_requests s calls))
+
+cut_once : (s : Settings) (calls : List Call) (at : Moment) (c new : Client) (before after : Ordered) → IsCutOff s calls at c before new after → TellsOnce s calls before new after
+cut_once s calls at c new before after h =
+    let told = parting_unless c.is_gone c.origin at (last_request (gate s (Refused ∷ calls))) in
+    record {
+      behind = ended c.is_gone (Refused ∷ calls);
+      stands = h.stands.gate;
+      told = told;
+      orders = h.orders;
+      once = ended_once c.is_gone s (Refused ∷ calls) c.origin at ∙ ap (λ numbers. numbers ++ numbers_told told) (refused_numbers s calls);
+    }
+
+-- nothing came of it
+nothing_once : (s : Settings) (calls : List Call) (old new : Client) (before after : Ordered) → Stands s calls old.gate → new ≡ old → after ≡ before → TellsOnce s calls before new after
+nothing_once s calls old new before after stands same none = record {
+  behind = calls;
+  stands = subst (λ (client : Client). Stands s calls client.gate) (sym same) stands;
+  told = [];
+  orders = none ∙ sym (ap (λ (items : List Order). record before { items = items }) (append-nil before.items));
+  once = sym (append-nil (numbers_of (all_requests s calls)));
+}
+
+reads_by : (gone : Bool) (bytes : List ℕ) (now : ℕ) (at : Moment) (s : Settings) (calls : List Call) (old new : Client) (before after : Ordered) → old.is_gone ≡ gone → Stands s calls old.gate → Receives bytes now at s calls old before new after → TellsOnce s calls before new after
+reads_by true bytes now at s calls old new before after is stands h =
+    let (same, none) = h.gone is in nothing_once s calls old new before after stands same none
+reads_by false bytes now at s calls old new before after is stands h =
+    ⊎_elim
+    (λ p. passed_once s calls (Feed bytes ∷ calls) (fed_answer s calls bytes) at _ new before after (feed_numbers s calls bytes) p)
+    (λ p. cut_once s calls at _ new before after p)
+    (h.stays is)
+
+hears_once : (e : GateEffect) (now : ℕ) (at : Moment) (s : Settings) (calls : List Call) (old new : Client) (before after : Ordered) → Hears e now at s calls old before new after → TellsOnce s calls before new after
+hears_once e now at s calls old new before after h =
+    ⊎_elim
+    (λ p. passed_once s calls (Hear e ∷ calls) (given_effect s e) at _ new before after (hear_numbers s calls e) p)
+    (λ p. cut_once s calls at _ new before after p)
+    h
+
+lost_by : (gone : Bool) (now : ℕ) (at : Moment) (s : Settings) (calls : List Call) (old new : Client) (before after : Ordered) → old.is_gone ≡ gone → Stands s calls old.gate → IsLost now at s calls old before new after → TellsOnce s calls before new after
+lost_by true now at s calls old new before after is stands h = record {
+  behind = calls;
+  stands = subst (λ (client : Client). Stands s calls client.gate) (sym (h.gone is)) stands;
+  told = parting_unless old.is_gone old.origin at (last_request (gate s calls));
+  orders = h.orders;
+  once = subst (λ (gone : Bool). numbers_of (all_requests s calls) ≡ numbers_of (all_requests s calls) ++ numbers_told (parting_unless gone old.origin at (last_request (gate s calls)))) (sym is) (ended_once true s calls old.origin at);
+}
+lost_by false now at s calls old new before after is stands h = record {
+  behind = End ∷ calls;
+  stands = (h.stays is).gate;
+  told = parting_unless old.is_gone old.origin at (last_request (gate s calls));
+  orders = h.orders;
+  once = subst (λ (gone : Bool). numbers_of (all_requests s (End ∷ calls)) ≡ numbers_of (all_requests s calls) ++ numbers_told (parting_unless gone old.origin at (last_request (gate s calls)))) (sym is) (ended_once false s calls old.origin at);
+}
+
+words_once : (lost : ℕ) (refused : Bool) (now : ℕ) (at : Moment) (s : Settings) (calls : List Call) (old new : Client) (before after : Ordered) → may_be_lost lost old ≡ false → Stands s calls old.gate → HearsNode lost refused now at s calls old before new after → TellsOnce s calls before new after
+words_once lost refused now at s calls old new before after quiet stands h = record {
+  behind = calls;
+  stands = subst (λ (client : Client). Stands s calls client.gate) (sym (h.client ∙ ap (λ (b : Bool). anew_if b (now_asked before now old) (held_if refused (gate s calls).waiting old)) quiet)) stands;
+  told = [];
+  orders = h.orders ∙ ap (λ (b : Bool). asks_if b old at (gate s calls).waiting before) quiet;
+  once = sym (append-nil (numbers_of (all_requests s calls)));
+}
+
+ping_none : (b : Bool) (client : ℕ) (orders : List Order) → IsPing b client orders → numbers_told orders ≡ []
+ping_none false client orders is = ap (λ (orders : List Order). numbers_told orders) is
+ping_none true client orders (bytes, are, is) = ap (λ (orders : List Order). numbers_told orders) is
+
+kept_once : (timeout now : ℕ) (at : Moment) (s : Settings) (calls : List Call) (old new : Client) (before after : Ordered) → is_stuck timeout now old ≡ false → Stands s calls old.gate → IsKept timeout now at s calls old before new after → TellsOnce s calls before new after
+kept_once timeout now at s calls old new before after quiet stands k =
+    let ping = k.asked.ping in
+    let same = k.client ∙ ap (λ (b : Bool). anew_if b (now_asked k.told now old) k.pinged) quiet ∙ k.asked.is_known in
+    let none = told_append ping [] ∙ ap (λ numbers. numbers ++ []) (ping_none (is_silent old now) old.origin.2 ping k.asked.is_ping) in
+    record {
+      behind = calls;
+      stands = subst (λ (client : Client). Stands s calls client.gate) (sym same) stands;
+      told = ping ++ [];
+      orders =
+          k.orders
+          ∙ ap (λ (b : Bool). asks_if b old at (gate s calls).waiting k.told) quiet
+          ∙ ap (λ (orders : Ordered). ordered orders []) k.asked.orders
+          ∙ ap (λ (items : List Order). record before { items = items }) (append_assoc before.items ping []);
+      once = sym (append-nil (numbers_of (all_requests s calls))) ∙ ap (λ numbers. numbers_of (all_requests s calls) ++ numbers) (sym none);
+    }
+
+ticks_by : (slow : Bool) (timeout now : ℕ) (at : Moment) (s : Settings) (calls : List Call) (old new : Client) (before after : Ordered) → is_too_slow old now ≡ slow → is_stuck timeout now old ≡ false → Stands s calls old.gate → Ticks timeout now at s calls old before new after → TellsOnce s calls before new after
+ticks_by true timeout now at s calls old new before after is quiet stands t =
+    lost_by old.is_gone now at s calls old new before after refl stands (t.slow is)
+ticks_by false timeout now at s calls old new before after is quiet stands t =
+    kept_once timeout now at s calls old new before after quiet stands (t.kept is)
+
+event_once : (event : Event) (now : ℕ) (at : Moment) (s : Settings) (calls : List Call) (old new : Client) (before after : Ordered) → IsQuiet event now at old before new after → Stands s calls old.gate → TellsOnce s calls before new after
+event_once (Speaks bytes) now at s calls old new before after h stands =
+    reads_by old.is_gone bytes now at s calls old new before after refl stands (h s calls stands)
+event_once (Learns effect) now at s calls old new before after h stands =
+    hears_once effect now at s calls old new before after (h s calls stands)
+event_once Goes now at s calls old new before after h stands =
+    lost_by old.is_gone now at s calls old new before after refl stands (h s calls stands)
+event_once (Words lost refused) now at s calls old new before after (quiet, h) stands =
+    words_once lost refused now at s calls old new before after quiet stands (h s calls stands)
+event_once (Waits timeout) now at s calls old new before after (quiet, h) stands =
+    ticks_by (is_too_slow old now) timeout now at s calls old new before after refl quiet stands (h s calls stands)
+
+-- what is told first, and then
+both_once : (s : Settings) (calls : List Call) (before between after : Ordered) (client new : Client) → (first : TellsOnce s calls before client between) → TellsOnce s first.behind between new after → TellsOnce s calls before new after
+both_once s calls before between after client new first last = record {
+  behind = last.behind;
+  stands = last.stands;
+  told = first.told ++ last.told;
+  orders =
+      last.orders
+      ∙ ap (λ (orders : Ordered). ordered orders last.told) first.orders
+      ∙ ap (λ (items : List Order). record before { items = items }) (append_assoc before.items first.told last.told);
+  once =
+      last.once
+      ∙ ap (λ numbers. numbers ++ numbers_told last.told) first.once
+      ∙ append_assoc (numbers_of (all_requests s calls)) (numbers_told first.told) (numbers_told last.told)
+      ∙ ap (λ numbers. numbers_of (all_requests s calls) ++ numbers) (sym (told_append first.told last.told));
+}
+
+pub asks_once : AsksOnce
+unfolding AreQuiet
+asks_once [] s calls old new before after (same, none) stands = nothing_once s calls old new before after stands same none
+asks_once (h ∷ more) s calls old new before after (client, orders, quiet, rest) stands =
+    let first = event_once h.event h.now h.at s calls old client before orders quiet stands in
+    let last = asks_once more s first.behind client new orders after rest first.stands in
+    both_once s calls before orders after client new first last

@@ -1,0 +1,95 @@
+-- What a driver begins with, and a client that connects.
+use Rattle.std.specs.Prelude.{◌≡◌, ◌+◌, ◌^◌, ℕ, Bool, nat_lt, if◌then◌else◌, List, [], ◌∷◌, Option, Some, None}
+use Rattle.client_gate.specs.Calls.{Held, Stands}
+use Rattle.client_gate.specs.Made.{made}
+use Rattle.wire_bytes.specs.declared.origin.Origin.{Origin}
+use Rattle.driver.specs.declared.client.Client.{Client}
+use Rattle.driver.specs.declared.clients.Clients.{Clients}
+use Rattle.driver.specs.declared.desk.Desk.{Desk}
+use Rattle.driver.specs.declared.driver.Driver.{Driver}
+use Rattle.driver.specs.declared.link.Stage.TheVariants.{Idle}
+use Rattle.driver.specs.declared.order.Order.{Order}
+use Rattle.driver.specs.declared.settings.Settings.{Settings}
+use Rattle.driver.specs.Desks.{at, new_desk}
+use Rattle.driver.specs.Driving.{changed_at, orders_at}
+use Rattle.driver.specs.Gone.{no_notices, with_seen}
+use Rattle.driver.specs.Hearing.{boot_up, turned_away, turned_away_news}
+use Rattle.driver.specs.Links.{first_backoff, status_at}
+use Rattle.driver.specs.Rosters.{IsNew, client_at}
+use Rattle.driver.specs.Telling.{none_told}
+
+-- a new desk for each of the seven nodes, in order
+abbrev pub new_desks : Settings → ℕ → List Desk
+new_desks settings now =
+    new_desk settings now 1
+    ∷ new_desk settings now 2
+    ∷ new_desk settings now 3
+    ∷ new_desk settings now 4
+    ∷ new_desk settings now 5
+    ∷ new_desk settings now 6
+    ∷ new_desk settings now 7
+    ∷ []
+
+-- A new driver: nothing is known of any node, there is no client and no connection, and nothing is ordered.
+pub record IsNewDriver (settings : Settings) (now : ℕ) (new : Driver) : Type 0 where
+  pub settings_are : new.settings ≡ settings
+  pub desks : new.desks ≡ new_desks settings now
+  pub notices : new.notices.all ≡ no_notices
+  pub clients : (number : ℕ) → client_at new.clients number ≡ None
+  pub numbered : new.numbered ≡ 0
+  pub stage : new.link.stage ≡ Idle (at now) 0
+  pub backoff : new.link.backoff ≡ first_backoff
+  pub pace : new.pace ≡ record { burst = settings.flood_burst; line_ms = settings.flood_ms; free_at = 0 }
+  pub ran : new.ran ≡ at now
+  pub orders : new.orders ≡ none_told
+
+-- the run in which a node is up, if it is
+abbrev pub boot_at : List Desk → ℕ → Option ℕ
+boot_at desks node = boot_up (status_at desks node)
+
+-- the number of a client that connects to a node with this run: one more than the last, where numbers are left
+abbrev pub number_if : Option ℕ → ℕ → Option ℕ
+number_if None last = None
+number_if (Some boot) last = if nat_lt last (2 ^ 60) then Some (last + 1) else None
+
+abbrev pub next_number : List Desk → ℕ → ℕ → Option ℕ
+next_number desks node last = number_if (boot_at desks node) last
+
+-- the number of the last client then
+abbrev pub last_number : ℕ → Option ℕ → ℕ
+last_number last None = last
+last_number last (Some number) = number
+
+-- A client of this origin has connected; its gate is a new one of this password and this nick.
+pub record Arrives (origin : Origin) (password nick : List ℕ) (now : ℕ) (new : Clients) : Type 0 where
+  pub client : Client
+  pub is_there : client_at new origin.2 ≡ Some client
+  pub held : Held
+  pub is_new : IsNew origin held now client
+  pub is_made : Stands (made origin password nick) [] held
+
+-- a client has connected to a node that is up in this run, if it was given a number
+abbrev pub ArrivesBy : Option ℕ → Option ℕ → ℕ → List ℕ → List ℕ → ℕ → Clients → Clients → Type 0
+ArrivesBy None number node password nick now old new = new ≡ old
+ArrivesBy (Some boot) None node password nick now old new = new ≡ old
+ArrivesBy (Some boot) (Some number) node password nick now old new = Arrives (node, boot, number) password nick now new
+
+abbrev pub ArrivesIf : List Desk → Option ℕ → ℕ → List ℕ → List ℕ → ℕ → Clients → Clients → Type 0
+ArrivesIf desks number node password nick now old new = ArrivesBy (boot_at desks node) number node password nick now old new
+
+-- the desks where a client connected to a node with this run, if it is up: the run was seen, where the client was taken; where the
+-- node is not up, the client was turned away
+abbrev pub visited : Option ℕ → Bool → List Desk → ℕ → List Desk
+visited None taken desks node = changed_at turned_away desks node
+visited (Some boot) taken desks node = if taken then changed_at (with_seen boot) desks node else desks
+
+abbrev pub desks_behind : List Desk → ℕ → ℕ → List Desk
+desks_behind desks node numbered = visited (boot_at desks node) (nat_lt numbered (2 ^ 60)) desks node
+
+-- an operator is told of the first client that was turned away since the node was up
+abbrev pub turned_away_by : Option ℕ → List Desk → ℕ → List Order
+turned_away_by None desks node = orders_at turned_away_news desks node
+turned_away_by (Some boot) desks node = []
+
+abbrev pub turned_away_at : List Desk → ℕ → List Order
+turned_away_at desks node = turned_away_by (boot_at desks node) desks node

@@ -1,0 +1,88 @@
+-- A client's requests are told to its node once, but where they may be lost.
+use Rattle.std.specs.Prelude.{◌≡◌, ◌++◌, ℕ, Bool, true, false, List, [], ◌∷◌, map, flat_map}
+use Rattle.bouncer_tower.specs.Bodies.{TowerBody}
+use Rattle.buffer_commands.specs.declared.wire_line.WireLine.{WireLine}
+use Rattle.request_once.specs.declared.body.Body.TheVariants.{Asked}
+use Rattle.client_gate.specs.declared.request.Request.{Request}
+use Rattle.client_gate.specs.declared.settings.Settings.{Settings}
+use Rattle.client_gate.specs.Calls.{Call, Stands}
+use Rattle.client_gate.specs.Gates.{GateEffect}
+use Rattle.client_gate.specs.Numbers.{all_requests}
+use Rattle.node_notes.specs.declared.note.Note.{Note}
+use Rattle.node_notes.specs.declared.note.Note.TheVariants.{Ask}
+use Rattle.wire_bytes.specs.declared.moment.Moment.{Moment}
+use Rattle.driver.specs.declared.client.Client.{Client}
+use Rattle.driver.specs.declared.order.Order.{Order}
+use Rattle.driver.specs.declared.order.Order.TheVariants.{Tell}
+use Rattle.driver.specs.Asking.{HearsNode, is_stuck, may_be_lost}
+use Rattle.driver.specs.Crowds.{Ticks}
+use Rattle.driver.specs.Serving.{Hears, IsLost, Receives}
+use Rattle.driver.specs.Telling.{Ordered, ordered}
+
+-- the number of the request that a note asks for, if it asks for one
+abbrev pub number_in : Note TowerBody WireLine → List ℕ
+number_in (Ask (Asked origin number at action)) = number ∷ []
+number_in note = []
+
+-- the number of the request that an order tells a node, if it does
+abbrev pub number_told : Order → List ℕ
+number_told (Tell node note) = number_in note
+number_told order = []
+
+-- the numbers of all requests that orders tell, in order
+abbrev pub numbers_told : List Order → List ℕ
+numbers_told orders = flat_map number_told orders
+
+-- the numbers of requests
+abbrev pub numbers_of : List Request → List ℕ
+numbers_of requests = map (λ request. request.number) requests
+
+-- What was told of a client is what its gate numbered meanwhile, each request once and in order.
+pub record TellsOnce (s : Settings) (calls : List Call) (before : Ordered) (new : Client) (after : Ordered) : Type 0 where
+  pub behind : List Call
+  pub stands : Stands s behind new.gate
+  pub told : List Order
+  pub orders : after ≡ ordered before told
+  pub once : numbers_of (all_requests s behind) ≡ numbers_of (all_requests s calls) ++ numbers_told told
+
+-- What happens to a client at a moment: bytes of it come, something comes of a request, its connection is gone, its node tells what
+-- may be lost and whether it refused a turn, or time passes.
+pub data Event : Type 0 where
+  Speaks : List ℕ → Event
+  Learns : GateEffect → Event
+  Goes : Event
+  Words : ℕ → Bool → Event
+  Waits : ℕ → Event
+
+-- This happens to a client, whatever calls its gate stands behind, and nothing of it is asked again.
+abbrev pub IsQuiet : Event → ℕ → Moment → Client → Ordered → Client → Ordered → Type 0
+IsQuiet (Speaks bytes) now at old before new after =
+    (s : Settings) (calls : List Call) → Stands s calls old.gate → Receives bytes now at s calls old before new after
+IsQuiet (Learns effect) now at old before new after =
+    (s : Settings) (calls : List Call) → Stands s calls old.gate → Hears effect now at s calls old before new after
+IsQuiet Goes now at old before new after =
+    (s : Settings) (calls : List Call) → Stands s calls old.gate → IsLost now at s calls old before new after
+IsQuiet (Words lost refused) now at old before new after =
+    (may_be_lost lost old ≡ false)
+    × ((s : Settings) (calls : List Call) → Stands s calls old.gate → HearsNode lost refused now at s calls old before new after)
+IsQuiet (Waits timeout) now at old before new after =
+    (is_stuck timeout now old ≡ false)
+    × ((s : Settings) (calls : List Call) → Stands s calls old.gate → Ticks timeout now at s calls old before new after)
+
+-- An event and its moment.
+pub record Happening : Type 0 where
+  pub event : Event
+  pub now : ℕ
+  pub at : Moment
+
+-- These happen in turn, and nothing is asked again.
+unfoldable pub AreQuiet : List Happening → Client → Ordered → Client → Ordered → Type 0
+AreQuiet [] old before new after = (new ≡ old) × (after ≡ before)
+AreQuiet (h ∷ more) old before new after =
+    (client : Client) × (orders : Ordered) × IsQuiet h.event h.now h.at old before client orders × AreQuiet more client orders new after
+
+-- However long nothing that a client asked may be lost, and nothing holds it up: each of its requests is told once, and in order.
+abbrev pub AsksOnce : Type 0
+AsksOnce =
+    (happenings : List Happening) (s : Settings) (calls : List Call) (old new : Client) (before after : Ordered)
+    → AreQuiet happenings old before new after → Stands s calls old.gate → TellsOnce s calls before new after

@@ -1,0 +1,45 @@
+-- What time brings to a client.
+use Rattle.std.specs.Prelude.{◌≡◌, ◌&&◌, ◌||◌, ℕ, Bool, true, false, not, codes, if◌then◌else◌, List, [], ◌∷◌, ◌++◌}
+use Rattle.std.specs.Global.{Vec}
+use Rattle.client_gate.specs.declared.settings.Settings.{Settings}
+use Rattle.client_gate.specs.Calls.{Call, gate}
+use Rattle.wire_bytes.specs.declared.moment.Moment.{Moment}
+use Rattle.driver.specs.declared.client.Client.{Client}
+use Rattle.driver.specs.declared.order.Order.{Order}
+use Rattle.driver.specs.declared.order.Order.TheVariants.{Write}
+use Rattle.driver.specs.Asking.{anew_if, asks_if, is_stuck, now_asked}
+use Rattle.driver.specs.Desks.{is_over}
+use Rattle.driver.specs.Telling.{Ordered, ordered}
+
+-- a client that is still there did not register within 10 seconds, or did not answer within four minutes
+abbrev pub is_too_slow : Client → ℕ → Bool
+is_too_slow c now =
+    if c.is_gone
+    then false
+    else if c.is_attached then c.is_pinged && is_over c.heard 240_000 now else is_over c.since 10_000 now
+
+-- a client that is still there was silent for two minutes, and was not asked for a word since
+abbrev pub is_silent : Client → ℕ → Bool
+is_silent c now = not (c.is_pinged || c.is_gone || not (is_over c.heard 120_000 now))
+
+-- a client is asked for a word, if it is
+abbrev pub IsPing : Bool → ℕ → List Order → Type 0
+IsPing false client orders = orders ≡ []
+IsPing true client orders =
+    (bytes : Vec ℕ) × (bytes.items ≡ codes "PING bouncer.local" ++ 13 ∷ 10 ∷ []) × (orders ≡ Write client bytes ∷ [])
+
+-- a client that is silent is asked for a word, and this is known of it
+pub record IsAsked (old : Client) (now : ℕ) (before : Ordered) (new : Client) (after : Ordered) : Type 0 where
+  pub ping : List Order
+  pub is_ping : IsPing (is_silent old now) old.origin.2 ping
+  pub orders : after ≡ ordered before ping
+  pub is_known : new ≡ record old { is_pinged = old.is_pinged || is_silent old now }
+
+-- A client that is not too slow: one that is silent is asked for a word; and what waits is asked for again where it is held up, once
+-- each timeout.
+pub record IsKept (timeout now : ℕ) (at : Moment) (s : Settings) (calls : List Call) (old : Client) (before : Ordered) (new : Client) (after : Ordered) : Type 0 where
+  pub pinged : Client
+  pub told : Ordered
+  pub asked : IsAsked old now before pinged told
+  pub orders : after ≡ asks_if (is_stuck timeout now old) old at (gate s calls).waiting told
+  pub client : new ≡ anew_if (is_stuck timeout now old) (now_asked told now old) pinged

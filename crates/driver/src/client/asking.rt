@@ -1,0 +1,105 @@
+//! When a client's requests are told to its node.
+ghost use Rattle.std.specs.Prelude.{◌≡◌, ◌||◌, List, OnOk};
+ghost use Rattle.client_gate.specs.Calls.{Call, Stands, gate};
+ghost use Rattle.client_gate.specs.declared.settings.Settings.{Settings};
+ghost use Rattle.driver.specs.Asking.{asked_anew, begun, now_asked};
+ghost use Rattle.driver.specs.Clients.{asked_all, asks_of, is_some_asked, note_of};
+ghost use Rattle.driver.specs.Telling.{ordered};
+
+use crate::client::{Asked, Client};
+use crate::news::News;
+use crate::order::{Now, TowerNote};
+use crate::orders::Orders;
+use bouncer_tower::Tower;
+use client_gate::Request;
+use machine_laws::Hosted;
+use node_notes::Note;
+use pacing::Timer;
+use raft_log::NodeId;
+use std::alloc::AllocError;
+use wire_bytes::Origin;
+
+impl Client {
+    /// Where nothing waits, what is asked for next is the oldest, and nothing holds it up.
+    pub(crate) fn begin_asking(&mut self, now: &Now, orders: &Orders)
+        ensures { (s : Settings) (calls : List Call) → Stands s calls self.old.gate →
+            self.new ≡ begun (now_asked orders.now now.now.ms self.old) (gate s calls).waiting self.old }
+    {
+        if self.gate.waiting() == 0 {
+            self.asked = self.asked_now(now, orders);
+            self.is_held_up = false;
+        }
+    }
+
+    /// By which note, and when, what is asked for next is told, if it is now.
+    fn asked_now(&self, now: &Now, orders: &Orders) -> Asked
+        ensures { result ≡ now_asked orders.now now.now.ms self.now }
+    {
+        Asked {
+            note: orders.next(self.node()),
+            at: Timer::from(now.ms),
+        }
+    }
+
+    /// Its requests are asked for. The first one is that it is attached.
+    #[tactic(auto, unfolding(crate::specs::Clients::asked_all))]
+    pub(crate) fn ask_all(
+        &mut self,
+        now: &Now,
+        requests: Vec<Request>,
+        orders: &mut Orders,
+    ) -> Result<(), AllocError>
+        ensures asked { OnOk result (orders.new ≡ ordered orders.old
+            (asked_all self.old.is_attached self.old.origin now.now.at requests.items)) }
+        ensures rest { OnOk result (self.new ≡ record self.old
+            { is_attached = self.old.is_attached || is_some_asked requests.items }) }
+    {
+        if requests.is_empty() {
+            return Ok(());
+        }
+        if !self.is_attached {
+            self.is_attached = true;
+            orders.announce(News::Attached(self.origin))?;
+        }
+        ask_each(self.origin, now, requests, orders)
+    }
+
+    /// The requests that are not known to be done are asked for again.
+    pub(crate) fn ask_again(&mut self, now: &Now, orders: &mut Orders) -> Result<(), AllocError>
+        ensures asked { (s : Settings) (calls : List Call) → Stands s calls self.old.gate →
+            OnOk result (orders.new ≡ ordered orders.old
+            (asks_of self.old.origin now.now.at (gate s calls).waiting)) }
+        ensures rest { OnOk result
+            (self.new ≡ asked_anew (now_asked orders.old now.now.ms self.old) self.old) }
+    {
+        let waiting = self.gate.again()?;
+        self.asked = self.asked_now(now, orders);
+        ask_each(self.origin, now, waiting, orders)
+    }
+}
+
+/// Each request goes to its client's node, in order.
+#[tactic(auto, unfolding(crate::specs::Clients::asks_of))]
+fn ask_each(
+    origin: Origin,
+    now: &Now,
+    requests: Vec<Request>,
+    orders: &mut Orders,
+) -> Result<(), AllocError>
+    ensures { OnOk result
+        (orders.new ≡ ordered orders.old (asks_of origin now.now.at requests.items)) }
+{
+    for request in requests {
+        orders.tell(NodeId::new(origin.node()), asks(origin, now, request))?;
+    }
+    Ok(())
+}
+
+/// A request as a note to its client's node.
+pub fn asks(origin: Origin, now: &Now, request: Request) -> TowerNote
+    ensures { result ≡ note_of origin now.now.at request }
+{
+    let Request { number, action } = request;
+    let body = <Tower as Hosted>::asked(origin, number, now.at, action);
+    Note::Ask(body)
+}

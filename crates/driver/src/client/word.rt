@@ -1,0 +1,52 @@
+//! What a client's node tells of itself is to the client.
+ghost use Rattle.std.specs.Prelude.{◌≡◌, List, OnOk};
+ghost use Rattle.client_gate.specs.Calls.{Call, Stands};
+ghost use Rattle.client_gate.specs.declared.settings.Settings.{Settings};
+ghost use Rattle.driver.specs.Asking.{HearsNode};
+ghost use Rattle.driver.specs.Outages.{IsToldDown};
+
+use crate::client::Client;
+use crate::news::News;
+use crate::order::Now;
+use crate::orders::Orders;
+use std::alloc::AllocError;
+
+impl Client {
+    /// Its node told that what it was told up to this note may be lost, and whether a turn of it was refused.
+    pub fn hear_node(
+        &mut self,
+        now: &Now,
+        lost: u64,
+        is_refused: bool,
+        orders: &mut Orders,
+    ) -> Result<(), AllocError>
+        ensures { (s : Settings) (calls : List Call) → Stands s calls self.old.gate → OnOk result
+            (HearsNode lost is_refused now.now.ms now.now.at s calls
+            self.old orders.old self.new orders.new) }
+    {
+        if is_refused && self.gate.waiting() > 0 {
+            self.is_held_up = true;
+        }
+        if lost < self.asked.note {
+            return Ok(());
+        }
+        self.ask_again(now, orders)
+    }
+
+    /// Its node is down, and with it the run of the node that it is a client of: it is told so, and its
+    /// connection is closed.
+    pub fn hear_down(&self, orders: &mut Orders) -> Result<(), AllocError>
+        ensures { OnOk result (IsToldDown self.now orders.old orders.new) }
+    {
+        if self.is_gone {
+            return Ok(());
+        }
+        let mut error = Vec::from_slice(self.alloc, b"ERROR :node ")?;
+        error.push(b'0' + self.origin.node())?;
+        error.extend_from_slice(b" is down\r\n")?;
+        orders.write(self.origin.client(), error)?;
+        orders.close(self.origin.client())?;
+        orders.announce(News::Left(self.origin))?;
+        Ok(())
+    }
+}
