@@ -185,7 +185,7 @@ impl<M: Hosted> Ether<M> {
         ensures looks { looks_of pass.new ≡ looks_of pass.old
             ++ look_if result (mailbox_of self.now.size pass.old.node to) }
     {
-        let word = (pass.node * self.group.size.value() as u64 + to + 1) as usize;
-        self.table.shared.load::<Glances>(&mut pass.seat, word) < FULL
+        let mailbox = (pass.node * self.group.size.value() as u64 + to + 1) as usize;
+        self.table.shared.load::<Glances>(&mut pass.seat, mailbox) < FULL
     }
 }

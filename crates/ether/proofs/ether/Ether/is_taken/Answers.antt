@@ -1,4 +1,4 @@
-use Rattle.std.proofs.Common.{rules, ℕ, ◌+◌, ◌*◌, ◌<◌, sym, ap, ◌∙◌, subst}
+use Rattle.std.proofs.Common.{rules, ◌≡◌, ℕ, ◌+◌, ◌*◌, ◌<◌, sym, ap, ◌∙◌, subst}
 use Rattle.ether.specs.Passes.{EtherParts, looks_of, view_of}
 use Rattle.ether.proofs.Steps.{at_step, glances_by, mailbox_low}
 use Rattle.ether.proofs.ether.Ether.is_taken.Goals as goal
