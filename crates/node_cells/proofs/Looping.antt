@@ -112,6 +112,13 @@ module _ {B L T : Type 0} where
       by_one None h = tt
       by_one (Some e) h = h
 
+  pub given_ahead : (v : View B L T) (n k to : ℕ) (o : Option (Envelope B)) → MayGiveBack v to o → MayGiveBack (posts_from v n k) to o
+  given_ahead v n k to o h = subst (λ (w : View B L T). MayGiveBack w to o) (sym (posts_are v n k)) (by_one o h)
+    where
+      by_one : (o : Option (Envelope B)) → MayGiveBack v to o → MayGiveBack (record v { posted = (posts_from v n k).posted }) to o
+      by_one None h = tt
+      by_one (Some e) h = h
+
   pub gave_behind : (v : View B L T) (posted : List ℕ) (tos : List ℕ) (es : List (Envelope B)) → GaveBack v tos es → GaveBack (record v { posted = posted }) tos es
   gave_behind v posted [] [] h = tt
   gave_behind v posted [] (e ∷ es) h = absurd h
@@ -120,19 +127,28 @@ module _ {B L T : Type 0} where
   gave_behind v posted (to ∷ tos) (e ∷ es) (inr h) = inr (gave_behind v posted tos (e ∷ es) h)
 
   -- what came back so far, behind which what the further posts give back may come
-  abbrev pub Giving : View B L T → List (Message B) → List (Message B) → List (Envelope B) → Type 0
-  Giving v all rest olds = (es : List (Envelope B)) → GaveBack v (map to_of rest) es → GaveBack v (map to_of all) (olds ++ es)
+  pub record Giving (v : View B L T) (all rest : List (Message B)) (olds : List (Envelope B)) : Type 0 where
+    pub gives : (es : List (Envelope B)) → GaveBack v (map to_of rest) es → GaveBack v (map to_of all) (olds ++ es)
 
   pub giving_first : (v : View B L T) (all : List (Message B)) (olds : List (Envelope B)) → olds ≡ [] → Giving v all all olds
-  giving_first v all olds none es h = subst (λ (l : List (Envelope B)). GaveBack v (map to_of all) (l ++ es)) (sym none) h
+  giving_first v all olds none = record { gives = λ es h. subst (λ (l : List (Envelope B)). GaveBack v (map to_of all) (l ++ es)) (sym none) h }
 
   pub giving_next : (v : View B L T) (all : List (Message B)) (m : Message B) (rest : List (Message B)) (olds : List (Envelope B)) (o : Option (Envelope B)) (news : List (Envelope B))
       → Giving v all (m ∷ rest) olds → MayGiveBack v m.to o → news ≡ olds ++ option_to_list o → Giving v all rest news
-  giving_next v all m rest olds o news h may is es g =
-      subst (λ (l : List (Envelope B)). GaveBack v (map to_of all) l) (sym (append_assoc olds (option_to_list o) es) ∙ ap (λ (l : List (Envelope B)). l ++ es) (sym is)) (h (option_to_list o ++ es) (gives_more v m.to (map to_of rest) o es may g))
+  giving_next v all m rest olds o news h may is =
+      record {
+        gives = λ es g. subst (λ (l : List (Envelope B)). GaveBack v (map to_of all) l) (sym (append_assoc olds (option_to_list o) es) ∙ ap (λ (l : List (Envelope B)). l ++ es) (sym is))
+            (h.gives (option_to_list o ++ es) (gives_more v m.to (map to_of rest) o es may g));
+      }
 
   pub giving_done : (v : View B L T) (all rest : List (Message B)) (olds : List (Envelope B)) → Giving v all rest olds → rest ≡ [] → GaveBack v (map to_of all) olds
-  giving_done v all rest olds h none = subst (λ (l : List (Envelope B)). GaveBack v (map to_of all) l) (append-nil olds) (h [] (subst (λ (l : List (Message B)). GaveBack v (map to_of l) []) (sym none) tt))
+  giving_done v all rest olds h none = subst (λ (l : List (Envelope B)). GaveBack v (map to_of all) l) (append-nil olds) (h.gives [] (subst (λ (l : List (Message B)). GaveBack v (map to_of l) []) (sym none) tt))
+
+module _ (M : Machine) {Setup : Type 0} where
+  -- by the book after some posts, and so by the one before them
+  pub given_first : (b0 b : Book M Setup) (all rest : List (Message M.Body)) (to : ℕ) (o : Option (Envelope M.Body)) → Posting M b0 b all rest → MayGiveBack (view_of b.pass) to o → MayGiveBack (view_of b0.pass) to o
+  given_first b0 b all rest to o h may =
+      given_behind (view_of b0.pass) b0.sent (length all) to o (subst (λ (w : ViewOf M). MayGiveBack w to o) h.view (given_ahead (view_of b.pass) b.sent (length rest) to o may))
 
 -- ---- restarts
 

@@ -191,7 +191,7 @@ module _ (M : Machine) {Setup Hosted Store U : Type 0} (k : Keeper Store M.Body)
                     posts = λ honest. to ∙ ap (λ (l : List (Message M.Body)). map to_of l)
                         (sym (ap (λ (s : Node M.Body). drop (length v.state.sent) s.sent) (state_2 honest) ∙ drop-append_seam v.state.sent output.messages.items));
                     replaced = subst (λ (z : ViewOf M × List ℕ). GaveBack z.0 z.1 given'.replaced.items)
-                        (λ d. (sym (posted.view ∙ posts_are (view_of b1.pass) b1.sent (length output.messages.items)) d, sym to d)) (gave_behind (view_of b1.pass) _ _ _ gave);
+                        (λ d. (sym (posted.view ∙ posts_are (view_of b1.pass) b1.sent (length output.messages.items)) d, sym to d)) (gave_behind (view_of b1.pass) (posts_from (view_of b1.pass) b1.sent (length output.messages.items)).posted _ _ gave);
                   }
 
       -- the step was done, and its output found no memory

@@ -1,8 +1,10 @@
 //! What a worker has beside its node's cell, and what it does with it, in rounds.
-ghost use Rattle.std.specs.Prelude.{◌≡◌, ◌<◌, [], false, None, IfSome, is_none};
-ghost use Rattle.world_views.specs.Views.{carries};
-ghost use Rattle.node_cells.specs.Cells.{HasHeard, view_in};
+ghost use Rattle.std.specs.Prelude.{◌≡◌, [], length};
 ghost use Rattle.node_threads.specs.Homes.{IsSameHome};
+ghost use Rattle.node_threads.specs.Reports.{IsReport, IsStatusOf, TellsFirst, has_grown, is_news};
+ghost use Rattle.node_threads.specs.Requests.{in_term, queue_of};
+ghost use Rattle.node_threads.specs.Rounds.{leaving};
+ghost use Rattle.node_threads.specs.Work.{HasBeaten, HasGoneRound};
 
 use crate::beats::Beats;
 use crate::gate::Gate;
@@ -10,7 +12,7 @@ use crate::job::Job;
 use crate::outlet::Outlet;
 use crate::station::requests::Requests;
 use crate::station::round::Round;
-use crate::station::telling::{Told, status, wake};
+use crate::station::telling::{Told, leads, status, wake};
 use body_marks::Marking;
 use crossbeam_channel::{Receiver, Sender};
 use machine_laws::{Hosted, Machine};
@@ -18,6 +20,7 @@ use marked_cells::MarkedCell;
 use node_cells::Upstream;
 use node_notes::{Progress, Report};
 use raft_log::NodeId;
+use raft_node::Described;
 use stable_store::Stable;
 use std::alloc::Global;
 use std::mem::replace;
@@ -103,7 +106,10 @@ impl<M: Marking, G: Gate + Drop, O: Outlet<M::Effect>> Station<M, G, O> {
         &mut self,
         rt: &R,
         cell: &mut MarkedCell<M, S, U>,
-    ) -> bool {
+    ) -> bool
+        ensures { HasGoneRound (⟦<M as Described>⟧.machine cell.old.parts.ether.setup) U.tally
+            cell.old.parts cell.new.parts }
+    {
         self.take_all(rt, cell);
         let all_asked = self.ask_all(rt, cell);
         let all_applied = self.apply_all(rt, cell);
@@ -118,7 +124,11 @@ impl<M: Marking, G: Gate + Drop, O: Outlet<M::Effect>> Station<M, G, O> {
         &mut self,
         rt: &R,
         cell: &mut MarkedCell<M, S, U>,
-    ) {
+    )
+        ensures { HasBeaten (⟦<M as Described>⟧.machine cell.old.parts.ether.setup) U.tally
+            (is_news self.old.beats self.old.beaten self.old.round.is_behind cell.old.parts)
+            cell.old.parts cell.new.parts }
+    {
         if !self.has_news(cell) {
             return;
         }
@@ -136,19 +146,21 @@ impl<M: Marking, G: Gate + Drop, O: Outlet<M::Effect>> Station<M, G, O> {
 
     /// Whether the node leads, and its log or what is agreed of it grew since it sent last in its term, or
     /// a node that lags behind it answered; and its worker is to send by itself.
-    fn has_news<S: Stable<M::Command>, U: Upstream>(&self, cell: &MarkedCell<M, S, U>) -> bool {
-        if self.beats != Beats::OnNews || !status(cell).leads() {
-            return false;
-        }
+    fn has_news<S: Stable<M::Command>, U: Upstream>(&self, cell: &MarkedCell<M, S, U>) -> bool
+        ensures { result ≡ is_news self.now.beats self.now.beaten self.now.round.is_behind
+            cell.now.parts }
+    {
+        let is_on_news = match self.beats {
+            Beats::OnNews => true,
+            Beats::WhenTold => false,
+        };
         let standing = cell.state().standing;
-        match self.beaten {
-            Some(beaten) if beaten.term == standing.term => {
-                beaten.last < cell.state().log.len()
-                    || beaten.commit < standing.commit
-                    || self.round.is_behind
-            }
-            _ => true,
-        }
+        let now = Beaten {
+            term: standing.term,
+            last: cell.state().log.len(),
+            commit: standing.commit,
+        };
+        is_on_news && leads(cell) && has_grown(self.beaten, self.round.is_behind, now)
     }
 
     /// Wakes the workers of the nodes that were posted to, or whose answer was taken.
@@ -166,23 +178,14 @@ impl<M: Marking, G: Gate + Drop, O: Outlet<M::Effect>> Station<M, G, O> {
         &mut self,
         rt: &R,
         cell: &MarkedCell<M, S, U>,
-    ) -> bool {
-        let status = status(cell);
-        self.requests.see(status.term);
-        let now = Told {
-            status,
-            progress: self.progress(),
-        };
+    ) -> bool
+        ensures { TellsFirst (leaving self.old.round) (leaving self.new.round) }
+    {
+        let now = self.stand(cell);
         if !self.is_news(&now) {
             return true;
         }
-        let report = Report {
-            node: self.id,
-            status,
-            effects: replace(&mut self.round.effects, Vec::new(self.alloc)),
-            progress: now.progress,
-            fault: self.round.fault,
-        };
+        let report = self.report(cell.id(), &now);
         match self.outlet.report(rt, report) {
             Ok(()) => {
                 self.told = Some(now);
@@ -197,13 +200,41 @@ impl<M: Marking, G: Gate + Drop, O: Outlet<M::Effect>> Station<M, G, O> {
         }
     }
 
-    /// How far it is.
-    fn progress(&self) -> Progress {
-        Progress {
+    /// How the node stands, and how far its worker is.
+    fn stand<S: Stable<M::Command>, U: Upstream>(&mut self, cell: &MarkedCell<M, S, U>) -> Told
+        ensures status { IsStatusOf M.next_claim cell.now.parts result.status }
+        ensures progress { result.progress ≡ record { done = self.old.done;
+            waiting = length self.old.requests.waiting.items;
+            lost = (in_term cell.now.parts.node.state.standing.term
+            (queue_of self.old.requests)).lost; contacts = self.old.contacts } }
+        ensures requests { queue_of self.new.requests
+            ≡ in_term cell.now.parts.node.state.standing.term (queue_of self.old.requests) }
+        ensures round { self.new.round ≡ self.old.round }
+    {
+        let status = status(cell);
+        self.requests.see(status.term);
+        let progress = Progress {
             done: self.done,
             waiting: self.requests.waiting.len() as u64,
             lost: self.requests.lost,
             contacts: self.contacts,
+        };
+        Told { status, progress }
+    }
+
+    /// What is told, of what left and the first fault.
+    fn report(&mut self, node: NodeId, now: &Told) -> Report<M::Effect>
+        ensures report { IsReport node now.now self.old.round.effects.items self.old.round.fault
+            result }
+        ensures effects { self.new.round.effects.items ≡ [] }
+        ensures further { self.new.round.further ≡ self.old.round.further }
+    {
+        Report {
+            node,
+            status: now.status,
+            effects: replace(&mut self.round.effects, Vec::new(self.alloc)),
+            progress: now.progress,
+            fault: self.round.fault,
         }
     }
 
@@ -217,5 +248,21 @@ impl<M: Marking, G: Gate + Drop, O: Outlet<M::Effect>> Station<M, G, O> {
             Some(told) => !told.is_same(now),
             None => true,
         }
+    }
+}
+
+/// Whether a leader's log or what is agreed of it grew since it sent last in its term, or a node that lags
+/// behind it answered.
+fn has_grown(beaten: Option<Beaten>, is_behind: bool, now: Beaten) -> bool
+    ensures { result ≡ has_grown beaten is_behind now.term now.last now.commit }
+{
+    match beaten {
+        Some(beaten) => {
+            beaten.term != now.term
+                || beaten.last < now.last
+                || beaten.commit < now.commit
+                || is_behind
+        }
+        None => true,
     }
 }

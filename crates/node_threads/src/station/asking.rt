@@ -1,4 +1,8 @@
 //! How a worker asks the requests that wait.
+ghost use Rattle.std.specs.Prelude.{◌≡◌};
+ghost use Rattle.node_threads.specs.Asking.{HasSeenIf, MayAsk};
+ghost use Rattle.node_threads.specs.Work.{HasAskedOn};
+
 use crate::gate::Gate;
 use crate::outlet::Outlet;
 use crate::station::{MOST_ASKED, Station};
@@ -7,6 +11,7 @@ use machine_laws::{Hosted, Machine};
 use marked_cells::MarkedCell;
 use node_cells::Upstream;
 use raft_log::Position;
+use raft_node::Described;
 use stable_store::Stable;
 use std::sync::Wait;
 use world_views::NodeInput;
@@ -17,9 +22,15 @@ impl<M: Marking, G: Gate + Drop, O: Outlet<M::Effect>> Station<M, G, O> {
         &mut self,
         rt: &R,
         cell: &mut MarkedCell<M, S, U>,
-    ) -> bool {
+    ) -> bool
+        ensures { HasAskedOn (⟦<M as Described>⟧.machine cell.old.parts.ether.setup) U.tally
+            cell.old.parts cell.new.parts }
+    {
         for _ in 0..MOST_ASKED {
-            if self.requests.waiting.is_empty() || !may_ask(cell) {
+            if self.requests.waiting.is_empty() {
+                return true;
+            }
+            if !may_ask(cell) {
                 return true;
             }
             let term = cell.state().standing.term;
@@ -33,7 +44,9 @@ impl<M: Marking, G: Gate + Drop, O: Outlet<M::Effect>> Station<M, G, O> {
 }
 
 /// Whether the node may ask: it is up, and leads, or knows a leader that took its last message.
-fn may_ask<M: Marking, S: Stable<M::Command>, U: Upstream>(cell: &mut MarkedCell<M, S, U>) -> bool {
+fn may_ask<M: Marking, S: Stable<M::Command>, U: Upstream>(cell: &mut MarkedCell<M, S, U>) -> bool
+    ensures { MayAsk cell.old.parts result cell.new.parts }
+{
     if cell.down().is_some() {
         return false;
     }
@@ -48,7 +61,9 @@ fn may_ask<M: Marking, S: Stable<M::Command>, U: Upstream>(cell: &mut MarkedCell
 fn has_taken<M: Marking, S: Stable<M::Command>, U: Upstream>(
     cell: &mut MarkedCell<M, S, U>,
     node: u8,
-) -> bool {
+) -> bool
+    ensures { HasSeenIf node cell.old.parts result cell.new.parts }
+{
     if node < 1 || cell.size().value() < node {
         return false;
     }

@@ -1,8 +1,12 @@
 //! The jobs of a worker.
+ghost use Rattle.std.specs.Prelude.{◌≡◌, ◌+◌, ◌-◌, ◌^◌, ◌&&◌, min, nat_le, not, if◌then◌else◌};
+ghost use Rattle.node_threads.specs.Reports.{is_told, leads_in};
+ghost use Rattle.node_threads.specs.Work.{HasDone, HasDoneNote, HasDoneSome, HasTimedOut};
+
 use crate::gate::Gate;
 use crate::job::{Job, put};
 use crate::outlet::Outlet;
-use crate::station::telling::status;
+use crate::station::telling::{leads, status};
 use crate::station::{MOST_JOBS, Station};
 use body_marks::Marking;
 use crossbeam_channel::TryRecvError;
@@ -10,6 +14,7 @@ use machine_laws::{Hosted, Machine};
 use marked_cells::MarkedCell;
 use node_cells::Upstream;
 use node_notes::Note;
+use raft_node::Described;
 use stable_store::Stable;
 use std::sync::Wait;
 use world_views::NodeInput;
@@ -31,7 +36,10 @@ impl<M: Marking, G: Gate + Drop, O: Outlet<M::Effect>> Station<M, G, O> {
         rt: &R,
         cell: &mut MarkedCell<M, S, U>,
         may_wait: bool,
-    ) -> bool {
+    ) -> bool
+        ensures { HasDoneSome (⟦<M as Described>⟧.machine cell.old.parts.ether.setup) U.tally
+            M.marked M.mark {Action = M.Action} cell.old.parts cell.new.parts }
+    {
         for place in 0..MOST_JOBS {
             match self.next_job(rt, may_wait && place == 0) {
                 Next::Job(job) => {
@@ -68,10 +76,11 @@ impl<M: Marking, G: Gate + Drop, O: Outlet<M::Effect>> Station<M, G, O> {
         rt: &R,
         cell: &mut MarkedCell<M, S, U>,
         job: Job<M>,
-    ) {
-        if job.is_told() {
-            self.done = self.done.saturating_add(1);
-        }
+    )
+        ensures { HasDone (⟦<M as Described>⟧.machine cell.old.parts.ether.setup) U.tally
+            M.marked M.mark job cell.old.parts cell.new.parts }
+    {
+        self.count(job.is_told());
         match job {
             Job::Note(note) => self.follow(rt, cell, note),
             Job::Look(from_place, target, reply) => {
@@ -93,13 +102,26 @@ impl<M: Marking, G: Gate + Drop, O: Outlet<M::Effect>> Station<M, G, O> {
         }
     }
 
+    /// A job is taken up, which counts where the node was told it.
+    fn count(&mut self, is_told: bool)
+        ensures { self.new.done ≡ (if is_told then min (self.old.done + 1) (2 ^ 64 - 1)
+            else self.old.done) }
+    {
+        if is_told {
+            self.done = self.done.saturating_add(1);
+        }
+    }
+
     /// Does what a note says.
     fn follow<R: Wait, S: Stable<M::Command>, U: Upstream>(
         &mut self,
         rt: &R,
         cell: &mut MarkedCell<M, S, U>,
         note: Note<M::Command, M::Line>,
-    ) {
+    )
+        ensures { HasDoneNote (⟦<M as Described>⟧.machine cell.old.parts.ether.setup) U.tally
+            note cell.old.parts cell.new.parts }
+    {
         match note {
             Note::Timeout(contacts) => self.time_out(rt, cell, contacts),
             Note::Ask(body) => self.requests.tell(self.done, body),
@@ -107,11 +129,22 @@ impl<M: Marking, G: Gate + Drop, O: Outlet<M::Effect>> Station<M, G, O> {
                 self.requests.end_run();
                 let _ = cell.restart();
             }
-            other => {
-                if let Some(input) = other.into_input() {
-                    self.turn(rt, cell, input);
-                }
+            Note::Beat => {
+                self.turn(rt, cell, NodeInput::Beat);
             }
+            Note::Opened => {
+                self.turn(rt, cell, NodeInput::Opened);
+            }
+            Note::Closed => {
+                self.turn(rt, cell, NodeInput::Closed);
+            }
+            Note::Heard(at, line) => {
+                self.turn(rt, cell, NodeInput::Heard(at, line));
+            }
+            Note::Claim => {
+                self.turn(rt, cell, NodeInput::Claim);
+            }
+            Note::Wake | Note::End => {}
         }
     }
 
@@ -122,10 +155,24 @@ impl<M: Marking, G: Gate + Drop, O: Outlet<M::Effect>> Station<M, G, O> {
         rt: &R,
         cell: &mut MarkedCell<M, S, U>,
         contacts: u64,
-    ) {
+    )
+        ensures { HasTimedOut (⟦<M as Described>⟧.machine cell.old.parts.ether.setup) U.tally
+            (nat_le self.new.contacts contacts) cell.old.parts cell.new.parts }
+    {
         self.take_all(rt, cell);
-        if self.contacts <= contacts && !status(cell).leads() {
+        if self.is_due(cell, contacts) {
             self.turn(rt, cell, NodeInput::Timeout);
         }
+    }
+
+    /// Whether the node leads not, and has heard of a leader at most so often.
+    fn is_due<S: Stable<M::Command>, U: Upstream>(
+        &self,
+        cell: &MarkedCell<M, S, U>,
+        contacts: u64,
+    ) -> bool
+        ensures { result ≡ (nat_le self.now.contacts contacts && not (leads_in cell.now.parts)) }
+    {
+        self.contacts <= contacts && !leads(cell)
     }
 }

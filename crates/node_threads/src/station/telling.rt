@@ -1,6 +1,6 @@
 //! What a worker tells: the workers whose nodes it posted to, and its outlet.
-ghost use Rattle.std.specs.Prelude.{◌≡◌};
-ghost use Rattle.node_threads.specs.Reports.{IsStatusOf, told_fault};
+ghost use Rattle.std.specs.Prelude.{◌≡◌, ◌↔◌, IsTrue};
+ghost use Rattle.node_threads.specs.Reports.{IsStatusOf, leads_in, told_fault};
 
 use crate::job::Job;
 use body_marks::Marking;
@@ -25,9 +25,16 @@ pub fn wake<M: Hosted>(rt: &impl Wait, inboxes: &[Sender<Job<M>>], node: u8) {
 
 /// How the node of a cell stands.
 pub fn status<M: Marking, S: Stable<M::Command>, U: Upstream>(cell: &MarkedCell<M, S, U>) -> Status
-    ensures { IsStatusOf cell.now.parts result }
+    ensures { IsStatusOf M.next_claim cell.now.parts result }
 {
     Status::of(cell.state(), cell.next_claim(), cell.down())
+}
+
+/// Whether the node of a cell leads, and is up.
+pub fn leads<M: Marking, S: Stable<M::Command>, U: Upstream>(cell: &MarkedCell<M, S, U>) -> bool
+    ensures { result ≡ leads_in cell.now.parts }
+{
+    status(cell).leads()
 }
 
 /// A cell's fault, as it is told of the node.
@@ -40,7 +47,7 @@ pub fn told_fault(fault: CellFault) -> NodeFault
     }
 }
 
-/// What was told last of a node.
+/// What is told of a node: how it stands, and how far its worker is.
 #[derive(Clone, Copy)]
 pub struct Told {
     pub status: Status,
@@ -49,13 +56,17 @@ pub struct Told {
 
 impl Told {
     /// Whether the same would be told.
-    pub fn is_same(&self, other: &Told) -> bool {
+    pub fn is_same(&self, other: &Told) -> bool
+        ensures { IsTrue result ↔ (self.now ≡ other.now) }
+    {
         is_same_status(&self.status, &other.status)
             && is_same_progress(&self.progress, &other.progress)
     }
 }
 
-fn is_same_status(one: &Status, other: &Status) -> bool {
+fn is_same_status(one: &Status, other: &Status) -> bool
+    ensures { IsTrue result ↔ (one.now ≡ other.now) }
+{
     one.role == other.role
         && one.boot == other.boot
         && one.term == other.term
@@ -67,7 +78,9 @@ fn is_same_status(one: &Status, other: &Status) -> bool {
         && one.down == other.down
 }
 
-fn is_same_progress(one: &Progress, other: &Progress) -> bool {
+fn is_same_progress(one: &Progress, other: &Progress) -> bool
+    ensures { IsTrue result ↔ (one.now ≡ other.now) }
+{
     one.done == other.done
         && one.waiting == other.waiting
         && one.lost == other.lost

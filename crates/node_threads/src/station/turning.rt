@@ -1,4 +1,10 @@
 //! The turns of a worker's node.
+ghost use Rattle.std.specs.Prelude.{◌≡◌, ◌++◌, []};
+ghost use Rattle.world_views.specs.Views.{carries};
+ghost use Rattle.node_cells.specs.Cells.{HasHeard, view_in};
+ghost use Rattle.node_threads.specs.Rounds.{leaving, woken_by};
+ghost use Rattle.node_threads.specs.Work.{HasApplied, HasHadTurn, HasMarkedOne};
+
 use crate::gate::{Gate, pass_gate};
 use crate::outlet::Outlet;
 use crate::station::telling::status;
@@ -8,6 +14,7 @@ use machine_laws::{Hosted, Machine};
 use marked_cells::{MarkTurn, MarkedCell};
 use node_cells::{CellFault, TurnOutput, Upstream};
 use raft_log::{Kind, Message};
+use raft_node::Described;
 use stable_store::Stable;
 use std::sync::Wait;
 use wire_bytes::Copied;
@@ -20,7 +27,16 @@ impl<M: Marking, G: Gate + Drop, O: Outlet<M::Effect>> Station<M, G, O> {
         rt: &R,
         cell: &mut MarkedCell<M, S, U>,
         input: NodeInput<M::Command, M::Line>,
-    ) -> bool {
+    ) -> bool
+        requires { HasHeard (view_in cell.old.parts) (carries input) }
+        ensures turn { HasHadTurn (⟦<M as Described>⟧.machine cell.old.parts.ether.setup) U.tally
+            cell.old.parts input cell.new.parts }
+        ensures contacts { self.new.contacts ≡ self.old.contacts }
+    {
+        if !self.round.further.is_empty() {
+            self.round.fail(CellFault::Memory);
+            return false;
+        }
         pass_gate(rt, &*self.gate, self.id, &mut self.turns);
         match cell.turn(input) {
             Ok(output) => {
@@ -39,7 +55,13 @@ impl<M: Marking, G: Gate + Drop, O: Outlet<M::Effect>> Station<M, G, O> {
         &mut self,
         rt: &R,
         cell: &mut MarkedCell<M, S, U>,
-    ) -> Result<u64, CellFault> {
+    ) -> Result<u64, CellFault>
+        ensures { HasMarkedOne (⟦<M as Described>⟧.machine cell.old.parts.ether.setup) U.tally
+            M.marked M.mark cell.old.parts result cell.new.parts }
+    {
+        if !self.round.further.is_empty() {
+            return Err(CellFault::Memory);
+        }
         pass_gate(rt, &*self.gate, self.id, &mut self.turns);
         match cell.mark() {
             Ok(MarkTurn { number, output }) => {
@@ -55,7 +77,13 @@ impl<M: Marking, G: Gate + Drop, O: Outlet<M::Effect>> Station<M, G, O> {
         &mut self,
         cell: &MarkedCell<M, S, U>,
         output: TurnOutput<M::Command, M::Effect>,
-    ) {
+    )
+        requires { self.old.round.further.items ≡ [] }
+        ensures leaving { leaving self.new.round ≡ leaving self.old.round ++ output.effects.items }
+        ensures woken { self.new.round.woken
+            ≡ woken_by self.old.round.woken output.posted_to.items }
+        ensures contacts { self.new.contacts ≡ self.old.contacts }
+    {
         let TurnOutput {
             posted_to,
             replaced,
@@ -76,7 +104,10 @@ impl<M: Marking, G: Gate + Drop, O: Outlet<M::Effect>> Station<M, G, O> {
         &mut self,
         cell: &MarkedCell<M, S, U>,
         envelope: &Envelope<M::Command>,
-    ) {
+    )
+        ensures round { self.new.round ≡ self.old.round }
+        ensures contacts { self.new.contacts ≡ self.old.contacts }
+    {
         let standing = cell.state().standing;
         let Message { term, to, kind, .. } = &envelope.message;
         let Kind::Forward(body) = kind else {
@@ -102,17 +133,17 @@ impl<M: Marking, G: Gate + Drop, O: Outlet<M::Effect>> Station<M, G, O> {
         &mut self,
         rt: &R,
         cell: &mut MarkedCell<M, S, U>,
-    ) -> bool {
+    ) -> bool
+        ensures { HasApplied (⟦<M as Described>⟧.machine cell.old.parts.ether.setup) U.tally
+            cell.old.parts cell.new.parts }
+    {
         for _ in 0..MOST_APPLIED {
             let status = status(cell);
             if status.down.is_some() || status.commit.value() <= status.applied.value() {
                 return true;
             }
-            if !self.round.further.is_empty() {
-                return false;
-            }
             if !self.turn(rt, cell, NodeInput::Apply) {
-                return true;
+                return self.round.further.is_empty();
             }
         }
         false

@@ -1,4 +1,4 @@
-use Rattle.std.proofs.Common.{rules, arith, ◌≡◌, List, [], length, Result, Ok, Err, refl, sym, ap, ◌∙◌, subst, map}
+use Rattle.std.proofs.Common.{rules, arith, inl, true, ◌≡◌, List, [], length, Result, Ok, Err, refl, sym, ap, ◌∙◌, subst, map}
 use Rattle.raft_log.specs.Seen.{seen}
 use Rattle.raft_log.specs.declared.node_state.NodeState.{NodeState}
 use Rattle.recorder.specs.NodeLines.{fields_of}
@@ -18,15 +18,15 @@ use Rattle.world_views.specs.Own.{act_of}
 use Rattle.world_views.specs.Views.{View, carries}
 use Rattle.ether.specs.Passes.{EtherParts, view_of}
 use Rattle.node_cells.specs.declared.cell_fault.CellFault.TheVariants.{Node as OfNode}
-use Rattle.node_cells.specs.declared.phase.Phase.TheVariants.{Up}
+use Rattle.node_cells.specs.declared.phase.Phase.TheVariants.{Up, DownInTurn}
 use Rattle.node_cells.specs.declared.record.TurnOutput.{TurnOutput}
 use Rattle.node_cells.specs.Books.{HasPosted, IsBook}
 use Rattle.node_cells.specs.Cells.{CellRoom, HasHeard, IsCell, cell_of}
 use Rattle.node_cells.specs.Sending.{to_of}
-use Rattle.node_cells.specs.Turns.{IsEvent, IsGiven, IsNoTurn, IsTurn, input_of}
+use Rattle.node_cells.specs.Turns.{FallsInTurn, IsEvent, IsGiven, IsNoTurn, IsTurn, input_of}
 use Rattle.node_cells.specs.Upstreams.{HandsOut}
 use Rattle.node_cells.proofs.Acting.{down_case, refused_case, same_act}
-use Rattle.node_cells.proofs.Turning.{comes_out, done_cell, fallen_cell, few_posts, few_sent, goes_within, may_post, still_cell, still_event, turn_is, turned_cell}
+use Rattle.node_cells.proofs.Turning.{comes_out, done_cell, fallen_cell, falls_in, few_posts, few_sent, goes_within, may_post, still_cell, still_event, turn_is, turned_cell}
 use Rattle.node_cells.proofs.Showing.{declined}
 use Rattle.node_cells.proofs.cell.NodeCell.run.Given as given
 use Rattle.node_cells.proofs.cell.NodeCell.run.Goals as goal
@@ -184,11 +184,21 @@ returns-in-Refused g c =
           IsEvent (machine g z.0.0.parts.ether.setup) g.U.Upstream.tally z.0.0.parts (Does z.0.1) (Refused c.in-Refused.refusal) (cell_of b1 z.1 i.upstream i.phase i.refused i.shown)) (λ t. ((c.self.view_is t, c.requires.copy t), sym d.same t)) event);
     }
 
-pub invariant_of-self-in-Err : goal.invariant_of-self-in-Err
-invariant_of-self-in-Err g c =
+pub invariant_of-self-in-Err-step : goal.invariant_of-self-in-Err-step
+invariant_of-self-in-Err-step g c =
     let i = c.self.inside in
     let up : i.phase ≡ Up = search rules in
     let a = acted g _ _ c.args.input c.args.copy c.input_of.result i.node c.step.new.self (Err c.in-Err.fault) c.self.invariant.setup c.input_of.ensures c.requires.copy c.in-Err.ensures in
     let d = down_case (machine g i.book.ether.setup) (kept g) _ i.node c.step.new.self c.in-Err.fault c.in_default-fault.not-Refused (c.self.invariant.up up) a.0 in
     fallen_cell (machine g i.book.ether.setup) (kept g) g.U.Upstream.tally i.book i.node i.upstream i.phase i.refused i.shown c.self.invariant up c.args.copy d.0 c.step.new.self d.1 a.1
     (heard g _ (view_of i.book.pass) c.args.input c.args.copy (λ t. view_of (c.self.view_is t).parts.pass) c.requires.copy c.requires.heard)
+
+pub returns-in_default : goal.returns-in_default
+returns-in_default g c =
+    let i = c.self.inside in
+    let up : i.phase ≡ Up = search rules in
+    let falls = falls_in (machine g i.book.ether.setup) (kept g) g.U.Upstream.tally i.book i.node i.upstream i.phase i.refused i.shown c.self.invariant up c.args.copy true c.step.new.self in
+    record {
+      turn = inl (subst (λ (z : CellRoom g.row.M-Setup.Denot g.row.M.Denot g.row.S.Denot g.row.M-Command.Denot g.row.M-Line.Denot g.row.M-Target.Denot g.row.M-Effect.Denot g.row.M-Played.Denot g.row.U.Denot × NodeInput g.row.M-Command.Denot g.row.M-Line.Denot).
+          FallsInTurn (machine g z.0.parts.ether.setup) z.0.parts z.1 (cell_of i.book c.step.new.self i.upstream (DownInTurn c.args.copy true) i.refused i.shown)) (λ d. (c.self.view_is d, c.requires.copy d)) falls);
+    }
