@@ -1,9 +1,12 @@
 //! How the loop is told something by other threads.
+ghost use Rattle.std.specs.Prelude.{◌≡◌, IfSome};
+
 use crossbeam_channel::Sender;
 use driver::TowerReport;
 use irc_line::Line;
 use mio::Waker;
 use raft_log::NodeId;
+use std::snapshot::Snapshot;
 use std::sync::{Arc, Wait};
 
 /// What the loop is told by other threads.
@@ -17,6 +20,12 @@ pub enum Word {
     End,
 }
 
+/// That the loop was told a word: only `Inlet::tell` makes one.
+#[derive(Drop)]
+pub struct Told {
+    pub(crate) word: Snapshot<Word>,
+}
+
 /// Tells the loop something, and wakes it.
 #[derive(Drop)]
 pub struct Inlet {
@@ -25,11 +34,18 @@ pub struct Inlet {
 }
 
 impl Inlet {
-    /// Whether the loop will hear of it: it does, unless it ended or there is no memory.
-    pub fn tell(&self, rt: &impl Wait, word: Word) -> bool {
-        match self.words.send(rt, word) {
-            Ok(()) => self.waker.wake().is_ok(),
-            Err(_) => false,
+    /// The loop is told a word, where it has not ended and there is memory.
+    pub fn tell(&self, rt: &impl Wait, word: Word) -> Option<Told>
+        ensures { IfSome result (λ told. told.word.value ≡ word) }
+    {
+        let told = Told {
+            word: Snapshot::of(&word),
+        };
+        if self.words.send(rt, word).is_err() {
+            return None;
         }
+        // where it can't be woken, the loop hears of it at its next tick
+        let _ = self.waker.wake();
+        Some(told)
     }
 }

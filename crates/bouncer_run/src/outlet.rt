@@ -13,6 +13,6 @@ pub struct LoopOutlet {
 
 impl Outlet<TowerEffect> for LoopOutlet {
     fn report<R: Wait>(&mut self, rt: &R, report: Report<TowerEffect>) {
-        self.inlet.tell(rt, Word::Report(report));
+        let _ = self.inlet.tell(rt, Word::Report(report));
     }
 }

@@ -1,5 +1,5 @@
 //! The nodes of a bouncer, as the program starts them and as the loop speaks to them.
-ghost use Rattle.std.specs.Prelude.{◌≡◌, IfErr, IfOk, length};
+ghost use Rattle.std.specs.Prelude.{◌≡◌, ◌≤◌, IfErr, IfOk, IsTrue, length};
 ghost use Rattle.bouncer_run.specs.Faults.{IsOrMemory};
 ghost use Rattle.bouncer_run.specs.Groups.{recording_by};
 ghost use Rattle.bouncer_run.specs.declared.run_fault.RunFault.TheVariants.{Store};
@@ -63,8 +63,9 @@ impl<U: Upstream + Send + 'static> Running<U> {
 }
 
 impl<U: Upstream> Nodes for Running<U> {
-    fn tell<R: Wait>(&self, rt: &R, node: NodeId, note: TowerNote) {
-        // a worker that ended hears nothing
-        let _ = self.nodes.submit(rt, node, note);
+    fn tell<R: Wait>(&self, rt: &R, node: NodeId, note: TowerNote) -> bool
+        ensures { IsTrue result → node ≤ self.now.nodes.ether.size }
+    {
+        self.nodes.submit(rt, node, note).is_ok()
     }
 }
