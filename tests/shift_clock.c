@@ -1,10 +1,10 @@
 // Sets the clocks ahead, or back, by as many seconds as the file named by SHIFT says, as long as that file is there: its first
 // number is for the time of day, its second for the clock that never goes back.
 #define _GNU_SOURCE
-#include <dlfcn.h>
 #include <fcntl.h>
 #include <stdio.h>
 #include <stdlib.h>
+#include <sys/syscall.h>
 #include <time.h>
 #include <unistd.h>
 
@@ -24,9 +24,7 @@ static long long shift_of(clockid_t clock) {
 }
 
 int clock_gettime(clockid_t clock, struct timespec *time) {
-    static int (*real)(clockid_t, struct timespec *);
-    if (!real) real = (int (*)(clockid_t, struct timespec *))dlsym(RTLD_NEXT, "clock_gettime");
-    int result = real(clock, time);
+    int result = syscall(SYS_clock_gettime, clock, time);
     if (result == 0) time->tv_sec += shift_of(clock);
     return result;
 }
