@@ -47,7 +47,10 @@ impl<R: Wait + Drop> Hands<R> {
     fn tell(&self, line: Line) -> Option<Told>
         ensures { IfSome result (λ told. told.word.value ≡ Hand self.now.node line) }
     {
-        self.inlet.tell(&self.rt, Word::Hand(self.node, line))
+        match self.inlet.tell(&self.rt, Word::Hand(self.node, line)) {
+            Ok(told) => Some(told),
+            Err(_) => None,
+        }
     }
 
     /// The loop was told this line.

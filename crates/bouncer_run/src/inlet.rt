@@ -1,5 +1,5 @@
 //! How the loop is told something by other threads.
-ghost use Rattle.std.specs.Prelude.{◌≡◌, IfSome};
+ghost use Rattle.std.specs.Prelude.{◌≡◌, IfErr, IfOk};
 
 use crossbeam_channel::Sender;
 use driver::TowerReport;
@@ -34,18 +34,19 @@ pub struct Inlet {
 }
 
 impl Inlet {
-    /// The loop is told a word, where it has not ended and there is memory.
-    pub fn tell(&self, rt: &impl Wait, word: Word) -> Option<Told>
-        ensures { IfSome result (λ told. told.word.value ≡ word) }
+    /// The loop is told a word, which is given back where there is no memory, or the loop ended.
+    pub fn tell(&self, rt: &impl Wait, word: Word) -> Result<Told, Word>
+        ensures told { IfOk result (λ told. told.word.value ≡ word) }
+        ensures back { IfErr result (λ back. back ≡ word) }
     {
         let told = Told {
             word: Snapshot::of(&word),
         };
-        if self.words.send(rt, word).is_err() {
-            return None;
+        if let Err(error) = self.words.send(rt, word) {
+            return Err(error.into_inner());
         }
         // where it can't be woken, the loop hears of it at its next tick
         let _ = self.waker.wake();
-        Some(told)
+        Ok(told)
     }
 }

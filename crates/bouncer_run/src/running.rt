@@ -16,7 +16,7 @@ use bouncer_tower::{Tower, TowerBody};
 use driver::TowerNote;
 use file_disk::FileJournal;
 use node_cells::Upstream;
-use node_threads::{Cluster, OpenGate};
+use node_threads::{Beats, Cluster, OpenGate};
 use raft_log::{GroupSize, NodeId};
 use std::sync::Wait;
 
@@ -45,7 +45,16 @@ impl<U: Upstream + Send + 'static> Running<U> {
         let alloc = rt.alloc();
         let recording = recording_of(config);
         let setup = &config.setup;
-        match Cluster::start(rt, alloc, size, setup, parts, OpenGate, recording) {
+        match Cluster::start(
+            rt,
+            alloc,
+            size,
+            setup,
+            parts,
+            OpenGate,
+            recording,
+            Beats::OnNews,
+        ) {
             Ok(nodes) => Ok(Running { nodes }),
             Err(fault) => {
                 let store = &config.store;
