@@ -11,3 +11,4 @@ pub mod Pasts
 pub mod Paths
 pub mod Runs
 pub mod Settings
+pub mod Words

@@ -1,4 +1,7 @@
 //! The loop.
+ghost use Rattle.std.specs.Prelude.{◌≡◌, IfOk, OnOk};
+ghost use Rattle.bouncer_run.specs.Words.{IsHeard, is_end};
+
 use crate::clock::{Clockwork, Ticks};
 use crate::edge_news::EdgeNews;
 use crate::inlet::Word;
@@ -114,7 +117,10 @@ fn hear_words(
 }
 
 /// What another thread told goes to the driver. Whether the bouncer is to end.
-fn hear_word(now: &Now, driver: &mut Driver, word: Word) -> Result<bool, LoopFault> {
+fn hear_word(now: &Now, driver: &mut Driver, word: Word) -> Result<bool, LoopFault>
+    ensures heard { OnOk result (IsHeard now.now word driver.old driver.new) }
+    ensures over { IfOk result (λ over. over ≡ is_end word) }
+{
     match word {
         Word::Report(report) => driver.hear(now, report)?,
         Word::Hand(node, line) => driver.hand(node, &line)?,
