@@ -2,6 +2,7 @@ mod Asking
 mod Crowds
 mod Driving
 mod Leading
+mod Nicks
 mod Passing
 mod Rounds
 mod Serving
