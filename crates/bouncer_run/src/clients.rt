@@ -34,7 +34,7 @@ impl Sockets {
             match self.next_of_client(driver, number, &mut piece) {
                 Got::Bytes(count) => {
                     if let Some(bytes) = piece.get(..count) {
-                        driver.receive(now, number, bytes)?;
+                        take(now, driver, number, bytes)?;
                     }
                 }
                 Got::Nothing => return Ok(true),
@@ -82,4 +82,15 @@ impl Sockets {
         self.leaving.add(now.ms, guest.connection.stream);
         Ok(())
     }
+}
+
+/// What a client sent goes to the driver. Where nothing new is taken of it, it is told so, but for a PING, which
+/// asks for nothing that is kept.
+fn take(now: &Now, driver: &mut Driver, number: u64, bytes: &[u8]) -> Result<(), LoopFault> {
+    if driver.refuses(number) && !bytes.starts_with(b"PING") {
+        driver.refuse(number)?;
+    } else {
+        driver.receive(now, number, bytes)?;
+    }
+    Ok(())
 }

@@ -85,6 +85,7 @@ pub fn run_loop<R: Net + Wait + Clock, N: Nodes, O: Operator>(
         sockets.take_up(&now, driver)?;
         if ticks.take(now.ms) {
             driver.tick(&now)?;
+            driver.watch_log()?;
             sockets.tick(&now, driver)?;
         }
         carry_out_all(rt, &now, driver, sockets, nodes, operator)?;
@@ -164,8 +165,21 @@ fn carry_out<R: Net + Wait, N: Nodes, O: Operator>(
         Order::Tell(node, note) => if !nodes.tell(rt, node, note) {
             return Err(LoopFault::Memory);
         },
-        Order::Tells(news) => operator.hear(now, news),
+        Order::Tells(news) => {
+            tell_clients(driver, &news)?;
+            operator.hear(now, news);
+        }
         other => sockets.carry_out(rt, now, driver, other)?,
+    }
+    Ok(())
+}
+
+/// Clients are told that the server is there, or gone.
+fn tell_clients(driver: &mut Driver, news: &News) -> Result<(), LoopFault> {
+    match news {
+        News::Opened(_) => driver.notice(b"Connected to the server.")?,
+        News::Closed(_, _) => driver.notice(b"The server is gone. What you say is sent later.")?,
+        _ => {}
     }
     Ok(())
 }
