@@ -1,6 +1,6 @@
 -- Each request of a client is told once, where nothing is asked again.
-use Rattle.std.proofs.Common.{◌≡◌, ◌∙◌, ◌++◌, ◌||◌, ℕ, Bool, true, false, List, [], ◌∷◌, Option, Some, None, map, refl, sym, ap, subst, inl, inr, ⊎_elim}
-use Rattle.std.specs.Prelude.{flat_map, option_to_list, if◌then◌else◌}
+use Rattle.std.proofs.Common.{◌≡◌, ◌∙◌, ◌++◌, ℕ, Bool, true, false, List, [], ◌∷◌, Option, Some, None, refl, sym, ap, subst, ⊎_elim}
+use Rattle.std.specs.Prelude.{option_to_list, if◌then◌else◌}
 use Rattle.std.specs.Global.{Vec}
 use Rattle.std.proofs.lemmas.List.{append_assoc, append-nil, map-append}
 use Rattle.std.proofs.lemmas.Grind.{flat_map-append}
@@ -14,16 +14,15 @@ use Rattle.request_once.specs.declared.answer.Answer.TheVariants as answer
 use Rattle.client_gate.specs.declared.fed.Fed.{Fed}
 use Rattle.client_gate.specs.declared.request.Request.{Request}
 use Rattle.client_gate.specs.declared.settings.Settings.{Settings}
-use Rattle.client_gate.specs.Answers.{given_in}
 use Rattle.client_gate.specs.Calls.{Call, End, Feed, Hear, Refused, Stands, fed_answer, gate}
 use Rattle.client_gate.specs.Gates.{GateEffect, Given, given_effect, last_request}
-use Rattle.client_gate.specs.Numbers.{all_requests, numbered_by}
+use Rattle.client_gate.specs.Numbers.{all_requests}
 use Rattle.driver.specs.declared.client.Client.{Client}
 use Rattle.driver.specs.declared.order.Order.{Order}
 use Rattle.driver.specs.Asking.{HearsNode, anew_if, asks_if, held_if, is_stuck, may_be_lost, now_asked}
 use Rattle.driver.specs.Clients.{asked_all, asks_of, parting_unless, passed, welcome, write_some, written}
 use Rattle.driver.specs.Crowds.{Ticks}
-use Rattle.driver.specs.Once.{AreQuiet, AsksOnce, Event, Happening, IsQuiet, TellsOnce, number_told, numbers_of, numbers_told}
+use Rattle.driver.specs.Once.{AreQuiet, AsksOnce, Event, Happens, TellsOnce, asks_again, number_told, numbers_of, numbers_told}
 use Rattle.driver.specs.Once.{Goes, Learns, Speaks, Waits, Words}
 use Rattle.driver.specs.Serving.{HasPassed, Hears, IsCutOff, IsLost, Receives, ended, ended_if}
 use Rattle.driver.specs.Silence.{IsKept, IsPing, is_silent, is_too_slow}
@@ -223,16 +222,16 @@ ticks_by true timeout now at s calls old new before after is quiet stands t =
 ticks_by false timeout now at s calls old new before after is quiet stands t =
     kept_once timeout now at s calls old new before after quiet stands (t.kept is)
 
-event_once : (event : Event) (now : ℕ) (at : Moment) (s : Settings) (calls : List Call) (old new : Client) (before after : Ordered) → IsQuiet event now at old before new after → Stands s calls old.gate → TellsOnce s calls before new after
-event_once (Speaks bytes) now at s calls old new before after h stands =
+event_once : (event : Event) (now : ℕ) (at : Moment) (s : Settings) (calls : List Call) (old new : Client) (before after : Ordered) → asks_again event now old ≡ false → Happens event now at old before new after → Stands s calls old.gate → TellsOnce s calls before new after
+event_once (Speaks bytes) now at s calls old new before after quiet h stands =
     reads_by old.is_gone bytes now at s calls old new before after refl stands (h s calls stands)
-event_once (Learns effect) now at s calls old new before after h stands =
+event_once (Learns effect) now at s calls old new before after quiet h stands =
     hears_once effect now at s calls old new before after (h s calls stands)
-event_once Goes now at s calls old new before after h stands =
+event_once Goes now at s calls old new before after quiet h stands =
     lost_by old.is_gone now at s calls old new before after refl stands (h s calls stands)
-event_once (Words lost refused) now at s calls old new before after (quiet, h) stands =
+event_once (Words lost refused) now at s calls old new before after quiet h stands =
     words_once lost refused now at s calls old new before after quiet stands (h s calls stands)
-event_once (Waits timeout) now at s calls old new before after (quiet, h) stands =
+event_once (Waits timeout) now at s calls old new before after quiet h stands =
     ticks_by (is_too_slow old now) timeout now at s calls old new before after refl quiet stands (h s calls stands)
 
 -- what is told first, and then
@@ -255,7 +254,7 @@ both_once s calls before between after client new first last = record {
 pub asks_once : AsksOnce
 unfolding AreQuiet
 asks_once [] s calls old new before after (same, none) stands = nothing_once s calls old new before after stands same none
-asks_once (h ∷ more) s calls old new before after (client, orders, quiet, rest) stands =
-    let first = event_once h.event h.now h.at s calls old client before orders quiet stands in
+asks_once (h ∷ more) s calls old new before after (quiet, client, orders, happens, rest) stands =
+    let first = event_once h.event h.now h.at s calls old client before orders quiet happens stands in
     let last = asks_once more s first.behind client new orders after rest first.stands in
     both_once s calls before orders after client new first last

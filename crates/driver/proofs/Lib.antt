@@ -2,7 +2,9 @@ mod Asking
 mod Crowds
 mod Driving
 mod Leading
+mod Led
 mod Nicks
+mod Owning
 mod Passing
 mod Rounds
 mod Serving

@@ -8,6 +8,7 @@ pub mod Filling
 pub mod Gone
 pub mod Hearing
 pub mod Leading
+pub mod Led
 pub mod Links
 pub mod Nicks
 pub mod Once

@@ -1,5 +1,5 @@
 -- A client's requests are told to its node once, but where they may be lost.
-use Rattle.std.specs.Prelude.{◌≡◌, ◌++◌, ℕ, Bool, true, false, List, [], ◌∷◌, map, flat_map}
+use Rattle.std.specs.Prelude.{◌≡◌, ◌++◌, ℕ, Bool, false, List, [], ◌∷◌, map, flat_map}
 use Rattle.bouncer_tower.specs.Bodies.{TowerBody}
 use Rattle.buffer_commands.specs.declared.wire_line.WireLine.{WireLine}
 use Rattle.request_once.specs.declared.body.Body.TheVariants.{Asked}
@@ -54,20 +54,24 @@ pub data Event : Type 0 where
   Words : ℕ → Bool → Event
   Waits : ℕ → Event
 
--- This happens to a client, whatever calls its gate stands behind, and nothing of it is asked again.
-abbrev pub IsQuiet : Event → ℕ → Moment → Client → Ordered → Client → Ordered → Type 0
-IsQuiet (Speaks bytes) now at old before new after =
+-- This happens to a client, whatever calls its gate stands behind.
+abbrev pub Happens : Event → ℕ → Moment → Client → Ordered → Client → Ordered → Type 0
+Happens (Speaks bytes) now at old before new after =
     (s : Settings) (calls : List Call) → Stands s calls old.gate → Receives bytes now at s calls old before new after
-IsQuiet (Learns effect) now at old before new after =
+Happens (Learns effect) now at old before new after =
     (s : Settings) (calls : List Call) → Stands s calls old.gate → Hears effect now at s calls old before new after
-IsQuiet Goes now at old before new after =
+Happens Goes now at old before new after =
     (s : Settings) (calls : List Call) → Stands s calls old.gate → IsLost now at s calls old before new after
-IsQuiet (Words lost refused) now at old before new after =
-    (may_be_lost lost old ≡ false)
-    × ((s : Settings) (calls : List Call) → Stands s calls old.gate → HearsNode lost refused now at s calls old before new after)
-IsQuiet (Waits timeout) now at old before new after =
-    (is_stuck timeout now old ≡ false)
-    × ((s : Settings) (calls : List Call) → Stands s calls old.gate → Ticks timeout now at s calls old before new after)
+Happens (Words lost refused) now at old before new after =
+    (s : Settings) (calls : List Call) → Stands s calls old.gate → HearsNode lost refused now at s calls old before new after
+Happens (Waits timeout) now at old before new after =
+    (s : Settings) (calls : List Call) → Stands s calls old.gate → Ticks timeout now at s calls old before new after
+
+-- what waits is asked again: it may be lost, or is held up
+abbrev pub asks_again : Event → ℕ → Client → Bool
+asks_again (Words lost refused) now c = may_be_lost lost c
+asks_again (Waits timeout) now c = is_stuck timeout now c
+asks_again event now c = false
 
 -- An event and its moment.
 pub record Happening : Type 0 where
@@ -75,14 +79,45 @@ pub record Happening : Type 0 where
   pub now : ℕ
   pub at : Moment
 
+-- These happen in turn.
+unfoldable pub HappenAll : List Happening → Client → Ordered → Client → Ordered → Type 0
+HappenAll [] old before new after = (new ≡ old) × (after ≡ before)
+HappenAll (h ∷ more) old before new after =
+    (client : Client) × (orders : Ordered)
+    × Happens h.event h.now h.at old before client orders × HappenAll more client orders new after
+
 -- These happen in turn, and nothing is asked again.
 unfoldable pub AreQuiet : List Happening → Client → Ordered → Client → Ordered → Type 0
 AreQuiet [] old before new after = (new ≡ old) × (after ≡ before)
 AreQuiet (h ∷ more) old before new after =
-    (client : Client) × (orders : Ordered) × IsQuiet h.event h.now h.at old before client orders × AreQuiet more client orders new after
+    (asks_again h.event h.now old ≡ false)
+    × (client : Client) × (orders : Ordered)
+    × Happens h.event h.now h.at old before client orders × AreQuiet more client orders new after
 
 -- However long nothing that a client asked may be lost, and nothing holds it up: each of its requests is told once, and in order.
 abbrev pub AsksOnce : Type 0
 AsksOnce =
     (happenings : List Happening) (s : Settings) (calls : List Call) (old new : Client) (before after : Ordered)
     → AreQuiet happenings old before new after → Stands s calls old.gate → TellsOnce s calls before new after
+
+-- an order tells this node something, or no node anything
+abbrev pub IsFor : ℕ → Order → Type 0
+IsFor node (Tell other note) = other ≡ node
+IsFor node order = Unit {0}
+
+-- no other node is told anything
+unfoldable pub TellsOnly : ℕ → List Order → Type 0
+TellsOnly node [] = Unit {0}
+TellsOnly node (order ∷ more) = IsFor node order × TellsOnly node more
+
+-- What was ordered between tells no other node than this one anything.
+pub record TellsOwn (node : ℕ) (before after : Ordered) : Type 0 where
+  pub told : List Order
+  pub orders : after ≡ ordered before told
+  pub own : TellsOnly node told
+
+-- Whatever happens to a client: what it asks goes to its own node alone.
+abbrev pub AsksOwn : Type 0
+AsksOwn =
+    (happenings : List Happening) (s : Settings) (calls : List Call) (old new : Client) (before after : Ordered)
+    → HappenAll happenings old before new after → Stands s calls old.gate → TellsOwn old.origin.0 before after

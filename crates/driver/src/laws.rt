@@ -1,8 +1,21 @@
 //! What holds of every driver, as contracts of functions that do nothing.
-ghost use Rattle.driver.specs.Once.{AsksOnce};
+ghost use Rattle.driver.specs.Led.{IsOfLeaderHeard, IsOfLeaderTicked};
+ghost use Rattle.driver.specs.Once.{AsksOnce, AsksOwn};
 
 /// Over whatever happens to a client, as long as its node told of nothing lost that it was told of it, and
 /// nothing holds it up, each request that its gate numbers is told to its node once, and in order.
 pub fn requests_are_told_once()
     ensures { AsksOnce }
+{}
+
+/// Whatever happens to a client, what it asks goes to its own node alone.
+pub fn requests_go_to_their_own_node()
+    ensures { AsksOwn }
+{}
+
+/// Behind each report of a worker, and whenever time passed, the connection to the server is of the node that
+/// leads in the greatest term, as far as the driver knows, or there is none.
+pub fn the_server_is_of_the_greatest_leader()
+    ensures heard { IsOfLeaderHeard }
+    ensures ticked { IsOfLeaderTicked }
 {}

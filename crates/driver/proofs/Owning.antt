@@ -1,0 +1,238 @@
+-- What a client asks goes to its own node alone.
+use Rattle.std.proofs.Common.{◌≡◌, ◌∙◌, ◌++◌, ℕ, Bool, true, false, List, [], ◌∷◌, Option, Some, None, refl, sym, ap, subst, ⊎_elim}
+use Rattle.std.specs.Prelude.{if◌then◌else◌}
+use Rattle.std.specs.Global.{Vec}
+use Rattle.std.proofs.lemmas.List.{append_assoc, append-nil}
+use Rattle.wire_bytes.specs.declared.moment.Moment.{Moment}
+use Rattle.wire_bytes.specs.declared.origin.Origin.{Origin}
+use Rattle.client_gate.specs.declared.fed.Fed.{Fed}
+use Rattle.client_gate.specs.declared.request.Request.{Request}
+use Rattle.client_gate.specs.declared.settings.Settings.{Settings}
+use Rattle.client_gate.specs.Calls.{Call, End, Feed, Hear, Refused, Stands, fed_answer, gate}
+use Rattle.client_gate.specs.Gates.{GateEffect, Given, given_effect, last_request}
+use Rattle.driver.specs.declared.client.Asked.{Asked}
+use Rattle.driver.specs.declared.client.Client.{Client}
+use Rattle.driver.specs.declared.order.Order.{Order}
+use Rattle.driver.specs.Asking.{HearsNode, anew_if, held_if, is_stuck, may_be_lost, now_asked}
+use Rattle.driver.specs.Clients.{asked_all, asks_of, parting_unless, passed, write_some, written}
+use Rattle.driver.specs.Crowds.{Ticks}
+use Rattle.driver.specs.Once.{AsksOwn, Event, Goes, HappenAll, Happens, Learns, Speaks, TellsOnly, Waits, Words}
+use Rattle.driver.specs.Serving.{HasPassed, Hears, IsCutOff, IsLost, Receives, ended, ended_if}
+use Rattle.driver.specs.Silence.{IsKept, IsPing, is_silent, is_too_slow}
+use Rattle.driver.specs.Telling.{Ordered, ordered}
+
+-- the same of orders behind others
+only_append : (node : ℕ) (xs ys : List Order) → TellsOnly node xs → TellsOnly node ys → TellsOnly node (xs ++ ys)
+unfolding TellsOnly
+only_append node [] ys own more = more
+only_append node (x ∷ xs) ys (is, own) more = (is, only_append node xs ys own more)
+
+only_asks : (origin : Origin) (at : Moment) (requests : List Request) → TellsOnly origin.0 (asks_of origin at requests)
+unfolding TellsOnly asks_of
+only_asks origin at [] = tt
+only_asks origin at (request ∷ requests) = (refl, only_asks origin at requests)
+
+only_all : (attached : Bool) (origin : Origin) (at : Moment) (requests : List Request) → TellsOnly origin.0 (asked_all attached origin at requests)
+unfolding TellsOnly asked_all
+only_all attached origin at [] = tt
+only_all true origin at (request ∷ requests) = only_asks origin at (request ∷ requests)
+only_all false origin at (request ∷ requests) = (tt, only_asks origin at (request ∷ requests))
+
+only_some : (node client : ℕ) (bytes : Vec ℕ) (items : List ℕ) → TellsOnly node (write_some client bytes items)
+unfolding TellsOnly
+only_some node client bytes [] = tt
+only_some node client bytes (byte ∷ more) = (tt, tt)
+
+only_written : (node : ℕ) (gone : Bool) (client : ℕ) (bytes : Vec ℕ) → TellsOnly node (written gone client bytes)
+unfolding TellsOnly
+only_written node true client bytes = tt
+only_written node false client bytes = only_some node client bytes bytes.items
+
+only_parting : (gone : Bool) (origin : Origin) (at : Moment) (last : Option Request) → TellsOnly origin.0 (parting_unless gone origin at last)
+unfolding TellsOnly parting_unless
+only_parting true origin at last = tt
+only_parting false origin at None = (tt, (tt, tt))
+only_parting false origin at (Some request) = (tt, (tt, (refl, tt)))
+
+only_end : (close gone : Bool) (origin : Origin) (at : Moment) (last : Option Request) → TellsOnly origin.0 (if close then parting_unless gone origin at last else [])
+unfolding TellsOnly
+only_end false gone origin at last = tt
+only_end true gone origin at last = only_parting gone origin at last
+
+only_passed : (c : Client) (at : Moment) (last : Option Request) (fed : Fed) → TellsOnly c.origin.0 (passed c at last fed)
+only_passed c at last fed =
+    let bytes = written c.is_gone c.origin.2 fed.reply in
+    let asks = asked_all c.is_attached c.origin at fed.requests.items in
+    let end = if fed.close then parting_unless c.is_gone c.origin at last else [] in
+    only_append c.origin.0 (bytes ++ asks) end
+    (only_append c.origin.0 bytes asks (only_written c.origin.0 c.is_gone c.origin.2 fed.reply) (only_all c.is_attached c.origin at fed.requests.items))
+    (only_end fed.close c.is_gone c.origin at last)
+
+only_again : (again : Bool) (origin : Origin) (at : Moment) (waiting : List Request) → TellsOnly origin.0 (if again then asks_of origin at waiting else [])
+unfolding TellsOnly
+only_again true origin at waiting = only_asks origin at waiting
+only_again false origin at waiting = tt
+
+only_ping : (node : ℕ) (b : Bool) (client : ℕ) (orders : List Order) → IsPing b client orders → TellsOnly node orders
+unfolding TellsOnly
+only_ping node false client orders is = subst (λ (orders : List Order). TellsOnly node orders) (sym is) tt
+only_ping node true client orders (bytes, are, is) = subst (λ (orders : List Order). TellsOnly node orders) (sym is) (tt, tt)
+
+-- A client became another of the same origin, whose gate stands behind some calls, and what was ordered goes to its node.
+record Owns (s : Settings) (old : Client) (before : Ordered) (new : Client) (after : Ordered) : Type 0 where
+  behind : List Call
+  stands : Stands s behind new.gate
+  origin : new.origin ≡ old.origin
+  told : List Order
+  orders : after ≡ ordered before told
+  own : TellsOnly old.origin.0 told
+
+passed_own : (s : Settings) (behind : List Call) (answer : Given) (at : Moment) (c new : Client) (before after : Ordered) → HasPassed s behind answer at c before new after → Owns s c before new after
+passed_own s behind answer at c new before after h = record {
+  behind = ended_if h.fed.close c.is_gone behind;
+  stands = h.stands.gate;
+  origin = ap (λ (client : Client). client.origin) h.stands.rest;
+  told = passed c at (last_request (gate s behind)) h.fed;
+  orders = h.orders;
+  own = only_passed c at (last_request (gate s behind)) h.fed;
+}
+
+cut_own : (s : Settings) (calls : List Call) (at : Moment) (c new : Client) (before after : Ordered) → IsCutOff s calls at c before new after → Owns s c before new after
+cut_own s calls at c new before after h = record {
+  behind = ended c.is_gone (Refused ∷ calls);
+  stands = h.stands.gate;
+  origin = ap (λ (client : Client). client.origin) h.stands.rest;
+  told = parting_unless c.is_gone c.origin at (last_request (gate s (Refused ∷ calls)));
+  orders = h.orders;
+  own = only_parting c.is_gone c.origin at (last_request (gate s (Refused ∷ calls)));
+}
+
+-- the same of a client of the same origin
+renamed : (s : Settings) (old c new : Client) (before after : Ordered) → c.origin ≡ old.origin → Owns s c before new after → Owns s old before new after
+renamed s old c new before after same h = record {
+  behind = h.behind;
+  stands = h.stands;
+  origin = h.origin ∙ same;
+  told = h.told;
+  orders = h.orders;
+  own = subst (λ (origin : Origin). TellsOnly origin.0 h.told) same h.own;
+}
+
+nothing_own : (s : Settings) (calls : List Call) (old new : Client) (before after : Ordered) → Stands s calls old.gate → new ≡ old → after ≡ before → Owns s old before new after
+unfolding TellsOnly
+nothing_own s calls old new before after stands same none = record {
+  behind = calls;
+  stands = subst (λ (client : Client). Stands s calls client.gate) (sym same) stands;
+  origin = ap (λ (client : Client). client.origin) same;
+  told = [];
+  orders = none ∙ sym (ap (λ (items : List Order). record before { items = items }) (append-nil before.items));
+  own = tt;
+}
+
+reads_own : (gone : Bool) (bytes : List ℕ) (now : ℕ) (at : Moment) (s : Settings) (calls : List Call) (old new : Client) (before after : Ordered) → old.is_gone ≡ gone → Stands s calls old.gate → Receives bytes now at s calls old before new after → Owns s old before new after
+reads_own true bytes now at s calls old new before after is stands h =
+    let (same, none) = h.gone is in nothing_own s calls old new before after stands same none
+reads_own false bytes now at s calls old new before after is stands h =
+    ⊎_elim
+    (λ p. renamed s old _ new before after refl (passed_own s (Feed bytes ∷ calls) (fed_answer s calls bytes) at _ new before after p))
+    (λ p. renamed s old _ new before after refl (cut_own s calls at _ new before after p))
+    (h.stays is)
+
+hears_own : (e : GateEffect) (now : ℕ) (at : Moment) (s : Settings) (calls : List Call) (old new : Client) (before after : Ordered) → Hears e now at s calls old before new after → Owns s old before new after
+hears_own e now at s calls old new before after h =
+    ⊎_elim
+    (λ p. renamed s old _ new before after refl (passed_own s (Hear e ∷ calls) (given_effect s e) at _ new before after p))
+    (λ p. renamed s old _ new before after refl (cut_own s calls at _ new before after p))
+    h
+
+lost_own : (gone : Bool) (now : ℕ) (at : Moment) (s : Settings) (calls : List Call) (old new : Client) (before after : Ordered) → old.is_gone ≡ gone → Stands s calls old.gate → IsLost now at s calls old before new after → Owns s old before new after
+lost_own true now at s calls old new before after is stands h = record {
+  behind = calls;
+  stands = subst (λ (client : Client). Stands s calls client.gate) (sym (h.gone is)) stands;
+  origin = ap (λ (client : Client). client.origin) (h.gone is);
+  told = parting_unless old.is_gone old.origin at (last_request (gate s calls));
+  orders = h.orders;
+  own = only_parting old.is_gone old.origin at (last_request (gate s calls));
+}
+lost_own false now at s calls old new before after is stands h = record {
+  behind = End ∷ calls;
+  stands = (h.stays is).gate;
+  origin = ap (λ (client : Client). client.origin) (h.stays is).rest;
+  told = parting_unless old.is_gone old.origin at (last_request (gate s calls));
+  orders = h.orders;
+  own = only_parting old.is_gone old.origin at (last_request (gate s calls));
+}
+
+anew_gate : (again : Bool) (asked : Asked) (c : Client) → (anew_if again asked c).gate ≡ c.gate
+anew_gate true asked c = refl
+anew_gate false asked c = refl
+
+anew_origin : (again : Bool) (asked : Asked) (c : Client) → (anew_if again asked c).origin ≡ c.origin
+anew_origin true asked c = refl
+anew_origin false asked c = refl
+
+words_own : (lost : ℕ) (refused : Bool) (now : ℕ) (at : Moment) (s : Settings) (calls : List Call) (old new : Client) (before after : Ordered) → Stands s calls old.gate → HearsNode lost refused now at s calls old before new after → Owns s old before new after
+words_own lost refused now at s calls old new before after stands h =
+    let again = may_be_lost lost old in
+    let asked = now_asked before now old in
+    let held = held_if refused (gate s calls).waiting old in
+    record {
+      behind = calls;
+      stands = subst (λ held. Stands s calls held) (sym (ap (λ (client : Client). client.gate) h.client ∙ anew_gate again asked held)) stands;
+      origin = ap (λ (client : Client). client.origin) h.client ∙ anew_origin again asked held;
+      told = if again then asks_of old.origin at (gate s calls).waiting else [];
+      orders = h.orders;
+      own = only_again again old.origin at (gate s calls).waiting;
+    }
+
+kept_own : (timeout now : ℕ) (at : Moment) (s : Settings) (calls : List Call) (old new : Client) (before after : Ordered) → Stands s calls old.gate → IsKept timeout now at s calls old before new after → Owns s old before new after
+kept_own timeout now at s calls old new before after stands k =
+    let again = is_stuck timeout now old in
+    let asked = now_asked k.told now old in
+    let ping = k.asked.ping in
+    let asks = if again then asks_of old.origin at (gate s calls).waiting else [] in
+    record {
+      behind = calls;
+      stands = subst (λ held. Stands s calls held) (sym (ap (λ (client : Client). client.gate) k.client ∙ anew_gate again asked k.pinged ∙ ap (λ (client : Client). client.gate) k.asked.is_known)) stands;
+      origin = ap (λ (client : Client). client.origin) k.client ∙ anew_origin again asked k.pinged ∙ ap (λ (client : Client). client.origin) k.asked.is_known;
+      told = ping ++ asks;
+      orders =
+          k.orders
+          ∙ ap (λ (orders : Ordered). ordered orders asks) k.asked.orders
+          ∙ ap (λ (items : List Order). record before { items = items }) (append_assoc before.items ping asks);
+      own = only_append old.origin.0 ping asks (only_ping old.origin.0 (is_silent old now) old.origin.2 ping k.asked.is_ping) (only_again again old.origin at (gate s calls).waiting);
+    }
+
+ticks_own : (slow : Bool) (timeout now : ℕ) (at : Moment) (s : Settings) (calls : List Call) (old new : Client) (before after : Ordered) → is_too_slow old now ≡ slow → Stands s calls old.gate → Ticks timeout now at s calls old before new after → Owns s old before new after
+ticks_own true timeout now at s calls old new before after is stands t =
+    lost_own old.is_gone now at s calls old new before after refl stands (t.slow is)
+ticks_own false timeout now at s calls old new before after is stands t =
+    kept_own timeout now at s calls old new before after stands (t.kept is)
+
+event_own : (event : Event) (now : ℕ) (at : Moment) (s : Settings) (calls : List Call) (old new : Client) (before after : Ordered) → Happens event now at old before new after → Stands s calls old.gate → Owns s old before new after
+event_own (Speaks bytes) now at s calls old new before after h stands =
+    reads_own old.is_gone bytes now at s calls old new before after refl stands (h s calls stands)
+event_own (Learns effect) now at s calls old new before after h stands =
+    hears_own effect now at s calls old new before after (h s calls stands)
+event_own Goes now at s calls old new before after h stands =
+    lost_own old.is_gone now at s calls old new before after refl stands (h s calls stands)
+event_own (Words lost refused) now at s calls old new before after h stands =
+    words_own lost refused now at s calls old new before after stands (h s calls stands)
+event_own (Waits timeout) now at s calls old new before after h stands =
+    ticks_own (is_too_slow old now) timeout now at s calls old new before after refl stands (h s calls stands)
+
+pub asks_own : AsksOwn
+unfolding HappenAll TellsOnly
+asks_own [] s calls old new before after (same, none) stands =
+    let h = nothing_own s calls old new before after stands same none in record { told = h.told; orders = h.orders; own = h.own }
+asks_own (h ∷ more) s calls old new before after (client, orders, happens, rest) stands =
+    let first = event_own h.event h.now h.at s calls old client before orders happens stands in
+    let last = asks_own more s first.behind client new orders after rest first.stands in
+    record {
+      told = first.told ++ last.told;
+      orders =
+          last.orders
+          ∙ ap (λ (orders : Ordered). ordered orders last.told) first.orders
+          ∙ ap (λ (items : List Order). record before { items = items }) (append_assoc before.items first.told last.told);
+      own = only_append old.origin.0 first.told last.told first.own (subst (λ (origin : Origin). TellsOnly origin.0 last.told) first.origin last.own);
+    }
