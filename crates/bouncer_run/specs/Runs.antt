@@ -6,7 +6,6 @@ use Rattle.buffer_commands.specs.declared.command.Command.TheVariants.{Client, N
 use Rattle.session_fence.specs.declared.command.FenceCommand.TheVariants as fence
 use Rattle.upstream_claim.specs.declared.command.ClaimsCommand.TheVariants as claims
 use Rattle.request_once.specs.declared.body.Body.TheVariants as body
-use Rattle.wire_bytes.specs.declared.mark.Mark as mark
 use Rattle.wire_bytes.specs.declared.origin.Origin.{Origin}
 use Rattle.raft_log.specs.declared.entry.Entry.{Entry}
 

@@ -10,7 +10,7 @@ pub enum EdgeNews {
     Came(NodeId, u64, SocketAddr),
     /// A client's connection is closed.
     Closed(NodeId, u64, SocketAddr),
-    /// A client had not registered when a new one came and all places were taken, and gave its own.
+    /// A client had not registered, or was to be closed, when a new one came and all places were taken: it gave its own.
     GaveWay(NodeId, u64, SocketAddr),
     /// All places were taken by clients that registered, so that a new one was turned away.
     Crowded(NodeId, SocketAddr),
@@ -43,10 +43,7 @@ impl fmt::Display for EdgeNews {
             EdgeNews::Came(_, number, from) => write!(f, "client {number} came from {from}"),
             EdgeNews::Closed(_, number, from) => write!(f, "client {number} of {from} is closed"),
             EdgeNews::GaveWay(_, number, from) => {
-                write!(
-                    f,
-                    "too many clients: client {number} of {from} had not registered"
-                )
+                write!(f, "too many clients: client {number} of {from} gives way")
             }
             EdgeNews::Crowded(_, from) => write!(f, "too many clients: {from} is turned away"),
             EdgeNews::Deaf(_, error) => write!(f, "no client can be taken: {error}"),

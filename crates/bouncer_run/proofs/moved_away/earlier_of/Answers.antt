@@ -1,4 +1,4 @@
-use Rattle.std.proofs.Common.{◌≡◌, sym, subst}
+use Rattle.std.proofs.Common.{subst}
 use Rattle.stable_store.specs.Stores.{IsHonest}
 use Rattle.stable_store.specs.declared.saved.Saved.{Saved}
 use Rattle.bouncer_tower.specs.Bodies.{TowerBody}

@@ -1,4 +1,3 @@
-use Rattle.std.proofs.Common.{◌≡◌}
 use Rattle.bouncer_run.specs.Moving.{Moves}
 use Rattle.bouncer_run.proofs.outgoing.Outgoing.write_to.Given as goal
 
