@@ -67,6 +67,8 @@ OPTIONAL = [
     (b'upstream_password = "a b"', "6: upstream_password: needs 1 to 64 bytes without space"),
     (b'record = ""', "6: record: needs a path"),
     (b'log = "loud"', "6: log: needs quiet, info or debug"),
+    (b'input = "close"', "6: input: needs stop or ignore"),
+    (b"input = false", "6: input: needs a text"),
     (b'channels = ["#x", "y"]', "6: channels: needs names of channels"),
     (b'channels = ["#x", "#y", "#X"]', "6: channels: names a channel twice"),
 ]

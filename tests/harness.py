@@ -156,10 +156,14 @@ class Bouncer:
 
 
 def said(*words, folder=None):
-    """What the program answers to these words, in a folder: the exit code, and the lines of its output and of its errors."""
-    done = subprocess.run(
-        [PROGRAM, *words], stdin=subprocess.DEVNULL, capture_output=True, timeout=LONGEST, text=True, cwd=folder
-    )
+    """What the program answers to these words, in a folder, while its standard input is held open: the exit code, and the
+    lines of its output and of its errors."""
+    reading, writing = os.pipe()
+    try:
+        done = subprocess.run([PROGRAM, *words], stdin=reading, capture_output=True, timeout=LONGEST, text=True, cwd=folder)
+    finally:
+        os.close(reading)
+        os.close(writing)
     return done.returncode, done.stdout.splitlines(), done.stderr.splitlines()
 
 

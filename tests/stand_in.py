@@ -3,6 +3,7 @@
 import selectors
 import socket
 import threading
+import time
 
 from client import PAUSE
 from harness import Ports
@@ -17,6 +18,7 @@ class StandIn:
         self.lock = threading.Lock()
         self.joined = None  # the session that joined #x last, if it lasts
         self.sessions = []  # what each session said to #x
+        self.last = 0.0  # when something was said there last
         self.open()
 
     def open(self):
@@ -58,6 +60,7 @@ class StandIn:
         *lines, session.rest = (session.rest + data).split(b"\r\n")
         for line in lines:
             session.answer(line.decode())
+            self.last = time.monotonic()
         with self.lock:
             if session.is_joined:
                 self.joined = session if data else None

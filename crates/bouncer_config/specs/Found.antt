@@ -6,10 +6,12 @@ use Rattle.irc_line.specs.Keys.{is_below, put_in}
 use Rattle.toml.specs.Data.{Data, Items, no_items, item, Members, get_member, as_str, as_integer, as_bool, as_array}
 use Rattle.buffer_commands.specs.declared.options.Options.{Options}
 use Rattle.bouncer_config.specs.KeyTexts.{key_text, limits_of}
-use Rattle.bouncer_config.specs.Texts.{address_of, level_of}
+use Rattle.bouncer_config.specs.Texts.{address_of, input_end_of, level_of}
 use Rattle.bouncer_config.specs.declared.key.Key.{Key}
 use Rattle.bouncer_config.specs.declared.key.Key.TheVariants.{ChanBufferSize, QueryBufferSize, MaxQueryBuffers, OffsetMinutes, AutoClearChanBuffer, AutoClearQueryBuffer, MultiClients}
 use Rattle.bouncer_config.specs.declared.key.Limits.{Limits}
+use Rattle.bouncer_config.specs.declared.input_end.InputEnd.{InputEnd}
+use Rattle.bouncer_config.specs.declared.input_end.InputEnd.TheVariants.{Stops}
 use Rattle.bouncer_config.specs.declared.log_level.LogLevel.{LogLevel}
 use Rattle.bouncer_config.specs.declared.log_level.LogLevel.TheVariants.{Info}
 
@@ -55,6 +57,11 @@ offset_in (Some d) = option_and_then above_least (as_integer d)
 abbrev pub level_in : Option Data → Option LogLevel
 level_in None = Some Info
 level_in (Some d) = option_and_then level_of (as_str d)
+
+-- what the end of standard input does, which is to stop the bouncer by default
+abbrev pub input_end_in : Option Data → Option InputEnd
+input_end_in None = Some Stops
+input_end_in (Some d) = option_and_then input_end_of (as_str d)
 
 -- how many items there are
 abbrev pub item_count : Items → ℕ

@@ -5,9 +5,9 @@ use Rattle.buffer_commands.specs.Settings.{Settings, settings_of}
 use Rattle.buffer_commands.specs.declared.options.Options.{Options}
 use Rattle.bouncer_config.specs.KeyTexts.{limits_of}
 use Rattle.bouncer_config.specs.Texts.{is_path}
-use Rattle.bouncer_config.specs.Found.{value_at, text_at, text_in, number_in, level_in, channels_in, AreOptions}
+use Rattle.bouncer_config.specs.Found.{value_at, text_at, text_in, number_in, level_in, input_end_in, channels_in, AreOptions}
 use Rattle.bouncer_config.specs.Wrong.{Listens, first_unknown}
-use Rattle.bouncer_config.specs.declared.key.Key.TheVariants.{Nick, Password, UpstreamPassword, Store, Record, Channels, BeatMs, TimeoutMs, FloodBurst, FloodMs, Log}
+use Rattle.bouncer_config.specs.declared.key.Key.TheVariants.{Nick, Password, UpstreamPassword, Store, Record, Channels, BeatMs, TimeoutMs, FloodBurst, FloodMs, Log, Input}
 use Rattle.bouncer_config.specs.declared.config.Config.{Config}
 
 -- a setup is that of the table's nick, channels and options
@@ -35,3 +35,4 @@ pub record IsConfig (table : Members) (c : Config) : Type 0 where
   pub burst : number_in (limits_of FloodBurst) (value_at FloodBurst table) ≡ Some c.flood_burst
   pub flood : number_in (limits_of FloodMs) (value_at FloodMs table) ≡ Some c.flood_ms
   pub log : level_in (value_at Log table) ≡ Some c.log
+  pub input : input_end_in (value_at Input table) ≡ Some c.input_end

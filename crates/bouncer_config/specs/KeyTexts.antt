@@ -1,7 +1,7 @@
 -- The keys of a configuration: the words under which they stand, and what their values are.
 use Rattle.std.specs.Prelude.{ℕ, List, codes}
 use Rattle.bouncer_config.specs.declared.key.Key.{Key}
-use Rattle.bouncer_config.specs.declared.key.Key.TheVariants.{Nick, Password, Upstream, UpstreamPassword, Listen, Store, Record, Channels, ChanBufferSize, QueryBufferSize, MaxQueryBuffers, OffsetMinutes, AutoClearChanBuffer, AutoClearQueryBuffer, MultiClients, BeatMs, TimeoutMs, FloodBurst, FloodMs, Log}
+use Rattle.bouncer_config.specs.declared.key.Key.TheVariants.{Nick, Password, Upstream, UpstreamPassword, Listen, Store, Record, Channels, ChanBufferSize, QueryBufferSize, MaxQueryBuffers, OffsetMinutes, AutoClearChanBuffer, AutoClearQueryBuffer, MultiClients, BeatMs, TimeoutMs, FloodBurst, FloodMs, Log, Input}
 use Rattle.bouncer_config.specs.declared.key.Kind.{Kind}
 use Rattle.bouncer_config.specs.declared.key.Kind.TheVariants.{Text, Texts, Number, Truth}
 use Rattle.bouncer_config.specs.declared.key.Limits.{Limits}
@@ -28,6 +28,7 @@ key_text TimeoutMs = codes "timeout_ms"
 key_text FloodBurst = codes "flood_burst"
 key_text FloodMs = codes "flood_ms"
 key_text Log = codes "log"
+key_text Input = codes "input"
 
 -- what the value of a key is to be
 abbrev pub kind_of : Key → Kind
@@ -38,6 +39,7 @@ kind_of UpstreamPassword = Text
 kind_of Store = Text
 kind_of Record = Text
 kind_of Log = Text
+kind_of Input = Text
 kind_of Listen = Texts
 kind_of Channels = Texts
 kind_of AutoClearChanBuffer = Truth

@@ -3,6 +3,8 @@ use Rattle.std.specs.Prelude.{codes, ℕ, ◌+◌, ◌-◌, ◌*◌, Bool, not, 
 use Rattle.std.specs.List.{list_all}
 use Rattle.irc_line.specs.Names.{is_content_byte, first_is, same_bytes}
 use Rattle.irc_line.specs.Comparing.{behind}
+use Rattle.bouncer_config.specs.declared.input_end.InputEnd.{InputEnd}
+use Rattle.bouncer_config.specs.declared.input_end.InputEnd.TheVariants.{Stops, Ignored}
 use Rattle.bouncer_config.specs.declared.log_level.LogLevel.{LogLevel}
 use Rattle.bouncer_config.specs.declared.log_level.LogLevel.TheVariants.{Quiet, Info, Debug}
 
@@ -38,3 +40,7 @@ address_of text = option_and_then port_of (behind (codes "127.0.0.1:") text)
 -- the level of the log that a word names
 abbrev pub level_of : List ℕ → Option LogLevel
 level_of text = if same_bytes text (codes "quiet") then Some Quiet else (if same_bytes text (codes "info") then Some Info else (if same_bytes text (codes "debug") then Some Debug else None))
+
+-- what the end of standard input does by a word
+abbrev pub input_end_of : List ℕ → Option InputEnd
+input_end_of text = if same_bytes text (codes "stop") then Some Stops else (if same_bytes text (codes "ignore") then Some Ignored else None)

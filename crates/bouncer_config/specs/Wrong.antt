@@ -8,10 +8,10 @@ use Rattle.buffer_commands.specs.Settings.{fault_of}
 use Rattle.buffer_commands.specs.declared.options.Options.{Options}
 use Rattle.buffer_commands.specs.declared.setup_fault.SetupFault.{SetupFault}
 use Rattle.bouncer_config.specs.KeyTexts.{key_text, kind_of, limits_of}
-use Rattle.bouncer_config.specs.Texts.{is_password, is_path, address_of, level_of}
+use Rattle.bouncer_config.specs.Texts.{is_password, is_path, address_of, input_end_of, level_of}
 use Rattle.bouncer_config.specs.Found.{value_at, within, above_least, item_count, ports_after, are_different, names_after, channels_in, AreOptions, text_at}
 use Rattle.bouncer_config.specs.declared.key.Key.{Key}
-use Rattle.bouncer_config.specs.declared.key.Key.TheVariants.{Nick, Password, Upstream, UpstreamPassword, Listen, Store, Record, Channels, ChanBufferSize, QueryBufferSize, MaxQueryBuffers, OffsetMinutes, AutoClearChanBuffer, AutoClearQueryBuffer, MultiClients, BeatMs, TimeoutMs, FloodBurst, FloodMs, Log}
+use Rattle.bouncer_config.specs.declared.key.Key.TheVariants.{Nick, Password, Upstream, UpstreamPassword, Listen, Store, Record, Channels, ChanBufferSize, QueryBufferSize, MaxQueryBuffers, OffsetMinutes, AutoClearChanBuffer, AutoClearQueryBuffer, MultiClients, BeatMs, TimeoutMs, FloodBurst, FloodMs, Log, Input}
 use Rattle.bouncer_config.specs.declared.key.Kind.{Kind}
 use Rattle.bouncer_config.specs.declared.key.Kind.TheVariants.{Text, Texts, Number, Truth}
 use Rattle.bouncer_config.specs.declared.problem.Problem.{Problem}
@@ -19,7 +19,7 @@ use Rattle.bouncer_config.specs.declared.problem.Problem.TheVariants.{Memory, No
 
 -- every key
 abbrev pub all_keys : List Key
-all_keys = Nick ∷ Password ∷ Upstream ∷ UpstreamPassword ∷ Listen ∷ Store ∷ Record ∷ Channels ∷ ChanBufferSize ∷ QueryBufferSize ∷ MaxQueryBuffers ∷ OffsetMinutes ∷ AutoClearChanBuffer ∷ AutoClearQueryBuffer ∷ MultiClients ∷ BeatMs ∷ TimeoutMs ∷ FloodBurst ∷ FloodMs ∷ Log ∷ []
+all_keys = Nick ∷ Password ∷ Upstream ∷ UpstreamPassword ∷ Listen ∷ Store ∷ Record ∷ Channels ∷ ChanBufferSize ∷ QueryBufferSize ∷ MaxQueryBuffers ∷ OffsetMinutes ∷ AutoClearChanBuffer ∷ AutoClearQueryBuffer ∷ MultiClients ∷ BeatMs ∷ TimeoutMs ∷ FloodBurst ∷ FloodMs ∷ Log ∷ Input ∷ []
 
 -- some key has this name
 abbrev pub is_known : List ℕ → Bool
@@ -60,6 +60,7 @@ text_rule Upstream text = is_some (address_of text)
 text_rule Store text = is_path text
 text_rule Record text = is_path text
 text_rule Log text = is_some (level_of text)
+text_rule Input text = is_some (input_end_of text)
 text_rule _ text = true
 
 -- the numbers that a key may have

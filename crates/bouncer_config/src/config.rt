@@ -3,17 +3,18 @@ ghost use Rattle.std.specs.List.{list_all};
 ghost use Rattle.toml.specs.View.{table_view};
 ghost use Rattle.bouncer_config.specs.KeyTexts.{kind_of, limits_of};
 ghost use Rattle.bouncer_config.specs.Texts.{address_of, is_path};
-ghost use Rattle.bouncer_config.specs.Found.{AreOptions, level_in, number_in, text_at, text_in, value_at};
+ghost use Rattle.bouncer_config.specs.Found.{AreOptions, input_end_in, level_in, number_in, text_at, text_in, value_at};
 ghost use Rattle.bouncer_config.specs.Judged.{IsConfig, IsSetup};
 ghost use Rattle.bouncer_config.specs.Wrong.{IsProblem, Listens};
 
 use crate::address::Address;
+use crate::input_end::InputEnd;
 use crate::key::Key;
 use crate::lists::{channels, listen};
 use crate::log_level::LogLevel;
 use crate::password::Password;
 use crate::problem::Problem;
-use crate::reading::{log, needed_text, number, offset, text, truth};
+use crate::reading::{input_end, log, needed_text, number, offset, text, truth};
 use crate::unknown::check_names;
 use buffer_commands::{Options, Setup};
 use irc_line::Name;
@@ -48,6 +49,8 @@ pub struct Config {
     pub flood_ms: u16,
     /// How much is told on standard error.
     pub log: LogLevel,
+    /// What the end of standard input does.
+    pub input_end: InputEnd,
 }
 
 impl Config {
@@ -76,6 +79,7 @@ impl Config {
             flood_burst: pace.flood_burst,
             flood_ms: pace.flood_ms,
             log: pace.log,
+            input_end: input_end(table)?,
         })
     }
 }

@@ -78,6 +78,7 @@ fn rule_text(key: Key) -> &'static str {
         Key::FloodBurst => "needs 1 to 100",
         Key::FloodMs => "needs 0 to 60000",
         Key::Log => "needs quiet, info or debug",
+        Key::Input => "needs stop or ignore",
         _ => "needs true or false",
     }
 }

@@ -24,6 +24,7 @@ pub enum Key {
     FloodBurst,
     FloodMs,
     Log,
+    Input,
 }
 
 /// What the value of a key is.
@@ -77,6 +78,7 @@ impl Key {
             Key::FloodBurst => "flood_burst",
             Key::FloodMs => "flood_ms",
             Key::Log => "log",
+            Key::Input => "input",
         }
     }
 
@@ -86,7 +88,7 @@ impl Key {
     {
         match self {
             Key::Nick | Key::Password | Key::Upstream | Key::UpstreamPassword => Kind::Text,
-            Key::Store | Key::Record | Key::Log => Kind::Text,
+            Key::Store | Key::Record | Key::Log | Key::Input => Kind::Text,
             Key::Listen | Key::Channels => Kind::Texts,
             Key::AutoClearChanBuffer | Key::AutoClearQueryBuffer => Kind::Truth,
             Key::MultiClients => Kind::Truth,

@@ -4,6 +4,7 @@
 mod address;
 mod config;
 mod config_fault;
+mod input_end;
 mod key;
 mod lists;
 mod log_level;
@@ -16,6 +17,7 @@ mod unknown;
 pub use address::Address;
 pub use config::Config;
 pub use config_fault::ConfigFault;
+pub use input_end::InputEnd;
 pub use key::{Key, Kind, Limits};
 pub use log_level::LogLevel;
 pub use parse::parse_config;

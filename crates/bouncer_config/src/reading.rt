@@ -2,9 +2,10 @@
 ghost use Rattle.std.specs.Prelude.{◌≡◌, ◌≢◌, ◌≤◌, Some, IfOk, IfErr, IfSome, IsTrue, option_map};
 ghost use Rattle.toml.specs.View.{view, table_view};
 ghost use Rattle.bouncer_config.specs.KeyTexts.{kind_of, limits_of};
-ghost use Rattle.bouncer_config.specs.Found.{above_least, level_in, number_in, offset_in, text_at, text_in, truth_in, value_at, within};
+ghost use Rattle.bouncer_config.specs.Found.{above_least, input_end_in, level_in, number_in, offset_in, text_at, text_in, truth_in, value_at, within};
 ghost use Rattle.bouncer_config.specs.Wrong.{IsProblem, is_needed};
 
+use crate::input_end::InputEnd;
 use crate::key::{Key, Kind, Limits};
 use crate::log_level::LogLevel;
 use crate::problem::Problem;
@@ -146,5 +147,20 @@ pub(crate) fn log(table: &Table) -> Result<LogLevel, Problem>
             None => Err(Problem::Refused(Key::Log)),
         },
         None => Ok(LogLevel::Info),
+    }
+}
+
+/// What the end of standard input does, which is to stop the bouncer by default.
+pub(crate) fn input_end(table: &Table) -> Result<InputEnd, Problem>
+    ensures ok { IfOk result (λ i.
+        input_end_in (value_at Key.Input (table_view table.now)) ≡ Some i) }
+    ensures err { IfErr result (IsProblem (table_view table.now)) }
+{
+    match text(table, Key::Input)? {
+        Some(text) => match InputEnd::from_text(text.as_bytes()) {
+            Some(input_end) => Ok(input_end),
+            None => Err(Problem::Refused(Key::Input)),
+        },
+        None => Ok(InputEnd::Stops),
     }
 }

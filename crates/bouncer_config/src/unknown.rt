@@ -10,7 +10,7 @@ use std::alloc::Global;
 use toml::Table;
 
 /// Every key.
-pub(crate) const ALL_KEYS: [Key; 20] = [
+pub(crate) const ALL_KEYS: [Key; 21] = [
     Key::Nick,
     Key::Password,
     Key::Upstream,
@@ -31,6 +31,7 @@ pub(crate) const ALL_KEYS: [Key; 20] = [
     Key::FloodBurst,
     Key::FloodMs,
     Key::Log,
+    Key::Input,
 ];
 
 /// Whether some key has this name.

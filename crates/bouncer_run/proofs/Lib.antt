@@ -1,1 +1,4 @@
+pub mod Covering
+pub mod Greatest
+pub mod Movements
 pub mod PasswordTexts

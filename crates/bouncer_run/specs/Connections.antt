@@ -1,7 +1,9 @@
--- What is read of a connection.
-use Rattle.std.specs.Prelude.{Bool, true, false}
+-- What is read of a connection, and what waits to be written to it.
+use Rattle.std.specs.Prelude.{ℕ, ◌+◌, ◌-◌, nat_le, Bool, true, false, List, length, ◌++◌}
 use Rattle.bouncer_run.specs.declared.connection.Got.{Got}
 use Rattle.bouncer_run.specs.declared.connection.Got.TheVariants.{Bytes, Nothing, End, Later}
+use Rattle.bouncer_run.specs.declared.connection.Phase.{Phase}
+use Rattle.bouncer_run.specs.declared.connection.Phase.TheVariants.{Open, Ending}
 
 -- nothing was read, since what it would bring has to wait
 abbrev pub is_later : Got → Bool
@@ -9,3 +11,23 @@ is_later (Bytes count) = false
 is_later Nothing = false
 is_later (End why) = false
 is_later Later = true
+
+-- a connection is to be closed
+abbrev pub is_ending : Phase → Bool
+is_ending Open = false
+is_ending (Ending since) = true
+
+-- what waits once bytes are to be written: they wait behind the others, but for a connection that is to be closed
+abbrev pub gathered : Phase → List ℕ → List ℕ → List ℕ
+gathered Open waiting bytes = waiting ++ bytes
+gathered (Ending since) waiting bytes = waiting
+
+-- at most 4 MiB wait then
+abbrev pub may_wait : Phase → List ℕ → List ℕ → Bool
+may_wait Open waiting bytes = nat_le (length waiting + length bytes) 4194304
+may_wait (Ending since) waiting bytes = true
+
+-- a connection is to be closed, and took no byte for a minute
+abbrev pub is_late : Phase → ℕ → Bool
+is_late Open now = false
+is_late (Ending since) now = nat_le 60000 (now - since)

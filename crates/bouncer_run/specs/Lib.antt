@@ -3,6 +3,12 @@ pub mod Configs
 pub mod Connections
 pub mod Faults
 pub mod Groups
+pub mod Inputs
+pub mod Levels
+pub mod Moved
+pub mod Moving
 pub mod Pasts
 pub mod Paths
+pub mod Runs
 pub mod Settings
+pub mod Words

@@ -1,4 +1,6 @@
 //! What time it is.
+ghost use Rattle.std.specs.Prelude.{◌≡◌, ◌+◌, ◌-◌, min, nat_le, IsTrue};
+
 use driver::Now;
 use std::io;
 use std::rt::Clock;
@@ -28,11 +30,64 @@ impl Clockwork {
             .as_secs()
             .saturating_mul(1000)
             .saturating_add(passed.subsec_millis() as u64);
-        let seconds = match SystemTime::now(rt)?.duration_since(UNIX_EPOCH) {
-            Ok(since) => since.as_secs(),
-            Err(_) => 0,
-        };
-        let at = Moment::new(if seconds > LAST { LAST } else { seconds });
+        let at = moment_of(seconds_of_day(rt));
         Ok(Now { ms, at })
+    }
+}
+
+/// The seconds since 1970 by the time of day, 0 where it is earlier than that, or is not known.
+fn seconds_of_day(rt: &impl Clock) -> u64 {
+    let Ok(time) = SystemTime::now(rt) else {
+        return 0;
+    };
+    match time.duration_since(UNIX_EPOCH) {
+        Ok(since) => since.as_secs(),
+        Err(_) => 0,
+    }
+}
+
+/// The moment so many seconds after 1970, or the last that there is.
+fn moment_of(seconds: u64) -> Moment
+    ensures { result ≡ min seconds 250000000000 }
+{
+    Moment::new(seconds.min(LAST))
+}
+
+/// What is done again and again, at most so often.
+#[derive(Clone, Copy)]
+pub struct Ticks {
+    /// How much time is between two, in milliseconds.
+    every: u64,
+    /// When the next one is due, in milliseconds.
+    due: u64,
+}
+
+impl Ticks {
+    /// The first one is due at once.
+    pub fn new(every: u64) -> Ticks
+        ensures { result ≡ record { every = every; due = 0 } }
+    {
+        Ticks { every, due: 0 }
+    }
+
+    /// How long it is until the next one is due.
+    pub fn wait(&self, ms: u64) -> u64
+        ensures { result ≡ self.now.due - ms }
+    {
+        self.due.saturating_sub(ms)
+    }
+
+    /// Whether one is due at this moment. Then the next one is due after the time between two.
+    pub fn take(&mut self, ms: u64) -> bool
+        ensures due { result ≡ nat_le self.old.due ms }
+        ensures next { IsTrue result
+            → self.new.due ≡ min (ms + self.old.every) 18446744073709551615 }
+        ensures every { self.new.every ≡ self.old.every }
+    {
+        if ms < self.due {
+            return false;
+        }
+        self.due = ms.saturating_add(self.every);
+        true
     }
 }

@@ -1,17 +1,20 @@
 //! A connection, with what is still to be written to it.
-ghost use Rattle.std.specs.Prelude.{◌≡◌, false};
-ghost use Rattle.bouncer_run.specs.Connections.{is_later};
+ghost use Rattle.std.specs.Prelude.{◌≡◌, ◌&&◌, ◌==◌, false, length, IfOk, IsTrue};
+ghost use Rattle.bouncer_run.specs.Connections.{gathered, is_ending, is_late, is_later, may_wait};
+ghost use Rattle.bouncer_run.specs.Moving.{Moves};
 
+use crate::outgoing::{Outgoing, Sent};
 use driver::Ending;
-use mio::net::TcpStream;
 use std::alloc::{AllocError, Global};
 use std::io::{ErrorKind, Read, Write};
 
-/// The most bytes that may wait to be written to one connection.
+/// The most bytes that may wait to be written to one connection: who leaves so much unread is not there to read it, and
+/// what waits is held in memory.
 const MOST_UNSENT: usize = 4 << 20;
 
-/// How many bytes are sent before what is left is moved to the front.
-const MOVED: usize = 1 << 16;
+/// How long a connection that is to be closed may take no byte, in milliseconds: one that takes none for so long is not
+/// read, and would keep its place for good.
+const LONGEST_END: u64 = 60_000;
 
 /// What a read gave.
 pub enum Got {
@@ -25,26 +28,43 @@ pub enum Got {
     Later,
 }
 
+/// Whether a connection is to be closed.
+#[derive(Clone, Copy, Debug, PartialEq, Eq)]
+pub enum Phase {
+    Open,
+    /// Once all is written. It was to be closed, or took a byte, at this moment, in milliseconds.
+    Ending(u64),
+}
+
+/// Whether a connection takes bytes.
+#[derive(Clone, Copy, Debug, PartialEq, Eq)]
+pub enum Flow {
+    /// As far as is known.
+    Free,
+    /// Not for now. The system tells once it does.
+    Full,
+    /// Never again.
+    Broken,
+}
+
 /// A connection, with what is still to be written to it.
 #[derive(Drop)]
-pub struct Connection {
-    pub stream: TcpStream,
-    unsent: Vec<u8>,
-    /// How many bytes in front of `unsent` were written already.
-    written: usize,
-    /// It is to be closed once all is written.
-    is_ending: bool,
+pub struct Connection<S: Read + Write + Drop> {
+    pub stream: S,
+    unsent: Outgoing,
+    phase: Phase,
+    flow: Flow,
     /// Something may have come that is not read yet, since the notes that it would bring had to wait.
     pub is_put_off: bool,
 }
 
-impl Connection {
-    pub fn new(alloc: Global, stream: TcpStream) -> Connection {
+impl<S: Read + Write + Drop> Connection<S> {
+    pub fn new(alloc: Global, stream: S) -> Connection<S> {
         Connection {
             stream,
-            unsent: Vec::new(alloc),
-            written: 0,
-            is_ending: false,
+            unsent: Outgoing::new(alloc),
+            phase: Phase::Open,
+            flow: Flow::Free,
             is_put_off: false,
         }
     }
@@ -63,60 +83,98 @@ impl Connection {
         }
     }
 
-    /// Bytes are to be written. Whether the connection still stands: it does not where too much waits.
-    pub fn write(&mut self, bytes: &[u8]) -> Result<bool, AllocError> {
-        if self.is_ending {
+    /// Bytes are to be written, behind those that wait; not where the connection is to be closed. Whether the
+    /// connection still stands: it does not where too much would wait.
+    pub fn write(&mut self, bytes: &[u8]) -> Result<bool, AllocError>
+        ensures stands { IfOk result (λ stands.
+            stands ≡ may_wait self.old.phase self.old.unsent bytes.now) }
+        ensures waits { IfOk result (λ stands. IsTrue stands
+            → self.new.unsent ≡ gathered self.old.phase self.old.unsent bytes.now) }
+        ensures rest { self.new ≡ record self.old { unsent = self.new.unsent } }
+    {
+        if self.is_ending() {
             return Ok(true);
         }
-        if self.unsent.len() >= MOST_UNSENT {
+        if self.unsent.len().saturating_add(bytes.len()) > MOST_UNSENT {
             return Ok(false);
         }
-        self.unsent.extend_from_slice(bytes)?;
-        Ok(self.flush())
+        self.unsent.push(bytes)?;
+        Ok(true)
     }
 
-    /// Writes what waits, as far as the connection takes it. Whether the connection still stands.
-    pub fn flush(&mut self) -> bool {
-        for _ in 0..u64::MAX {
-            let Some(rest) = self.unsent.get(self.written..) else {
-                return false;
-            };
-            if rest.is_empty() {
-                self.unsent.clear();
-                self.written = 0;
-                return true;
-            }
-            match self.stream.write(rest) {
-                Ok(0) => return false,
-                Ok(count) => self.written = self.written.saturating_add(count),
-                Err(error) => match error.kind() {
-                    ErrorKind::WouldBlock => break,
-                    ErrorKind::Interrupted => {}
-                    _ => return false,
-                },
-            }
+    /// Whether something waits that may be taken.
+    pub fn is_waiting(&self) -> bool {
+        self.flow == Flow::Free && !self.unsent.is_empty()
+    }
+
+    /// Writes what waits, as far as it is taken at this moment. Whether anything still may be.
+    pub fn flush(&mut self, ms: u64) -> bool
+        ensures moves { Moves self.old.unsent self.new.unsent
+            (S.contents self.old.stream) (S.contents self.new.stream) }
+        ensures ending { is_ending self.new.phase ≡ is_ending self.old.phase }
+    {
+        let waited = self.unsent.len();
+        let sent = self.unsent.write_to(&mut self.stream);
+        self.flow = flow_behind(sent);
+        if self.unsent.len() < waited {
+            self.phase = self.phase.took(ms);
         }
-        self.make_room();
-        true
+        sent != Sent::Broken
     }
 
-    /// Forgets what was written, once it is much.
-    fn make_room(&mut self) {
-        if self.written >= MOVED && self.written <= self.unsent.len() {
-            self.unsent.drain(..self.written);
-            self.written = 0;
+    /// It is to be closed once all is written.
+    pub fn end(&mut self, ms: u64)
+        ensures ending { IsTrue (is_ending self.new.phase) }
+        ensures rest { self.new ≡ record self.old { phase = self.new.phase } }
+    {
+        if !self.is_ending() {
+            self.phase = Phase::Ending(ms);
         }
     }
 
-    /// It is to be closed once all is written. Whether all is.
-    pub fn end(&mut self) -> bool {
-        self.is_ending = true;
-        self.is_over()
+    /// Whether it is to be closed.
+    fn is_ending(&self) -> bool
+        ensures { result ≡ is_ending self.now.phase }
+    {
+        self.phase != Phase::Open
     }
 
     /// Whether it is to be closed, and all is written.
-    pub fn is_over(&self) -> bool {
-        self.is_ending && self.unsent.is_empty()
+    pub fn is_over(&self) -> bool
+        ensures { result ≡ (is_ending self.now.phase && (length self.now.unsent == 0)) }
+    {
+        self.is_ending() && self.unsent.is_empty()
+    }
+
+    /// Whether it is to be closed, and took no byte for a minute.
+    pub fn is_late(&self, ms: u64) -> bool
+        ensures { result ≡ is_late self.now.phase ms }
+    {
+        match self.phase {
+            Phase::Open => false,
+            Phase::Ending(since) => ms.saturating_sub(since) >= LONGEST_END,
+        }
+    }
+}
+
+impl Phase {
+    /// A byte was taken at this moment.
+    fn took(self, ms: u64) -> Phase
+        ensures { is_ending result ≡ is_ending self }
+    {
+        match self {
+            Phase::Open => Phase::Open,
+            Phase::Ending(_) => Phase::Ending(ms),
+        }
+    }
+}
+
+/// Whether a connection takes bytes, after it took so much.
+fn flow_behind(sent: Sent) -> Flow {
+    match sent {
+        Sent::All => Flow::Free,
+        Sent::Some => Flow::Full,
+        Sent::Broken => Flow::Broken,
     }
 }
 

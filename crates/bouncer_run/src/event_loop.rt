@@ -1,5 +1,9 @@
 //! The loop.
-use crate::clock::Clockwork;
+ghost use Rattle.std.specs.Prelude.{◌≡◌, IfOk, OnOk};
+ghost use Rattle.bouncer_run.specs.Words.{IsHeard, is_end};
+
+use crate::clock::{Clockwork, Ticks};
+use crate::edge_news::EdgeNews;
 use crate::inlet::Word;
 use crate::sockets::Sockets;
 use crossbeam_channel::Receiver;
@@ -41,13 +45,17 @@ impl From<AllocError> for LoopFault {
 
 /// The nodes' workers, as the loop speaks to them.
 pub trait Nodes {
-    /// A node's worker is told something. One that ended hears nothing.
-    fn tell<R: Wait>(&self, rt: &R, node: NodeId, note: TowerNote);
+    /// A node's worker is told something. Whether it was: else there was no memory, or the worker ended.
+    fn tell<R: Wait>(&self, rt: &R, node: NodeId, note: TowerNote) -> bool;
 }
 
 /// Who is told what happens.
 pub trait Operator {
+    /// What the driver tells.
     fn hear(&mut self, now: &Now, news: News);
+
+    /// What happened at the edge.
+    fn hear_edge(&mut self, now: &Now, news: EdgeNews);
 }
 
 /// Waits for sockets, for words and for time to pass, until it is told to end; an operator is told
@@ -64,22 +72,30 @@ pub fn run_loop<R: Net + Wait + Clock, N: Nodes, O: Operator>(
 ) -> Result<(), LoopFault> {
     let mut events = Events::with_capacity(alloc, EVENTS)?;
     let clock = Clockwork::start(rt).map_err(|_| LoopFault::Socket)?;
+    let mut ticks = Ticks::new(tick_ms);
+    let mut now = clock.now(rt).map_err(|_| LoopFault::Socket)?;
     for _ in rt.forever() {
-        let wait = Duration::from_millis(tick_ms);
+        let wait = Duration::from_millis(ticks.wait(now.ms));
         if sockets.poll.poll(&mut events, Some(wait)).is_err() {
             return Err(LoopFault::Socket);
         }
-        let now = clock.now(rt).map_err(|_| LoopFault::Socket)?;
+        now = clock.now(rt).map_err(|_| LoopFault::Socket)?;
         sockets.serve_all(&now, driver, &events)?;
         let is_over = hear_words(rt, &now, driver, words)?;
         sockets.take_up(&now, driver)?;
-        driver.tick(&now)?;
-        carry_out(rt, &now, driver, sockets, nodes, operator)?;
+        if ticks.take(now.ms) {
+            driver.tick(&now)?;
+            driver.watch_log()?;
+            sockets.tick(&now, driver)?;
+        }
+        carry_out_all(rt, &now, driver, sockets, nodes, operator)?;
+        tell_edge(&now, sockets, operator);
         if is_over {
+            operator.hear_edge(&now, EdgeNews::InputEnded);
             break;
         }
     }
-    sockets.finish();
+    sockets.finish(&now);
     Ok(())
 }
 
@@ -102,13 +118,37 @@ fn hear_words(
 }
 
 /// What another thread told goes to the driver. Whether the bouncer is to end.
-fn hear_word(now: &Now, driver: &mut Driver, word: Word) -> Result<bool, LoopFault> {
+fn hear_word(now: &Now, driver: &mut Driver, word: Word) -> Result<bool, LoopFault>
+    ensures heard { OnOk result (IsHeard now.now word driver.old driver.new) }
+    ensures over { IfOk result (λ over. over ≡ is_end word) }
+{
     match word {
         Word::Report(report) => driver.hear(now, report)?,
         Word::Hand(node, line) => driver.hand(node, &line)?,
         Word::End => return Ok(true),
     }
     Ok(false)
+}
+
+/// Does what the driver orders, until it orders nothing more; then what waits at the sockets is written.
+fn carry_out_all<R: Net + Wait, N: Nodes, O: Operator>(
+    rt: &R,
+    now: &Now,
+    driver: &mut Driver,
+    sockets: &mut Sockets,
+    nodes: &N,
+    operator: &mut O,
+) -> Result<(), LoopFault> {
+    for _ in 0..u64::MAX {
+        let orders = driver.orders();
+        if orders.is_empty() && !sockets.flush_all(now, driver)? {
+            break;
+        }
+        for order in orders {
+            carry_out(rt, now, driver, sockets, nodes, operator, order)?;
+        }
+    }
+    Ok(())
 }
 
 /// Does what the driver orders.
@@ -119,19 +159,34 @@ fn carry_out<R: Net + Wait, N: Nodes, O: Operator>(
     sockets: &mut Sockets,
     nodes: &N,
     operator: &mut O,
+    order: Order,
 ) -> Result<(), LoopFault> {
-    for _ in 0..u64::MAX {
-        let orders = driver.orders();
-        if orders.is_empty() {
-            break;
+    match order {
+        Order::Tell(node, note) => if !nodes.tell(rt, node, note) {
+            return Err(LoopFault::Memory);
+        },
+        Order::Tells(news) => {
+            tell_clients(driver, &news)?;
+            operator.hear(now, news);
         }
-        for order in orders {
-            match order {
-                Order::Tell(node, note) => nodes.tell(rt, node, note),
-                Order::Tells(news) => operator.hear(now, news),
-                other => sockets.carry_out(rt, now, driver, other)?,
-            }
-        }
+        other => sockets.carry_out(rt, now, driver, other)?,
     }
     Ok(())
+}
+
+/// Clients are told that the server is there, or gone.
+fn tell_clients(driver: &mut Driver, news: &News) -> Result<(), LoopFault> {
+    match news {
+        News::Opened(_) => driver.notice(b"Connected to the server.")?,
+        News::Closed(_, _) => driver.notice(b"The server is gone. What you say is sent later.")?,
+        _ => {}
+    }
+    Ok(())
+}
+
+/// An operator is told what happened at the sockets.
+fn tell_edge<O: Operator>(now: &Now, sockets: &mut Sockets, operator: &mut O) {
+    for news in sockets.news() {
+        operator.hear_edge(now, news);
+    }
 }

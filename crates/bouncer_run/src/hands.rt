@@ -1,9 +1,10 @@
 //! Lines that a node hands out, told to the loop.
-ghost use Rattle.std.specs.Prelude.{◌≡◌, ◌++◌, ◌∷◌, []};
+ghost use Rattle.std.specs.Prelude.{◌≡◌, ◌++◌, ◌∷◌, [], IfSome};
 ghost use Rattle.node_cells.specs.Upstreams.{one_more};
 ghost use Rattle.bouncer_run.specs.Pasts.{lines_of};
+ghost use Rattle.bouncer_run.specs.declared.inlet.Word.TheVariants.{Hand};
 
-use crate::inlet::{Inlet, Word};
+use crate::inlet::{Inlet, Told, Word};
 use crate::past::Past;
 use irc_line::Line;
 use node_cells::{Upstream, UpstreamFault};
@@ -42,9 +43,14 @@ impl<R: Wait + Drop> Hands<R> {
         }
     }
 
-    /// The loop is told a line. Whether it was.
-    fn tell(&self, line: Line) -> bool {
-        self.inlet.tell(&self.rt, Word::Hand(self.node, line))
+    /// The loop is told a line of this node, where it can be.
+    fn tell(&self, line: Line) -> Option<Told>
+        ensures { IfSome result (λ told. told.word.value ≡ Hand self.now.node line) }
+    {
+        match self.inlet.tell(&self.rt, Word::Hand(self.node, line)) {
+            Ok(told) => Some(told),
+            Err(_) => None,
+        }
     }
 
     /// The loop was told this line.
@@ -78,7 +84,7 @@ impl<R: Wait + Drop> Upstream for Hands<R> {
             self.miss();
             return Err(UpstreamFault::Memory);
         };
-        if !self.tell(copy) {
+        if self.tell(copy).is_none() {
             self.miss();
             return Err(UpstreamFault::Lost);
         }

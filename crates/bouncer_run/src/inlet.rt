@@ -1,9 +1,12 @@
 //! How the loop is told something by other threads.
+ghost use Rattle.std.specs.Prelude.{◌≡◌, IfErr, IfOk};
+
 use crossbeam_channel::Sender;
 use driver::TowerReport;
 use irc_line::Line;
 use mio::Waker;
 use raft_log::NodeId;
+use std::snapshot::Snapshot;
 use std::sync::{Arc, Wait};
 
 /// What the loop is told by other threads.
@@ -17,6 +20,12 @@ pub enum Word {
     End,
 }
 
+/// That the loop was told a word: only `Inlet::tell` makes one.
+#[derive(Drop)]
+pub struct Told {
+    pub(crate) word: Snapshot<Word>,
+}
+
 /// Tells the loop something, and wakes it.
 #[derive(Drop)]
 pub struct Inlet {
@@ -25,11 +34,19 @@ pub struct Inlet {
 }
 
 impl Inlet {
-    /// Whether the loop will hear of it: it does, unless it ended or there is no memory.
-    pub fn tell(&self, rt: &impl Wait, word: Word) -> bool {
-        match self.words.send(rt, word) {
-            Ok(()) => self.waker.wake().is_ok(),
-            Err(_) => false,
+    /// The loop is told a word, which is given back where there is no memory, or the loop ended.
+    pub fn tell(&self, rt: &impl Wait, word: Word) -> Result<Told, Word>
+        ensures told { IfOk result (λ told. told.word.value ≡ word) }
+        ensures back { IfErr result (λ back. back ≡ word) }
+    {
+        let told = Told {
+            word: Snapshot::of(&word),
+        };
+        if let Err(error) = self.words.send(rt, word) {
+            return Err(error.into_inner());
         }
+        // where it can't be woken, the loop hears of it at its next tick
+        let _ = self.waker.wake();
+        Ok(told)
     }
 }

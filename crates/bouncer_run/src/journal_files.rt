@@ -12,9 +12,14 @@ use file_disk::{FileJournal, OpenFault, open_journal};
 use raft_log::{GroupSize, NodeId};
 use stable_store::StoreFault;
 use std::alloc::{AllocError, Global};
+use std::fs::DirBuilder;
 use std::io::ErrorKind;
+use std::os::unix::fs::DirBuilderExt;
 use std::path::Path;
 use std::{fs, io};
+
+/// Nobody but its owner looks into the folder of the journals.
+const OWNERS: u32 = 0o700;
 
 /// A journal for each node, node 1's first, in the folder that the configuration names, which is
 /// made where it is not there. Where there is none, a line was written to standard error that names
@@ -91,7 +96,7 @@ fn make_folder<R: System>(rt: &R, path: &str) -> Result<(), RunFault>
 }
 
 fn make_synced<R: System>(rt: &R, path: &str) -> io::Result<()> {
-    match fs::create_dir(rt, path) {
+    match DirBuilder::new().mode(OWNERS).create(rt, path) {
         Ok(()) => {}
         Err(error) => if error.kind() != ErrorKind::AlreadyExists {
             return Err(error);

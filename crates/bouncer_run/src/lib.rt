@@ -2,19 +2,28 @@
 //! sockets, and never for one alone; beside it stand what the configuration says, the journals, and what is told.
 #![tactic(auto)]
 
+mod accepting;
+mod clients;
 mod clock;
 mod connection;
 mod driver_settings;
+mod earlier_runs;
+mod edge_news;
 mod ending;
 mod event_loop;
 mod fault;
+mod flushing;
 mod group;
 mod hands;
 mod inlet;
 mod inlets;
+mod input;
 mod journal_files;
+mod leaving;
 mod listening;
+mod moved_away;
 mod orders;
+mod outgoing;
 mod outlet;
 mod parts;
 mod past;
@@ -26,9 +35,11 @@ mod record_file;
 mod run_fault;
 mod running;
 mod server;
+mod setting_apart;
 mod sockets;
 mod system;
 mod telling;
+mod warnings;
 
 pub use fault::fault_of_cluster;
 pub use hands::Hands;

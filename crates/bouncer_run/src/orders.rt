@@ -20,7 +20,7 @@ impl Sockets {
         match order {
             Order::Write(number, bytes) => self.write(now, driver, number, bytes.as_slice()),
             Order::Close(number) => {
-                self.close(number);
+                self.close(now, number);
                 Ok(())
             }
             Order::Connect => match self.connect(net) {
@@ -29,7 +29,7 @@ impl Sockets {
             },
             Order::Send(bytes) => self.send(now, driver, bytes.as_slice()),
             Order::Disconnect => {
-                self.server = None;
+                self.disconnect(now);
                 Ok(())
             }
             Order::Tell(_, _) | Order::Tells(_) => Ok(()),
@@ -44,24 +44,13 @@ impl Sockets {
         number: u64,
         bytes: &[u8],
     ) -> Result<(), LoopFault> {
-        let Some(connection) = self.clients.get_mut(&number) else {
+        let Some(guest) = self.clients.get_mut(&number) else {
             return Ok(());
         };
-        if connection.write(bytes)? {
+        if guest.connection.write(bytes)? {
             return Ok(());
         }
         self.drop_client(now, driver, number)
-    }
-
-    /// A client's connection is to be closed, behind what is still to be written.
-    fn close(&mut self, number: u64) {
-        let is_over = match self.clients.get_mut(&number) {
-            Some(connection) => connection.end(),
-            None => false,
-        };
-        if is_over {
-            self.clients.remove(&number);
-        }
     }
 
     /// Bytes go to the server.
@@ -75,14 +64,22 @@ impl Sockets {
         self.drop_server(now, driver, Ending::Lost)
     }
 
+    /// The connection to the server is closed, behind what was sent, as far as it takes that at once.
+    fn disconnect(&mut self, now: &Now) {
+        if let Some(connection) = &mut self.server {
+            connection.flush(now.ms);
+        }
+        self.server = None;
+    }
+
     /// The bouncer ends: the server is told, as far as it takes that at once.
-    pub fn finish(&mut self) {
+    pub fn finish(&mut self, now: &Now) {
         if let Some(connection) = &mut self.server {
             let _ = connection.write(QUIT);
         }
-        self.server = None;
-        for connection in self.clients.values_mut() {
-            connection.flush();
+        self.disconnect(now);
+        for guest in self.clients.values_mut() {
+            guest.connection.flush(now.ms);
         }
         self.clients.clear();
     }

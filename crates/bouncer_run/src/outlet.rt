@@ -12,7 +12,15 @@ pub struct LoopOutlet {
 }
 
 impl Outlet<TowerEffect> for LoopOutlet {
-    fn report<R: Wait>(&mut self, rt: &R, report: Report<TowerEffect>) {
-        self.inlet.tell(rt, Word::Report(report));
+    fn report<R: Wait>(
+        &mut self,
+        rt: &R,
+        report: Report<TowerEffect>,
+    ) -> Result<(), Report<TowerEffect>> {
+        match self.inlet.tell(rt, Word::Report(report)) {
+            Ok(_) => Ok(()),
+            Err(Word::Report(report)) => Err(report),
+            Err(_) => unreachable!(),
+        }
     }
 }

@@ -8,6 +8,13 @@ use crate::connection::Got;
 use crate::sockets::Sockets;
 use driver::{Driver, Ending};
 
+/// How many bytes are read before it is asked again whether more are to be read: few, since each line of
+/// them is a note that waits.
+pub const PIECE: usize = 512;
+
+/// How many pieces of one connection are read before the others are looked at.
+pub const PIECES: usize = 16;
+
 impl Sockets {
     /// The next piece of what a client sent. It is read where the driver reads the client, and nowhere else.
     pub fn next_of_client(&mut self, driver: &Driver, number: u64, piece: &mut [u8]) -> Got
@@ -20,7 +27,7 @@ impl Sockets {
             return Got::Later;
         }
         match self.clients.get_mut(&number) {
-            Some(connection) => connection.read(piece),
+            Some(guest) => guest.connection.read(piece),
             None => Got::End(Ending::Lost),
         }
     }

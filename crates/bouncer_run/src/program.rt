@@ -9,6 +9,7 @@ use crate::event_loop::run_loop;
 use crate::group::{address_of, size_of};
 use crate::inlet::{Inlet, Word};
 use crate::inlets::Inlets;
+use crate::input::open_input;
 use crate::journal_files::journals;
 use crate::listening::listen_all;
 use crate::parts::parts;
@@ -16,9 +17,11 @@ use crate::reading::read;
 use crate::record_file::{try_record, write_record};
 use crate::run_fault::RunFault;
 use crate::running::Running;
+use crate::setting_apart::set_apart;
 use crate::sockets::Sockets;
 use crate::system::System;
 use crate::telling::Telling;
+use crate::warnings::warn;
 use bouncer_config::Config;
 use crossbeam_channel::{Receiver, unbounded};
 use driver::Driver;
@@ -27,7 +30,9 @@ use raft_log::NodeId;
 use std::alloc::Global;
 use std::io;
 use std::io::Read;
+use std::os::fd::AsRawFd;
 use std::sync::Arc;
+use std::thread::JoinHandle;
 
 /// How often the loop looks at the clock, in milliseconds.
 const TICK: u64 = 20;
@@ -38,15 +43,17 @@ const TICK: u64 = 20;
 /// memory where it was met. What tells the loop a node's lines for the server is made by `hands`.
 pub fn run<
     R: System,
-    I: Read + Drop + Send + 'static,
+    I: Read + AsRawFd + Drop + Send + 'static,
     U: Upstream + Send + 'static,
     F: Fn(R, Global, NodeId, Inlet) -> U,
 >(rt: &R, path: &str, input: I, hands: &F) -> Result<(), RunFault>
     requires { F.IsAlwaysCallable hands.now }
 {
     let config = read(rt, path)?;
+    let input = open_input(rt, path, config.input_end, input)?;
     let size = size_of(&config);
-    let journals = journals(rt, &config, size)?;
+    let mut journals = journals(rt, &config, size)?;
+    set_apart(rt, &config, &mut journals)?;
     let mut edge = Edge::new(rt, &config)?;
     let parts = parts(rt, &edge.inlets, journals, hands)?;
     let running = Running::start(rt, &config, size, parts)?;
@@ -91,7 +98,7 @@ impl Edge {
         &mut self,
         rt: &R,
         config: &Config,
-        input: I,
+        input: Option<I>,
         running: &Running<U>,
     ) -> Result<(), RunFault>
         ensures { IfErr result (λ f. IsOrMemory RunFault.Socket f ⊎ (f ≡ RunFault.Write)) }
@@ -102,12 +109,11 @@ impl Edge {
             .now(rt)
             .map_err(socket_fault)?;
         let mut telling = Telling::new(*rt, config.log);
+        warn(&now, config, &telling);
         listen_all(rt, config, &now, &mut self.sockets, &telling)?;
         try_record(rt, config)?;
         let mut driver = Driver::new(alloc, settings_of(alloc, config)?, &now);
-        let Some(reader) = watch_input(rt, input, self.inlets.one()?) else {
-            return Err(RunFault::Memory);
-        };
+        let reader = self.watch(rt, input)?;
         run_loop(
             rt,
             alloc,
@@ -119,8 +125,27 @@ impl Edge {
             &mut telling,
         )
         .map_err(RunFault::of_loop)?;
-        reader.join(rt);
+        if let Some(reader) = reader {
+            reader.join(rt);
+        }
         Ok(())
+    }
+
+    /// The thread that reads the input, where there is one to be read.
+    fn watch<R: System, I: Read + Drop + Send + 'static>(
+        &self,
+        rt: &R,
+        input: Option<I>,
+    ) -> Result<Option<JoinHandle<()>>, RunFault>
+        ensures { IfErr result (λ f. f ≡ RunFault.Memory) }
+    {
+        let Some(input) = input else {
+            return Ok(None);
+        };
+        match watch_input(rt, input, self.inlets.one()?) {
+            Some(reader) => Ok(Some(reader)),
+            None => Err(RunFault::Memory),
+        }
     }
 }
 

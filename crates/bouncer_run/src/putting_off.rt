@@ -6,29 +6,24 @@ use driver::{Driver, Now};
 use std::alloc::AllocError;
 
 impl Sockets {
-    /// A client is read once its node has room.
-    pub fn put_off(&mut self, number: u64) -> Result<(), AllocError> {
-        let Some(connection) = self.clients.get_mut(&number) else {
-            return Ok(());
-        };
-        if !connection.is_put_off {
-            self.put_off.push(number)?;
-            connection.is_put_off = true;
+    /// A client is still to be read, or not.
+    pub fn set_put_off(&mut self, number: u64, is_put_off: bool) {
+        if let Some(guest) = self.clients.get_mut(&number) {
+            guest.connection.is_put_off = is_put_off;
         }
-        Ok(())
     }
 
-    /// The server is read once the session's node has room.
-    pub fn put_off_server(&mut self) {
+    /// The server is still to be read, or not.
+    pub fn set_server_put_off(&mut self, is_put_off: bool) {
         if let Some(connection) = &mut self.server {
-            connection.is_put_off = true;
+            connection.is_put_off = is_put_off;
         }
     }
 
     /// Whether a client is still to be read.
     pub fn is_put_off(&self, number: u64) -> bool {
         match self.clients.get(&number) {
-            Some(connection) => connection.is_put_off,
+            Some(guest) => guest.connection.is_put_off,
             None => false,
         }
     }
@@ -43,45 +38,23 @@ impl Sockets {
 
     /// Whatever was put off is read where there is room again.
     pub fn take_up(&mut self, now: &Now, driver: &mut Driver) -> Result<(), LoopFault> {
-        if self.take_up_server(driver) {
+        if self.is_server_put_off() && driver.reads_server() {
             self.serve_server(now, driver)?;
         }
-        if self.put_off.is_empty() {
-            return Ok(());
+        for number in self.readable_again(driver)? {
+            self.serve(now, driver, number)?;
         }
-        let put_off = std::mem::replace(&mut self.put_off, Vec::new(self.alloc));
-        for number in put_off {
-            if let Some(connection) = self.clients.get_mut(&number) {
-                connection.is_put_off = false;
-                self.take_up_client(now, driver, number)?;
+        Ok(())
+    }
+
+    /// The clients that were put off, and whose nodes have room again.
+    fn readable_again(&self, driver: &Driver) -> Result<Vec<u64>, AllocError> {
+        let mut numbers = Vec::new(self.alloc);
+        for (number, guest) in &self.clients {
+            if guest.connection.is_put_off && driver.reads_client(*number) {
+                numbers.push(*number)?;
             }
         }
-        Ok(())
-    }
-
-    /// A client that was put off is read where its node has room again, and else is put off again.
-    fn take_up_client(
-        &mut self,
-        now: &Now,
-        driver: &mut Driver,
-        number: u64,
-    ) -> Result<(), LoopFault> {
-        if driver.reads_client(number) {
-            return self.serve(now, driver, number);
-        }
-        self.put_off(number)?;
-        Ok(())
-    }
-
-    /// Whether the server was put off and is to be read now.
-    fn take_up_server(&mut self, driver: &Driver) -> bool {
-        let Some(connection) = &mut self.server else {
-            return false;
-        };
-        if !connection.is_put_off || !driver.reads_server() {
-            return false;
-        }
-        connection.is_put_off = false;
-        true
+        Ok(numbers)
     }
 }

@@ -14,8 +14,12 @@ use node_cells::NodeRecord;
 use raft_log::GroupSize;
 use run_records::{TextFault, run_text};
 use setup_spelling::WireSetup;
-use std::fs::{self, OpenOptions};
-use std::io;
+use std::fs::OpenOptions;
+use std::io::{self, Write};
+use std::os::unix::fs::OpenOptionsExt;
+
+/// Nobody but its owner reads what people said.
+const OWNERS: u32 = 0o600;
 
 /// What a node of a bouncer did.
 pub type TowerRecord = NodeRecord<TowerBody, WireLine, Name, TowerEffect, Shown>;
@@ -49,7 +53,12 @@ pub fn try_record<R: System>(rt: &R, config: &Config) -> Result<(), RunFault>
         return Ok(());
     };
     let path = path.as_str();
-    match OpenOptions::new().append(true).create(true).open(rt, path) {
+    match OpenOptions::new()
+        .append(true)
+        .create(true)
+        .mode(OWNERS)
+        .open(rt, path)
+    {
         Ok(_) => Ok(()),
         Err(error) => Err(unwritten(rt, path, &error)),
     }
@@ -77,10 +86,21 @@ fn write_to<R: System>(
             return Err(RunFault::Write);
         }
     };
-    match fs::write(rt, path, text.as_slice()) {
+    match write_new(rt, path, text.as_slice()) {
         Ok(()) => Ok(()),
         Err(error) => Err(unwritten(rt, path, &error)),
     }
+}
+
+/// The file of a path has these bytes and no others.
+fn write_new<R: System>(rt: &R, path: &str, bytes: &[u8]) -> io::Result<()> {
+    let mut file = OpenOptions::new()
+        .write(true)
+        .create(true)
+        .truncate(true)
+        .mode(OWNERS)
+        .open(rt, path)?;
+    file.write_all(bytes)
 }
 
 /// A file can't be written, which is said on standard error.

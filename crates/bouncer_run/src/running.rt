@@ -1,5 +1,5 @@
 //! The nodes of a bouncer, as the program starts them and as the loop speaks to them.
-ghost use Rattle.std.specs.Prelude.{◌≡◌, IfErr, IfOk, length};
+ghost use Rattle.std.specs.Prelude.{◌≡◌, ◌≤◌, IfErr, IfOk, IsTrue, length};
 ghost use Rattle.bouncer_run.specs.Faults.{IsOrMemory};
 ghost use Rattle.bouncer_run.specs.Groups.{recording_by};
 ghost use Rattle.bouncer_run.specs.declared.run_fault.RunFault.TheVariants.{Store};
@@ -16,7 +16,7 @@ use bouncer_tower::{Tower, TowerBody};
 use driver::TowerNote;
 use file_disk::FileJournal;
 use node_cells::Upstream;
-use node_threads::{Cluster, OpenGate};
+use node_threads::{Beats, Cluster, OpenGate};
 use raft_log::{GroupSize, NodeId};
 use std::sync::Wait;
 
@@ -45,7 +45,16 @@ impl<U: Upstream + Send + 'static> Running<U> {
         let alloc = rt.alloc();
         let recording = recording_of(config);
         let setup = &config.setup;
-        match Cluster::start(rt, alloc, size, setup, parts, OpenGate, recording) {
+        match Cluster::start(
+            rt,
+            alloc,
+            size,
+            setup,
+            parts,
+            OpenGate,
+            recording,
+            Beats::OnNews,
+        ) {
             Ok(nodes) => Ok(Running { nodes }),
             Err(fault) => {
                 let store = &config.store;
@@ -63,8 +72,9 @@ impl<U: Upstream + Send + 'static> Running<U> {
 }
 
 impl<U: Upstream> Nodes for Running<U> {
-    fn tell<R: Wait>(&self, rt: &R, node: NodeId, note: TowerNote) {
-        // a worker that ended hears nothing
-        let _ = self.nodes.submit(rt, node, note);
+    fn tell<R: Wait>(&self, rt: &R, node: NodeId, note: TowerNote) -> bool
+        ensures { IsTrue result → node ≤ self.now.nodes.ether.size }
+    {
+        self.nodes.submit(rt, node, note).is_ok()
     }
 }

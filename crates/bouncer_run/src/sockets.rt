@@ -1,8 +1,11 @@
 //! All sockets.
 use crate::connection::Connection;
+use crate::edge_news::EdgeNews;
+use crate::leaving::Leaving;
 use mio::net::{TcpListener, TcpStream};
 use mio::{Interest, Poll, Token, Waker};
-use std::alloc::Global;
+use raft_log::NodeId;
+use std::alloc::{AllocError, Global};
 use std::collections::BTreeMap;
 use std::io;
 use std::net::{Net, SocketAddr};
@@ -16,8 +19,25 @@ pub const SERVER: usize = 100;
 /// The token of the client of number 0; that of each further one is one more.
 pub const CLIENTS: usize = 1000;
 
-/// How many clients may be connected at once.
+/// How many clients may be connected at once: far more than one person has, and far fewer than the files that a program
+/// may have open.
 pub const MOST_CLIENTS: usize = 256;
+
+/// Where a node's clients come.
+#[derive(Drop)]
+pub struct Listening {
+    pub listener: TcpListener,
+    /// The last try to take a client failed, so that the next one is due at the next tick.
+    pub is_deaf: bool,
+}
+
+/// A client's connection.
+#[derive(Drop)]
+pub struct Guest {
+    pub node: NodeId,
+    pub address: SocketAddr,
+    pub connection: Connection<TcpStream>,
+}
 
 /// All sockets: the nodes' listeners, their clients, and the server.
 #[derive(Drop)]
@@ -25,12 +45,14 @@ pub struct Sockets {
     pub alloc: Global,
     pub poll: Poll,
     /// Node 1's first; each has its node's number as its token.
-    pub listeners: Vec<TcpListener>,
-    pub clients: BTreeMap<u64, Connection>,
+    pub listeners: Vec<Listening>,
+    pub clients: BTreeMap<u64, Guest>,
     pub server_address: SocketAddr,
-    pub server: Option<Connection>,
-    /// The clients whose reading is put off.
-    pub put_off: Vec<u64>,
+    pub server: Option<Connection<TcpStream>>,
+    /// Connections that were closed, as far as the bouncer is concerned.
+    pub leaving: Leaving,
+    /// What an operator is still to be told.
+    news: Vec<EdgeNews>,
 }
 
 impl Sockets {
@@ -43,7 +65,8 @@ impl Sockets {
             clients: BTreeMap::new(alloc),
             server_address,
             server: None,
-            put_off: Vec::new(alloc),
+            leaving: Leaving::new(alloc),
+            news: Vec::new(alloc),
         })
     }
 
@@ -59,18 +82,32 @@ impl Sockets {
         self.poll
             .registry()
             .register(&mut listener, token, Interest::READABLE)?;
-        self.listeners.push(listener)?;
+        let listening = Listening {
+            listener,
+            is_deaf: false,
+        };
+        self.listeners.push(listening)?;
         Ok(())
     }
 
-    /// A client's connection, which has this number.
-    pub fn admit(&mut self, number: u64, stream: TcpStream) -> io::Result<()> {
+    /// The connection of a client of a node, which has this number.
+    pub fn admit(
+        &mut self,
+        number: u64,
+        node: NodeId,
+        stream: TcpStream,
+        address: SocketAddr,
+    ) -> io::Result<()> {
         let mut stream = stream;
         let _ = stream.set_nodelay(true);
         let token = Token(CLIENTS.saturating_add(number as usize));
         self.poll.registry().register(&mut stream, token, Interest::READABLE | Interest::WRITABLE)?;
-        let connection = Connection::new(self.alloc, stream);
-        match self.clients.insert(number, connection) {
+        let guest = Guest {
+            node,
+            address,
+            connection: Connection::new(self.alloc, stream),
+        };
+        match self.clients.insert(number, guest) {
             Ok(_) => Ok(()),
             Err(_) => Err(io::Error::from(io::ErrorKind::OutOfMemory)),
         }
@@ -87,5 +124,16 @@ impl Sockets {
         )?;
         self.server = Some(Connection::new(self.alloc, stream));
         Ok(())
+    }
+
+    /// An operator is to be told.
+    pub fn tell(&mut self, news: EdgeNews) -> Result<(), AllocError> {
+        self.news.push(news)?;
+        Ok(())
+    }
+
+    /// What an operator is to be told. None of it is given again.
+    pub fn news(&mut self) -> Vec<EdgeNews> {
+        std::mem::replace(&mut self.news, Vec::new(self.alloc))
     }
 }

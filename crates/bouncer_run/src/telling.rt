@@ -1,4 +1,8 @@
 //! What an operator is told on standard error.
+ghost use Rattle.std.specs.Prelude.{◌≡◌};
+ghost use Rattle.bouncer_run.specs.Levels.{is_told};
+
+use crate::edge_news::EdgeNews;
 use crate::event_loop::Operator;
 use bouncer_config::LogLevel;
 use driver::{News, Now};
@@ -6,8 +10,8 @@ use jiff::Timestamp;
 use std::fmt::Display;
 use std::rt::Runtime;
 
-/// Writes to standard error what an operator is to know: a line for each event, with the time and
-/// the node. No line has a password or the text of a message in it.
+/// Writes to standard error what an operator is to know: a line for each event, with the time and, where it
+/// is of one, the node. No line has a password or the text of a message in it.
 #[derive(Drop)]
 pub struct Telling<R: Runtime> {
     rt: R,
@@ -21,18 +25,48 @@ impl<R: Runtime> Telling<R> {
 
     /// One event of a node.
     pub fn tell<E: Display>(&self, now: &Now, node: u8, event: &E) {
-        if self.level == LogLevel::Quiet {
+        if !is_told(self.level, false) {
             return;
         }
-        let Ok(time) = Timestamp::from_second(now.at.seconds() as i64) else {
+        if let Ok(time) = Timestamp::from_second(now.at.seconds() as i64) {
+            let _ = eprintln!(self.rt; "{time} node {node}: {event}");
+        }
+    }
+
+    /// One event that is of no node.
+    pub fn tell_all<E: Display>(&self, now: &Now, event: &E) {
+        if !is_told(self.level, false) {
             return;
-        };
-        let _ = eprintln!(self.rt; "{time} node {node}: {event}");
+        }
+        if let Ok(time) = Timestamp::from_second(now.at.seconds() as i64) {
+            let _ = eprintln!(self.rt; "{time} {event}");
+        }
     }
 }
 
 impl<R: Runtime> Operator for Telling<R> {
     fn hear(&mut self, now: &Now, news: News) {
         self.tell(now, news.node(), &news);
+    }
+
+    fn hear_edge(&mut self, now: &Now, news: EdgeNews) {
+        if !is_told(self.level, news.is_detail()) {
+            return;
+        }
+        match news.node() {
+            Some(node) => self.tell(now, node.value(), &news),
+            None => self.tell_all(now, &news),
+        }
+    }
+}
+
+/// Whether an event is told: details alone where they are asked for.
+fn is_told(level: LogLevel, is_detail: bool) -> bool
+    ensures { result ≡ is_told level is_detail }
+{
+    match level {
+        LogLevel::Quiet => false,
+        LogLevel::Info => !is_detail,
+        LogLevel::Debug => true,
     }
 }

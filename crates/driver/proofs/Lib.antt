@@ -3,6 +3,7 @@ mod Crowds
 mod Driving
 mod Leading
 mod Led
+mod Nicks
 mod Owning
 mod Passing
 mod Rounds

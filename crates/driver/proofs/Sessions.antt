@@ -4,10 +4,11 @@ use Rattle.bouncer_tower.specs.Bodies.{TowerBody}
 use Rattle.buffer_commands.specs.declared.wire_line.WireLine.{WireLine}
 use Rattle.node_notes.specs.declared.note.Note.{Note}
 use Rattle.driver.specs.declared.driver.Driver.{Driver}
-use Rattle.driver.specs.Sessions.{TellsAllOf, TellsOf}
+use Rattle.driver.specs.Filling.{is_left_out}
+use Rattle.driver.specs.Sessions.{TellsAllOf, TellsIf}
 
 -- it is told one note, and then those behind it
-pub tell_more : (node : ℕ) (came : Note TowerBody WireLine) (left more : List (Note TowerBody WireLine)) (old behind new : Driver) → left ≡ came ∷ more → TellsOf node came old behind → TellsAllOf node more behind new → TellsAllOf node left old new
+pub tell_more : (node : ℕ) (came : Note TowerBody WireLine) (left more : List (Note TowerBody WireLine)) (old behind new : Driver) → left ≡ came ∷ more → TellsIf (is_left_out old.level came) node came old behind → TellsAllOf node more behind new → TellsAllOf node left old new
 unfolding TellsAllOf
 tell_more node came left more old behind new is tells all =
     subst (λ (left : List (Note TowerBody WireLine)). TellsAllOf node left old new) (sym is) (behind, tells, all)

@@ -7,6 +7,7 @@ use Rattle.driver.specs.declared.client.Client.{Client}
 use Rattle.driver.specs.declared.clients.Clients.{Clients}
 use Rattle.driver.specs.declared.desk.Desk.{Desk}
 use Rattle.driver.specs.declared.driver.Driver.{Driver}
+use Rattle.driver.specs.declared.level.Level.TheVariants.{Roomy}
 use Rattle.driver.specs.declared.link.Stage.TheVariants.{Idle}
 use Rattle.driver.specs.declared.order.Order.{Order}
 use Rattle.driver.specs.declared.settings.Settings.{Settings}
@@ -39,6 +40,8 @@ pub record IsNewDriver (settings : Settings) (now : ℕ) (new : Driver) : Type 0
   pub numbered : new.numbered ≡ 0
   pub stage : new.link.stage ≡ Idle (at now) 0
   pub backoff : new.link.backoff ≡ first_backoff
+  pub given : new.given ≡ None
+  pub level : new.level ≡ Roomy
   pub pace : new.pace ≡ record { burst = settings.flood_burst; line_ms = settings.flood_ms; free_at = 0 }
   pub ran : new.ran ≡ at now
   pub orders : new.orders ≡ none_told

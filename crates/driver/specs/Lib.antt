@@ -4,11 +4,13 @@ pub mod Clients
 pub mod Crowds
 pub mod Desks
 pub mod Driving
+pub mod Filling
 pub mod Gone
 pub mod Hearing
 pub mod Leading
 pub mod Led
 pub mod Links
+pub mod Nicks
 pub mod Once
 pub mod Operators
 pub mod Outages

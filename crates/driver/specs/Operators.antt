@@ -1,7 +1,7 @@
 -- What an operator is told.
 use Rattle.std.specs.Prelude.{ℕ}
 use Rattle.driver.specs.declared.news.News.{News}
-use Rattle.driver.specs.declared.news.News.TheVariants.{Attached, Left, Elected, Opened, Unopened, Closed, Down, Up, TurnedAway}
+use Rattle.driver.specs.declared.news.News.TheVariants.{Attached, Left, Elected, Opened, Unopened, Closed, Down, Up, TurnedAway, LogFills}
 
 -- the node that a line is of
 abbrev pub node_of : News → ℕ
@@ -14,3 +14,4 @@ node_of (Closed node why) = node
 node_of (Down node cause) = node
 node_of (Up node boot) = node
 node_of (TurnedAway node) = node
+node_of (LogFills node level) = node

@@ -1,5 +1,5 @@
 -- What comes of the connection to the server, at the driver.
-use Rattle.std.specs.Prelude.{◌≡◌, ◌++◌, ℕ, List, [], ◌∷◌, Option, Some, None}
+use Rattle.std.specs.Prelude.{◌≡◌, ◌++◌, ℕ, Bool, true, false, List, [], ◌∷◌, Option, Some, None}
 use Rattle.wire_bytes.specs.declared.moment.Moment.{Moment}
 use Rattle.buffer_commands.specs.declared.wire_line.WireLine.{WireLine}
 use Rattle.bouncer_tower.specs.Bodies.{TowerBody}
@@ -10,7 +10,9 @@ use Rattle.driver.specs.declared.news.News.TheVariants.{Opened}
 use Rattle.driver.specs.declared.order.Order.{Order}
 use Rattle.driver.specs.declared.order.Order.TheVariants.{Tell, Tells}
 use Rattle.driver.specs.declared.link.Link.{Link}
-use Rattle.driver.specs.Links.{Receives, opened}
+use Rattle.driver.specs.Links.{Receives, opened as opened_stage}
+use Rattle.driver.specs.Filling.{is_left_out}
+use Rattle.driver.specs.Nicks.{HearsNick}
 use Rattle.driver.specs.Telling.{ordered}
 
 -- an operator is told that the server gave a session, where a note says so
@@ -20,18 +22,32 @@ opened_of node other = []
 
 -- the connection behind what came: the server gave its session where a note says so
 abbrev pub link_behind : Note TowerBody WireLine → Link → Link
-link_behind note.Opened link = record link { stage = opened link.stage }
+link_behind note.Opened link = record link { stage = opened_stage link.stage }
 link_behind other link = link
 
--- The node of a session is told what came, and an operator where it is that the session opened.
-pub record TellsOf (node : ℕ) (came : Note TowerBody WireLine) (old new : Driver) : Type 0 where
-  pub orders : new.orders ≡ ordered old.orders (opened_of node came ++ Tell node came ∷ [])
+-- Where what came says that the session opened, the connection knows it, and an operator is told.
+pub record OpensBy (node : ℕ) (came : Note TowerBody WireLine) (old new : Driver) : Type 0 where
+  pub orders : new.orders ≡ ordered old.orders (opened_of node came)
   pub rest : new ≡ record old { orders = new.orders; link = link_behind came old.link }
+
+-- The nick that came is known, and told; the session opens where that came; and the node of the session is told what came.
+pub record TellsOf (node : ℕ) (came : Note TowerBody WireLine) (old new : Driver) : Type 0 where
+  pub named : Driver
+  pub nick : HearsNick came old named
+  pub opened : Driver
+  pub opens : OpensBy node came named opened
+  pub orders : new.orders ≡ ordered opened.orders (Tell node came ∷ [])
+  pub rest : new ≡ record opened { orders = new.orders }
+
+-- A note that is left out changes nothing.
+abbrev pub TellsIf : Bool → ℕ → Note TowerBody WireLine → Driver → Driver → Type 0
+TellsIf true node came old new = new ≡ old
+TellsIf false node came old new = TellsOf node came old new
 
 -- It is told all that came, in turn.
 unfoldable pub TellsAllOf : ℕ → List (Note TowerBody WireLine) → Driver → Driver → Type 0
 TellsAllOf node [] old new = new ≡ old
-TellsAllOf node (came ∷ more) old new = (behind : Driver) × TellsOf node came old behind × TellsAllOf node more behind new
+TellsAllOf node (came ∷ more) old new = (behind : Driver) × TellsIf (is_left_out old.level came) node came old behind × TellsAllOf node more behind new
 
 -- Bytes came from the server: its session takes them, and the session's node is told what they bring.
 pub record Takes (now : ℕ) (moment : Moment) (bytes : List ℕ) (node : ℕ) (old new : Driver) : Type 0 where

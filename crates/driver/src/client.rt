@@ -101,6 +101,13 @@ impl Client {
         self.is_attached
     }
 
+    /// Whether its connection is gone, or is to be closed.
+    pub fn is_gone(&self) -> bool
+        ensures { result ≡ self.now.is_gone }
+    {
+        self.is_gone
+    }
+
     /// Whether as many of its requests wait as may while more is read of it.
     pub fn is_full(&self) -> bool
         ensures { (s : Settings) (calls : List Call) → Stands s calls self.now.gate →

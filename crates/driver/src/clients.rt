@@ -9,6 +9,7 @@ ghost use Rattle.driver.specs.Serving.{Hears, IsLost, Receives};
 
 mod leaving;
 mod news;
+mod writing;
 
 use crate::client::Client;
 use crate::order::Now;

@@ -6,11 +6,14 @@ ghost use Rattle.driver.specs.Driving.{changed_at, orders_at};
 ghost use Rattle.driver.specs.Gone.{with_seen};
 ghost use Rattle.driver.specs.Hearing.{turned_away, turned_away_news};
 ghost use Rattle.driver.specs.Links.{Sends};
+ghost use Rattle.driver.specs.Nicks.{nick_in};
 ghost use Rattle.driver.specs.Rosters.{AreOthersSame, Serves, client_at, is_attached_in};
 ghost use Rattle.driver.specs.Serving.{IsLost, Receives};
 ghost use Rattle.driver.specs.Telling.{emptied, ordered};
 
+mod filling;
 mod hearing;
+mod nick;
 mod reading;
 mod session;
 mod ticking;
@@ -18,13 +21,14 @@ mod ticking;
 use crate::client::Client;
 use crate::clients::Clients;
 use crate::desk::Desk;
+use crate::level::Level;
 use crate::link::Link;
 use crate::notices::Notices;
 use crate::order::{Now, Order};
 use crate::orders::Orders;
 use crate::settings::Settings;
 use client_gate::ClientGate;
-use irc_line::Line;
+use irc_line::{Line, Name};
 use pacing::{Pace, Timer};
 use raft_log::NodeId;
 use std::alloc::{AllocError, Global};
@@ -48,6 +52,10 @@ pub struct Driver {
     /// The number of the last client.
     numbered: u64,
     link: Link,
+    /// The nick that the server gave, if it gave one.
+    given: Option<Name>,
+    /// How full the log is, of which people were told last.
+    level: Level,
     pace: Pace,
     /// When it last heard of a node, or was told that time passed.
     ran: Timer,
@@ -69,6 +77,8 @@ impl Driver {
             clients: Clients::new(alloc),
             numbered: 0,
             link: Link::new(alloc, now),
+            given: None,
+            level: Level::Roomy,
             pace,
             ran: Timer::from(now.ms),
             orders: Orders::new(alloc),
@@ -93,7 +103,7 @@ impl Driver {
             (next_number self.old.desks node self.old.numbered)) }
         ensures kept { OnErr result (self.new.numbered ≡ self.old.numbered) }
         ensures arrived { IfOk result (λ number. ArrivesIf self.old.desks number
-            node self.old.settings.password.items self.old.settings.nick now.now.ms
+            node self.old.settings.password.items (nick_in self.old) now.now.ms
             self.old.clients self.new.clients) }
         ensures others { IfOk result (λ number. IfSome number (λ number.
             AreOthersSame number self.old.clients self.new.clients)) }
@@ -154,12 +164,12 @@ impl Driver {
     /// A client of this origin has connected.
     fn admit(&mut self, now: &Now, origin: Origin) -> Result<(), AllocError>
         ensures arrived { OnOk result (Arrives origin self.old.settings.password.items
-            self.old.settings.nick now.now.ms self.new.clients) }
+            (nick_in self.old) now.now.ms self.new.clients) }
         ensures others { AreOthersSame origin.2 self.old.clients self.new.clients }
         ensures rest { self.new ≡ record self.old { clients = self.new.clients } }
     {
         let password = Vec::from_slice(self.alloc, self.settings.password.as_slice())?;
-        let nick = self.settings.nick.copy(self.alloc)?;
+        let nick = self.nick().copy(self.alloc)?;
         let gate = ClientGate::new(self.alloc, origin, password, nick)?;
         self.clients
             .insert(Client::new(self.alloc, origin, gate, now))?;

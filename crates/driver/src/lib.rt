@@ -9,6 +9,7 @@ mod driver;
 mod gone;
 pub mod laws;
 mod leader;
+mod level;
 mod link;
 mod news;
 mod notices;
@@ -17,6 +18,7 @@ mod orders;
 mod settings;
 
 pub use driver::Driver;
+pub use level::Level;
 pub use news::{Ending, News};
 pub use order::{Now, Order, TowerNote, TowerReport};
 pub use settings::Settings;

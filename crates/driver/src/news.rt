@@ -3,6 +3,7 @@ ghost use Rattle.std.specs.Prelude.{◌≡◌};
 ghost use Rattle.driver.specs.Links.{end_of};
 ghost use Rattle.driver.specs.Operators.{node_of};
 
+use crate::level::Level;
 use raft_log::NodeId;
 use raft_node::Cause;
 use std::fmt;
@@ -59,6 +60,8 @@ pub enum News {
     Up(NodeId, Number),
     /// A client connected to a node that is not up.
     TurnedAway(NodeId),
+    /// The log of the node that leads is as full as this.
+    LogFills(NodeId, Level),
 }
 
 impl News {
@@ -82,7 +85,7 @@ impl News {
             News::Elected(node, _) | News::Opened(node) => node.value(),
             News::Unopened(node, _) | News::Closed(node, _) => node.value(),
             News::Down(node, _) | News::Up(node, _) => node.value(),
-            News::TurnedAway(node) => node.value(),
+            News::TurnedAway(node) | News::LogFills(node, _) => node.value(),
         }
     }
 }
@@ -99,6 +102,10 @@ impl fmt::Display for News {
             News::Down(_, cause) => write!(f, "down: {cause}"),
             News::Up(_, boot) => write!(f, "up, run {}", boot.value()),
             News::TurnedAway(_) => write!(f, "client turned away: the node is down"),
+            News::LogFills(_, Level::Full) => write!(f, "the log is full: nothing new is taken"),
+            News::LogFills(_, Level::NearlyFull) => write!(f, "the log is 95 percent full"),
+            News::LogFills(_, Level::Filling) => write!(f, "the log is 80 percent full"),
+            News::LogFills(_, Level::Roomy) => write!(f, "the log has room"),
         }
     }
 }

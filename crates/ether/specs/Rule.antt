@@ -1,6 +1,6 @@
 -- The rule of an ether's table. Word 0 is the next ticket. Every other word is a mailbox: the number of the slot that lies in it, with a mark where a message is in that slot.
 -- Each node's seat has one slot that lies in no mailbox, its spare, which a post or a take swaps for the one that lies there.
-use Rattle.std.specs.Prelude.{◌≡◌, ℕ, suc, ◌+◌, ◌*◌, ◌%◌, ◌<◌, ◌≤◌, true, List, [], ◌∷◌, length, slice_index, Option, Some, None}
+use Rattle.std.specs.Prelude.{◌≡◌, ℕ, suc, ◌+◌, ◌*◌, ◌%◌, ◌<◌, ◌≤◌, Bool, true, false, List, [], ◌∷◌, length, slice_index, Option, Some, None}
 use mathlib.Core.Option.{some}
 use mathlib.Core.Option as maybe
 use lib.ListN.{get_elem?}
@@ -53,6 +53,11 @@ IsMarked w y = w < full → y ≡ None
 
 abbrev pub look_at : {B : Type 0} → ℕ → Option (Envelope B) → Look B
 look_at word found = record { word = word; found = found }
+
+-- a look that is kept only where nothing lay there
+abbrev pub look_if : {B : Type 0} → Bool → ℕ → List (Look B)
+look_if true word = look_at word None ∷ []
+look_if false word = []
 
 module _ {B L T : Type 0} where
   abbrev pub known : Spare → List (Look B) → List (View B L T) → Known B L T

@@ -4,7 +4,7 @@ ghost use Rattle.ether.specs.declared.fault.EtherFault.TheVariants.{Spent};
 ghost use Rattle.ether.specs.Passes.{IsHeard, IsOpenPass, IsPass, IsSent, IsUnopened, StaysOpen};
 ghost use Rattle.ether.specs.Passes.{WasStarted, IsOpen, looks_of, view_of};
 ghost use Rattle.ether.specs.Plays.{IsFrom, IsOlder, after_event, after_opening, after_post, after_take};
-ghost use Rattle.ether.specs.Rule.{look_at, mailbox_of};
+ghost use Rattle.ether.specs.Rule.{look_at, look_if, mailbox_of};
 ghost use Rattle.ether.specs.Plays.{opened, ticked};
 ghost use Rattle.raft_log.specs.Seen.{seen};
 ghost use Rattle.raft_node.specs.Parts.{keeper};
@@ -172,5 +172,20 @@ impl<M: Hosted> Ether<M> {
         let found = shared.swap::<Takes<W>>(&mut pass.seat, word, pass.spare);
         pass.spare = found % FULL;
         shared.exchange(&mut pass.seat, pass.spare as usize, None)
+    }
+
+    /// Whether nothing lies in the mailbox from the pass's node to the node at this place, from 0 on: what
+    /// was posted there last was taken. It is one load, and a look only where nothing lies there.
+    pub fn is_taken(&self, pass: &mut Pass<M::Command, M::Line, M::Target>, to: u64) -> bool
+        requires pass { IsPass self.now pass.old }
+        requires to { to < self.now.size }
+        ensures pass { IsPass self.now pass.new × (pass.new.node ≡ pass.old.node) }
+        ensures open { IsOpen pass.old → IsOpen pass.new }
+        ensures view { view_of pass.new ≡ view_of pass.old }
+        ensures looks { looks_of pass.new ≡ looks_of pass.old
+            ++ look_if result (mailbox_of self.now.size pass.old.node to) }
+    {
+        let mailbox = (pass.node * self.group.size.value() as u64 + to + 1) as usize;
+        self.table.shared.load::<Glances>(&mut pass.seat, mailbox) < FULL
     }
 }

@@ -9,6 +9,7 @@ use journal_store::{Disk, JournalStore};
 use stable_store::StoreFault;
 use std::alloc::Global;
 use std::fs::{File, Files};
+use std::io;
 use wire_bytes::Wire;
 
 /// A store in a journal over a file of the system.
@@ -41,6 +42,15 @@ pub fn adopt_or_make<B: Wire, D: Disk>(
     } else {
         JournalStore::adopt(alloc, disk)
     }
+}
+
+/// The most bytes of a journal in which nothing may be saved: those of an empty one, and of a first save that a
+/// crash cut off.
+const MOST_NEW: u64 = 64;
+
+/// Whether a journal's file is so short that nothing may be saved in it.
+pub fn may_be_new<B: Wire>(journal: &FileJournal<B>) -> io::Result<bool> {
+    Ok(journal.disk().file.metadata()?.len() <= MOST_NEW)
 }
 
 /// The store in the journal of a path, which is made where it is not there, or has at most 9 bytes, and

@@ -13,5 +13,5 @@ mod system_file;
 
 pub use disk_file::DiskFile;
 pub use file_disk::FileDisk;
-pub use journal::{FileJournal, adopt_or_make, open_journal};
+pub use journal::{FileJournal, adopt_or_make, may_be_new, open_journal};
 pub use open_fault::OpenFault;

@@ -7,8 +7,11 @@ use crate::open_fault::OpenFault;
 use std::fs::{self, File, Files, OpenOptions, TryLockError};
 use std::io;
 use std::os::fd::AsRawFd;
-use std::os::unix::fs::FileExt;
+use std::os::unix::fs::{FileExt, OpenOptionsExt};
 use std::path::Path;
+
+/// Nobody but its owner reads a journal.
+const OWNERS: u32 = 0o600;
 
 /// Each call is one of the system's, of which nothing is known.
 impl DiskFile for File {
@@ -49,6 +52,7 @@ impl FileDisk<File> {
             .read(true)
             .write(true)
             .create(true)
+            .mode(OWNERS)
             .open(rt, path)?;
         // what is printed to a standard stream that was closed must not land in the file
         if file.as_raw_fd() <= 2 {

@@ -160,7 +160,7 @@ module _ (M : Machine) (marked : M.Body → Option Mark) {Setup Hosted Store U :
           ap (λ (v : ViewOf M). v.node) (is.view ∙ posts_are (after_event M (view_in c) is.ticket e) c.sent is.count)
 
       -- a turn that was done: what stood before, and what stands after it
-      pub turn_keeps : (x : NodeInput M.Body M.Line) (output : TurnOutput M.Effect) (p q : NodeState M.Body) (node before asked' : ℕ) → IsTurn M tally c x output d
+      pub turn_keeps : (x : NodeInput M.Body M.Line) (output : TurnOutput M.Body M.Effect) (p q : NodeState M.Body) (node before asked' : ℕ) → IsTurn M tally c x output d
           → ((view_in c).honest ≡ true → c.phase ≡ Up → IsIn p (view_in c).state) → before ≡ p.standing.applied
           → ((view_in d).honest ≡ true → d.phase ≡ Up → IsIn q (view_in d).state) → node ≡ suc (view_in d).node
           → asked' ≡ larger asked (asks marked x) → Kept M marked (view_in d) asked' (reached_after marked node before q reached)
@@ -237,7 +237,7 @@ module _ (M : Machine) (marked : M.Body → Option Mark) {Setup Hosted Store U :
 
   module _ (c b d : CellOf M Setup Hosted Store U) (asked : ℕ) (reached : Option ℕ) (h : Kept M marked (view_in c) asked reached) (tally : U → Tally) (from : ℕ) where
     -- what was taken was turned
-    turned_some : (came : Option (Envelope M.Body)) (output : TurnOutput M.Effect) → HasTakenIn c from came b → HasHeardIn M tally b came (Ok (Some output)) d
+    turned_some : (came : Option (Envelope M.Body)) (output : TurnOutput M.Body M.Effect) → HasTakenIn c from came b → HasHeardIn M tally b came (Ok (Some output)) d
         → (p q : NodeState M.Body) (node before : ℕ) → ((view_in c).honest ≡ true → c.phase ≡ Up → IsIn p (view_in c).state) → before ≡ p.standing.applied
         → ((view_in d).honest ≡ true → d.phase ≡ Up → IsIn q (view_in d).state) → node ≡ suc (view_in d).node → Kept M marked (view_in d) asked (reached_after marked node before q reached)
     turned_some None output taken is p q node before was before_is now node_is = absurd is
@@ -256,7 +256,7 @@ module _ (M : Machine) (marked : M.Body → Option Mark) {Setup Hosted Store U :
         no_turn_keeps b d asked reached (taken_keeps c b asked reached h from (Some e) taken) tally (Deliver e) fault asked is (λ y. no_larger M marked asked) (λ n. refl)
 
   module _ (c d : CellOf M Setup Hosted Store U) (asked : ℕ) (reached : Option ℕ) (h : Kept M marked (view_in c) asked reached) (tally : U → Tally) (from : ℕ) where
-    pub delivered_keeps : (output : TurnOutput M.Effect) → HasDelivered M tally c from (Ok (Some output)) d
+    pub delivered_keeps : (output : TurnOutput M.Body M.Effect) → HasDelivered M tally c from (Ok (Some output)) d
         → (p q : NodeState M.Body) (node before : ℕ) → ((view_in c).honest ≡ true → c.phase ≡ Up → IsIn p (view_in c).state) → before ≡ p.standing.applied
         → ((view_in d).honest ≡ true → d.phase ≡ Up → IsIn q (view_in d).state) → node ≡ suc (view_in d).node → Kept M marked (view_in d) asked (reached_after marked node before q reached)
     delivered_keeps output is = turned_some c is.between d asked reached h tally from is.came output is.taken is.turned

@@ -12,6 +12,7 @@ use Rattle.node_cells.specs.declared.record.TurnOutput.{TurnOutput}
 use Rattle.node_cells.specs.Cells.{view_in}
 use Rattle.node_cells.specs.Turns.{CellOf, HasLooked, IsNoTurn, IsTurn}
 use Rattle.node_cells.specs.Upstreams.{Tally}
+use Rattle.marked_cells.specs.declared.mark_turn.MarkTurn.{MarkTurn}
 use Rattle.marked_cells.specs.Marks.{asked_in, has_applied}
 
 module _ (M : Machine) {Setup Hosted Store U : Type 0} where
@@ -41,11 +42,10 @@ module _ (M : Machine) {Setup Hosted Store U : Type 0} where
 
       module _ (mark : Mark → M.Body) where
         -- The node asked for a mark. Its number is one more than the greatest that its run asked, and its run is the view's.
-        pub record IsMarked (c : CellOf M Setup Hosted Store U) (number : ℕ) (d : CellOf M Setup Hosted Store U) : Type 0 where
+        pub record IsMarked (c : CellOf M Setup Hosted Store U) (number : ℕ) (output : TurnOutput M.Body M.Effect) (d : CellOf M Setup Hosted Store U) : Type 0 where
           pub next : number ≡ suc (asked_in marked (view_in c))
           pub few : number ≤ 2 ^ 60
           pub own : (view_in c).honest ≡ true → c.node.state.standing.boot ≡ (view_in c).state.boot
-          pub output : TurnOutput M.Effect
           pub turn : IsTurn M tally c (Ask (mark (own_mark c number))) output d
 
         -- There is no further number, or there are no more turns, and nothing changes; else the turn that asks for the next mark gives nothing.
@@ -55,6 +55,6 @@ module _ (M : Machine) {Setup Hosted Store U : Type 0} where
         IsNotMarked c (OfNode fault) d = IsNoTurn M tally c (Ask (mark (own_mark c (suc (asked_in marked (view_in c)))))) (OfNode fault) d
 
         -- by what an asking for a mark answers
-        abbrev pub HasMarked : CellOf M Setup Hosted Store U → Result ℕ CellFault → CellOf M Setup Hosted Store U → Type 0
-        HasMarked c (Ok number) d = IsMarked c number d
+        abbrev pub HasMarked : CellOf M Setup Hosted Store U → Result (MarkTurn M.Body M.Effect) CellFault → CellOf M Setup Hosted Store U → Type 0
+        HasMarked c (Ok asked) d = IsMarked c asked.number asked.output d
         HasMarked c (Err fault) d = IsNotMarked c fault d

@@ -9,11 +9,12 @@ ghost use Rattle.world_views.specs.Laws.{AreOfOneGroup};
 ghost use Rattle.world_views.specs.Views.{carries};
 ghost use Rattle.node_cells.specs.declared.phase.Phase.TheVariants.{Up};
 ghost use Rattle.node_cells.specs.Cells.{HasHeard, IsIn, view_in};
-ghost use Rattle.node_cells.specs.Openings.{HasOpened, HasTakenIn, IsClosed, IsSameCell};
+ghost use Rattle.node_cells.specs.Openings.{HasOpened, HasSeenTo, HasTakenIn, IsClosed, IsSameCell};
 ghost use Rattle.node_cells.specs.Restarts.{HasRestarted};
 ghost use Rattle.node_cells.specs.Turns.{HasDelivered, HasLooked, HasTurned};
 ghost use Rattle.marked_cells.specs.Marking.{HasLookedAfter, HasMarked};
 
+use crate::mark_turn::MarkTurn;
 use crate::reaching::{asks, is_reached, is_refusal, larger, reached_after};
 use body_marks::Marking;
 use ether::{Ether, Pass};
@@ -85,7 +86,7 @@ impl<M: Marking, S: Stable<M::Command>, U: Upstream> MarkedCell<M, S, U> {
     pub fn turn(
         &mut self,
         input: NodeInput<M::Command, M::Line>,
-    ) -> Result<TurnOutput<M::Effect>, CellFault>
+    ) -> Result<TurnOutput<M::Command, M::Effect>, CellFault>
         requires heard { HasHeard (view_in self.old.parts) (carries input) }
         ensures turn { HasTurned (⟦<M as Described>⟧.machine self.old.parts.ether.setup) U.tally
             self.old.parts input result self.new.parts }
@@ -108,10 +109,10 @@ impl<M: Marking, S: Stable<M::Command>, U: Upstream> MarkedCell<M, S, U> {
         }
     }
 
-    /// Asks for the next mark of this run, one more than the greatest that it asked, and answers its number. A mark
+    /// Asks for the next mark of this run, one more than the greatest that it asked, and answers its number and what came of the turn. A mark
     /// that the node refuses to ask for, as where it knows no leader, was asked all the same: its number is used up.
     /// `Spent` where the number would pass 2^60, too. A mark that was asked for may still be lost on its way.
-    pub fn mark(&mut self) -> Result<u64, CellFault>
+    pub fn mark(&mut self) -> Result<MarkTurn<M::Command, M::Effect>, CellFault>
         ensures { HasMarked (⟦<M as Described>⟧.machine self.old.parts.ether.setup) U.tally
             M.marked M.mark self.old.parts result self.new.parts }
     {
@@ -126,7 +127,7 @@ impl<M: Marking, S: Stable<M::Command>, U: Upstream> MarkedCell<M, S, U> {
             number: Number::new(number),
         };
         match self.turn(NodeInput::Ask(M::mark(mark))) {
-            Ok(_output) => Ok(number),
+            Ok(output) => Ok(MarkTurn { number, output }),
             Err(fault) => Err(fault),
         }
     }
@@ -171,9 +172,21 @@ impl<M: Marking, S: Stable<M::Command>, U: Upstream> MarkedCell<M, S, U> {
         self.cell.take(from)
     }
 
+    /// Whether what this node posted last to the node at this place, from 0 on, was taken, as that of a
+    /// `NodeCell`.
+    pub fn is_taken(&mut self, to: u64) -> bool
+        requires { to < self.old.parts.ether.size }
+        ensures { HasSeenTo self.old.parts to result self.new.parts }
+    {
+        self.cell.is_taken(to)
+    }
+
     /// Takes what lies in the mailbox from the node at this place, from 0 on, and turns its delivery.
     /// Nothing where nothing lies there.
-    pub fn deliver(&mut self, from: u64) -> Result<Option<TurnOutput<M::Effect>>, CellFault>
+    pub fn deliver(
+        &mut self,
+        from: u64,
+    ) -> Result<Option<TurnOutput<M::Command, M::Effect>>, CellFault>
         requires { from < self.old.parts.ether.size }
         ensures { HasDelivered (⟦<M as Described>⟧.machine self.old.parts.ether.setup) U.tally
             self.old.parts from result self.new.parts }

@@ -1,4 +1,5 @@
 //! Nodes that run in threads, by rows.
+mod bursts;
 mod client;
 mod clusters;
 mod confirming;

@@ -1,5 +1,5 @@
 -- Loops over messages, effects, restarts and terms.
-use Rattle.std.proofs.Common.{◌≡◌, ℕ, suc, ◌+◌, ◌*◌, ◌<◌, ◌≤◌, ◌^◌, inl, inr, Bool, true, false, cond, eqb, eq-eqb, List, [], ◌∷◌, ◌++◌, map, length, refl, sym, ap, ◌∙◌, subst, arith, append-nil, append_assoc, length-append}
+use Rattle.std.proofs.Common.{◌≡◌, ℕ, suc, ◌+◌, ◌*◌, ◌<◌, ◌≤◌, ◌^◌, inl, inr, Bool, true, false, cond, eqb, eq-eqb, List, [], ◌∷◌, ◌++◌, Option, Some, None, option_to_list, map, length, refl, sym, ap, ◌∙◌, subst, arith, append-nil, append_assoc, length-append}
 use Rattle.std.proofs.lemmas.Bool.{cond_both, eqb-true}
 use Rattle.std.proofs.lemmas.List.{map-append}
 use Rattle.raft_log.specs.declared.entry.Entry.{Entry}
@@ -9,17 +9,19 @@ use Rattle.raft_node.specs.Machine.{Machine}
 use Rattle.raft_node.specs.Steps.{Quiet}
 use Rattle.world_run.specs.declared.outcome.Outcome.TheVariants as outcome
 use Rattle.world_views.specs.declared.node_event.NodeEvent.TheVariants.{Restart}
+use Rattle.world_views.specs.declared.envelope.Envelope.{Envelope}
 use Rattle.world_views.specs.Own.{TurnOf, ViewOf, own_out}
+use Rattle.world_views.specs.Views.{View}
 use Rattle.ether.specs.Passes.{view_of}
-use Rattle.ether.specs.Plays.{after_event}
+use Rattle.ether.specs.Plays.{IsOlder, after_event}
 use Rattle.node_cells.specs.declared.record.Recording.{Recording}
 use Rattle.node_cells.specs.Books.{HasNoted, HasPosted, IsBook, NotedOf, noted, recorded_by, room_for}
-use Rattle.node_cells.specs.Posts.{posts_from}
+use Rattle.node_cells.specs.Posts.{GaveBack, MayGiveBack, posts_from}
 use Rattle.node_cells.specs.Remembering.{same_terms}
 use Rattle.node_cells.specs.Restarts.{AreRestarts, HasRestarts, after_turns, silent}
-use Rattle.node_cells.specs.Sending.{AreWithin, StandFrom, terms_of}
+use Rattle.node_cells.specs.Sending.{AreWithin, StandFrom, terms_of, to_of}
 use Rattle.node_cells.specs.Upstreams.{HandsOut, Numbered, Tally, failed, taken}
-use Rattle.node_cells.proofs.Recorded.{Book, recorded-append, recorded-nil, room-left, room-more, room-none}
+use Rattle.node_cells.proofs.Recorded.{Book, posts_are, recorded-append, recorded-nil, room-left, room-more, room-none}
 
 -- ---- hands
 
@@ -87,6 +89,66 @@ module _ (M : Machine) {Setup : Type 0} where
           room = h.room;
         },
       )
+
+-- ---- what posts give back
+
+module _ {B L T : Type 0} where
+  pub older_given : (v : View B L T) (e : Envelope B) (o : Option (Envelope B)) → IsOlder v e o → MayGiveBack v e.message.to o
+  older_given v e None h = tt
+  older_given v e (Some old) h = ((h.0, h.2), h.1)
+
+  -- one post more, behind which these came back
+  pub gives_more : (v : View B L T) (to : ℕ) (more : List ℕ) (o : Option (Envelope B)) (es : List (Envelope B)) → MayGiveBack v to o → GaveBack v more es
+      → GaveBack v (to ∷ more) (option_to_list o ++ es)
+  gives_more v to more None [] may h = tt
+  gives_more v to more None (e ∷ es) may h = inr h
+  gives_more v to more (Some o) es may h = inl (may, h)
+
+  -- the same, by the view after some posts
+  pub given_behind : (v : View B L T) (n k to : ℕ) (o : Option (Envelope B)) → MayGiveBack (posts_from v n k) to o → MayGiveBack v to o
+  given_behind v n k to o h = by_one o (subst (λ (w : View B L T). MayGiveBack w to o) (posts_are v n k) h)
+    where
+      by_one : (o : Option (Envelope B)) → MayGiveBack (record v { posted = (posts_from v n k).posted }) to o → MayGiveBack v to o
+      by_one None h = tt
+      by_one (Some e) h = h
+
+  pub given_ahead : (v : View B L T) (n k to : ℕ) (o : Option (Envelope B)) → MayGiveBack v to o → MayGiveBack (posts_from v n k) to o
+  given_ahead v n k to o h = subst (λ (w : View B L T). MayGiveBack w to o) (sym (posts_are v n k)) (by_one o h)
+    where
+      by_one : (o : Option (Envelope B)) → MayGiveBack v to o → MayGiveBack (record v { posted = (posts_from v n k).posted }) to o
+      by_one None h = tt
+      by_one (Some e) h = h
+
+  pub gave_behind : (v : View B L T) (posted : List ℕ) (tos : List ℕ) (es : List (Envelope B)) → GaveBack v tos es → GaveBack (record v { posted = posted }) tos es
+  gave_behind v posted [] [] h = tt
+  gave_behind v posted [] (e ∷ es) h = absurd h
+  gave_behind v posted (to ∷ tos) [] h = tt
+  gave_behind v posted (to ∷ tos) (e ∷ es) (inl h) = inl (h.0, gave_behind v posted tos es h.1)
+  gave_behind v posted (to ∷ tos) (e ∷ es) (inr h) = inr (gave_behind v posted tos (e ∷ es) h)
+
+  -- what came back so far, behind which what the further posts give back may come
+  pub record Giving (v : View B L T) (all rest : List (Message B)) (olds : List (Envelope B)) : Type 0 where
+    pub gives : (es : List (Envelope B)) → GaveBack v (map to_of rest) es → GaveBack v (map to_of all) (olds ++ es)
+
+  pub giving_first : (v : View B L T) (all : List (Message B)) (olds : List (Envelope B)) → olds ≡ [] → Giving v all all olds
+  giving_first v all olds none = record { gives = λ es h. subst (λ (l : List (Envelope B)). GaveBack v (map to_of all) (l ++ es)) (sym none) h }
+
+  pub giving_next : (v : View B L T) (all : List (Message B)) (m : Message B) (rest : List (Message B)) (olds : List (Envelope B)) (o : Option (Envelope B)) (news : List (Envelope B))
+      → Giving v all (m ∷ rest) olds → MayGiveBack v m.to o → news ≡ olds ++ option_to_list o → Giving v all rest news
+  giving_next v all m rest olds o news h may is =
+      record {
+        gives = λ es g. subst (λ (l : List (Envelope B)). GaveBack v (map to_of all) l) (sym (append_assoc olds (option_to_list o) es) ∙ ap (λ (l : List (Envelope B)). l ++ es) (sym is))
+            (h.gives (option_to_list o ++ es) (gives_more v m.to (map to_of rest) o es may g));
+      }
+
+  pub giving_done : (v : View B L T) (all rest : List (Message B)) (olds : List (Envelope B)) → Giving v all rest olds → rest ≡ [] → GaveBack v (map to_of all) olds
+  giving_done v all rest olds h none = subst (λ (l : List (Envelope B)). GaveBack v (map to_of all) l) (append-nil olds) (h.gives [] (subst (λ (l : List (Message B)). GaveBack v (map to_of l) []) (sym none) tt))
+
+module _ (M : Machine) {Setup : Type 0} where
+  -- by the book after some posts, and so by the one before them
+  pub given_first : (b0 b : Book M Setup) (all rest : List (Message M.Body)) (to : ℕ) (o : Option (Envelope M.Body)) → Posting M b0 b all rest → MayGiveBack (view_of b.pass) to o → MayGiveBack (view_of b0.pass) to o
+  given_first b0 b all rest to o h may =
+      given_behind (view_of b0.pass) b0.sent (length all) to o (subst (λ (w : ViewOf M). MayGiveBack w to o) h.view (given_ahead (view_of b.pass) b.sent (length rest) to o may))
 
 -- ---- restarts
 

@@ -30,10 +30,11 @@ use Rattle.node_cells.specs.declared.phase.Phase.TheVariants.{Up, DownInTurn}
 use Rattle.node_cells.specs.declared.record.TurnOutput.{TurnOutput}
 use Rattle.node_cells.specs.Books.{HasNoted, HasPosted, IsBook, OutcomeOf}
 use Rattle.node_cells.specs.Cells.{HasHeard, IsCell, IsIn, Shows, after_input, brought, cell_of}
-use Rattle.node_cells.specs.Posts.{posts_from}
 use Rattle.node_cells.specs.Sending.{AreWithin, KnowsOneOf, StandFrom, to_of}
 use Rattle.node_cells.specs.Turns.{CellOf, FallsInTurn, IsEvent, IsGiven, IsTurn}
 use Rattle.node_cells.specs.Upstreams.{HandsOut, Tally}
+use Rattle.node_cells.specs.Posts.{GaveBack, posts_from}
+use Rattle.node_cells.proofs.Looping.{gave_behind}
 use Rattle.node_cells.proofs.Recorded.{Book, posts_are}
 use Rattle.node_cells.proofs.Showing.{Inner, Stepped, Still, downed, is_up, stepped, stand_behind}
 
@@ -99,6 +100,9 @@ module _ (M : Machine) {Setup Hosted Store U : Type 0} (k : Keeper Store M.Body)
 
         pub goes_within : AreWithin (suc b1.pass.node) b1.ether.size output.messages.items
         goes_within = subst (λ (z : ℕ × ℕ). AreWithin (suc z.0) z.1 output.messages.items) (λ d. (sym noted.node d, (sym noted.ether d).size)) facts.within
+
+        pub few_sent : length output.messages.items ≤ 7
+        few_sent = let few = facts.few in omega (arith, few)
 
         pub few_posts : b1.sent + length output.messages.items ≤ 7 * length (view_of b1.pass).turns
         few_posts =
@@ -177,15 +181,17 @@ module _ (M : Machine) {Setup Hosted Store U : Type 0} (k : Keeper Store M.Body)
                     is_up = up;
                   }
 
-              pub turn_is : (given' : TurnOutput M.Effect) → given'.place ≡ output.place → given'.effects ≡ output.effects → given'.posted_to.items ≡ map to_of output.messages.items
-                  → IsTurn M tally c x given' e
-              turn_is given' place effects to =
+              pub turn_is : (given' : TurnOutput M.Body M.Effect) → given'.place ≡ output.place → given'.effects ≡ output.effects → given'.posted_to.items ≡ map to_of output.messages.items
+                  → GaveBack (view_of b1.pass) (map to_of output.messages.items) given'.replaced.items → IsTurn M tally c x given' e
+              turn_is given' place effects to gave =
                   record {
                     outcome = o;
                     event = event;
                     gives = given_out M output.place output.effects.items o given_o ∙ (λ d. given {M = M} (sym place d) (sym effects d).items);
                     posts = λ honest. to ∙ ap (λ (l : List (Message M.Body)). map to_of l)
                         (sym (ap (λ (s : Node M.Body). drop (length v.state.sent) s.sent) (state_2 honest) ∙ drop-append_seam v.state.sent output.messages.items));
+                    replaced = subst (λ (z : ViewOf M × List ℕ). GaveBack z.0 z.1 given'.replaced.items)
+                        (λ d. (sym (posted.view ∙ posts_are (view_of b1.pass) b1.sent (length output.messages.items)) d, sym to d)) (gave_behind (view_of b1.pass) (posts_from (view_of b1.pass) b1.sent (length output.messages.items)).posted _ _ gave);
                   }
 
       -- the step was done, and its output found no memory

@@ -1,5 +1,5 @@
 -- What a cell keeps beside its node: its pass at the ether, and the record of its turns.
-use Rattle.std.specs.Prelude.{◌≡◌, ◌*◌, ◌+◌, ◌^◌, ◌<◌, ◌≤◌, ℕ, true, List, [], ◌∷◌, ◌++◌, length, map, Option}
+use Rattle.std.specs.Prelude.{◌≡◌, ◌*◌, ◌+◌, ◌^◌, ◌<◌, ◌≤◌, ℕ, Bool, true, List, [], ◌∷◌, ◌++◌, length, map, Option}
 use Rattle.raft_node.specs.Machine.{Machine}
 use Rattle.world_run.specs.declared.outcome.Outcome.{Outcome}
 use Rattle.world_run.specs.Told.{out_of}
@@ -10,7 +10,7 @@ use Rattle.raft_node.specs.Steps.{Out}
 use Rattle.ether.specs.declared.pass.Pass.{Pass}
 use Rattle.ether.specs.Passes.{EtherParts, IsOpenPass, looks_of, view_of}
 use Rattle.ether.specs.Plays.{after_event, after_take}
-use Rattle.ether.specs.Rule.{look_at, mailbox_of}
+use Rattle.ether.specs.Rule.{look_at, look_if, mailbox_of}
 use Rattle.world_views.specs.declared.envelope.Envelope.{Envelope}
 use Rattle.node_cells.specs.declared.cell_fault.CellFault.{CellFault}
 use Rattle.node_cells.specs.declared.cell_fault.CellFault.TheVariants.{Memory, Spent, Node as OfNode}
@@ -139,6 +139,16 @@ module _ {Setup B L T E P : Type 0} where
   pub record HasTaken (old : BookParts Setup B L T E P) (from : ℕ) (came : Option (Envelope B)) (new : BookParts Setup B L T E P) : Type 0 where
     pub view : view_of new.pass ≡ after_take (view_of old.pass) came
     pub looks : looks_of new.pass ≡ looks_of old.pass ++ look_at (mailbox_of old.ether.size from old.pass.node) came ∷ []
+    pub recording : new.recording ≡ old.recording
+    pub turns : new.turns ≡ old.turns
+    pub ether : new.ether ≡ old.ether
+    pub node : new.pass.node ≡ old.pass.node
+    pub sent : new.sent ≡ old.sent
+
+  -- a look into its own mailbox to the node at this place, kept where nothing lay there
+  pub record HasSeen (old : BookParts Setup B L T E P) (to : ℕ) (taken : Bool) (new : BookParts Setup B L T E P) : Type 0 where
+    pub view : view_of new.pass ≡ view_of old.pass
+    pub looks : looks_of new.pass ≡ looks_of old.pass ++ look_if taken (mailbox_of old.ether.size old.pass.node to)
     pub recording : new.recording ≡ old.recording
     pub turns : new.turns ≡ old.turns
     pub ether : new.ether ≡ old.ether

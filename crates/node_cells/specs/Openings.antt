@@ -1,5 +1,5 @@
 -- How a cell is opened, what it takes, and what it leaves.
-use Rattle.std.specs.Prelude.{◌≡◌, ◌++◌, ◌∷◌, ℕ, suc, true, [], Option, Result, Ok, Err}
+use Rattle.std.specs.Prelude.{◌≡◌, ◌++◌, ◌∷◌, ℕ, suc, Bool, true, [], Option, Result, Ok, Err}
 use Rattle.raft_log.specs.Seen.{seen}
 use Rattle.raft_node.specs.Machine.{Machine}
 use Rattle.raft_node.specs.Parts.{Keeper}
@@ -9,7 +9,7 @@ use Rattle.world_views.specs.declared.envelope.Envelope.{Envelope}
 use Rattle.ether.specs.declared.pass.Pass.{Pass}
 use Rattle.ether.specs.Passes.{EtherParts, looks_of, view_of}
 use Rattle.ether.specs.Plays.{after_opening, after_take}
-use Rattle.ether.specs.Rule.{look_at, mailbox_of}
+use Rattle.ether.specs.Rule.{look_at, look_if, mailbox_of}
 use Rattle.node_cells.specs.declared.cell_fault.CellFault.{CellFault}
 use Rattle.node_cells.specs.declared.cell_fault.CellFault.TheVariants.{Memory, Spent, Node as OfNode}
 use Rattle.node_cells.specs.declared.phase.Phase.TheVariants.{Up}
@@ -56,6 +56,12 @@ module _ {Setup Hosted Store B L T E P U : Type 0} where
   pub record HasTakenIn (c : CellParts Setup Hosted Store B L T E P U) (from : ℕ) (came : Option (Envelope B)) (d : CellParts Setup Hosted Store B L T E P U) : Type 0 where
     pub view : view_in d ≡ after_take (view_in c) came
     pub looks : looks_of d.pass ≡ looks_of c.pass ++ look_at (mailbox_of c.ether.size from c.pass.node) came ∷ []
+    pub same : IsSameBeside c d
+
+  -- one look into its own mailbox to the node at this place, kept where nothing lay there
+  pub record HasSeenTo (c : CellParts Setup Hosted Store B L T E P U) (to : ℕ) (taken : Bool) (d : CellParts Setup Hosted Store B L T E P U) : Type 0 where
+    pub view : view_in d ≡ view_in c
+    pub looks : looks_of d.pass ≡ looks_of c.pass ++ look_if taken (mailbox_of c.ether.size c.pass.node to)
     pub same : IsSameBeside c d
 
   -- the cell is as it was

@@ -26,7 +26,7 @@ use Rattle.world_views.specs.declared.envelope.Envelope.{Envelope}
 use Rattle.node_cells.specs.Openings.{HasTakenIn}
 use Rattle.node_cells.specs.Books.{OutcomeOf, noted, recorded_by}
 use Rattle.node_cells.specs.Cells.{CellParts, view_in}
-use Rattle.node_cells.specs.Posts.{posts_from}
+use Rattle.node_cells.specs.Posts.{GaveBack, posts_from}
 use Rattle.node_cells.specs.Sending.{to_of}
 use Rattle.node_cells.specs.Upstreams.{HandsOut, Tally}
 
@@ -96,12 +96,13 @@ module _ (M : Machine) {Setup Hosted Store U : Type 0} where
       pub was_up : c.phase ≡ Up
       pub is_up : d.phase ≡ Up
 
-    -- what a turn gives: the place that was applied with its effects, as they are recorded, and to whom it posted
-    pub record IsTurn (c : CellOf M Setup Hosted Store U) (x : NodeInput M.Body M.Line) (output : TurnOutput M.Effect) (d : CellOf M Setup Hosted Store U) : Type 0 where
+    -- what a turn gives: the place that was applied with its effects, as they are recorded, and to whom it posted, and what the posts gave back
+    pub record IsTurn (c : CellOf M Setup Hosted Store U) (x : NodeInput M.Body M.Line) (output : TurnOutput M.Body M.Effect) (d : CellOf M Setup Hosted Store U) : Type 0 where
       pub outcome : OutcomeOf M
       pub event : IsEvent c (Does x) outcome d
       pub gives : out_of M outcome ≡ given output.place output.effects.items
       pub posts : (view_in c).honest ≡ true → output.posted_to.items ≡ map to_of (drop (length (view_in c).state.sent) (view_in d).state.sent)
+      pub replaced : GaveBack (view_in d) output.posted_to.items output.replaced.items
 
     -- A turn that gives nothing. Where there is no room, or no more tickets, nothing changes; a refusal is an event; else the node is down.
     abbrev pub IsNoTurn : CellOf M Setup Hosted Store U → NodeInput M.Body M.Line → CellFault → CellOf M Setup Hosted Store U → Type 0
@@ -111,7 +112,7 @@ module _ (M : Machine) {Setup Hosted Store U : Type 0} where
     IsNoTurn c x (OfNode (Down cause)) d = FallsInTurn c x d ⊎ WasDown c d
 
     -- by what a turn answers
-    abbrev pub HasTurned : CellOf M Setup Hosted Store U → NodeInput M.Body M.Line → Result (TurnOutput M.Effect) CellFault → CellOf M Setup Hosted Store U → Type 0
+    abbrev pub HasTurned : CellOf M Setup Hosted Store U → NodeInput M.Body M.Line → Result (TurnOutput M.Body M.Effect) CellFault → CellOf M Setup Hosted Store U → Type 0
     HasTurned c x (Ok output) d = IsTurn c x output d
     HasTurned c x (Err fault) d = IsNoTurn c x fault d
 
@@ -136,7 +137,7 @@ module _ (M : Machine) {Setup Hosted Store U : Type 0} where
     HasLooked c from_place target (Err fault) d = IsNoLook c from_place target fault d
 
     -- what lay in a mailbox was turned, if something did
-    abbrev pub HasHeardIn : CellOf M Setup Hosted Store U → Option (Envelope M.Body) → Result (Option (TurnOutput M.Effect)) CellFault → CellOf M Setup Hosted Store U → Type 0
+    abbrev pub HasHeardIn : CellOf M Setup Hosted Store U → Option (Envelope M.Body) → Result (Option (TurnOutput M.Body M.Effect)) CellFault → CellOf M Setup Hosted Store U → Type 0
     HasHeardIn c None (Ok None) d = d ≡ c
     HasHeardIn c None (Ok (Some output)) d = ⊥
     HasHeardIn c None (Err fault) d = ⊥
@@ -145,7 +146,7 @@ module _ (M : Machine) {Setup Hosted Store U : Type 0} where
     HasHeardIn c (Some e) (Err fault) d = IsNoTurn c (Deliver e) fault d
 
     -- One look into a mailbox, and a turn of what lay there.
-    pub record HasDelivered (c : CellOf M Setup Hosted Store U) (from : ℕ) (result : Result (Option (TurnOutput M.Effect)) CellFault) (d : CellOf M Setup Hosted Store U) : Type 0 where
+    pub record HasDelivered (c : CellOf M Setup Hosted Store U) (from : ℕ) (result : Result (Option (TurnOutput M.Body M.Effect)) CellFault) (d : CellOf M Setup Hosted Store U) : Type 0 where
       pub came : Option (Envelope M.Body)
       pub between : CellOf M Setup Hosted Store U
       pub taken : HasTakenIn c from came between

@@ -1,11 +1,12 @@
 //! What a cell keeps beside its node.
-ghost use Rattle.std.specs.Prelude.{◌≡◌, ◌≤◌, ◌<◌, ◌+◌, ◌*◌, ◌^◌, ◌↔◌, IsTrue, OnOk, OnErr, suc, true, [], ◌∷◌, length, MatchResult};
+ghost use Rattle.std.specs.Prelude.{◌≡◌, ◌≤◌, ◌<◌, ◌+◌, ◌*◌, ◌^◌, ◌↔◌, IsTrue, OnOk, OnErr, suc, true, [], ◌∷◌, length, map, MatchResult, vec_capacity, vec_len};
 ghost use Rattle.ether.specs.Passes.{IsHeard, view_of};
 ghost use Rattle.ether.specs.Plays.{IsFrom};
-ghost use Rattle.node_cells.specs.Books.{HasKept, HasNoRoom, HasNoted, HasPosted, HasRoom, HasTaken, IsBook, IsSameBook, room_for};
+ghost use Rattle.node_cells.specs.Books.{HasKept, HasNoRoom, HasNoted, HasPosted, HasRoom, HasTaken, IsBook, IsSameBook, HasSeen, room_for};
+ghost use Rattle.node_cells.specs.Posts.{GaveBack, MayGiveBack};
 ghost use Rattle.node_cells.specs.Restarts.{HasRestarts};
 ghost use Rattle.world_views.specs.Laws.{AreOfOneGroup};
-ghost use Rattle.node_cells.specs.Sending.{AreWithin, StandFrom};
+ghost use Rattle.node_cells.specs.Sending.{AreWithin, StandFrom, to_of};
 ghost use Rattle.world_run.specs.Told.{out_of};
 ghost use Rattle.world_views.specs.Own.{own_out};
 
@@ -124,25 +125,36 @@ impl<M: Hosted> Book<M> {
         }
     }
 
-    /// Posts what the node sent. An older message that lay there is lost.
-    pub fn post_all(&mut self, messages: Vec<Message<M::Command>>)
+    /// Posts what the node sent. The older messages that lay there are put behind those in `replaced`.
+    pub fn post_all(
+        &mut self,
+        messages: Vec<Message<M::Command>>,
+        replaced: &mut Vec<Envelope<M::Command>>,
+    )
         requires book { IsBook (⟦<M as Described>⟧.machine self.old.ether.setup) self.old }
         requires within { AreWithin (suc self.old.pass.node) self.old.ether.size messages.items }
         requires stand { (view_of self.old.pass).honest ≡ true
             → StandFrom (view_of self.old.pass).state.sent self.old.sent messages.items }
         requires few { self.old.sent + length messages.items
             ≤ 7 * length (view_of self.old.pass).turns }
+        requires vacant { replaced.old.items ≡ [] }
+        requires room { vec_len replaced.old + length messages.items ≤ vec_capacity replaced.old }
         ensures book { IsBook (⟦<M as Described>⟧.machine self.old.ether.setup) self.new }
         ensures posted { HasPosted (⟦<M as Described>⟧.machine self.old.ether.setup) self.old
             (length messages.items) self.new }
+        ensures replaced { GaveBack (view_of self.old.pass) (map to_of messages.items)
+            replaced.new.items }
     {
         for message in messages {
-            self.post(message);
+            if let Some(older) = self.post(message) {
+                replaced.push_reserved(older);
+            }
         }
     }
 
-    /// Posts a message that the node sent, with the next number.
-    fn post(&mut self, message: Message<M::Command>)
+    /// Posts a message that the node sent, with the next number. The older message that lay there comes
+    /// back.
+    fn post(&mut self, message: Message<M::Command>) -> Option<Envelope<M::Command>>
         requires book { IsBook (⟦<M as Described>⟧.machine self.old.ether.setup) self.old }
         requires within { AreWithin (suc self.old.pass.node) self.old.ether.size (message ∷ []) }
         requires stand { (view_of self.old.pass).honest ≡ true
@@ -151,11 +163,22 @@ impl<M: Hosted> Book<M> {
         ensures book { IsBook (⟦<M as Described>⟧.machine self.old.ether.setup) self.new }
         ensures posted { HasPosted (⟦<M as Described>⟧.machine self.old.ether.setup) self.old 1
             self.new }
+        ensures older { MayGiveBack (view_of self.old.pass) message.to result }
     {
         self.sent += 1;
         let number = self.sent;
         let envelope = Envelope { number, message };
-        let _older = self.ether.post(&mut self.pass, envelope);
+        self.ether.post(&mut self.pass, envelope)
+    }
+
+    /// Whether nothing lies in the mailbox to the node at this place, from 0 on. It looks once.
+    pub fn is_taken(&mut self, to: u64) -> bool
+        requires book { IsBook (⟦<M as Described>⟧.machine self.old.ether.setup) self.old }
+        requires to { to < self.old.ether.size }
+        ensures book { IsBook (⟦<M as Described>⟧.machine self.old.ether.setup) self.new }
+        ensures seen { HasSeen self.old to result self.new }
+    {
+        self.ether.is_taken(&mut self.pass, to)
     }
 
     /// Takes what lies in the mailbox from the node at this place, from 0 on. It looks once.

@@ -1,12 +1,12 @@
 //! A node with its pass, its record, and where its lines go.
-ghost use Rattle.std.specs.Prelude.{◌≡◌, ◌<◌, ◌≤◌, ◌^◌, suc, length, map, IfOk};
+ghost use Rattle.std.specs.Prelude.{◌≡◌, ◌<◌, ◌≤◌, ◌^◌, ◌+◌, suc, [], length, map, IfOk, vec_capacity, vec_len};
 ghost use Rattle.ether.specs.Plays.{IsFrom};
 ghost use Rattle.world_views.specs.Laws.{AreOfOneGroup};
 ghost use Rattle.world_views.specs.Views.{carries};
 ghost use Rattle.node_cells.specs.declared.phase.Phase.TheVariants.{Up};
 ghost use Rattle.node_cells.specs.Books.{room_for};
 ghost use Rattle.node_cells.specs.Cells.{HasHeard, HasMadeRoom, view_in};
-ghost use Rattle.node_cells.specs.Openings.{HasTakenIn, IsSameCell};
+ghost use Rattle.node_cells.specs.Openings.{HasSeenTo, HasTakenIn, IsSameCell};
 ghost use Rattle.node_cells.specs.Sending.{to_of};
 ghost use Rattle.node_cells.specs.Turns.{HasDelivered, HasTurned, IsGiven};
 
@@ -33,6 +33,9 @@ mod playing;
 mod reading;
 mod restart;
 mod starting;
+
+/// A turn sends at most one message to each node, of which there are at most 7.
+const MOST_SENT: usize = 7;
 
 /// A running node: what a worker keeps under its lock. It has no lock of its own, and no call waits.
 ///
@@ -71,13 +74,13 @@ impl<M: Hosted, S: Stable<M::Command>, U: Upstream> Model for NodeCell<M, S, U> 
 impl<M: Hosted, S: Stable<M::Command>, U: Upstream> NodeCell<M, S, U> {
     /// One event at the cell's own view: its step, its tick, its posts, its hands.
     ///
-    /// Room in the record and tickets are settled first, and then a copy of the input is made: where
-    /// that is refused, the cell is as it was. A node that goes down in its turn stays so until it is
+    /// Room in the record and tickets are settled first, and then a copy of the input is made, and room for
+    /// what the posts give back: where that is refused, the cell is as it was. A node that goes down in its turn stays so until it is
     /// started again, and its event is recorded then.
     pub fn turn(
         &mut self,
         input: NodeInput<M::Command, M::Line>,
-    ) -> Result<TurnOutput<M::Effect>, CellFault>
+    ) -> Result<TurnOutput<M::Command, M::Effect>, CellFault>
         requires heard { HasHeard (view_in self.old.parts) (carries input) }
         ensures turn { HasTurned (⟦<M as Described>⟧.machine self.old.parts.ether.setup) U.tally
             self.old.parts input result self.new.parts }
@@ -89,7 +92,10 @@ impl<M: Hosted, S: Stable<M::Command>, U: Upstream> NodeCell<M, S, U> {
         let Ok(copy) = copied_input(self.alloc, &input) else {
             return Err(CellFault::Memory);
         };
-        self.run(input, copy)
+        let Ok(replaced) = Vec::with_capacity(self.alloc, MOST_SENT) else {
+            return Err(CellFault::Memory);
+        };
+        self.run(input, copy, replaced)
     }
 
     /// Tickets for so many turns and one more, and room in the record for them, where turns are recorded.
@@ -99,17 +105,20 @@ impl<M: Hosted, S: Stable<M::Command>, U: Upstream> NodeCell<M, S, U> {
         self.book.reserve(count)
     }
 
-    /// One event of a node that is up, where there is room for it. The copy is for the record.
+    /// One event of a node that is up, where there is room for it. The copy is for the record, and
+    /// what the posts give back goes into `replaced`.
     fn run(
         &mut self,
         input: NodeInput<M::Command, M::Line>,
         copy: NodeInput<M::Command, M::Line>,
-    ) -> Result<TurnOutput<M::Effect>, CellFault>
+        mut replaced: Vec<Envelope<M::Command>>,
+    ) -> Result<TurnOutput<M::Command, M::Effect>, CellFault>
         requires up { self.old.parts.phase ≡ Up }
         requires room { (room_for self.old.parts.recording 1 ≤ self.old.room)
             × (length (view_in self.old.parts).turns < 2 ^ 60) }
         requires heard { HasHeard (view_in self.old.parts) (carries input) }
         requires copy { copy ≡ input }
+        requires replaced { (replaced.items ≡ []) × (vec_len replaced + 7 ≤ vec_capacity replaced) }
         ensures turn { HasTurned (⟦<M as Described>⟧.machine self.old.parts.ether.setup) U.tally
             self.old.parts input result self.new.parts }
     {
@@ -126,11 +135,12 @@ impl<M: Hosted, S: Stable<M::Command>, U: Upstream> NodeCell<M, S, U> {
                     return Err(CellFault::Node(NodeFault::Down(Cause::Memory)));
                 };
                 self.book.note(NodeEvent::Does(copy), outcome);
-                self.book.post_all(messages);
+                self.book.post_all(messages, &mut replaced);
                 hand_all::<M, U>(&mut self.upstream, &effects);
                 self.shown = NodeFields::of(self.node.state());
                 Ok(TurnOutput {
                     posted_to,
+                    replaced,
                     place,
                     effects,
                 })
@@ -157,9 +167,21 @@ impl<M: Hosted, S: Stable<M::Command>, U: Upstream> NodeCell<M, S, U> {
         self.book.take(from)
     }
 
+    /// Whether what this node posted last to the node at this place, from 0 on, was taken: nothing lies
+    /// in the mailbox. It looks once, and the cell is as it was but for the look.
+    pub fn is_taken(&mut self, to: u64) -> bool
+        requires { to < self.old.parts.ether.size }
+        ensures { HasSeenTo self.old.parts to result self.new.parts }
+    {
+        self.book.is_taken(to)
+    }
+
     /// Takes what lies in the mailbox from the node at this place, from 0 on, and turns its delivery.
     /// Nothing where nothing lies there.
-    pub fn deliver(&mut self, from: u64) -> Result<Option<TurnOutput<M::Effect>>, CellFault>
+    pub fn deliver(
+        &mut self,
+        from: u64,
+    ) -> Result<Option<TurnOutput<M::Command, M::Effect>>, CellFault>
         requires { from < self.old.parts.ether.size }
         ensures { HasDelivered (⟦<M as Described>⟧.machine self.old.parts.ether.setup) U.tally
             self.old.parts from result self.new.parts }

@@ -3,7 +3,7 @@ use raft_log::NodeId;
 use recorder::NodeFields;
 use wire_bytes::{Number, Wire};
 use world_run::Outcome;
-use world_views::NodeEvent;
+use world_views::{Envelope, NodeEvent};
 
 /// Whether a cell keeps its turns for its record. Its ether keeps its view either way.
 #[derive(Clone, Copy)]
@@ -36,9 +36,11 @@ pub struct NodeRecord<B: Wire, L, T, E, P> {
 
 /// What comes of a turn.
 #[derive(Drop)]
-pub struct TurnOutput<E> {
+pub struct TurnOutput<B: Wire, E> {
     /// To whom its messages were posted, in order: one message may replace another.
     pub posted_to: Vec<u8>,
+    /// The older messages that its posts replaced, in order: nobody took them.
+    pub replaced: Vec<Envelope<B>>,
     /// The place that was applied, 0 where none was.
     pub place: Number,
     /// The effects that leave, in order.

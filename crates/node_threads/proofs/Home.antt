@@ -1,5 +1,5 @@
 -- That a cell stays its node's, whatever is done with it.
-use Rattle.std.proofs.Common.{◌≡◌, ℕ, zero, suc, List, [], ◌∷◌, Option, Some, None, Result, Ok, Err, refl, sym, ap, ◌∙◌, subst, ⊎_elim}
+use Rattle.std.proofs.Common.{◌≡◌, ℕ, zero, suc, Bool, List, [], ◌∷◌, Option, Some, None, Result, Ok, Err, refl, sym, ap, ◌∙◌, subst, ⊎_elim}
 use Rattle.raft_node.specs.declared.input.Looked.{Looked as PlayedAt}
 use Rattle.raft_node.specs.declared.node_fault.NodeFault.TheVariants.{Down, Refused}
 use Rattle.raft_node.specs.Machine.{Machine}
@@ -14,7 +14,7 @@ use Rattle.node_cells.specs.declared.cell_fault.CellFault.TheVariants.{Memory, S
 use Rattle.node_cells.specs.declared.record.TurnOutput.{TurnOutput}
 use Rattle.node_cells.specs.Books.{OutcomeOf}
 use Rattle.node_cells.specs.Cells.{CellParts, view_in}
-use Rattle.node_cells.specs.Openings.{HasTakenIn}
+use Rattle.node_cells.specs.Openings.{HasSeenTo, HasTakenIn}
 use Rattle.node_cells.specs.Posts.{posts_from}
 use Rattle.node_cells.specs.Restarts.{HasRestarted, after_turns}
 use Rattle.node_cells.specs.Turns.{CellOf, HasLooked, HasTurned, IsDownAs, IsEvent}
@@ -48,6 +48,10 @@ module _ {Setup Hosted Store B L T E P U : Type 0} where
       → HasTakenIn c from came d → IsSameHome c d
   home_after_take c from came d h = record { ether = h.same.ether; recording = h.same.recording; view = subst (λ (v : View B L T). IsLaterView (view_in c) v) (sym h.view) (take_later (view_in c) came) }
 
+  pub home_after_seen : (c : CellParts Setup Hosted Store B L T E P U) (to : ℕ) (taken : Bool) (d : CellParts Setup Hosted Store B L T E P U) → HasSeenTo c to taken d → IsSameHome c d
+  home_after_seen c to taken d h =
+      record { ether = h.same.ether; recording = h.same.recording; view = subst (λ (v : View B L T). IsLaterView (view_in c) v) (sym h.view) (same_view (view_in c)) }
+
 module _ (M : Machine) where
   event_later : (v : ViewOf M) (t : ℕ) (e : EventOf M) → IsLaterView v (after_event M v t e)
   event_later v t e = record { size = refl; node = refl; honest = refl; opened = refl }
@@ -71,7 +75,7 @@ module _ (M : Machine) {Setup Hosted Store U : Type 0} where
           view = subst (λ (v : ViewOf M). IsLaterView (view_in c) v) (sym h.view) (posts_later (view_in c) w (event_later M (view_in c) h.ticket e) c.sent h.count);
         }
 
-    pub home_after_turn : (c : CellOf M Setup Hosted Store U) (x : NodeInput M.Body M.Line) (answer : Result (TurnOutput M.Effect) CellFault) (d : CellOf M Setup Hosted Store U)
+    pub home_after_turn : (c : CellOf M Setup Hosted Store U) (x : NodeInput M.Body M.Line) (answer : Result (TurnOutput M.Body M.Effect) CellFault) (d : CellOf M Setup Hosted Store U)
         → HasTurned M tally c x answer d → IsSameHome c d
     home_after_turn c x (Ok output) d h = event_home c _ h.outcome d h.event
     home_after_turn c x (Err Memory) d h = same_home c d h

@@ -7,6 +7,7 @@ use Rattle.node_cells.specs.declared.cell_fault.CellFault.{CellFault}
 use Rattle.node_cells.specs.declared.cell_fault.CellFault.TheVariants.{Memory, Spent, Node}
 use Rattle.node_cells.specs.Turns.{CellOf}
 use Rattle.node_cells.specs.Upstreams.{Tally}
+use Rattle.marked_cells.specs.declared.mark_turn.MarkTurn.{MarkTurn}
 use Rattle.marked_cells.specs.Marking.{HasLookedAfter, HasMarked, LooksWhere}
 use Rattle.node_threads.specs.Homes.{IsSameHome}
 use Rattle.node_threads.proofs.Home.{home_after_look, home_after_turn, same_home}
@@ -21,9 +22,9 @@ module _ (M : Machine) {Setup Hosted Store U : Type 0} (tally : U → Tally) (ma
       → HasLookedAfter M tally marked c number target answer d → IsSameHome c d
   home_after_waiting c number target answer d h = by_found h.found c target answer d h.looks
 
-  pub home_after_mark : (mark : Mark → M.Body) (c : CellOf M Setup Hosted Store U) (answer : Result ℕ CellFault) (d : CellOf M Setup Hosted Store U)
+  pub home_after_mark : (mark : Mark → M.Body) (c : CellOf M Setup Hosted Store U) (answer : Result (MarkTurn M.Body M.Effect) CellFault) (d : CellOf M Setup Hosted Store U)
       → HasMarked M tally marked mark c answer d → IsSameHome c d
-  home_after_mark mark c (Ok number) d h = home_after_turn M tally c _ (Ok h.output) d h.turn
+  home_after_mark mark c (Ok asked) d h = home_after_turn M tally c _ (Ok asked.output) d h.turn
   home_after_mark mark c (Err Memory) d h = same_home c d h
   home_after_mark mark c (Err Spent) d h = same_home c d h.0
   home_after_mark mark c (Err (Node fault)) d h = home_after_turn M tally c _ (Err (Node fault)) d h

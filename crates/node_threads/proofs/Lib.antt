@@ -4,6 +4,7 @@ pub mod Opened
 mod HomeMarked
 pub mod Started
 mod Going
+mod Seen
 mod Told
 mod Answering
 mod Exits

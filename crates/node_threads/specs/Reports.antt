@@ -1,24 +1,32 @@
 -- What a worker tells its outlet.
-use Rattle.std.specs.Prelude.{◌≡◌, ◌↔◌, suc, Bool, true, false, List, [], Option, Some, None, Result, Ok, Err}
+use Rattle.std.specs.Prelude.{◌≡◌, ◌↔◌, ◌&&◌, ◌||◌, ◌++◌, ℕ, length, Bool, true, false, not, nat_eq, nat_lt, List, [], Option, Some, None}
+use Rattle.raft_log.specs.declared.role.Role.{Role}
+use Rattle.raft_log.specs.declared.role.Role.TheVariants.{Follower, Candidate, Leader}
+use Rattle.raft_log.specs.Positions.{role_of}
+use Rattle.raft_node.specs.Parts.{applied_bodies}
 use Rattle.raft_node.specs.declared.node_fault.Cause.TheVariants.{Memory as NoMemory}
 use Rattle.raft_node.specs.declared.node_fault.NodeFault.{NodeFault}
 use Rattle.raft_node.specs.declared.node_fault.NodeFault.TheVariants.{Down}
 use Rattle.node_cells.specs.declared.cell_fault.CellFault.{CellFault}
 use Rattle.node_cells.specs.declared.cell_fault.CellFault.TheVariants.{Memory, Spent, Node}
-use Rattle.node_cells.specs.declared.phase.Phase.TheVariants.{Up}
-use Rattle.node_cells.specs.declared.record.TurnOutput.{TurnOutput}
-use Rattle.node_cells.specs.Cells.{CellParts, view_in}
+use Rattle.node_cells.specs.declared.phase.Phase.{Phase}
+use Rattle.node_cells.specs.declared.phase.Phase.TheVariants.{Up, DownInTurn, DownInRestart}
+use Rattle.node_cells.specs.Cells.{CellParts}
 use Rattle.node_notes.specs.declared.note.Note.{Note}
 use Rattle.node_notes.specs.declared.note.Note.TheVariants as note
 use Rattle.node_notes.specs.declared.report.Report.{Report}
 use Rattle.node_notes.specs.declared.status.Status.{Status}
 use Rattle.node_notes.specs.Notes.{status_of}
+use Rattle.node_threads.specs.declared.beats.Beats.{Beats}
+use Rattle.node_threads.specs.declared.beats.Beats.TheVariants.{OnNews, WhenTold}
+use Rattle.node_threads.specs.declared.station.Beaten.{Beaten}
+use Rattle.node_threads.specs.declared.station.telling.Told.{Told}
 use Rattle.node_threads.specs.declared.job.Job.{Job}
 use Rattle.node_threads.specs.declared.job.Job.TheVariants as job
 
 -- whether a note counts as done once the worker did it: all but what another worker tells
 abbrev pub is_counted : {B L : Type 0} → Note B L → Bool
-is_counted note.Timeout = true
+is_counted (note.Timeout contacts) = true
 is_counted note.Beat = true
 is_counted (note.Ask body) = true
 is_counted note.Opened = true
@@ -31,7 +39,7 @@ is_counted note.End = true
 
 -- whether a note tells the worker to end
 abbrev pub is_last : {B L : Type 0} → Note B L → Bool
-is_last note.Timeout = false
+is_last (note.Timeout contacts) = false
 is_last note.Beat = false
 is_last (note.Ask body) = false
 is_last note.Opened = false
@@ -76,24 +84,49 @@ told_fault Memory = Down NoMemory
 told_fault Spent = Down NoMemory
 told_fault (Node fault) = fault
 
+-- whether it is up, where it leads
+abbrev pub leads_up : {B L : Type 0} → Phase B L → Role → Bool
+leads_up Up Leader = true
+leads_up Up Follower = false
+leads_up Up Candidate = false
+leads_up (DownInTurn x done) role = false
+leads_up DownInRestart role = false
+
 module _ {Setup Hosted Store B L T E P U : Type 0} where
-  -- how the node of a cell stands
-  pub record IsStatusOf (c : CellParts Setup Hosted Store B L T E P U) (s : Status) : Type 0 where
+  -- the node of a cell leads, and is up
+  abbrev pub leads_in : CellParts Setup Hosted Store B L T E P U → Bool
+  leads_in c = leads_up c.phase (role_of c.node.state.standing.position)
+
+  -- how the node of a cell stands; while it is up, the line to be claimed next is by what it applied
+  pub record IsStatusOf (next_claim : Setup → List B → Option ℕ) (c : CellParts Setup Hosted Store B L T E P U) (s : Status) : Type 0 where
     pub told : s ≡ status_of c.node.state s.next_claim s.down
     pub up : (s.down ≡ None) ↔ (c.phase ≡ Up)
+    pub claim : c.node.down ≡ None → s.next_claim ≡ next_claim c.node.setup (applied_bodies c.node.state)
 
-  -- a report of the node of a cell as it stands, of these effects and so on
-  pub record IsReport (c : CellParts Setup Hosted Store B L T E P U) (effects : List E) (led : Bool) (fault : Option NodeFault) (is_last : Bool) (r : Report E) : Type 0 where
-    pub node : r.node ≡ suc (view_in c).node
-    pub status : IsStatusOf c r.status
-    pub effects_are : r.effects.items ≡ effects
-    pub led_is : r.led ≡ led
-    pub fault_is : r.fault ≡ fault
-    pub last_is : r.is_last ≡ is_last
+-- a report of this node that stands so and got so far, of these effects and this fault
+pub record IsReport {E : Type 0} (node : ℕ) (told : Told) (effects : List E) (fault : Option NodeFault) (r : Report E) : Type 0 where
+  pub node_is : r.node ≡ node
+  pub status_is : r.status ≡ told.status
+  pub progress_is : r.progress ≡ told.progress
+  pub effects_are : r.effects.items ≡ effects
+  pub fault_is : r.fault ≡ fault
 
-  -- What is told of a turn, by its answer: all its effects, or its fault. Nothing is where nothing leaves and the node was not led.
-  abbrev pub TellsTurn : CellParts Setup Hosted Store B L T E P U → Bool → Result (TurnOutput E) CellFault → Option (Report E) → Type 0
-  TellsTurn c led (Ok output) None = (led ≡ false) × (output.effects.items ≡ [])
-  TellsTurn c led (Ok output) (Some r) = IsReport c output.effects.items led None false r
-  TellsTurn c led (Err fault) None = ⊥
-  TellsTurn c led (Err fault) (Some r) = IsReport c [] led (Some (told_fault fault)) false r
+-- whether workers beat by themselves
+abbrev pub is_on_news : Beats → Bool
+is_on_news OnNews = true
+is_on_news WhenTold = false
+
+-- a leader of this term, with a log up to this last place and so much agreed, sent nothing since, or one that lags behind answered
+abbrev pub has_grown : Option Beaten → Bool → ℕ → ℕ → ℕ → Bool
+has_grown None is_behind term last commit = true
+has_grown (Some beaten) is_behind term last commit =
+    not (nat_eq beaten.term term) || (nat_lt beaten.last last || (nat_lt beaten.commit commit || is_behind))
+
+-- where its worker is to send by itself, and it leads
+abbrev pub is_news : {Setup Hosted Store B L T E P U : Type 0} → Beats → Option Beaten → Bool → CellParts Setup Hosted Store B L T E P U → Bool
+is_news beats beaten is_behind c =
+    is_on_news beats && (leads_in c && has_grown beaten is_behind c.node.state.standing.term (length c.node.state.log) c.node.state.standing.commit)
+
+-- of what was to be told, the first part was, in order, and the rest is still to be told
+abbrev pub TellsFirst : {E : Type 0} → List E → List E → Type 0
+TellsFirst {E} old new = (told : List E) × (old ≡ told ++ new)

@@ -1,27 +1,74 @@
 -- What a worker does with its node's cell.
-use Rattle.std.specs.Prelude.{◌≡◌, ◌⊎◌, ℕ, zero, suc, Option, None, Some, Result, option_map}
+use Rattle.std.specs.Prelude.{◌≡◌, ◌&&◌, not, ℕ, zero, suc, Bool, true, false, List, [], ◌∷◌, Option, None, Some, Result, Ok, Err, option_map}
 use Rattle.wire_bytes.specs.declared.mark.Mark.{Mark}
 use Rattle.raft_node.specs.declared.input.Looked.{Looked as PlayedAt}
 use Rattle.raft_node.specs.Machine.{Machine}
 use Rattle.world_views.specs.declared.envelope.Envelope.{Envelope}
 use Rattle.world_views.specs.declared.node_event.NodeInput.{NodeInput}
 use Rattle.world_views.specs.declared.node_event.NodeInput.TheVariants as input
+use Rattle.marked_cells.specs.declared.mark_turn.MarkTurn.{MarkTurn}
 use Rattle.node_cells.specs.declared.cell_fault.CellFault.{CellFault}
 use Rattle.node_cells.specs.declared.record.TurnOutput.{TurnOutput}
-use Rattle.node_cells.specs.Openings.{HasTakenIn}
+use Rattle.node_cells.specs.Openings.{HasSeenTo, HasTakenIn}
 use Rattle.node_cells.specs.Restarts.{HasRestarted}
 use Rattle.node_cells.specs.Turns.{CellOf, HasLooked, HasTurned}
 use Rattle.node_cells.specs.Upstreams.{Tally}
 use Rattle.marked_cells.specs.Marking.{HasLookedAfter, HasMarked}
 use Rattle.node_notes.specs.declared.note.Note.{Note}
 use Rattle.node_notes.specs.declared.note.Note.TheVariants as note
+use Rattle.node_threads.specs.Reports.{leads_in}
 use Rattle.node_threads.specs.declared.job.Job.{Job}
 use Rattle.node_threads.specs.declared.job.Job.TheVariants as job
+
+-- one thing that a worker does with its node beside its jobs
+pub data Deed (B L : Type 0) : Type 0 where
+  -- it takes what lies in the mailbox from the node at this place, and turns what lay there
+  Takes : ℕ → Deed B L
+  -- it looks whether the node at this place took the last message
+  Sees : ℕ → Deed B L
+  -- it turns an input
+  Turns : NodeInput B L → Deed B L
+
+module _ {B L : Type 0} where
+  -- so many mailboxes are taken by rising number of the sender, from this place on
+  abbrev pub takes_from : ℕ → ℕ → List (Deed B L)
+  takes_from i zero = []
+  takes_from i (suc n) = Takes i ∷ takes_from (suc i) n
+
+  -- so many places are applied
+  abbrev pub applies : ℕ → List (Deed B L)
+  applies zero = []
+  applies (suc n) = Turns input.Apply ∷ applies n
+
+  -- these are looks whether a message was taken, and requests that are asked
+  abbrev pub IsOfAsking : Deed B L → Type 0
+  IsOfAsking (Takes from) = ⊥
+  IsOfAsking (Sees to) = Unit {0}
+  IsOfAsking (Turns x) = (body : B) × (x ≡ input.Ask body)
+
+  abbrev pub AreOfAsking : List (Deed B L) → Type 0
+  AreOfAsking [] = Unit {0}
+  AreOfAsking (e ∷ es) = IsOfAsking e × AreOfAsking es
+
+  -- a beat, where there is news
+  abbrev pub beats_on : Bool → List (Deed B L)
+  beats_on true = Turns input.Beat ∷ []
+  beats_on false = []
+
+  -- the node asks for votes, where it waited too long
+  abbrev pub times_out : Bool → List (Deed B L)
+  times_out true = Turns input.Timeout ∷ []
+  times_out false = []
 
 module _ (M : Machine) {Setup Hosted Store U : Type 0} where
   -- the node was started again, or was not
   abbrev pub HasTriedAgain : CellOf M Setup Hosted Store U → CellOf M Setup Hosted Store U → Type 0
   HasTriedAgain c d = (answer : Result (Unit {0}) CellFault) × HasRestarted M c answer d
+
+  -- the number of the mark that was asked
+  abbrev pub number_in : Result (MarkTurn M.Body M.Effect) CellFault → Result ℕ CellFault
+  number_in (Ok asked) = Ok asked.number
+  number_in (Err fault) = Err fault
 
   -- one look into a mailbox: the delivery of what lay there comes next
   pub record HasTaken (c : CellOf M Setup Hosted Store U) (from : ℕ) (next : Option (NodeInput M.Body M.Line)) (d : CellOf M Setup Hosted Store U) : Type 0 where
@@ -32,21 +79,8 @@ module _ (M : Machine) {Setup Hosted Store U : Type 0} where
   module _ (tally : U → Tally) where
     -- one turn of the cell with this input, and nothing else
     pub record HasHadTurn (c : CellOf M Setup Hosted Store U) (x : NodeInput M.Body M.Line) (d : CellOf M Setup Hosted Store U) : Type 0 where
-      pub answer : Result (TurnOutput M.Effect) CellFault
+      pub answer : Result (TurnOutput M.Body M.Effect) CellFault
       pub turned : HasTurned M tally c x answer d
-
-    -- what a note comes to: a turn of it, a restart, or nothing
-    abbrev pub HasDoneNote : Note M.Body M.Line → CellOf M Setup Hosted Store U → CellOf M Setup Hosted Store U → Type 0
-    HasDoneNote note.Timeout c d = HasHadTurn c input.Timeout d
-    HasDoneNote note.Beat c d = HasHadTurn c input.Beat d
-    HasDoneNote (note.Ask body) c d = HasHadTurn c (input.Ask body) d
-    HasDoneNote note.Opened c d = HasHadTurn c input.Opened d
-    HasDoneNote note.Closed c d = HasHadTurn c input.Closed d
-    HasDoneNote (note.Heard at line) c d = HasHadTurn c (input.Heard at line) d
-    HasDoneNote note.Claim c d = HasHadTurn c input.Claim d
-    HasDoneNote note.Wake c d = d ≡ c
-    HasDoneNote note.Restart c d = HasTriedAgain c d
-    HasDoneNote note.End c d = d ≡ c
 
     -- a turn of this input, if there is one
     abbrev pub HasTurnedIn : Option (NodeInput M.Body M.Line) → CellOf M Setup Hosted Store U → CellOf M Setup Hosted Store U → Type 0
@@ -60,27 +94,84 @@ module _ (M : Machine) {Setup Hosted Store U : Type 0} where
       pub taken : HasTakenIn c from came between
       pub turned : HasTurnedIn (option_map input.Deliver came) between d
 
-    -- so many times a mailbox was looked into, or an agreed place applied
-    abbrev pub GoesOn : ℕ → CellOf M Setup Hosted Store U → CellOf M Setup Hosted Store U → Type 0
-    GoesOn zero c d = d ≡ c
-    GoesOn (suc n) c d = (b : CellOf M Setup Hosted Store U) × GoesOn n c b × (((from : ℕ) × HasLookedIn b from d) ⊎ HasHadTurn b input.Apply d)
+    abbrev pub HasDeed : Deed M.Body M.Line → CellOf M Setup Hosted Store U → CellOf M Setup Hosted Store U → Type 0
+    HasDeed (Takes from) c d = HasLookedIn c from d
+    HasDeed (Sees to) c d = (taken : Bool) × HasSeenTo c to taken d
+    HasDeed (Turns x) c d = HasHadTurn c x d
 
-    -- mailboxes were looked into and agreed places applied, and nothing else was done
-    abbrev pub HasGoneOn : CellOf M Setup Hosted Store U → CellOf M Setup Hosted Store U → Type 0
-    HasGoneOn c d = (n : ℕ) × GoesOn n c d
+    -- these things were done, in order, and nothing else
+    abbrev pub Does : List (Deed M.Body M.Line) → CellOf M Setup Hosted Store U → CellOf M Setup Hosted Store U → Type 0
+    Does [] c d = d ≡ c
+    Does (e ∷ es) c d = (b : CellOf M Setup Hosted Store U) × HasDeed e c b × Does es b d
+
+    -- requests were asked, each after a look or none
+    abbrev pub HasAskedOn : CellOf M Setup Hosted Store U → CellOf M Setup Hosted Store U → Type 0
+    HasAskedOn c d = (es : List (Deed M.Body M.Line)) × AreOfAsking es × Does es c d
+
+    -- so many agreed places were applied
+    abbrev pub HasApplied : CellOf M Setup Hosted Store U → CellOf M Setup Hosted Store U → Type 0
+    HasApplied c d = (n : ℕ) × Does (applies n) c d
+
+    -- Each mailbox was taken once. Then the node asked for votes, where it leads not and had heard few enough times of a leader.
+    pub record HasTimedOut (is_few : Bool) (c d : CellOf M Setup Hosted Store U) : Type 0 where
+      pub between : CellOf M Setup Hosted Store U
+      pub taken : Does (takes_from 0 c.ether.size) c between
+      pub turned : Does (times_out (is_few && not (leads_in between))) between d
+
+    -- what a note comes to: a turn of it, a restart, or nothing; a request waits for a leader
+    abbrev pub HasDoneNote : Note M.Body M.Line → CellOf M Setup Hosted Store U → CellOf M Setup Hosted Store U → Type 0
+    HasDoneNote (note.Timeout contacts) c d = (is_few : Bool) × HasTimedOut is_few c d
+    HasDoneNote note.Beat c d = HasHadTurn c input.Beat d
+    HasDoneNote (note.Ask body) c d = d ≡ c
+    HasDoneNote note.Opened c d = HasHadTurn c input.Opened d
+    HasDoneNote note.Closed c d = HasHadTurn c input.Closed d
+    HasDoneNote (note.Heard at line) c d = HasHadTurn c (input.Heard at line) d
+    HasDoneNote note.Claim c d = HasHadTurn c input.Claim d
+    HasDoneNote note.Wake c d = d ≡ c
+    HasDoneNote note.Restart c d = HasTriedAgain c d
+    HasDoneNote note.End c d = d ≡ c
+
+    -- the node beats, where there is news
+    abbrev pub HasBeaten : Bool → CellOf M Setup Hosted Store U → CellOf M Setup Hosted Store U → Type 0
+    HasBeaten has_news c d = Does (beats_on has_news) c d
+
+    -- What a round does behind its jobs: each mailbox is taken once, by rising number; requests are asked; agreed places are applied; and where there is
+    -- news, the node beats.
+    pub record HasGoneRound (c d : CellOf M Setup Hosted Store U) : Type 0 where
+      pub heard : CellOf M Setup Hosted Store U
+      pub asked : CellOf M Setup Hosted Store U
+      pub applied : CellOf M Setup Hosted Store U
+      pub has_news : Bool
+      pub takes : Does (takes_from 0 c.ether.size) c heard
+      pub asks : HasAskedOn heard asked
+      pub applies_on : HasApplied asked applied
+      pub beats : HasBeaten has_news applied d
+
+    module _ (marked : M.Body → Option Mark) (mark : Mark → M.Body) where
+      -- the node's next mark was asked for, and this is its number
+      pub record HasMarkedOne (c : CellOf M Setup Hosted Store U) (result : Result ℕ CellFault) (d : CellOf M Setup Hosted Store U) : Type 0 where
+        pub answer : Result (MarkTurn M.Body M.Effect) CellFault
+        pub result_is : result ≡ number_in answer
+        pub asked : HasMarked M tally marked mark c answer d
 
     module _ (marked : M.Body → Option Mark) (mark : Mark → M.Body) {Action : Type 0} where
+      abbrev pub JobOf : Type 0
+      JobOf = Job Hosted Action M.Line M.Target M.Played Setup M.Body M.Effect
+
       -- what a job comes to by itself
-      abbrev pub HasDone : Job Hosted Action M.Line M.Target M.Played Setup M.Body M.Effect → CellOf M Setup Hosted Store U → CellOf M Setup Hosted Store U → Type 0
+      abbrev pub HasDone : JobOf → CellOf M Setup Hosted Store U → CellOf M Setup Hosted Store U → Type 0
       HasDone (job.Note note) c d = HasDoneNote note c d
       HasDone (job.Look place target reply) c d = (answer : Result (PlayedAt M.Played) CellFault) × HasLooked M tally c place target answer d
-      HasDone (job.Mark reply) c d = (answer : Result ℕ CellFault) × HasMarked M tally marked mark c answer d
+      HasDone (job.Mark reply) c d = (answer : Result (MarkTurn M.Body M.Effect) CellFault) × HasMarked M tally marked mark c answer d
       HasDone (job.LookAfter number target reply) c d = (answer : Result (PlayedAt M.Played) CellFault) × HasLookedAfter M tally marked c number target answer d
       HasDone (job.Restart reply) c d = HasTriedAgain c d
       HasDone (job.Status reply) c d = d ≡ c
 
-      -- A job was done, then some mailboxes were looked into and agreed places applied, and nothing else was.
-      pub record HasRun (j : Job Hosted Action M.Line M.Target M.Played Setup M.Body M.Effect) (c d : CellOf M Setup Hosted Store U) : Type 0 where
-        pub between : CellOf M Setup Hosted Store U
-        pub done : HasDone j c between
-        pub on : HasGoneOn between d
+      -- these jobs were done, in order, each once
+      abbrev pub HasDoneAll : List JobOf → CellOf M Setup Hosted Store U → CellOf M Setup Hosted Store U → Type 0
+      HasDoneAll [] c d = d ≡ c
+      HasDoneAll (j ∷ js) c d = (b : CellOf M Setup Hosted Store U) × HasDone j c b × HasDoneAll js b d
+
+      -- some jobs were done
+      abbrev pub HasDoneSome : CellOf M Setup Hosted Store U → CellOf M Setup Hosted Store U → Type 0
+      HasDoneSome c d = (js : List JobOf) × HasDoneAll js c d

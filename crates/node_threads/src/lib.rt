@@ -1,6 +1,7 @@
 //! The nodes of one process, each in a thread of its own, which alone has the node's cell.
 #![tactic(auto)]
 
+mod beats;
 mod cluster;
 mod cluster_fault;
 mod gate;
@@ -13,6 +14,7 @@ mod station;
 mod task;
 mod worker;
 
+pub use beats::Beats;
 pub use cluster::Cluster;
 pub use cluster_fault::ClusterFault;
 pub use gate::{Gate, OpenGate};

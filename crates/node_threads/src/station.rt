@@ -1,34 +1,53 @@
-//! What a worker has beside its node's cell, and what it does with it.
-ghost use Rattle.std.specs.Prelude.{◌≡◌, ◌<◌, [], false, None, IfSome, is_none};
-ghost use Rattle.world_views.specs.Views.{carries};
-ghost use Rattle.node_cells.specs.Cells.{HasHeard, view_in};
-ghost use Rattle.marked_cells.specs.Marking.{HasMarked};
+//! What a worker has beside its node's cell, and what it does with it, in rounds.
+ghost use Rattle.std.specs.Prelude.{◌≡◌, [], length};
 ghost use Rattle.node_threads.specs.Homes.{IsSameHome};
-ghost use Rattle.node_threads.specs.Reports.{IsReport, is_told, waits};
-ghost use Rattle.node_threads.specs.Work.{HasDone, HasDoneNote, HasGoneOn, HasHadTurn, HasLookedIn, HasRun, HasTaken};
+ghost use Rattle.node_threads.specs.Reports.{IsReport, IsStatusOf, TellsFirst, has_grown, is_news};
+ghost use Rattle.node_threads.specs.Requests.{in_term, queue_of};
+ghost use Rattle.node_threads.specs.Rounds.{leaving};
+ghost use Rattle.node_threads.specs.Work.{HasBeaten, HasGoneRound};
 
-use crate::gate::{Gate, pass_gate};
-use crate::job::{Job, put};
+use crate::beats::Beats;
+use crate::gate::Gate;
+use crate::job::Job;
 use crate::outlet::Outlet;
-use crate::station::telling::{standing, status, wake_all};
+use crate::station::requests::Requests;
+use crate::station::round::Round;
+use crate::station::telling::{Told, leads, status, wake};
 use body_marks::Marking;
 use crossbeam_channel::{Receiver, Sender};
 use machine_laws::{Hosted, Machine};
 use marked_cells::MarkedCell;
-use node_cells::{CellFault, Upstream};
-use node_notes::{Note, Report};
-use raft_log::{Kind, NodeId};
+use node_cells::Upstream;
+use node_notes::{Progress, Report};
+use raft_log::NodeId;
 use raft_node::Described;
 use stable_store::Stable;
 use std::alloc::Global;
+use std::mem::replace;
 use std::sync::{Arc, Wait};
-use wire_bytes::Wire;
+use std::thread;
+use wire_bytes::Number;
 use world_views::NodeInput;
 
+mod asking;
+mod jobs;
+mod messages;
+pub mod requests;
+pub mod round;
 mod telling;
+mod turning;
 
 /// The most nodes that there may be.
 const MOST_NODES: u8 = 7;
+
+/// The most jobs that a round takes, so that messages and reports do not wait for long.
+const MOST_JOBS: u64 = 256;
+
+/// The most requests that a round asks, for the same.
+const MOST_ASKED: u64 = 256;
+
+/// The most places that a round applies, for the same.
+const MOST_APPLIED: u64 = 1_000;
 
 /// What a worker has beside its node's cell.
 #[derive(Drop)]
@@ -40,12 +59,31 @@ pub struct Station<M: Marking, G: Drop, O: Outlet<M::Effect>> {
     pub others: Vec<Sender<Job<M>>>,
     pub gate: Arc<G>,
     pub outlet: O,
+    pub beats: Beats,
     /// How many turns it came to.
     pub turns: u64,
+    /// How many notes it has taken up.
+    pub done: u64,
+    /// How often its node has heard of the leader of its term.
+    pub contacts: u64,
+    pub requests: Requests<M::Command>,
+    pub round: Round<M::Effect>,
+    /// What it told last, if that was taken.
+    pub told: Option<Told>,
+    /// What its node had where it sent last, as the leader of its term.
+    pub beaten: Option<Beaten>,
+}
+
+/// What a leader had where it sent last: its term, the last place of its log, and what was agreed.
+#[derive(Clone, Copy)]
+pub struct Beaten {
+    pub term: Number,
+    pub last: Number,
+    pub commit: Number,
 }
 
 impl<M: Marking, G: Gate + Drop, O: Outlet<M::Effect>> Station<M, G, O> {
-    /// Does what comes to the inbox, until it is told to end.
+    /// Works in rounds, until it is told to end.
     pub fn work<R: Wait, S: Stable<M::Command>, U: Upstream>(
         &mut self,
         rt: &R,
@@ -53,220 +91,178 @@ impl<M: Marking, G: Gate + Drop, O: Outlet<M::Effect>> Station<M, G, O> {
     )
         ensures { IsSameHome cell.old.parts cell.new.parts }
     {
-        self.outlet.report(rt, standing(self.alloc, cell, false));
+        let mut may_wait = false;
         for _ in rt.forever() {
-            if !self.do_next(rt, cell) {
+            let is_over = self.do_jobs(rt, cell, may_wait);
+            may_wait = self.go_round(rt, cell);
+            if is_over {
                 break;
             }
         }
     }
 
-    /// Does the next job that comes to the inbox. False where it is told to end, or nobody tells it
-    /// anything any more.
-    fn do_next<R: Wait, S: Stable<M::Command>, U: Upstream>(
+    /// What a round does behind its jobs. False where there is more to do, even if nothing comes.
+    fn go_round<R: Wait, S: Stable<M::Command>, U: Upstream>(
         &mut self,
         rt: &R,
         cell: &mut MarkedCell<M, S, U>,
     ) -> bool
-        ensures { IsSameHome cell.old.parts cell.new.parts }
+        ensures { HasGoneRound (⟦<M as Described>⟧.machine cell.old.parts.ether.setup) U.tally
+            cell.old.parts cell.new.parts }
     {
-        let Ok(job) = self.inbox.recv(rt) else {
-            return false;
-        };
-        if job.is_end() {
-            return false;
-        }
-        if let Some(report) = self.run(rt, cell, job) {
-            self.outlet.report(rt, report);
-        }
-        true
-    }
-
-    /// Does a job, takes the messages that came, and applies what is agreed. What is to be told
-    /// behind it: nothing behind a look that may come too early.
-    fn run<R: Wait, S: Stable<M::Command>, U: Upstream>(
-        &mut self,
-        rt: &R,
-        cell: &mut MarkedCell<M, S, U>,
-        job: Job<M>,
-    ) -> Option<Report<M::Effect>>
-        ensures run { HasRun (⟦<M as Described>⟧.machine cell.old.parts.ether.setup) U.tally
-            M.marked M.mark job cell.old.parts cell.new.parts }
-        ensures told { IfSome result (IsReport cell.new.parts [] false None (is_told job)) }
-        ensures waits { is_none result ≡ waits job }
-    {
-        let (waits, is_told) = (job.waits(), job.is_told());
-        self.begin(rt, cell, job);
         self.take_all(rt, cell);
-        self.apply_all(rt, cell);
-        if waits {
-            return None;
-        }
-        Some(standing(self.alloc, cell, is_told))
+        let all_asked = self.ask_all(rt, cell);
+        let all_applied = self.apply_all(rt, cell);
+        self.beat_on_news(rt, cell);
+        self.wake_all(rt);
+        let all_told = self.tell(rt, cell);
+        all_asked && all_applied && all_told
     }
 
-    /// Does what a job says.
-    fn begin<R: Wait, S: Stable<M::Command>, U: Upstream>(
-        &mut self,
-        rt: &R,
-        cell: &mut MarkedCell<M, S, U>,
-        job: Job<M>,
-    )
-        ensures { HasDone (⟦<M as Described>⟧.machine cell.old.parts.ether.setup) U.tally
-            M.marked M.mark job cell.old.parts cell.new.parts }
-    {
-        match job {
-            Job::Note(note) => self.follow(rt, cell, note),
-            Job::Look(from_place, target, reply) => {
-                let _ = put(rt, &reply, cell.look(from_place, target));
-            }
-            Job::Mark(reply) => {
-                let _ = put(rt, &reply, self.mark(rt, cell));
-            }
-            Job::LookAfter(number, target, reply) => {
-                let _ = put(rt, &reply, cell.look_after(number, target));
-            }
-            Job::Restart(reply) => {
-                let _ = put(rt, &reply, cell.restart());
-            }
-            Job::Status(reply) => {
-                let _ = put(rt, &reply, status(cell));
-            }
-        }
-    }
-
-    /// Does what a note says.
-    fn follow<R: Wait, S: Stable<M::Command>, U: Upstream>(
-        &mut self,
-        rt: &R,
-        cell: &mut MarkedCell<M, S, U>,
-        note: Note<M::Command, M::Line>,
-    )
-        ensures { HasDoneNote (⟦<M as Described>⟧.machine cell.old.parts.ether.setup) U.tally
-            note cell.old.parts cell.new.parts }
-    {
-        if let Note::Restart = &note {
-            let _ = cell.restart();
-            return;
-        }
-        if let Some(input) = note.into_input() {
-            self.turn(rt, cell, input, false);
-        }
-    }
-
-    /// One turn of the node. Whoever was posted to is woken, and what leaves is passed on.
-    fn turn<R: Wait, S: Stable<M::Command>, U: Upstream>(
-        &mut self,
-        rt: &R,
-        cell: &mut MarkedCell<M, S, U>,
-        input: NodeInput<M::Command, M::Line>,
-        led: bool,
-    )
-        requires { HasHeard (view_in cell.old.parts) (carries input) }
-        ensures { HasHadTurn (⟦<M as Described>⟧.machine cell.old.parts.ether.setup) U.tally
-            cell.old.parts input cell.new.parts }
-    {
-        pass_gate(rt, &*self.gate, self.id, &mut self.turns);
-        let turned = cell.turn(input);
-        self.pass_on(rt, cell, turned, led);
-    }
-
-    /// The node's next mark. Where it was asked for all others are woken, since one of them leads.
-    fn mark<R: Wait, S: Stable<M::Command>, U: Upstream>(
-        &mut self,
-        rt: &R,
-        cell: &mut MarkedCell<M, S, U>,
-    ) -> Result<u64, CellFault>
-        ensures { HasMarked (⟦<M as Described>⟧.machine cell.old.parts.ether.setup) U.tally
-            M.marked M.mark cell.old.parts result cell.new.parts }
-    {
-        pass_gate(rt, &*self.gate, self.id, &mut self.turns);
-        let marked = cell.mark();
-        if marked.is_ok() {
-            wake_all(rt, self.others.as_slice());
-        }
-        marked
-    }
-
-    /// Takes each mailbox once, by rising number of the sender.
-    fn take_all<R: Wait, S: Stable<M::Command>, U: Upstream>(
+    /// A leader whose worker is to send by itself sends, where there is news.
+    fn beat_on_news<R: Wait, S: Stable<M::Command>, U: Upstream>(
         &mut self,
         rt: &R,
         cell: &mut MarkedCell<M, S, U>,
     )
-        ensures { HasGoneOn (⟦<M as Described>⟧.machine cell.old.parts.ether.setup) U.tally
+        ensures { HasBeaten (⟦<M as Described>⟧.machine cell.old.parts.ether.setup) U.tally
+            (is_news self.old.beats self.old.beaten self.old.round.is_behind cell.old.parts)
             cell.old.parts cell.new.parts }
     {
-        for from in 0..MOST_NODES {
-            if from >= cell.size().value() {
-                break;
-            }
-            self.take_from(rt, cell, from as u64);
-        }
-    }
-
-    /// Takes what lies in the mailbox from the node at this place, from 0 on, and turns its
-    /// delivery.
-    fn take_from<R: Wait, S: Stable<M::Command>, U: Upstream>(
-        &mut self,
-        rt: &R,
-        cell: &mut MarkedCell<M, S, U>,
-        from: u64,
-    )
-        requires { from < cell.old.parts.ether.size }
-        ensures { HasLookedIn (⟦<M as Described>⟧.machine cell.old.parts.ether.setup) U.tally
-            cell.old.parts from cell.new.parts }
-    {
-        let Some(input) = next_from(cell, from) else {
+        if !self.has_news(cell) {
             return;
+        }
+        let standing = cell.state().standing;
+        let beaten = Beaten {
+            term: standing.term,
+            last: cell.state().log.len(),
+            commit: standing.commit,
         };
-        let led = is_led(&input, cell.state().standing.term.value());
-        self.turn(rt, cell, input, led);
+        if self.turn(rt, cell, NodeInput::Beat) {
+            self.beaten = Some(beaten);
+            self.round.is_behind = false;
+        }
     }
 
-    /// Applies until all is applied that is agreed.
-    fn apply_all<R: Wait, S: Stable<M::Command>, U: Upstream>(
+    /// Whether the node leads, and its log or what is agreed of it grew since it sent last in its term, or
+    /// a node that lags behind it answered; and its worker is to send by itself.
+    fn has_news<S: Stable<M::Command>, U: Upstream>(&self, cell: &MarkedCell<M, S, U>) -> bool
+        ensures { result ≡ is_news self.now.beats self.now.beaten self.now.round.is_behind
+            cell.now.parts }
+    {
+        let is_on_news = match self.beats {
+            Beats::OnNews => true,
+            Beats::WhenTold => false,
+        };
+        let standing = cell.state().standing;
+        let now = Beaten {
+            term: standing.term,
+            last: cell.state().log.len(),
+            commit: standing.commit,
+        };
+        is_on_news && leads(cell) && has_grown(self.beaten, self.round.is_behind, now)
+    }
+
+    /// Wakes the workers of the nodes that were posted to, or whose answer was taken.
+    fn wake_all<R: Wait>(&mut self, rt: &R) {
+        for place in 0..MOST_NODES {
+            if self.round.woken[place as usize] {
+                wake(rt, self.others.as_slice(), place + 1);
+            }
+        }
+        self.round.woken = [false; 7];
+    }
+
+    /// Tells what is new. False where that was not taken, or where more is to be told.
+    fn tell<R: Wait, S: Stable<M::Command>, U: Upstream>(
         &mut self,
         rt: &R,
-        cell: &mut MarkedCell<M, S, U>,
-    )
-        ensures { HasGoneOn (⟦<M as Described>⟧.machine cell.old.parts.ether.setup) U.tally
-            cell.old.parts cell.new.parts }
+        cell: &MarkedCell<M, S, U>,
+    ) -> bool
+        ensures { TellsFirst (leaving self.old.round) (leaving self.new.round) }
     {
-        for _ in 0..u64::MAX {
-            let status = status(cell);
-            if status.down.is_some() || status.commit.value() <= status.applied.value() {
-                break;
+        let now = self.stand(cell);
+        if !self.is_news(&now) {
+            return true;
+        }
+        let report = self.report(cell.id(), &now);
+        match self.outlet.report(rt, report) {
+            Ok(()) => {
+                self.told = Some(now);
+                self.round.go_on(self.alloc);
+                !self.round.has_news()
             }
-            self.turn(rt, cell, NodeInput::Apply, false);
+            Err(back) => {
+                self.round.effects = back.effects;
+                thread::yield_now();
+                false
+            }
+        }
+    }
+
+    /// How the node stands, and how far its worker is.
+    fn stand<S: Stable<M::Command>, U: Upstream>(&mut self, cell: &MarkedCell<M, S, U>) -> Told
+        ensures status { IsStatusOf M.next_claim cell.now.parts result.status }
+        ensures progress { result.progress ≡ record { done = self.old.done;
+            waiting = length self.old.requests.waiting.items;
+            lost = (in_term cell.now.parts.node.state.standing.term
+            (queue_of self.old.requests)).lost; contacts = self.old.contacts } }
+        ensures requests { queue_of self.new.requests
+            ≡ in_term cell.now.parts.node.state.standing.term (queue_of self.old.requests) }
+        ensures round { self.new.round ≡ self.old.round }
+    {
+        let status = status(cell);
+        self.requests.see(status.term);
+        let progress = Progress {
+            done: self.done,
+            waiting: self.requests.waiting.len() as u64,
+            lost: self.requests.lost,
+            contacts: self.contacts,
+        };
+        Told { status, progress }
+    }
+
+    /// What is told, of what left and the first fault.
+    fn report(&mut self, node: NodeId, now: &Told) -> Report<M::Effect>
+        ensures report { IsReport node now.now self.old.round.effects.items self.old.round.fault
+            result }
+        ensures effects { self.new.round.effects.items ≡ [] }
+        ensures further { self.new.round.further ≡ self.old.round.further }
+    {
+        Report {
+            node,
+            status: now.status,
+            effects: replace(&mut self.round.effects, Vec::new(self.alloc)),
+            progress: now.progress,
+            fault: self.round.fault,
+        }
+    }
+
+    /// Whether this is to be told: something leaves, a turn did nothing, or the node or its worker stands
+    /// as was not told last.
+    fn is_news(&self, now: &Told) -> bool {
+        if self.round.has_news() {
+            return true;
+        }
+        match &self.told {
+            Some(told) => !told.is_same(now),
+            None => true,
         }
     }
 }
 
-/// The delivery of what lies in the mailbox from the node at this place, from 0 on, if something
-/// does.
-fn next_from<M: Marking, S: Stable<M::Command>, U: Upstream>(
-    cell: &mut MarkedCell<M, S, U>,
-    from: u64,
-) -> Option<NodeInput<M::Command, M::Line>>
-    requires { from < cell.old.parts.ether.size }
-    ensures taken { HasTaken (⟦<M as Described>⟧.machine cell.old.parts.ether.setup)
-        cell.old.parts from result cell.new.parts }
-    ensures heard { IfSome result (λ input. HasHeard (view_in cell.new.parts) (carries input)) }
+/// Whether a leader's log or what is agreed of it grew since it sent last in its term, or a node that lags
+/// behind it answered.
+fn has_grown(beaten: Option<Beaten>, is_behind: bool, now: Beaten) -> bool
+    ensures { result ≡ has_grown beaten is_behind now.term now.last now.commit }
 {
-    match cell.take(from) {
-        Some(envelope) => Some(NodeInput::Deliver(envelope)),
-        None => None,
-    }
-}
-
-/// Whether an input is a message of the leader of this term or of a later one.
-fn is_led<B: Wire, L>(input: &NodeInput<B, L>, term: u64) -> bool {
-    let NodeInput::Deliver(envelope) = input else {
-        return false;
-    };
-    match &envelope.message.kind {
-        Kind::Append(_) => envelope.message.term.value() >= term,
-        _ => false,
+    match beaten {
+        Some(beaten) => {
+            beaten.term != now.term
+                || beaten.last < now.last
+                || beaten.commit < now.commit
+                || is_behind
+        }
+        None => true,
     }
 }

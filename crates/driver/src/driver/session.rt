@@ -1,10 +1,11 @@
 //! The connection to the server, as the driver has it.
 ghost use Rattle.std.specs.Prelude.{◌≡◌, OnOk};
 ghost use Rattle.driver.specs.declared.news.Ending.TheVariants.{LedNoMore, Silent};
+ghost use Rattle.driver.specs.Filling.{is_left_out};
 ghost use Rattle.driver.specs.Driving.{Connects, Ends, Leaves, LeavesIf};
 ghost use Rattle.driver.specs.Leading.{is_older, is_that};
 ghost use Rattle.driver.specs.Links.{Connects as IsConnected, is_silent, node_of};
-ghost use Rattle.driver.specs.Sessions.{TakesIf, TellsAllOf, TellsOf};
+ghost use Rattle.driver.specs.Sessions.{OpensBy, TakesIf, TellsAllOf, TellsIf};
 
 use crate::driver::Driver;
 use crate::news::{Ending, News};
@@ -48,16 +49,31 @@ impl Driver {
         Ok(())
     }
 
-    /// The node of a session is told what came, and an operator where it is that the session opened.
+    /// The node of a session is told what came, clients where it gives another nick, and an operator where
+    /// it is that the session opened. A line is left out where the log is full.
     fn tell_of(&mut self, node: NodeId, note: TowerNote) -> Result<(), AllocError>
-        ensures { OnOk result (TellsOf node note self.old self.new) }
+        ensures { OnOk result (TellsIf (is_left_out self.old.level note) node note self.old self.new) }
     {
-        if let Note::Opened = &note {
-            self.link.open();
-            self.orders.announce(News::Opened(node))?;
+        if self.leaves_out(&note) {
+            return Ok(());
         }
+        self.hear_nick(&note)?;
+        self.open_by(node, &note)?;
         self.orders.tell(node, note)?;
         Ok(())
+    }
+
+    /// Where what came says that the session opened, the connection knows it, and an operator is told.
+    fn open_by(&mut self, node: NodeId, note: &TowerNote) -> Result<(), AllocError>
+        ensures { OnOk result (OpensBy node note.now self.old self.new) }
+    {
+        match note {
+            Note::Opened => {
+                self.link.open();
+                self.orders.announce(News::Opened(node))
+            }
+            _ => Ok(()),
+        }
     }
 
     /// The connection to the server is gone, or could not be made.

@@ -70,6 +70,27 @@ pub fn turn(cells: &mut [ToyCell], node: usize, input: NodeInput<u8, u8>) -> Res
     Ok(output.place.value())
 }
 
+/// The node at this place beats: the numbers of the older messages that come back, in order.
+pub fn replaced(alloc: Global, cells: &mut [ToyCell], node: usize) -> Result<Vec<u64>, Fail> {
+    if node >= cells.len() {
+        return Err(Fail::from("no such node"));
+    }
+    let output = cells[node].turn(NodeInput::Beat)?;
+    let mut numbers = Vec::new(alloc);
+    for envelope in &output.replaced {
+        numbers.push(envelope.number)?;
+    }
+    Ok(numbers)
+}
+
+/// Whether what the node at this place posted last to another was taken.
+pub fn is_taken(cells: &mut [ToyCell], node: usize, to: u64) -> Result<bool, Fail> {
+    if node >= cells.len() || to >= cells[node].size().value() as u64 {
+        return Err(Fail::from("no such node"));
+    }
+    Ok(cells[node].is_taken(to))
+}
+
 /// The node at this place stops, and is started again.
 pub fn restart(cells: &mut [ToyCell], node: usize) -> Result<(), Fail> {
     if node >= cells.len() {

@@ -1,4 +1,6 @@
-use crate::cell::cells::{deliver, is_behind, left, line_of, look, restart, three, turn};
+use crate::cell::cells::{
+    deliver, is_behind, is_taken, left, line_of, look, replaced, restart, three, turn,
+};
 use node_cells::Recording;
 use std::test::Fail;
 use world_views::NodeInput;
@@ -51,5 +53,21 @@ fn a_cell_that_records_nothing_runs_as_one_that_does(rt: HostRuntime) -> Result<
     restart(&mut cells, 1)?;
     assert!(rt; left(&mut cells, 0)? == (0, (1, 2, 2, 2)));
     assert!(rt; left(&mut cells, 0)? == (0, (1, 2, 0, 0)));
+    Ok(())
+}
+
+#[test]
+fn what_nobody_took_comes_back(rt: HostRuntime) -> Result<(), Fail> {
+    let alloc = rt.alloc();
+    let mut cells = three(alloc, Recording::On)?;
+    turn(&mut cells, 0, NodeInput::Timeout)?;
+    assert!(rt; !is_taken(&mut cells, 0, 1)? && !is_taken(&mut cells, 0, 2)?);
+    deliver(&mut cells, 1, 0)?;
+    deliver(&mut cells, 0, 1)?;
+    assert!(rt; is_taken(&mut cells, 0, 1)? && is_taken(&mut cells, 1, 0)?);
+    assert!(rt; replaced(alloc, &mut cells, 0)?.as_slice() == [2].as_slice());
+    assert!(rt; replaced(alloc, &mut cells, 0)?.as_slice() == [3, 4].as_slice());
+    deliver(&mut cells, 2, 0)?;
+    assert!(rt; is_taken(&mut cells, 0, 2)? && !is_taken(&mut cells, 0, 1)?);
     Ok(())
 }

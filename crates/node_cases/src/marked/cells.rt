@@ -99,7 +99,7 @@ pub fn mark(cells: &mut [NotesCell], node: usize) -> Result<u64, Fail> {
         return Err(Fail::from("no such node"));
     }
     match cells[node].mark() {
-        Ok(number) => Ok(number),
+        Ok(asked) => Ok(asked.number),
         Err(_) => Err(Fail::from("no mark")),
     }
 }

@@ -3,7 +3,7 @@ ghost use Rattle.std.specs.Prelude.{◌<◌};
 
 use crate::running::clusters::{Counter, Crew, MOST_POLLS, rest};
 use crate::running::inputs::Inputs;
-use crate::running::request::Request;
+use crate::running::request::{Request, numbered};
 use body_marks::Marking;
 use machine_laws::{Hosted, Machine};
 use node_notes::Note;
@@ -43,6 +43,25 @@ impl Client {
     /// Whether this request of it took effect.
     fn is_done(&self, request: Request) -> bool {
         self.done.load(Ordering::SeqCst) >= request.number() as u64
+    }
+
+    /// Whether its request of this number took effect.
+    pub fn has_done(&self, number: u8) -> bool {
+        self.done.load(Ordering::SeqCst) >= number as u64
+    }
+
+    /// Submits its request of this number: the first attaches, and each further one says a line.
+    pub fn ask<M: Marking, R: Wait>(
+        &self,
+        rt: &R,
+        alloc: Global,
+        crew: &Crew<M>,
+        number: u8,
+    ) -> Result<(), Fail> {
+        let bytes = numbered(alloc, self.node, number)?;
+        let (body, _) = M::Command::take(alloc, bytes.as_slice()).map_err(|_| "spelling")?;
+        crew.submit(rt, self.node, Note::Ask(body))?;
+        Ok(())
     }
 
     /// Submits a request.

@@ -43,6 +43,11 @@ pub fn rest(clock: &impl Clock) {
     thread::sleep(clock, Duration::from_millis(1));
 }
 
+/// A counter at 0.
+pub fn counter(alloc: Global) -> Result<Counter, AllocError> {
+    Ok(Arc::new(alloc, AtomicU64::new(0))?)
+}
+
 /// A counter for each node, node 1's first.
 pub fn counters(alloc: Global, size: GroupSize) -> Result<Vec<Counter>, AllocError> {
     let mut all = Vec::new(alloc);
@@ -52,12 +57,17 @@ pub fn counters(alloc: Global, size: GroupSize) -> Result<Vec<Counter>, AllocErr
     Ok(all)
 }
 
-/// What counts there what takes effect.
-pub fn watches(alloc: Global, counters: &[Counter]) -> Result<Vec<Watch>, AllocError> {
+/// What counts there what takes effect, and what is refused.
+pub fn watches(
+    alloc: Global,
+    counters: &[Counter],
+    refused: &Counter,
+) -> Result<Vec<Watch>, AllocError> {
     let mut all = Vec::new(alloc);
     for counter in counters {
         all.push(Watch {
             done: Arc::try_clone(counter)?,
+            refused: Arc::try_clone(refused)?,
         })?;
     }
     Ok(all)
@@ -84,7 +94,7 @@ pub fn lead<M: Marking, R: Wait + Clock>(rt: &R, crew: &Crew<M>) -> Result<u64, 
     let first = NodeId::new(1);
     for poll in 0..MOST_POLLS {
         if poll % POLLS_A_TIMEOUT == 0 {
-            crew.submit(rt, first, Note::Timeout)?;
+            crew.submit(rt, first, Note::Timeout(u64::MAX))?;
         }
         if crew.status(rt, first)?.leads() {
             return Ok(poll / POLLS_A_TIMEOUT + 1);

@@ -13,8 +13,8 @@ use std::test::Fail;
 /// they turned it.
 pub fn turn_both<M: Marking>(rt: &impl Wait, alloc: Global, crew: &Crew<M>) -> Result<Told, Fail> {
     let (first, second) = (NodeId::new(1), NodeId::new(2));
-    crew.submit(rt, first, Note::Timeout)?;
-    crew.submit(rt, second, Note::Timeout)?;
+    crew.submit(rt, first, Note::Timeout(u64::MAX))?;
+    crew.submit(rt, second, Note::Timeout(u64::MAX))?;
     crew.status(rt, first)?;
     crew.status(rt, second)?;
     Ok(Told::Lines(Vec::new(alloc)))

@@ -27,10 +27,15 @@ impl Request {
 
     /// The bytes of the request of the client 1 of the first run of a node.
     pub fn spelled(self, alloc: Global, node: NodeId) -> Result<Vec<u8>, AllocError> {
+        self.at(alloc, node, self.number())
+    }
+
+    /// The same, with another number.
+    fn at(self, alloc: Global, node: NodeId, number: u8) -> Result<Vec<u8>, AllocError> {
         let mut bytes = Vec::from_slice(alloc, b"\x01")?;
         bytes.push(node.value())?;
         bytes.extend_from_slice(b"\0\0\0\0\0\0\0\x01\0\0\0\0\0\0\0\x01\0\0\0\0\0\0\0")?;
-        bytes.push(self.number())?;
+        bytes.push(number)?;
         bytes.extend_from_slice(b"\0\0\0\0\x65\x53\xf1\0")?;
         match self {
             Request::Attach => bytes.extend_from_slice(b"\x01")?,
@@ -39,4 +44,15 @@ impl Request {
         }
         Ok(bytes)
     }
+}
+
+/// The bytes of the client's request of this number: the first attaches, and each further one says a
+/// line.
+pub fn numbered(alloc: Global, node: NodeId, number: u8) -> Result<Vec<u8>, AllocError> {
+    let request = if number == 1 {
+        Request::Attach
+    } else {
+        Request::Say
+    };
+    request.at(alloc, node, number)
 }

@@ -1,4 +1,5 @@
 //! What is done with the nodes of a cluster.
+use crate::running::bursts::{ask_at_once, wait_twice};
 use crate::running::client::Client;
 use crate::running::clusters::{Crew, parts};
 use crate::running::confirming::confirmed_lines;
@@ -11,7 +12,7 @@ use buffer_commands::{Setup, WireLine};
 use irc_line::Name;
 use machine_laws::{Hosted, Machine};
 use node_cells::{NodeRecord, Recording};
-use node_threads::{Gate, Outlet};
+use node_threads::{Beats, Gate, Outlet};
 use raft_log::GroupSize;
 use recorder::Words;
 use run_records::run_text;
@@ -30,6 +31,10 @@ pub enum Story {
     Meet,
     /// A line is said at node 1 while the gate holds node 3, which then is let go and looked at.
     Confirm(Client, Hold),
+    /// Node 1 leads, and the client of node 2 asks for so many lines at once.
+    Burst(Client, u8),
+    /// Node 1 leads and node 2 knows it, and is told twice that it waited too long for a leader.
+    Wait,
     /// Node 1 leads, two clients ask, and then node 3 is started again and looked at.
     Record([Client; 2]),
 }
@@ -39,6 +44,8 @@ pub enum Story {
 pub enum Told {
     /// The lines that were played, each with LF.
     Lines(Vec<u8>),
+    /// How long the log of node 1 is to be.
+    Log(u64),
     /// What was submitted to the first nodes.
     Submitted([Inputs; 3]),
 }
@@ -69,13 +76,28 @@ where
 {
     let recording = match &story {
         Story::Record(_) => Recording::On,
-        Story::Meet | Story::Confirm(_, _) => Recording::Off,
+        _ => Recording::Off,
+    };
+    let beats = match &story {
+        Story::Burst(_, _) => Beats::OnNews,
+        _ => Beats::WhenTold,
     };
     let parts = parts::<M, O>(alloc, outlets)?;
-    let crew = Crew::<M>::start(rt, alloc, size, setup.setup(), parts, gate, recording)?;
+    let crew = Crew::<M>::start(
+        rt,
+        alloc,
+        size,
+        setup.setup(),
+        parts,
+        gate,
+        recording,
+        beats,
+    )?;
     let told = match story {
         Story::Meet => turn_both(rt, alloc, &crew),
         Story::Confirm(client, hold) => confirmed_lines(rt, alloc, &crew, client, hold),
+        Story::Burst(client, count) => ask_at_once(rt, alloc, &crew, client, count),
+        Story::Wait => wait_twice(rt, alloc, &crew),
         Story::Record(clients) => run(rt, alloc, &crew, clients),
     };
     let records = crew.stop(rt);
@@ -102,6 +124,10 @@ where
             }
             Ok(lines)
         }
+        Told::Log(last) => match records.first() {
+            Some(record) if record.state.log.value() == last => Ok(Vec::new(alloc)),
+            _ => Err(Fail::from("the log has more or fewer entries")),
+        },
         Told::Submitted(inputs) => {
             if !hold::<M>(alloc, records.as_slice(), &inputs)? {
                 return Err(Fail::from("an input is not recorded as often as it was submitted"));

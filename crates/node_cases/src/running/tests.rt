@@ -1,5 +1,5 @@
 use crate::running::client::Client;
-use crate::running::clusters::{Counter, counters, flag, watches};
+use crate::running::clusters::{Counter, counter, counters, flag, watches};
 use crate::running::gates::{Hold, Holding, Meeting};
 use crate::running::story::{Story, play};
 use bouncer_tower::Tower;
@@ -33,8 +33,14 @@ where
     G: Gate + Drop + Send + Sync + 'static,
 {
     let setup = WireSetup::new(Setup::plain(alloc)?);
-    let outlets = watches(alloc, counters)?;
-    play::<Tower, _, _, _>(rt, alloc, size, &setup, outlets, gate, story)
+    let is_burst = matches!(&story, Story::Burst(_, _));
+    let refused = counter(alloc)?;
+    let outlets = watches(alloc, counters, &refused)?;
+    let told = play::<Tower, _, _, _>(rt, alloc, size, &setup, outlets, gate, story)?;
+    if is_burst && refused.load(Ordering::SeqCst) > 0 {
+        return Err(Fail::from("a repeat or a gap"));
+    }
+    Ok(told)
 }
 
 /// What a replay of the record of a run of so many nodes comes to.
@@ -95,5 +101,31 @@ fn confirmed_waits(rt: HostRuntime) -> Result<(), Fail> {
     lines.next();
     assert!(rt; lines.next() == Some(b"".as_slice()));
     assert!(rt; lines.next() == None);
+    Ok(())
+}
+
+#[test]
+fn a_burst_at_a_follower_is_one_entry_a_request(rt: HostRuntime) -> Result<(), Fail> {
+    let alloc = rt.alloc();
+    let size = GroupSize::new(3).ok_or("size")?;
+    let counters = counters(alloc, size)?;
+    let client = Client::new(NodeId::new(2), counters.get(1).ok_or("node")?)?;
+    told(
+        &rt,
+        alloc,
+        size,
+        counters.as_slice(),
+        OpenGate,
+        Story::Burst(client, 90),
+    )?;
+    Ok(())
+}
+
+#[test]
+fn who_has_heard_of_a_leader_since_asks_for_no_votes(rt: HostRuntime) -> Result<(), Fail> {
+    let alloc = rt.alloc();
+    let size = GroupSize::new(3).ok_or("size")?;
+    let counters = counters(alloc, size)?;
+    told(&rt, alloc, size, counters.as_slice(), OpenGate, Story::Wait)?;
     Ok(())
 }

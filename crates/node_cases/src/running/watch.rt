@@ -11,14 +11,25 @@ use std::sync::atomic::Ordering;
 #[derive(Drop)]
 pub struct Watch {
     pub done: Counter,
+    /// How many requests were answered as a repeat or a gap.
+    pub refused: Counter,
 }
 
 impl Outlet<TowerEffect> for Watch {
-    fn report<R: Wait>(&mut self, _rt: &R, report: Report<TowerEffect>) {
+    fn report<R: Wait>(
+        &mut self,
+        _rt: &R,
+        report: Report<TowerEffect>,
+    ) -> Result<(), Report<TowerEffect>> {
         for effect in &report.effects {
-            if let Answer::Done(_, number) = effect {
-                self.done.store(*number, Ordering::SeqCst);
+            match effect {
+                Answer::Done(_, number) => self.done.store(*number, Ordering::SeqCst),
+                Answer::Repeat(_, _) | Answer::Gap(_, _) => {
+                    self.refused.fetch_add(1, Ordering::SeqCst);
+                }
+                Answer::Effect(_) | Answer::Marked(_) => {}
             }
         }
+        Ok(())
     }
 }

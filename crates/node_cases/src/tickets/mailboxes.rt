@@ -2,7 +2,7 @@
 ghost use Rattle.std.specs.Prelude.{IfOk};
 ghost use Rattle.node_cases.specs.Seats.{IsSeated};
 
-use crate::tickets::passes::{taken, two_of_three};
+use crate::tickets::passes::{is_taken, taken, two_of_three};
 use crate::tickets::seated::Seated;
 use ether::Ether;
 use machine_laws::{Hosted, Machine};
@@ -41,7 +41,9 @@ fn check_timeouts<M: Hosted, S: Stable<M::Command>>(
     assert!(rt; third == 2 && one.sent == 2 && older.is_none());
     let (fourth, older) = one.act_and_post(ether, NodeEvent::Does(NodeInput::Timeout))?;
     assert!(rt; fourth == 3 && one.sent == 4 && older == Some(1));
+    assert!(rt; !is_taken(ether, &mut one.pass, 1));
     assert!(rt; taken(ether, &mut two.pass, 0) == Some(3));
+    assert!(rt; is_taken(ether, &mut one.pass, 1));
     assert!(rt; taken(ether, &mut two.pass, 0).is_none());
     Ok(())
 }

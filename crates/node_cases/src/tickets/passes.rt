@@ -1,6 +1,6 @@
 //! An ether for three nodes, for tests.
 ghost use Rattle.std.specs.Prelude.{◌≡◌, IfOk};
-ghost use Rattle.ether.specs.Passes.{AreNew, IsPass, IsUnopened};
+ghost use Rattle.ether.specs.Passes.{AreNew, IsOpenPass, IsPass, IsUnopened, StaysOpen, view_of};
 
 use ether::{Ether, Pass};
 use machine_laws::{Hosted, Machine};
@@ -48,6 +48,18 @@ fn last_pass<M: Hosted>(
         Some(pass) => Ok(pass),
         None => Err(Fail::from("no pass is left")),
     }
+}
+
+/// Whether what the pass's node posted last to the node at this place was taken.
+pub fn is_taken<M: Hosted>(
+    ether: &Ether<M>,
+    pass: &mut Pass<M::Command, M::Line, M::Target>,
+    to: u64,
+) -> bool
+    requires { IsOpenPass ether.now pass.old }
+    ensures { StaysOpen ether.now pass.old pass.new × (view_of pass.new ≡ view_of pass.old) }
+{
+    to < ether.size().value() as u64 && ether.is_taken(pass, to)
 }
 
 /// Takes what lies in the mailbox from the node at this place. Gives its number.

@@ -7,12 +7,15 @@ ghost use Rattle.node_cells.specs.Openings.{IsFresh};
 ghost use Rattle.raft_node.specs.Parts.{keeper};
 ghost use Rattle.node_threads.specs.Homes.{AllFrom, IsNoStart, IsNotOpened, IsOpenedOver};
 
+use crate::beats::Beats;
 use crate::cluster_fault::ClusterFault;
 use crate::gate::Gate;
 use crate::job::Job;
 use crate::outlet::Outlet;
 use crate::part::Part;
 use crate::station::Station;
+use crate::station::requests::Requests;
+use crate::station::round::Round;
 use crate::worker::Worker;
 use body_marks::Marking;
 use crossbeam_channel::{Receiver, Sender, unbounded};
@@ -28,6 +31,7 @@ use std::sync::Arc;
 /// The two ends of the inboxes of all workers, node 1's first.
 #[derive(Drop)]
 pub struct Inboxes<J: Drop> {
+    pub beats: Beats,
     pub inboxes: Vec<Sender<J>>,
     pub outboxes: Vec<Receiver<J>>,
 }
@@ -134,7 +138,14 @@ fn station<M: Marking, G: Drop, O: Outlet<M::Effect>>(
         others,
         gate,
         outlet,
+        beats: ends.beats,
         turns: 0,
+        done: 0,
+        contacts: 0,
+        requests: Requests::new(alloc),
+        round: Round::new(alloc),
+        told: None,
+        beaten: None,
     })
 }
 
@@ -146,7 +157,11 @@ fn clones<T: Drop>(inboxes: &Vec<Sender<T>>) -> Result<Vec<Sender<T>>, ClusterFa
 }
 
 /// The two ends of an inbox for each node.
-pub fn make_inboxes<J: Drop>(alloc: Global, size: GroupSize) -> Result<Inboxes<J>, ClusterFault>
+pub fn make_inboxes<J: Drop>(
+    alloc: Global,
+    size: GroupSize,
+    beats: Beats,
+) -> Result<Inboxes<J>, ClusterFault>
     ensures all { IfOk result (λ ends. (length ends.inboxes.items ≡ size)
         × (length ends.outboxes.items ≡ size)) }
     ensures fault { IfErr result (λ e. e ≡ Memory) }
@@ -159,5 +174,9 @@ pub fn make_inboxes<J: Drop>(alloc: Global, size: GroupSize) -> Result<Inboxes<J
             return Err(ClusterFault::Memory);
         }
     }
-    Ok(Inboxes { inboxes, outboxes })
+    Ok(Inboxes {
+        beats,
+        inboxes,
+        outboxes,
+    })
 }

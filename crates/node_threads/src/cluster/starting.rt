@@ -6,6 +6,7 @@ ghost use Rattle.ether.specs.Passes.{AreNew};
 ghost use Rattle.raft_node.specs.Parts.{keeper};
 ghost use Rattle.node_threads.specs.Homes.{AllFrom, HasStarted, IsHome, IsUnpaired, home_of};
 
+use crate::beats::Beats;
 use crate::cluster::opening::{Inboxes, make_inboxes, workers};
 use crate::cluster::{Cluster, end_all};
 use crate::cluster_fault::ClusterFault;
@@ -51,6 +52,7 @@ where
         parts: Vec<Part<S, U, O>>,
         gate: G,
         recording: Recording,
+        beats: Beats,
     ) -> Result<Self, ClusterFault>
     where
         R: Threads + Wait + Sync + Send + Copy + 'static,
@@ -60,7 +62,7 @@ where
             recording result }
     {
         unpaired(size, parts.len())?;
-        let ground = make_ground(alloc, size, setup, recording)?;
+        let ground = make_ground(alloc, size, setup, recording, beats)?;
         let Ground {
             ether,
             passes,
@@ -139,6 +141,7 @@ fn make_ground<M: Marking>(
     size: GroupSize,
     setup: &M::Setup,
     recording: Recording,
+    beats: Beats,
 ) -> Result<Ground<M>, ClusterFault>
     ensures size { IfOk result (λ g. (arc_value g.ether).size ≡ size) }
     ensures setup { IfOk result (λ g. (arc_value g.ether).setup ≡ setup.now) }
@@ -158,7 +161,7 @@ fn make_ground<M: Marking>(
         Err(_) => return Err(ClusterFault::Memory),
     };
     let closing = Closing::new(alloc, &ether, recording)?;
-    let ends = make_inboxes(alloc, size)?;
+    let ends = make_inboxes(alloc, size, beats)?;
     Ok(Ground {
         ether,
         passes,

@@ -17,7 +17,7 @@ machine g s =
 pub invariant_of-self : goal.invariant_of-self
 invariant_of-self g c =
     let i = c.self.inside in
-    let came = subst (λ (o : Option (TurnOutput g.row.M-Effect.Denot)). HasDelivered (machine g i.cell.parts.ether.setup) g.U.Upstream.tally i.cell.parts c.args.from (Ok o) c.deliver.new.self.parts) c.in-Ok-Some.field-0-is c.in-Ok-Some.ensures in
+    let came = subst (λ (o : Option (TurnOutput g.row.M-Command.Denot g.row.M-Effect.Denot)). HasDelivered (machine g i.cell.parts.ether.setup) g.U.Upstream.tally i.cell.parts c.args.from (Ok o) c.deliver.new.self.parts) c.in-Ok-Some.field-0-is c.in-Ok-Some.ensures in
     subst (λ (r : Option ℕ). Keeps g.M.Marking.marked (view_in c.deliver.new.self.parts) i.asked r) (sym c.reached_after-self-inside.ensures)
     (Kept.delivered_keeps (machine g i.cell.parts.ether.setup) g.M.Marking.marked i.cell.parts c.deliver.new.self.parts i.asked i.reached c.self.invariant g.U.Upstream.tally c.args.from c.in-Ok-Some.output came
     c.state.result.now c.state-state.result.now c.id-node.result c.state.result.now.standing.applied c.state.ensures.view refl c.state-state.ensures.view c.id-node.ensures.view)
@@ -25,7 +25,7 @@ invariant_of-self g c =
 pub invariant_of-self-in-Ok-None : goal.invariant_of-self-in-Ok-None
 invariant_of-self-in-Ok-None g c =
     let i = c.self.inside in
-    let came = subst (λ (o : Option (TurnOutput g.row.M-Effect.Denot)). HasDelivered (machine g i.cell.parts.ether.setup) g.U.Upstream.tally i.cell.parts c.args.from (Ok o) c.deliver.new.self.parts) c.in-Ok-None.field-0-is c.in-Ok-None.ensures in
+    let came = subst (λ (o : Option (TurnOutput g.row.M-Command.Denot g.row.M-Effect.Denot)). HasDelivered (machine g i.cell.parts.ether.setup) g.U.Upstream.tally i.cell.parts c.args.from (Ok o) c.deliver.new.self.parts) c.in-Ok-None.field-0-is c.in-Ok-None.ensures in
     Kept.none_came_keeps (machine g i.cell.parts.ether.setup) g.M.Marking.marked i.cell.parts c.deliver.new.self.parts i.asked i.reached c.self.invariant g.U.Upstream.tally c.args.from came
 
 pub invariant_of-self-in-Err : goal.invariant_of-self-in-Err

@@ -29,6 +29,5 @@ returns-in-Ok g c =
       next = search rules;
       few = search rules;
       own = λ honest. sym boot ∙ ap (λ (s : Node g.row.M-Command.Denot). s.boot) (c.state.ensures.view (same ∙ honest) (phase ∙ c.in-Ok.ensures.turn.event.was_up)) ∙ own_boot;
-      output = c.in-Ok._output;
-      turn = subst (λ (b : g.row.M-Command.Denot). IsTurn (machine g cell.ether.setup) g.U.Upstream.tally cell (Ask b) c.in-Ok._output c.turn.new.self.parts) made c.in-Ok.ensures.turn;
+      turn = subst (λ (b : g.row.M-Command.Denot). IsTurn (machine g cell.ether.setup) g.U.Upstream.tally cell (Ask b) c.in-Ok.output c.turn.new.self.parts) made c.in-Ok.ensures.turn;
     }

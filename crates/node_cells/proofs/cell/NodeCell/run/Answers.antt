@@ -1,4 +1,4 @@
-use Rattle.std.proofs.Common.{rules, ◌≡◌, List, [], length, Result, Ok, Err, refl, sym, ap, ◌∙◌, subst, map}
+use Rattle.std.proofs.Common.{rules, arith, inl, true, ◌≡◌, List, [], length, Result, Ok, Err, refl, sym, ap, ◌∙◌, subst, map}
 use Rattle.raft_log.specs.Seen.{seen}
 use Rattle.raft_log.specs.declared.node_state.NodeState.{NodeState}
 use Rattle.recorder.specs.NodeLines.{fields_of}
@@ -18,15 +18,15 @@ use Rattle.world_views.specs.Own.{act_of}
 use Rattle.world_views.specs.Views.{View, carries}
 use Rattle.ether.specs.Passes.{EtherParts, view_of}
 use Rattle.node_cells.specs.declared.cell_fault.CellFault.TheVariants.{Node as OfNode}
-use Rattle.node_cells.specs.declared.phase.Phase.TheVariants.{Up}
+use Rattle.node_cells.specs.declared.phase.Phase.TheVariants.{Up, DownInTurn}
 use Rattle.node_cells.specs.declared.record.TurnOutput.{TurnOutput}
 use Rattle.node_cells.specs.Books.{HasPosted, IsBook}
 use Rattle.node_cells.specs.Cells.{CellRoom, HasHeard, IsCell, cell_of}
 use Rattle.node_cells.specs.Sending.{to_of}
-use Rattle.node_cells.specs.Turns.{IsEvent, IsGiven, IsNoTurn, IsTurn, input_of}
+use Rattle.node_cells.specs.Turns.{FallsInTurn, IsEvent, IsGiven, IsNoTurn, IsTurn, input_of}
 use Rattle.node_cells.specs.Upstreams.{HandsOut}
 use Rattle.node_cells.proofs.Acting.{down_case, refused_case, same_act}
-use Rattle.node_cells.proofs.Turning.{comes_out, done_cell, fallen_cell, few_posts, goes_within, may_post, still_cell, still_event, turn_is, turned_cell}
+use Rattle.node_cells.proofs.Turning.{comes_out, done_cell, fallen_cell, falls_in, few_posts, few_sent, goes_within, may_post, still_cell, still_event, turn_is, turned_cell}
 use Rattle.node_cells.proofs.Showing.{declined}
 use Rattle.node_cells.proofs.cell.NodeCell.run.Given as given
 use Rattle.node_cells.proofs.cell.NodeCell.run.Goals as goal
@@ -100,6 +100,16 @@ post_all-requires-clause-few g c =
     few_posts (machine g i.book.ether.setup) (kept g) g.U.Upstream.tally i.book i.node i.upstream i.phase i.refused i.shown c.self.invariant up c.args.copy c.in-Ok.output c.step.new.self a.0 a.1
     c.in-Ok-copies.outcome c.note.new.self c.note.ensures.noted
 
+pub post_all-requires-clause-room : goal.post_all-requires-clause-room
+post_all-requires-clause-room g c =
+    let i = c.self.inside in
+    let up : i.phase ≡ Up = search rules in
+    let a = acted g _ _ c.args.input c.args.copy c.input_of.result i.node c.step.new.self (Ok c.in-Ok.output) c.self.invariant.setup c.input_of.ensures c.requires.copy c.in-Ok.ensures in
+    let few = few_sent (machine g i.book.ether.setup) (kept g) g.U.Upstream.tally i.book i.node i.upstream i.phase i.refused i.shown c.self.invariant up c.args.copy c.in-Ok.output c.step.new.self a.0 a.1
+    c.in-Ok-copies.outcome c.note.new.self c.note.ensures.noted in
+    let room = c.requires.replaced.1 in
+    omega (arith, few, room)
+
 pub invariant_of-self-in-Ok : goal.invariant_of-self-in-Ok
 invariant_of-self-in-Ok g c =
     let i = c.self.inside in
@@ -127,7 +137,7 @@ returns-in-Ok-copies g c =
     subst (λ (l : List g.row.M-Effect.Denot). IsGiven c.in-Ok.output.place l c.in-Ok-copies.outcome) c.deref-in-Ok.ensures.value c.in-Ok-copies.ensures.1 in
     let handed : HandsOut (hands (machine g i.book.ether.setup) c.in-Ok.output.effects.items) (g.U.Upstream.tally i.upstream) (g.U.Upstream.tally c.hand_all.new.upstream) =
     subst (λ (l : List g.row.M-Effect.Denot). HandsOut (hands (machine g i.book.ether.setup) l) (g.U.Upstream.tally i.upstream) (g.U.Upstream.tally c.hand_all.new.upstream)) c.deref-in-Ok-2.ensures.value (c.hand_all.ensures i.book.ether.setup) in
-    let out : TurnOutput g.row.M-Effect.Denot = record { posted_to = c.in-Ok-copies.posted_to; place = c.in-Ok.output.place; effects = c.in-Ok.output.effects } in
+    let out : TurnOutput g.row.M-Command.Denot g.row.M-Effect.Denot = record { posted_to = c.in-Ok-copies.posted_to; replaced = c.post_all.new.replaced; place = c.in-Ok.output.place; effects = c.in-Ok.output.effects } in
     let now = cell_of b2 c.step.new.self c.hand_all.new.upstream i.phase i.refused c.of-self-inside.result in
     record {
       turn = subst (λ (z : CellRoom g.row.M-Setup.Denot g.row.M.Denot g.row.S.Denot g.row.M-Command.Denot g.row.M-Line.Denot g.row.M-Target.Denot g.row.M-Effect.Denot g.row.M-Played.Denot g.row.U.Denot × NodeInput g.row.M-Command.Denot g.row.M-Line.Denot).
@@ -135,7 +145,7 @@ returns-in-Ok-copies g c =
           (turn_is (machine g i.book.ether.setup) (kept g) g.U.Upstream.tally i.book i.node i.upstream i.phase i.refused i.shown c.self.invariant up c.args.copy c.in-Ok.output c.step.new.self a.0 a.1
           c.in-Ok-copies.outcome c.note.new.self noted b2 moved.1 c.hand_all.new.upstream c.of-self-inside.result moved.0
           (c.of-self-inside.ensures ∙ ap (λ (s : NodeState g.row.M-Command.Denot). fields_of (seen s [])) c.state.ensures)
-          given handed out refl refl (c.in-Ok-copies.ensures.0 ∙ ap (map to_of) c.deref.ensures.value));
+          given handed out refl refl (c.in-Ok-copies.ensures.0 ∙ ap (map to_of) c.deref.ensures.value) c.post_all.ensures.replaced);
     }
 
 pub note-requires-in-Refused-clause-out : goal.note-requires-in-Refused-clause-out
@@ -174,11 +184,21 @@ returns-in-Refused g c =
           IsEvent (machine g z.0.0.parts.ether.setup) g.U.Upstream.tally z.0.0.parts (Does z.0.1) (Refused c.in-Refused.refusal) (cell_of b1 z.1 i.upstream i.phase i.refused i.shown)) (λ t. ((c.self.view_is t, c.requires.copy t), sym d.same t)) event);
     }
 
-pub invariant_of-self-in-Err : goal.invariant_of-self-in-Err
-invariant_of-self-in-Err g c =
+pub invariant_of-self-in-Err-step : goal.invariant_of-self-in-Err-step
+invariant_of-self-in-Err-step g c =
     let i = c.self.inside in
     let up : i.phase ≡ Up = search rules in
     let a = acted g _ _ c.args.input c.args.copy c.input_of.result i.node c.step.new.self (Err c.in-Err.fault) c.self.invariant.setup c.input_of.ensures c.requires.copy c.in-Err.ensures in
     let d = down_case (machine g i.book.ether.setup) (kept g) _ i.node c.step.new.self c.in-Err.fault c.in_default-fault.not-Refused (c.self.invariant.up up) a.0 in
     fallen_cell (machine g i.book.ether.setup) (kept g) g.U.Upstream.tally i.book i.node i.upstream i.phase i.refused i.shown c.self.invariant up c.args.copy d.0 c.step.new.self d.1 a.1
     (heard g _ (view_of i.book.pass) c.args.input c.args.copy (λ t. view_of (c.self.view_is t).parts.pass) c.requires.copy c.requires.heard)
+
+pub returns-in_default : goal.returns-in_default
+returns-in_default g c =
+    let i = c.self.inside in
+    let up : i.phase ≡ Up = search rules in
+    let falls = falls_in (machine g i.book.ether.setup) (kept g) g.U.Upstream.tally i.book i.node i.upstream i.phase i.refused i.shown c.self.invariant up c.args.copy true c.step.new.self in
+    record {
+      turn = inl (subst (λ (z : CellRoom g.row.M-Setup.Denot g.row.M.Denot g.row.S.Denot g.row.M-Command.Denot g.row.M-Line.Denot g.row.M-Target.Denot g.row.M-Effect.Denot g.row.M-Played.Denot g.row.U.Denot × NodeInput g.row.M-Command.Denot g.row.M-Line.Denot).
+          FallsInTurn (machine g z.0.parts.ether.setup) z.0.parts z.1 (cell_of i.book c.step.new.self i.upstream (DownInTurn c.args.copy true) i.refused i.shown)) (λ d. (c.self.view_is d, c.requires.copy d)) falls);
+    }

@@ -1,6 +1,8 @@
-use Rattle.node_threads.specs.Work.{HasGoneOn}
 use Rattle.raft_node.specs.Hosts.{hosted}
 use Rattle.raft_node.specs.Machine.{Machine}
+use Rattle.node_cells.specs.Turns.{CellOf}
+use Rattle.node_threads.specs.Homes.{IsSameHome}
+use Rattle.node_threads.specs.Work.{HasApplied}
 use Rattle.node_threads.proofs.station.Station.apply_all.Given as goal
 
 abbrev pub machine : (g : goal.Over) → g.row.M-Setup.Denot → Machine
@@ -9,4 +11,7 @@ machine g s =
     (g.M.Hosted.next_claim s) (g.M.Hosted.playback s) g.M.Hosted.class
 
 abbrev pub invariant-loop : goal.invariant-loop
-invariant-loop g l = HasGoneOn (machine g l.fn.cell.parts.ether.setup) g.U.Upstream.tally l.fn.cell.parts l.cell.parts
+invariant-loop g l =
+    let first = l.fn.cell.parts in
+    let M = machine g first.ether.setup in
+    IsSameHome first l.cell.parts × ((e : CellOf M _ _ _ _) → HasApplied M g.U.Upstream.tally l.cell.parts e → HasApplied M g.U.Upstream.tally first e)

@@ -17,7 +17,7 @@ returns g c =
     let between = c.next_from.new.cell.parts in
     let h = c.in-Some.ensures.taken in
     looked_in (machine g first.ether.setup) g.U.Upstream.tally first c.args.from (Some c.in-Some.input) between c.turn.new.cell.parts h
-    (subst (λ (s : g.row.M-Setup.Denot). HasHadTurn (machine g s) g.U.Upstream.tally between c.in-Some.input c.turn.new.cell.parts) (ap (λ e. e.setup) h.taken.same.ether) c.turn.ensures)
+    (subst (λ (s : g.row.M-Setup.Denot). HasHadTurn (machine g s) g.U.Upstream.tally between c.in-Some.input c.turn.new.cell.parts) (ap (λ e. e.setup) h.taken.same.ether) c.turn.ensures.turn)
 
 pub returns-in_default : goal.returns-in_default
 returns-in_default g c =

@@ -1,0 +1,200 @@
+"""Measures the run of a bouncer, the program named by BOUNCER, where it gets difficult. The server is played here, on
+loopback; the journals stand in a new folder (of TMPDIR, if that is set).
+
+With three, five and seven nodes: how long 90 lines that are pasted at the leader and at another node take to the server, and
+how many requests and claims they are in the log; how long 50 clients that attach at once, spread over the nodes, wait until
+they are shown their channel, at rest and while the server says 200 lines a second. With three nodes: how many leaders and
+sessions a follower's syncs of 1.4 s cost, one every six seconds; and of the lines that clients say at all nodes while the
+nodes' journals fail at random, how many come to the server, and how many came twice.
+"""
+
+import os
+import random
+import shutil
+import subprocess
+import sys
+import tempfile
+import threading
+import time
+
+sys.path.insert(0, os.path.join(os.path.dirname(os.path.dirname(os.path.realpath(__file__))), "tests"))
+sys.dont_write_bytecode = True
+import journal
+from client import Client, Late, until
+from harness import TOP, Bouncer
+from stand_in import StandIn
+
+PASTED = 90
+CROWD = 50
+SLOW_SECONDS = 40
+FAULT_SECONDS = 45
+
+
+def running(room, name, nodes=3, environment=None, **more):
+    server = StandIn()
+    bouncer = Bouncer(os.path.join(room, name), server.port, nodes, **more).start(**(environment or {})).ready()
+    until(server.is_joined, "a session with #x")
+    return server, bouncer
+
+
+def shim(room, name):
+    built = os.path.join(room, f"{name}.so")
+    source = os.path.join(TOP, "tests", f"{name}.c")
+    subprocess.run(["gcc", "-shared", "-fPIC", "-O2", "-o", built, source, "-ldl"], check=True)
+    return built
+
+
+def paste(server, bouncer, node):
+    """Milliseconds until lines pasted at a node are all at the server, and the requests and claims that they are."""
+    client = bouncer.attach(node)
+    client.wait("JOIN #x")
+    path = bouncer.journal(bouncer.leader())
+    before = [journal.count(path, kind) for kind in (journal.ASKED, journal.CLAIM)]
+    had = len(server.said())
+    texts = [f"node {node} line {number}" for number in range(PASTED)]
+    begun = time.monotonic()
+    client.say("\r\n".join(f"PRIVMSG #x :{text}" for text in texts))
+    until(lambda: len(server.said()) >= had + PASTED, "all lines")
+    took = 1000 * (server.last - begun)
+    grown = [journal.count(path, kind) - old for kind, old in zip((journal.ASKED, journal.CLAIM), before)]
+    order = "in order" if server.said()[had:] == texts else "NOT in order"
+    client.close()
+    return f"{took:.0f} ms, {order}, {grown[0]} requests and {grown[1]} claims"
+
+
+def crowd(bouncer):
+    """Milliseconds until clients that attach at once are shown their channel: the median, and the last."""
+    begun = time.monotonic()
+    waiting = [Client(bouncer.ports[number % len(bouncer.ports)], "me", "pw") for number in range(CROWD)]
+    clients, took = list(waiting), []
+    while waiting:
+        for client in list(waiting):
+            if client.has("JOIN #x"):
+                took.append(1000 * (time.monotonic() - begun))
+                waiting.remove(client)
+        if time.monotonic() - begun > 60:
+            return f"{len(waiting)} of {CROWD} are not shown their channel in 60 s"
+    for client in clients:
+        client.close()
+    return f"{took[len(took) // 2]:.0f} ms, the last {took[-1]:.0f} ms"
+
+
+def flooded(server, seconds):
+    """The server says 200 lines a second, in a thread of its own."""
+
+    def flood():
+        for number in range(200 * seconds):
+            server.say(f"flood {number}")
+            time.sleep(0.005)
+
+    thread = threading.Thread(target=flood, daemon=True)
+    thread.start()
+    return thread
+
+
+def bursts(room):
+    for nodes in (3, 5, 7):
+        server, bouncer = running(room, f"burst-{nodes}", nodes)
+        print(f"{nodes} nodes, {PASTED} lines pasted at the leader: {paste(server, bouncer, bouncer.leader())}", flush=True)
+        print(f"{nodes} nodes, the same at another node: {paste(server, bouncer, bouncer.followers()[0])}", flush=True)
+        print(f"{nodes} nodes, {CROWD} clients attach at once: {crowd(bouncer)}", flush=True)
+        thread = flooded(server, 3)
+        time.sleep(0.5)
+        print(f"{nodes} nodes, the same while the server says 200 lines a second: {crowd(bouncer)}", flush=True)
+        thread.join()
+        print(f"{nodes} nodes: {bouncer.log().count(' leads in term ')} leader", flush=True)
+        bouncer.end()
+
+
+def slow_syncs(room):
+    control = os.path.join(room, "slow")
+    server, bouncer = running(room, "slow", environment={"LD_PRELOAD": shim(room, "slow_sync"), "SLOW": control})
+    end = time.monotonic() + SLOW_SECONDS
+    count = 0
+    while time.monotonic() < end:
+        with open(control, "w") as file:
+            file.write(f"/node-{bouncer.followers()[0]} 1400")
+        server.say("a line that is saved")
+        count += 1
+        time.sleep(6)
+    leaders, sessions = bouncer.log().count(" leads in term "), len(server.sessions)
+    print(f"{count} syncs of a follower of 1.4 s in {SLOW_SECONDS} s: {leaders} leader, {sessions} session", flush=True)
+    bouncer.end()
+
+
+class Speaker:
+    """A person at one node, who attaches again when hung up, and says three lines a second."""
+
+    def __init__(self, bouncer, node):
+        self.bouncer, self.node = bouncer, node
+        self.client, self.count, self.said = None, 0, []
+
+    def go_on(self):
+        if self.client is None or not self.client.is_open:
+            try:
+                self.client = Client(self.bouncer.ports[self.node - 1], "me", "pw")
+            except OSError:
+                return
+            self.is_there = False
+        self.client.read()
+        if not self.is_there:
+            self.is_there = self.client.has("Welcome to the bouncer")
+            return
+        if self.client.is_open:
+            self.count += 1
+            text = f"node {self.node} line {self.count}"
+            self.client.say(f"PRIVMSG #x :{text}")
+            self.said.append((text, self.client))
+
+
+def faults(room):
+    control = os.path.join(room, "failing")
+    server, bouncer = running(room, "faults", environment={"LD_PRELOAD": shim(room, "fail_write"), "FAILING": control})
+    chosen = random.Random(1)
+    speakers = [Speaker(bouncer, node) for node in bouncer.nodes]
+    end = time.monotonic() + FAULT_SECONDS
+    fails_until, quiet_until = 0.0, time.monotonic() + 1
+    while time.monotonic() < end:
+        now = time.monotonic()
+        if fails_until and now > fails_until:
+            os.unlink(control)
+            fails_until, quiet_until = 0.0, now + chosen.uniform(0.5, 3)
+        if not fails_until and now > quiet_until:
+            with open(control, "w") as file:
+                file.write(f"/node-{chosen.choice(list(bouncer.nodes))}")
+            fails_until = now + chosen.uniform(0.05, 1.2)
+        for speaker in speakers:
+            speaker.go_on()
+        time.sleep(0.33)
+    if fails_until:
+        os.unlink(control)
+    time.sleep(10)
+    for speaker in speakers:
+        if speaker.client is not None:
+            speaker.client.read()
+    said = [(text, client) for speaker in speakers for text, client in speaker.said]
+    came = server.said()
+    taken = [text for text, client in said if client.is_open]
+    lost, silent = sum(text not in came for text, _ in said), sum(text not in came for text in taken)
+    twice = len(came) - len(set(came))
+    print(
+        f"journals that fail at random for {FAULT_SECONDS} s: {len(said)} lines said, {lost} did not come, of which {silent} by a "
+        f"client that was not hung up; {twice} came twice; {len(server.sessions)} sessions",
+        flush=True,
+    )
+    bouncer.end()
+
+
+def main():
+    room = tempfile.mkdtemp(prefix="hukbarg-")
+    try:
+        for case in (bursts, slow_syncs, faults):
+            if len(sys.argv) == 1 or case.__name__ in sys.argv[1:]:
+                case(room)
+    except Late as late:
+        print(f"late: {late}")
+    finally:
+        shutil.rmtree(room, ignore_errors=True)
+
+
+main()

@@ -1,0 +1,172 @@
+//! Clients that come.
+use crate::edge_news::EdgeNews;
+use crate::event_loop::LoopFault;
+use crate::sockets::{MOST_CLIENTS, Sockets};
+use driver::{Driver, Now};
+use mio::net::TcpStream;
+use mio::{Interest, Token};
+use raft_log::NodeId;
+use std::io::{self, ErrorKind, Write};
+use std::net::SocketAddr;
+
+/// How many clients are taken at once.
+const TAKEN: usize = 64;
+
+/// What a client is told where there is no place.
+const CROWDED: &[u8] = b"ERROR :too many clients\r\n";
+
+/// What a try to take a client gave.
+enum Arrival {
+    Client(TcpStream, SocketAddr),
+    /// One came, and went before it was taken.
+    Gone,
+    /// No further one waits.
+    Nobody,
+    /// None can be taken for now.
+    Fault(io::Error),
+}
+
+impl Sockets {
+    /// Clients are waiting at a node's listener, or it could take none before.
+    pub fn accept(
+        &mut self,
+        now: &Now,
+        driver: &mut Driver,
+        node: NodeId,
+    ) -> Result<(), LoopFault> {
+        for _ in 0..TAKEN {
+            match self.arrival(node) {
+                Arrival::Client(stream, from) => {
+                    self.take_in(now, driver, node, stream, from)?;
+                }
+                Arrival::Gone => {}
+                Arrival::Nobody => {
+                    self.set_deaf(node, false);
+                    return Ok(());
+                }
+                Arrival::Fault(error) => return self.tell_deaf(node, error),
+            }
+        }
+        self.listen_again(node)
+    }
+
+    /// The next client that waits at a node's listener.
+    fn arrival(&self, node: NodeId) -> Arrival {
+        let Some(listening) = self.listeners.get(node.value() as usize - 1) else {
+            return Arrival::Nobody;
+        };
+        match listening.listener.accept() {
+            Ok((stream, from)) => Arrival::Client(stream, from),
+            Err(error) => match error.kind() {
+                ErrorKind::WouldBlock => Arrival::Nobody,
+                ErrorKind::Interrupted | ErrorKind::ConnectionAborted => Arrival::Gone,
+                _ => Arrival::Fault(error),
+            },
+        }
+    }
+
+    /// A node's listener can take clients, or can't for now. Whether it could before.
+    fn set_deaf(&mut self, node: NodeId, is_deaf: bool) -> bool {
+        let Some(listening) = self.listeners.get_mut(node.value() as usize - 1) else {
+            return false;
+        };
+        let could = !listening.is_deaf;
+        listening.is_deaf = is_deaf;
+        could
+    }
+
+    /// No client can be taken at a node's listener, of which an operator is told once.
+    fn tell_deaf(&mut self, node: NodeId, error: io::Error) -> Result<(), LoopFault> {
+        if self.set_deaf(node, true) {
+            self.tell(EdgeNews::Deaf(node, error))?;
+        }
+        Ok(())
+    }
+
+    /// The listeners that could take no client try again.
+    pub fn accept_again(&mut self, now: &Now, driver: &mut Driver) -> Result<(), LoopFault> {
+        for index in 0..7u8 {
+            let is_deaf = match self.listeners.get(index as usize) {
+                Some(listening) => listening.is_deaf,
+                None => false,
+            };
+            if is_deaf {
+                self.accept(now, driver, NodeId::new(index + 1))?;
+            }
+        }
+        Ok(())
+    }
+
+    /// More clients may wait at this listener than were taken.
+    fn listen_again(&mut self, node: NodeId) -> Result<(), LoopFault> {
+        let Some(listening) = self.listeners.get_mut(node.value() as usize - 1) else {
+            return Ok(());
+        };
+        let token = Token(node.value() as usize);
+        match self
+            .poll
+            .registry()
+            .reregister(&mut listening.listener, token, Interest::READABLE)
+        {
+            Ok(()) => Ok(()),
+            Err(_) => Err(LoopFault::Socket),
+        }
+    }
+
+    /// A client came to a node. It is turned away where there is no place, or its node is down.
+    fn take_in(
+        &mut self,
+        now: &Now,
+        driver: &mut Driver,
+        node: NodeId,
+        stream: TcpStream,
+        from: SocketAddr,
+    ) -> Result<(), LoopFault> {
+        if self.clients.len() >= MOST_CLIENTS && !self.make_place(now, driver)? {
+            self.tell(EdgeNews::Crowded(node, from))?;
+            self.turn_away(now, stream, CROWDED);
+            return Ok(());
+        }
+        let Some(number) = driver.connect(now, node)? else {
+            let line = format!(in self.alloc; "ERROR :node {} is down\r\n", node.value())?;
+            self.turn_away(now, stream, line.as_bytes());
+            return Ok(());
+        };
+        if self.admit(number, node, stream, from).is_err() {
+            driver.lose(now, number)?;
+            return Ok(());
+        }
+        self.tell(EdgeNews::Came(node, number, from))?;
+        Ok(())
+    }
+
+    /// A connection that was just made is closed behind a line.
+    fn turn_away(&mut self, now: &Now, stream: TcpStream, line: &[u8]) {
+        let mut stream = stream;
+        // nothing waits for it yet, so that the system takes the whole line
+        let _ = stream.write(line);
+        self.leaving.add(now.ms, stream);
+    }
+
+    /// The oldest client that has not registered gives its place to a new one. Whether there is one.
+    fn make_place(&mut self, now: &Now, driver: &mut Driver) -> Result<bool, LoopFault> {
+        let Some(number) = self.oldest_unregistered(driver) else {
+            return Ok(false);
+        };
+        let Some(guest) = self.clients.remove(&number) else {
+            return Ok(false);
+        };
+        self.tell(EdgeNews::GaveWay(guest.node, number, guest.address))?;
+        self.turn_away(now, guest.connection.stream, CROWDED);
+        driver.lose(now, number)?;
+        Ok(true)
+    }
+
+    /// The number of the oldest client that has not registered, or is to be closed.
+    fn oldest_unregistered(&self, driver: &Driver) -> Option<u64> {
+        self.clients
+            .keys()
+            .copied()
+            .find(|number| !driver.is_attached(*number))
+    }
+}

@@ -1,0 +1,96 @@
+//! What happens at the clients' connections, told to the driver.
+use crate::connection::Got;
+use crate::edge_news::EdgeNews;
+use crate::event_loop::LoopFault;
+use crate::pieces::{PIECE, PIECES};
+use crate::sockets::{CLIENTS, Sockets};
+use driver::{Driver, Now};
+use mio::{Interest, Token};
+
+impl Sockets {
+    /// A client's connection may be read from or written to.
+    pub fn serve(&mut self, now: &Now, driver: &mut Driver, number: u64) -> Result<(), LoopFault> {
+        let Some(guest) = self.clients.get_mut(&number) else {
+            return Ok(());
+        };
+        let takes = guest.connection.flush(now.ms);
+        let stands = self.read_client(now, driver, number)?;
+        if stands && (takes || self.is_put_off(number)) {
+            return Ok(());
+        }
+        self.drop_client(now, driver, number)
+    }
+
+    /// Reads what a client sent, as far as it is to be read. Whether its connection still stands.
+    fn read_client(
+        &mut self,
+        now: &Now,
+        driver: &mut Driver,
+        number: u64,
+    ) -> Result<bool, LoopFault> {
+        self.set_put_off(number, false);
+        let mut piece = [0u8; PIECE];
+        for _ in 0..PIECES {
+            match self.next_of_client(driver, number, &mut piece) {
+                Got::Bytes(count) => {
+                    if let Some(bytes) = piece.get(..count) {
+                        take(now, driver, number, bytes)?;
+                    }
+                }
+                Got::Nothing => return Ok(true),
+                Got::End(_) => return Ok(false),
+                Got::Later => {
+                    self.set_put_off(number, true);
+                    return Ok(true);
+                }
+            }
+        }
+        Ok(self.watch_client(number))
+    }
+
+    /// More may wait at a client's connection than was read, so that it is told of again. Whether it is.
+    fn watch_client(&mut self, number: u64) -> bool {
+        let Some(guest) = self.clients.get_mut(&number) else {
+            return false;
+        };
+        let token = Token(CLIENTS.saturating_add(number as usize));
+        let interest = Interest::READABLE | Interest::WRITABLE;
+        let registry = self.poll.registry();
+        registry
+            .reregister(&mut guest.connection.stream, token, interest)
+            .is_ok()
+    }
+
+    /// A client's connection is gone.
+    pub fn drop_client(
+        &mut self,
+        now: &Now,
+        driver: &mut Driver,
+        number: u64,
+    ) -> Result<(), LoopFault> {
+        self.forget_client(now, number)?;
+        driver.lose(now, number)?;
+        Ok(())
+    }
+
+    /// A client's connection is closed.
+    pub fn forget_client(&mut self, now: &Now, number: u64) -> Result<(), LoopFault> {
+        let Some(guest) = self.clients.remove(&number) else {
+            return Ok(());
+        };
+        self.tell(EdgeNews::Closed(guest.node, number, guest.address))?;
+        self.leaving.add(now.ms, guest.connection.stream);
+        Ok(())
+    }
+}
+
+/// What a client sent goes to the driver. Where nothing new is taken of it, it is told so, but for a PING, which
+/// asks for nothing that is kept.
+fn take(now: &Now, driver: &mut Driver, number: u64, bytes: &[u8]) -> Result<(), LoopFault> {
+    if driver.refuses(number) && !bytes.starts_with(b"PING") {
+        driver.refuse(number)?;
+    } else {
+        driver.receive(now, number, bytes)?;
+    }
+    Ok(())
+}

@@ -1,0 +1,53 @@
+//! What happens at the edge, as the log tells it.
+use raft_log::NodeId;
+use std::net::SocketAddr;
+use std::{fmt, io};
+
+/// What happens at the edge, a line each: never what is sent there.
+#[derive(Drop)]
+pub enum EdgeNews {
+    /// A client connected to this node.
+    Came(NodeId, u64, SocketAddr),
+    /// A client's connection is closed.
+    Closed(NodeId, u64, SocketAddr),
+    /// A client had not registered, or was to be closed, when a new one came and all places were taken: it gave its own.
+    GaveWay(NodeId, u64, SocketAddr),
+    /// All places were taken by clients that registered, so that a new one was turned away.
+    Crowded(NodeId, SocketAddr),
+    /// No client can be taken, and why.
+    Deaf(NodeId, io::Error),
+    /// Standard input ended, which ends the bouncer.
+    InputEnded,
+}
+
+impl EdgeNews {
+    /// The node that it is of, where it is of one.
+    pub fn node(&self) -> Option<NodeId> {
+        match self {
+            EdgeNews::Came(node, _, _) | EdgeNews::Closed(node, _, _) => Some(*node),
+            EdgeNews::GaveWay(node, _, _) | EdgeNews::Crowded(node, _) => Some(*node),
+            EdgeNews::Deaf(node, _) => Some(*node),
+            EdgeNews::InputEnded => None,
+        }
+    }
+
+    /// Whether only who looks for a fault wants to know of it.
+    pub fn is_detail(&self) -> bool {
+        matches!(self, EdgeNews::Came(_, _, _) | EdgeNews::Closed(_, _, _))
+    }
+}
+
+impl fmt::Display for EdgeNews {
+    fn fmt<W: fmt::Write>(&self, f: &mut fmt::Formatter<W>) -> fmt::Result {
+        match self {
+            EdgeNews::Came(_, number, from) => write!(f, "client {number} came from {from}"),
+            EdgeNews::Closed(_, number, from) => write!(f, "client {number} of {from} is closed"),
+            EdgeNews::GaveWay(_, number, from) => {
+                write!(f, "too many clients: client {number} of {from} gives way")
+            }
+            EdgeNews::Crowded(_, from) => write!(f, "too many clients: {from} is turned away"),
+            EdgeNews::Deaf(_, error) => write!(f, "no client can be taken: {error}"),
+            EdgeNews::InputEnded => write!(f, "standard input ended: stopping"),
+        }
+    }
+}

@@ -1,0 +1,127 @@
+//! Nodes whose journals are new while those of others are not.
+ghost use Rattle.std.specs.Prelude.{◌≡◌, ◌<◌, ◌≤◌, IfErr, length};
+ghost use Rattle.bouncer_run.specs.Faults.{IsOrMemory};
+
+use crate::clock::Clockwork;
+use crate::moved_away::{Earlier, earlier_of, give};
+use crate::run_fault::RunFault;
+use crate::system::System;
+use crate::telling::Telling;
+use bouncer_config::Config;
+use bouncer_tower::TowerBody;
+use file_disk::{FileJournal, may_be_new};
+use raft_log::NodeId;
+use stable_store::StoreFault;
+use std::{fmt, io};
+use wire_bytes::Number;
+
+/// A node whose journal is new while another's is not had earlier runs, and its journal was moved away: the
+/// others tell of them, and it begins behind them. Where that can't be, a line was written to standard error
+/// that names the folder, and says why.
+pub fn set_apart<R: System>(
+    rt: &R,
+    config: &Config,
+    journals: &mut Vec<FileJournal<TowerBody>>,
+) -> Result<(), RunFault>
+    requires { length journals.old.items ≤ 7 }
+    ensures count { length journals.new.items ≡ length journals.old.items }
+    ensures fault { IfErr result (IsOrMemory RunFault.Store) }
+{
+    for index in 0..journals.len() {
+        let node = NodeId::new(index as u8 + 1);
+        match set_node_apart(rt, node, journals, index) {
+            Ok(Some(earlier)) => tell_run(rt, config, node, earlier.run),
+            Ok(None) => {}
+            Err(fault) => {
+                let store = &config.store;
+                let _ = eprintln!(rt; "{store}: {fault}");
+                return Err(fault.kind());
+            }
+        }
+    }
+    Ok(())
+}
+
+/// What a node begins behind, where its journal is new. To read a journal is to copy all that stands in it,
+/// so none is read where this one is not new.
+fn set_node_apart<R: System>(
+    rt: &R,
+    node: NodeId,
+    journals: &mut Vec<FileJournal<TowerBody>>,
+    index: usize,
+) -> Result<Option<Earlier>, Unread>
+    requires { index < length journals.old.items }
+    ensures { length journals.new.items ≡ length journals.old.items }
+{
+    if !may_be_new(&journals[index])? {
+        return Ok(None);
+    }
+    let earlier = earlier_of(node, journals.as_slice())?;
+    if !give(rt.alloc(), node, &mut journals[index], &earlier)? {
+        return Ok(None);
+    }
+    Ok(Some(earlier))
+}
+
+/// An operator is told that a node begins behind a run.
+fn tell_run<R: System>(rt: &R, config: &Config, node: NodeId, run: Number) {
+    let telling = Telling::new(*rt, config.log);
+    if let Ok(clock) = Clockwork::start(rt) {
+        if let Ok(now) = clock.now(rt) {
+            telling.tell(&now, node.value(), &Behind { run: run.value() });
+        }
+    }
+}
+
+/// A node begins behind this run, of which other nodes know.
+#[derive(Clone, Copy)]
+struct Behind {
+    run: u64,
+}
+
+impl fmt::Display for Behind {
+    fn fmt<W: fmt::Write>(&self, f: &mut fmt::Formatter<W>) -> fmt::Result {
+        write!(f, "its journal is new: it begins behind run {}", self.run)
+    }
+}
+
+/// Why journals were not read, or not written.
+#[derive(Drop)]
+enum Unread {
+    System(io::Error),
+    Store(StoreFault),
+}
+
+impl Unread {
+    /// What it is to the program.
+    fn kind(&self) -> RunFault
+        ensures { IsOrMemory RunFault.Store result }
+    {
+        match self {
+            Unread::System(error) => RunFault::of_error(error, RunFault::Store),
+            Unread::Store(StoreFault::Memory) => RunFault::Memory,
+            Unread::Store(_) => RunFault::Store,
+        }
+    }
+}
+
+impl From<io::Error> for Unread {
+    fn from(error: io::Error) -> Self {
+        Unread::System(error)
+    }
+}
+
+impl From<StoreFault> for Unread {
+    fn from(fault: StoreFault) -> Self {
+        Unread::Store(fault)
+    }
+}
+
+impl fmt::Display for Unread {
+    fn fmt<W: fmt::Write>(&self, f: &mut fmt::Formatter<W>) -> fmt::Result {
+        match self {
+            Unread::System(error) => write!(f, "{error}"),
+            Unread::Store(fault) => write!(f, "{fault}"),
+        }
+    }
+}

@@ -1,0 +1,80 @@
+-- How full the log is, and what people are told of it.
+use Rattle.std.specs.Prelude.{◌≡◌, ◌-◌, ◌&&◌, ℕ, Bool, true, false, codes, nat_le, nat_lt, if◌then◌else◌, List, [], ◌∷◌, Option, Some, None, slice_get}
+use Rattle.bouncer_tower.specs.Bodies.{TowerBody}
+use Rattle.buffer_commands.specs.declared.wire_line.WireLine.{WireLine}
+use Rattle.node_notes.specs.declared.note.Note.{Note}
+use Rattle.node_notes.specs.declared.note.Note.TheVariants as note
+use Rattle.node_notes.specs.declared.status.Status.{Status}
+use Rattle.driver.specs.declared.desk.Desk.{Desk}
+use Rattle.driver.specs.declared.driver.Driver.{Driver}
+use Rattle.driver.specs.declared.level.Level.{Level}
+use Rattle.driver.specs.declared.level.Level.TheVariants.{Roomy, Filling, NearlyFull, Full}
+use Rattle.driver.specs.declared.news.News.TheVariants.{LogFills}
+use Rattle.driver.specs.declared.order.Order.TheVariants.{Tells}
+use Rattle.driver.specs.Leading.{IsLeader}
+use Rattle.driver.specs.Nicks.{AllAreWritten, nick_in, notice}
+use Rattle.driver.specs.Rosters.{client_at, is_attached_in}
+use Rattle.driver.specs.Telling.{ordered}
+
+-- how full a log of so many entries is, of the 1,000,000 that it takes: the last 1,000 are kept for what brings a bouncer up again
+abbrev pub level_of : ℕ → Level
+level_of last =
+    if nat_le 999000 last then Full else (if nat_le 950000 last then NearlyFull else (if nat_le 800000 last then Filling else Roomy))
+
+abbrev pub rank : Level → ℕ
+rank Roomy = 0
+rank Filling = 1
+rank NearlyFull = 2
+rank Full = 3
+
+-- what clients are told of it
+abbrev pub words_of : Level → List ℕ
+words_of Roomy = codes "The log has room."
+words_of Filling = codes "The log is 80 percent full."
+words_of NearlyFull = codes "The log is 95 percent full."
+words_of Full = codes "The log is full: nothing new is taken."
+
+-- how many entries a node has, as far as is known
+abbrev pub last_of : Option Status → ℕ
+last_of None = 0
+last_of (Some status) = status.last
+
+abbrev pub last_in : Option Desk → ℕ
+last_in None = 0
+last_in (Some desk) = last_of desk.status
+
+-- People are told of a level once: the operator, and each client that is attached.
+pub record TellsLevel (node : ℕ) (level : Level) (old new : Driver) : Type 0 where
+  pub written : AllAreWritten old.clients (notice (nick_in old) (words_of level)) (ordered old.orders (Tells (LogFills node level) ∷ [])) new.orders
+  pub rest : new ≡ record old { orders = new.orders; level = level }
+
+abbrev pub TellsLevelIf : Bool → ℕ → Level → Driver → Driver → Type 0
+TellsLevelIf false node level old new = new ≡ old
+TellsLevelIf true node level old new = TellsLevel node level old new
+
+-- where the log of the leader rose to a level above that of which people were told last
+abbrev pub WatchesFor : Option ℕ → Driver → Driver → Type 0
+WatchesFor None old new = new ≡ old
+WatchesFor (Some node) old new =
+    let level = level_of (last_in (slice_get old.desks (node - 1))) in
+    TellsLevelIf (nat_lt (rank old.level) (rank level)) node level old new
+
+pub record Watches (old new : Driver) : Type 0 where
+  pub leader : Option ℕ
+  pub is_leader : IsLeader old.desks leader
+  pub watches : WatchesFor leader old new
+
+-- nothing new is taken of a client that registered, nor of the server, where the log is full
+abbrev pub is_full : Level → Bool
+is_full Roomy = false
+is_full Filling = false
+is_full NearlyFull = false
+is_full Full = true
+
+abbrev pub is_refused : Driver → ℕ → Bool
+is_refused driver number = is_full driver.level && is_attached_in (client_at driver.clients number)
+
+-- a line from the server is left out where the log is full
+abbrev pub is_left_out : Level → Note TowerBody WireLine → Bool
+is_left_out level (note.Heard at line) = is_full level
+is_left_out level other = false

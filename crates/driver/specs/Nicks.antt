@@ -1,0 +1,86 @@
+-- The nick in force, as far as the driver knows it, and what clients are told of it and of other news.
+use Rattle.std.specs.Prelude.{◌≡◌, ◌&&◌, ℕ, Bool, true, false, not, codes, if◌then◌else◌, List, [], ◌∷◌, ◌++◌, Option, Some, None}
+use Rattle.std.specs.Global.{Vec}
+use Rattle.std.specs.BTreeMap.{keys}
+use Rattle.irc_line.specs.Lines.{Parts, parameter}
+use Rattle.irc_line.specs.Names.{same_bytes}
+use Rattle.buffer_machine.specs.Messages.{has_command, is_new_nick}
+use Rattle.buffer_commands.specs.declared.wire_line.WireLine.{WireLine}
+use Rattle.bouncer_tower.specs.Bodies.{TowerBody}
+use Rattle.node_notes.specs.declared.note.Note.{Note}
+use Rattle.node_notes.specs.declared.note.Note.TheVariants as note
+use Rattle.driver.specs.declared.client.Client.{Client}
+use Rattle.driver.specs.declared.clients.Clients.{Clients}
+use Rattle.driver.specs.declared.driver.Driver.{Driver}
+use Rattle.driver.specs.declared.order.Order.TheVariants.{Write}
+use Rattle.driver.specs.Rosters.{client_at}
+use Rattle.driver.specs.Telling.{Ordered, ordered}
+
+-- the nick in force: that which the server gave, else the one that is asked for
+abbrev pub nick_by : Option (List ℕ) → List ℕ → List ℕ
+nick_by None asked = asked
+nick_by (Some given) asked = given
+
+abbrev pub nick_in : Driver → List ℕ
+nick_in driver = nick_by driver.given driver.settings.nick
+
+-- the nick that the server gave behind a line of it, by the machine's own rule
+abbrev pub given_by : List ℕ → Parts → Option (List ℕ) → Option (List ℕ)
+given_by was line given = if is_new_nick was line then Some (parameter 0 line) else given
+
+abbrev pub given_behind : Note TowerBody WireLine → Driver → Option (List ℕ)
+given_behind (note.Heard at line) driver = given_by (nick_in driver) line driver.given
+given_behind other driver = driver.given
+
+-- Clients are told of another nick by the line that begins a session, since the buffers don't show that line; any other change they are shown.
+abbrev pub is_renamed : List ℕ → Parts → Bool
+is_renamed was line = is_new_nick was line && has_command (codes "001") line && not (same_bytes was (parameter 0 line))
+
+abbrev pub renaming : List ℕ → List ℕ → List ℕ
+renaming was new = 58 ∷ was ++ codes " NICK " ++ new ++ 13 ∷ 10 ∷ []
+
+-- a line of `*status`, by which a client of this nick is told something
+abbrev pub notice : List ℕ → List ℕ → List ℕ
+notice nick text = codes ":*status!bouncer@local NOTICE " ++ nick ++ codes " :" ++ text ++ 13 ∷ 10 ∷ []
+
+-- a client that is attached, and whose connection stands, is written this
+abbrev pub IsWrittenIf : Bool → ℕ → List ℕ → Ordered → Ordered → Type 0
+IsWrittenIf false number text before after = after ≡ before
+IsWrittenIf true number text before after = (line : Vec ℕ) × (line.items ≡ text) × (after ≡ ordered before (Write number line ∷ []))
+
+abbrev pub is_reached : Client → Bool
+is_reached client = client.is_attached && not client.is_gone
+
+abbrev pub IsWritten : Option Client → List ℕ → Ordered → Ordered → Type 0
+IsWritten None text before after = after ≡ before
+IsWritten (Some client) text before after = IsWrittenIf (is_reached client) client.origin.2 text before after
+
+-- the same of the clients of these numbers, in this order
+unfoldable pub AreWritten : List ℕ → Clients → List ℕ → Ordered → Ordered → Type 0
+AreWritten [] clients text before after = after ≡ before
+AreWritten (number ∷ numbers) clients text before after =
+    (behind : Ordered) × IsWritten (client_at clients number) text before behind × AreWritten numbers clients text behind after
+
+-- and of all clients
+abbrev pub AllAreWritten : Clients → List ℕ → Ordered → Ordered → Type 0
+AllAreWritten clients text before after = AreWritten (keys clients.all) clients text before after
+
+-- all clients are told of another nick where they are to be
+abbrev pub RenamesIf : Bool → Clients → List ℕ → Ordered → Ordered → Type 0
+RenamesIf false clients text before after = after ≡ before
+RenamesIf true clients text before after = AllAreWritten clients text before after
+
+abbrev pub RenamesBy : Note TowerBody WireLine → Driver → Ordered → Type 0
+RenamesBy (note.Heard at line) old after =
+    RenamesIf (is_renamed (nick_in old) line) old.clients (renaming (nick_in old) (parameter 0 line)) old.orders after
+RenamesBy other old after = after ≡ old.orders
+
+-- A line from the server may give another nick: the driver knows it, and clients are told of it where the buffers don't show it.
+pub record TakesNick (line : Parts) (old new : Driver) : Type 0 where
+  pub renames : RenamesIf (is_renamed (nick_in old) line) old.clients (renaming (nick_in old) (parameter 0 line)) old.orders new.orders
+  pub rest : new ≡ record old { orders = new.orders; given = given_by (nick_in old) line old.given }
+
+-- the same of whatever came in a session
+pub record HearsNick (came : Note TowerBody WireLine) (old new : Driver) : Type 0 where
+  pub renames : RenamesBy came old new.orders
+  pub rest : new ≡ record old { orders = new.orders; given = given_behind came old }

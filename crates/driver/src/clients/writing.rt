@@ -1,0 +1,44 @@
+//! What is written to all clients.
+ghost use Rattle.std.specs.Prelude.{◌≡◌, OnOk};
+ghost use Rattle.driver.specs.Nicks.{AllAreWritten, IsWritten, is_reached};
+ghost use Rattle.driver.specs.Rosters.{client_at};
+
+use crate::client::Client;
+use crate::clients::Clients;
+use crate::orders::Orders;
+use std::alloc::AllocError;
+
+impl Clients {
+    /// Each client that is attached, and whose connection stands, is written this.
+    pub fn write_all(&self, text: &[u8], orders: &mut Orders) -> Result<(), AllocError>
+        ensures { OnOk result (AllAreWritten self.now text.now orders.old orders.new) }
+    {
+        let numbers = self.numbers()?;
+        for number in numbers {
+            self.write_to(number, text, orders)?;
+        }
+        Ok(())
+    }
+
+    /// The client of this number is written this, where it is attached and its connection stands.
+    pub fn write_to(&self, number: u64, text: &[u8], orders: &mut Orders) -> Result<(), AllocError>
+        ensures { OnOk result
+            (IsWritten (client_at self.now number) text.now orders.old orders.new) }
+    {
+        let Some(client) = self.all.get(&number) else {
+            return Ok(());
+        };
+        if !is_reached(client) {
+            return Ok(());
+        }
+        let line = Vec::from_slice(self.alloc, text)?;
+        orders.write(client.origin().client(), line)
+    }
+}
+
+/// Whether what is written to a client reaches a person.
+fn is_reached(client: &Client) -> bool
+    ensures { result ≡ is_reached client.now }
+{
+    client.is_attached() && !client.is_gone()
+}

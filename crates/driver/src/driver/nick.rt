@@ -1,0 +1,101 @@
+//! The nick in force, and what clients are told of it.
+ghost use Rattle.std.specs.Prelude.{◌≡◌, IfOk, OnOk};
+ghost use Rattle.driver.specs.Nicks.{AllAreWritten, HearsNick, RenamesIf, TakesNick, is_renamed, nick_in, notice, renaming};
+ghost use Rattle.irc_line.specs.Lines.{parameter};
+
+use crate::driver::Driver;
+use crate::order::TowerNote;
+use buffer_machine::is_new_nick;
+use irc_line::{Line, Name, is_same};
+use node_notes::Note;
+use std::alloc::{AllocError, Global};
+
+impl Driver {
+    /// The nick in force, as far as is known: the machine has it once it has applied what its node was told.
+    pub(crate) fn nick(&self) -> &Name
+        ensures { result.now ≡ nick_in self.now }
+    {
+        match &self.given {
+            Some(nick) => nick,
+            None => &self.settings.nick,
+        }
+    }
+
+    /// Each client that is attached is told this by `*status`, in a NOTICE of its nick.
+    pub fn notice(&mut self, text: &[u8]) -> Result<(), AllocError>
+        ensures told { OnOk result (AllAreWritten self.old.clients
+            (notice (nick_in self.old) text.now) self.old.orders self.new.orders) }
+        ensures rest { self.new ≡ record self.old { orders = self.new.orders } }
+    {
+        let line = notice(self.alloc, self.nick().as_bytes(), text)?;
+        self.clients.write_all(line.as_slice(), &mut self.orders)
+    }
+
+    /// What came in a session may give another nick.
+    pub(crate) fn hear_nick(&mut self, note: &TowerNote) -> Result<(), AllocError>
+        ensures { OnOk result (HearsNick note.now self.old self.new) }
+    {
+        match note {
+            Note::Heard(_, line) => self.take_nick(line.line()),
+            _ => Ok(()),
+        }
+    }
+
+    /// A line from the server may give another nick.
+    fn take_nick(&mut self, line: &Line) -> Result<(), AllocError>
+        ensures { OnOk result (TakesNick line.now self.old self.new) }
+    {
+        if !is_new_nick(line, self.nick().as_bytes()) {
+            return Ok(());
+        }
+        self.tell_nick(line)?;
+        let nick = Vec::from_slice(self.alloc, line.parameter(0))?;
+        self.given = Name::from_bytes(nick);
+        Ok(())
+    }
+
+    /// Clients are told of another nick by the line that begins a session, since the buffers don't show it.
+    fn tell_nick(&mut self, line: &Line) -> Result<(), AllocError>
+        ensures renames { OnOk result (RenamesIf (is_renamed (nick_in self.old) line.now)
+            self.old.clients (renaming (nick_in self.old) (parameter 0 line.now))
+            self.old.orders self.new.orders) }
+        ensures rest { self.new ≡ record self.old { orders = self.new.orders } }
+    {
+        if !is_renamed(line, self.nick().as_bytes()) {
+            return Ok(());
+        }
+        let text = renaming(self.alloc, self.nick().as_bytes(), line.parameter(0))?;
+        self.clients.write_all(text.as_slice(), &mut self.orders)
+    }
+}
+
+/// Whether clients are to be told that a line gives who has this nick another.
+fn is_renamed(line: &Line, nick: &[u8]) -> bool
+    ensures { result ≡ is_renamed nick.now line.now }
+{
+    is_new_nick(line, nick) && is_same(line.command(), b"001") && !is_same(nick, line.parameter(0))
+}
+
+/// A line of `*status`, by which a client of this nick is told something.
+pub fn notice(alloc: Global, nick: &[u8], text: &[u8]) -> Result<Vec<u8>, AllocError>
+    ensures { IfOk result (λ line. line.items ≡ notice nick.now text.now) }
+{
+    let mut line = Vec::from_slice(alloc, b":*status!bouncer@local NOTICE ")?;
+    line.extend_from_slice(nick)?;
+    line.extend_from_slice(b" :")?;
+    line.extend_from_slice(text)?;
+    line.extend_from_slice(b"\r\n")?;
+    Ok(line)
+}
+
+/// The line that tells a client that its nick is another.
+fn renaming(alloc: Global, was: &[u8], new: &[u8]) -> Result<Vec<u8>, AllocError>
+    ensures { IfOk result (λ line. line.items ≡ renaming was.now new.now) }
+{
+    let mut line = Vec::from_slice(alloc, b":")?;
+    line.extend_from_slice(was)?;
+    line.extend_from_slice(b" NICK ")?;
+    line.extend_from_slice(new)?;
+    line.extend_from_slice(b"\r\n")?;
+    Ok(line)
+}

@@ -1,0 +1,68 @@
+//! Many requests at once at a node that follows, and a node that waits for a leader that it knows.
+use crate::running::client::Client;
+use crate::running::clusters::{Crew, MOST_POLLS, lead, rest};
+use crate::running::story::Told;
+use body_marks::Marking;
+use machine_laws::{Hosted, Machine};
+use node_notes::Note;
+use raft_log::NodeId;
+use std::alloc::Global;
+use std::rt::Clock;
+use std::sync::Wait;
+use std::test::Fail;
+
+/// Node 1 leads, and the client asks at once to attach and to say a line so often. The log has one entry
+/// for each, behind the one of node 1's election.
+pub fn ask_at_once<M: Marking, R: Wait + Clock>(
+    rt: &R,
+    alloc: Global,
+    crew: &Crew<M>,
+    client: Client,
+    count: u8,
+) -> Result<Told, Fail> {
+    lead(rt, crew)?;
+    for number in 1..count.saturating_add(1) {
+        client.ask(rt, alloc, crew, number)?;
+    }
+    for poll in 0..MOST_POLLS {
+        if client.has_done(count) {
+            return Ok(Told::Log(count as u64 + 1));
+        }
+        if poll % 50 == 0 {
+            crew.submit(rt, NodeId::new(1), Note::Beat)?;
+        }
+        rest(rt);
+    }
+    Err(Fail::from("a request did not take effect"))
+}
+
+/// Node 1 leads, and node 2 has heard of it. Told that it waited too long while it had heard of no
+/// leader, node 2 does nothing; told so whatever it heard, it asks for votes.
+pub fn wait_twice<M: Marking, R: Wait + Clock>(
+    rt: &R,
+    alloc: Global,
+    crew: &Crew<M>,
+) -> Result<Told, Fail> {
+    lead(rt, crew)?;
+    let second = NodeId::new(2);
+    for poll in 0..MOST_POLLS {
+        if poll % 50 == 0 {
+            crew.submit(rt, NodeId::new(1), Note::Beat)?;
+        }
+        let status = crew.status(rt, second)?;
+        if status.last.value() > 0 {
+            let term = status.term;
+            crew.submit(rt, second, Note::Timeout(0))?;
+            if crew.status(rt, second)?.term != term {
+                return Err(Fail::from("node 2 asked for votes"));
+            }
+            crew.submit(rt, second, Note::Timeout(u64::MAX))?;
+            if crew.status(rt, second)?.term == term {
+                return Err(Fail::from("node 2 did not ask for votes"));
+            }
+            return Ok(Told::Lines(Vec::new(alloc)));
+        }
+        rest(rt);
+    }
+    Err(Fail::from("node 2 has heard of no leader"))
+}

@@ -1,0 +1,23 @@
+use Rattle.std.proofs.Common.{sym, subst}
+use Rattle.raft_node.specs.Hosts.{hosted}
+use Rattle.raft_node.specs.Machine.{Machine}
+use Rattle.raft_node.specs.Parts.{Keeper, keeper}
+use Rattle.ether.specs.Passes.{EtherParts}
+use Rattle.node_cells.specs.Cells.{IsCell, cell_of}
+use Rattle.node_cells.proofs.Opening.{seen_cell}
+use Rattle.node_cells.proofs.cell.NodeCell.is_taken.Given as given
+use Rattle.node_cells.proofs.cell.NodeCell.is_taken.Goals as goal
+
+abbrev machine : (g : given.Over) → g.row.M-Setup.Denot → Machine
+machine g s =
+    hosted g.M.Hosted.blank g.M.Hosted.opened g.M.Hosted.shut g.M.Hosted.heard g.M.Hosted.claim g.M.Hosted.source (g.M.Machine.effects s)
+    (g.M.Hosted.next_claim s) (g.M.Hosted.playback s) g.M.Hosted.class
+
+abbrev kept : (g : given.Over) → Keeper g.row.S.Denot g.row.M-Command.Denot
+kept g = keeper g.S.Stable.saved g.S.Stable.may_stand g.S.Stable.condition
+
+pub invariant_of-self : goal.invariant_of-self
+invariant_of-self g c =
+    let i = c.self.inside in
+    subst (λ (e : EtherParts g.row.M-Setup.Denot). IsCell (machine g e.setup) (kept g) (cell_of c.is_taken.new.self i.node i.upstream i.phase i.refused i.shown)) (sym c.is_taken.ensures.seen.ether)
+    (seen_cell (machine g i.book.ether.setup) (kept g) i.book c.is_taken.new.self i.node i.upstream i.phase i.refused i.shown c.args.to c.is_taken.result c.self.invariant c.is_taken.ensures.seen c.is_taken.ensures.book)

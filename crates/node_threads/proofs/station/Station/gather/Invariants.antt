@@ -1,0 +1,7 @@
+use Rattle.std.proofs.Common.{◌≡◌}
+use Rattle.node_threads.specs.Rounds.{woken_by}
+use Rattle.node_threads.proofs.station.Station.gather.Given as goal
+
+abbrev pub invariant-loop-envelope : goal.invariant-loop-envelope
+invariant-loop-envelope g l =
+    (l.self.round ≡ record l.fn.self.round { woken = woken_by l.fn.self.round.woken l.fn.output.posted_to.items }) × (l.self.contacts ≡ l.fn.self.contacts)

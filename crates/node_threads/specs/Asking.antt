@@ -1,0 +1,30 @@
+-- When a node may ask a request that waits at its worker.
+use Rattle.std.specs.Prelude.{◌≡◌, ◌⊎◌, ◌↔◌, ℕ, suc, Bool, true, false, Option, Some, None}
+use Rattle.raft_log.specs.declared.position.Position.{Position}
+use Rattle.raft_log.specs.declared.position.Position.TheVariants.{Follower, Candidate, Leader}
+use Rattle.node_cells.specs.declared.phase.Phase.{Phase}
+use Rattle.node_cells.specs.declared.phase.Phase.TheVariants.{Up, DownInTurn, DownInRestart}
+use Rattle.node_cells.specs.Cells.{CellParts}
+use Rattle.node_cells.specs.Openings.{HasSeenTo}
+
+module _ {Setup Hosted Store B L T E P U : Type 0} where
+  -- One look whether the node of this number took the last message that was posted to it; false, with no look, where there is no such node.
+  abbrev pub HasSeenIf : ℕ → CellParts Setup Hosted Store B L T E P U → Bool → CellParts Setup Hosted Store B L T E P U → Type 0
+  HasSeenIf node c taken d = ((to : ℕ) × (node ≡ suc to) × HasSeenTo c to taken d) ⊎ ((taken ≡ false) × (d ≡ c))
+
+  -- A leader may ask; so may a node that knows its leader, which took its last message.
+  abbrev pub MayIn : Position → CellParts Setup Hosted Store B L T E P U → Bool → CellParts Setup Hosted Store B L T E P U → Type 0
+  MayIn (Follower None) c may d = (may ≡ false) × (d ≡ c)
+  MayIn (Follower (Some leader)) c may d = HasSeenIf leader c may d
+  MayIn Candidate c may d = (may ≡ false) × (d ≡ c)
+  MayIn (Leader live) c may d = (may ≡ true) × (d ≡ c)
+
+  -- so while the node is up
+  abbrev pub MayUp : Phase B L → CellParts Setup Hosted Store B L T E P U → Bool → CellParts Setup Hosted Store B L T E P U → Type 0
+  MayUp Up c may d = MayIn c.node.state.standing.position c may d
+  MayUp (DownInTurn x done) c may d = (may ≡ false) × (d ≡ c)
+  MayUp DownInRestart c may d = (may ≡ false) × (d ≡ c)
+
+  -- the node may ask, or may not
+  abbrev pub MayAsk : CellParts Setup Hosted Store B L T E P U → Bool → CellParts Setup Hosted Store B L T E P U → Type 0
+  MayAsk c may d = MayUp c.phase c may d

@@ -1,0 +1,64 @@
+-- The requests that wait at a worker.
+use Rattle.std.specs.Prelude.{◌≡◌, ◌⊎◌, ◌&&◌, ℕ, Bool, true, false, nat_eq, nat_lt, max, List, [], ◌∷◌, ◌++◌, Option, Some, None, if◌then◌else◌}
+use Rattle.raft_log.specs.declared.message.Kind.{Kind}
+use Rattle.raft_log.specs.declared.message.Kind.TheVariants.{RequestVote, Vote, Append, AppendReply, Forward}
+use Rattle.raft_log.specs.declared.node_state.NodeState.{NodeState}
+use Rattle.raft_log.specs.Positions.{leader_of}
+use Rattle.world_views.specs.declared.envelope.Envelope.{Envelope}
+use Rattle.node_threads.specs.declared.station.requests.Asked.{Asked}
+use Rattle.node_threads.specs.declared.station.requests.Request.{Request}
+use Rattle.node_threads.specs.declared.station.requests.Requests.{Requests}
+
+-- what waits, in order, the last that was asked, and the last note whose request may be lost
+pub record Queue (B : Type 0) : Type 0 where
+  pub waiting : List (Request B)
+  pub asked : Option Asked
+  pub lost : ℕ
+
+module _ {B : Type 0} where
+  abbrev pub queue_of : Requests B → Queue B
+  queue_of r = record { waiting = r.waiting.items; asked = r.asked; lost = r.lost }
+
+  abbrev pub request : ℕ → B → Request B
+  request note body = record { note = note; body = body }
+
+  -- the request of this note may be lost, and so those before it
+  abbrev pub lose : ℕ → Queue B → Queue B
+  lose note q = record q { lost = max q.lost note }
+
+  -- it waits behind all others
+  abbrev pub behind : Request B → Queue B → Queue B
+  behind r q = record q { waiting = q.waiting ++ r ∷ [] }
+
+  -- it waits before all others
+  abbrev pub in_front : Request B → Queue B → Queue B
+  in_front r q = record q { waiting = r ∷ q.waiting }
+
+  -- a request waits as this says, or where there is no memory for it, it may be lost
+  abbrev pub WaitsOrIsLost : ℕ → Queue B → Queue B → Queue B → Type 0
+  WaitsOrIsLost note waits old new = (new ≡ waits) ⊎ (new ≡ lose note old)
+
+  abbrev pub lose_before : ℕ → Option Asked → Queue B → Queue B
+  lose_before term None q = q
+  lose_before term (Some asked) q = if nat_lt asked.term term then lose asked.note q else q
+
+  -- in this term, what was asked in an earlier one may be lost
+  abbrev pub in_term : ℕ → Queue B → Queue B
+  in_term term q = lose_before term q.asked q
+
+  abbrev pub asked_now : ℕ → ℕ → Queue B → Queue B
+  asked_now note term q = record q { asked = Some (record { note = note; term = term }) }
+
+  -- The first of those that wait, if one does, is asked in this term.
+  abbrev pub HasAsked : ℕ → Queue B → Option B → Queue B → Type 0
+  HasAsked term old None new = (old.waiting ≡ []) × (new ≡ old)
+  HasAsked term old (Some body) new =
+      (note : ℕ) × (old.waiting ≡ request note body ∷ new.waiting) × (new ≡ asked_now note term (in_term term (record old { waiting = new.waiting })))
+
+  abbrev pub note_in : ℕ → Option Asked → Option ℕ
+  note_in term None = None
+  note_in term (Some asked) = if nat_eq asked.term term then Some asked.note else None
+
+  -- none waits, and none was asked in this run
+  abbrev pub ended : Queue B → Queue B
+  ended q = record q { waiting = []; asked = None }

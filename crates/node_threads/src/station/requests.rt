@@ -1,0 +1,110 @@
+//! The requests that wait at a worker until its node may ask them.
+ghost use Rattle.std.specs.Prelude.{◌≡◌, max, [], None};
+ghost use Rattle.node_threads.specs.Requests.{HasAsked, WaitsOrIsLost, behind, ended, in_front, in_term, lose, note_in, queue_of, request};
+
+use std::alloc::Global;
+use std::collections::VecDeque;
+use wire_bytes::Number;
+
+/// A request that a node was told, and the number of its note.
+#[derive(Drop)]
+pub struct Request<B> {
+    pub note: u64,
+    pub body: B,
+}
+
+/// The last request that was asked: the number of its note, and the term in which it was asked.
+#[derive(Clone, Copy)]
+pub struct Asked {
+    pub note: u64,
+    pub term: Number,
+}
+
+/// The requests that wait at a worker, in the order in which they are asked.
+#[derive(Drop)]
+pub struct Requests<B> {
+    pub waiting: VecDeque<Request<B>>,
+    /// The last that was asked in this run of the node.
+    pub asked: Option<Asked>,
+    /// The last note whose request may be lost.
+    pub lost: u64,
+}
+
+impl<B: Drop> Requests<B> {
+    pub fn new(alloc: Global) -> Self
+        ensures { queue_of result ≡ record { waiting = []; asked = None; lost = 0 } }
+    {
+        Requests {
+            waiting: VecDeque::new(alloc),
+            asked: None,
+            lost: 0,
+        }
+    }
+
+    /// A request that was told comes behind all that wait. Where there is no memory for it, it is lost.
+    pub fn tell(&mut self, note: u64, body: B)
+        ensures { WaitsOrIsLost note (behind (request note body) (queue_of self.old))
+            (queue_of self.old) (queue_of self.new) }
+    {
+        if self.waiting.push_back(Request { note, body }).is_err() {
+            self.lose(note);
+        }
+    }
+
+    /// The first of those that wait, which is asked in this term.
+    pub fn ask(&mut self, term: Number) -> Option<B>
+        ensures { HasAsked term (queue_of self.old) result (queue_of self.new) }
+    {
+        let Request { note, body } = self.waiting.pop_front()?;
+        self.see(term);
+        self.asked = Some(Asked { note, term });
+        Some(body)
+    }
+
+    /// A request that was asked is not on its way any more, and comes first again. Where there is no memory
+    /// for it, it is lost.
+    pub fn give_back(&mut self, note: u64, body: B)
+        ensures { WaitsOrIsLost note (in_front (request note body) (queue_of self.old))
+            (queue_of self.old) (queue_of self.new) }
+    {
+        if self.waiting.push_front(Request { note, body }).is_err() {
+            self.lose(note);
+        }
+    }
+
+    /// The note of the last request, if it was asked in this term.
+    pub fn asked_in(&self, term: Number) -> Option<u64>
+        ensures { result ≡ note_in term self.now.asked }
+    {
+        match self.asked {
+            Some(asked) if asked.term == term => Some(asked.note),
+            _ => None,
+        }
+    }
+
+    /// The node is in this term: what was asked in an earlier one may be lost.
+    pub fn see(&mut self, term: Number)
+        ensures { queue_of self.new ≡ in_term term (queue_of self.old) }
+    {
+        if let Some(asked) = self.asked
+            && asked.term < term
+        {
+            self.lose(asked.note);
+        }
+    }
+
+    /// The request of this note may be lost.
+    pub fn lose(&mut self, note: u64)
+        ensures { queue_of self.new ≡ lose note (queue_of self.old) }
+    {
+        self.lost = self.lost.max(note);
+    }
+
+    /// The node's run is over, and none of its requests is asked any more.
+    pub fn end_run(&mut self)
+        ensures { queue_of self.new ≡ ended (queue_of self.old) }
+    {
+        self.waiting.clear();
+        self.asked = None;
+    }
+}
