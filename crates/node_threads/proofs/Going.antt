@@ -97,10 +97,7 @@ module _ (M : Machine) {Setup Hosted Store U : Type 0} (tally : U → Tally) whe
   note_as n m c d is h = subst (λ (z : Note M.Body M.Line). HasDoneNote M tally z c d) (sym is) h
 
   module _ (marked : M.Body → Option Mark) (mark : Mark → M.Body) {Action : Type 0} where
-    abbrev Job' : Type 0
-    Job' = Job Hosted Action M.Line M.Target M.Played Setup M.Body M.Effect
-
-    pub home_after_job : (j : Job') (c d : Cell) → HasDone M tally marked mark j c d → IsSameHome c d
+    pub home_after_job : (j : Job Hosted Action M.Line M.Target M.Played Setup M.Body M.Effect) (c d : Cell) → HasDone M tally marked mark j c d → IsSameHome c d
     home_after_job (job.Note n) c d h = home_after_note n c d h
     home_after_job (job.Look place target reply) c d h = home_after_look M tally c place target h.0 d h.1
     home_after_job (job.Mark reply) c d h = home_after_mark M tally marked mark c h.0 d h.1
@@ -109,19 +106,19 @@ module _ (M : Machine) {Setup Hosted Store U : Type 0} (tally : U → Tally) whe
     home_after_job (job.Status reply) c d h = same_home c d h
 
     -- a job that is this one was done
-    pub done_as : (j k : Job') (c d : Cell) → j ≡ k → HasDone M tally marked mark k c d → HasDone M tally marked mark j c d
-    done_as j k c d is h = subst (λ (z : Job'). HasDone M tally marked mark z c d) (sym is) h
+    pub done_as : (j k : Job Hosted Action M.Line M.Target M.Played Setup M.Body M.Effect) (c d : Cell) → j ≡ k → HasDone M tally marked mark k c d → HasDone M tally marked mark j c d
+    done_as j k c d is h = subst (λ (z : Job Hosted Action M.Line M.Target M.Played Setup M.Body M.Effect). HasDone M tally marked mark z c d) (sym is) h
 
-    home_after_jobs : (js : List Job') (c d : Cell) → HasDoneAll M tally marked mark js c d → IsSameHome c d
+    home_after_jobs : (js : List (Job Hosted Action M.Line M.Target M.Played Setup M.Body M.Effect)) (c d : Cell) → HasDoneAll M tally marked mark js c d → IsSameHome c d
     home_after_jobs [] c d h = same_home c d h
     home_after_jobs (j ∷ js) c d h = same_home_still c h.0 d (home_after_job j c h.0 h.1) (home_after_jobs js h.0 d h.2)
 
-    pub home_after_some : (c d : Cell) → HasDoneSome M tally marked mark {Action = Action} c d → IsSameHome c d
+    pub home_after_some : (c d : Cell) → HasDoneSome M tally marked mark Action c d → IsSameHome c d
     home_after_some c d h = home_after_jobs h.0 c d h.1
 
     -- one job more is done
-    pub some_next : (j : Job') (c b e : Cell) → HasDone M tally marked mark j c b → HasDoneSome M tally marked mark {Action = Action} b e → HasDoneSome M tally marked mark {Action = Action} c e
+    pub some_next : (j : Job Hosted Action M.Line M.Target M.Played Setup M.Body M.Effect) (c b e : Cell) → HasDone M tally marked mark j c b → HasDoneSome M tally marked mark Action b e → HasDoneSome M tally marked mark Action c e
     some_next j c b e done rest = (j ∷ rest.0, b, done, rest.1)
 
-    pub some_none : (c : Cell) → HasDoneSome M tally marked mark {Action = Action} c c
-    some_none c = ([], refl)
+  pub some_none : (marked : M.Body → Option Mark) (mark : Mark → M.Body) (Action : Type 0) (c : Cell) → HasDoneSome M tally marked mark Action c c
+  some_none marked mark Action c = ([], refl)

@@ -60,15 +60,15 @@ module _ {B L : Type 0} where
   times_out true = Turns input.Timeout ∷ []
   times_out false = []
 
+-- the number of the mark that was asked
+abbrev pub number_in : {B E : Type 0} → Result (MarkTurn B E) CellFault → Result ℕ CellFault
+number_in (Ok asked) = Ok asked.number
+number_in (Err fault) = Err fault
+
 module _ (M : Machine) {Setup Hosted Store U : Type 0} where
   -- the node was started again, or was not
   abbrev pub HasTriedAgain : CellOf M Setup Hosted Store U → CellOf M Setup Hosted Store U → Type 0
   HasTriedAgain c d = (answer : Result (Unit {0}) CellFault) × HasRestarted M c answer d
-
-  -- the number of the mark that was asked
-  abbrev pub number_in : Result (MarkTurn M.Body M.Effect) CellFault → Result ℕ CellFault
-  number_in (Ok asked) = Ok asked.number
-  number_in (Err fault) = Err fault
 
   -- one look into a mailbox: the delivery of what lay there comes next
   pub record HasTaken (c : CellOf M Setup Hosted Store U) (from : ℕ) (next : Option (NodeInput M.Body M.Line)) (d : CellOf M Setup Hosted Store U) : Type 0 where
@@ -155,11 +155,8 @@ module _ (M : Machine) {Setup Hosted Store U : Type 0} where
         pub asked : HasMarked M tally marked mark c answer d
 
     module _ (marked : M.Body → Option Mark) (mark : Mark → M.Body) {Action : Type 0} where
-      abbrev pub JobOf : Type 0
-      JobOf = Job Hosted Action M.Line M.Target M.Played Setup M.Body M.Effect
-
       -- what a job comes to by itself
-      abbrev pub HasDone : JobOf → CellOf M Setup Hosted Store U → CellOf M Setup Hosted Store U → Type 0
+      abbrev pub HasDone : Job Hosted Action M.Line M.Target M.Played Setup M.Body M.Effect → CellOf M Setup Hosted Store U → CellOf M Setup Hosted Store U → Type 0
       HasDone (job.Note note) c d = HasDoneNote note c d
       HasDone (job.Look place target reply) c d = (answer : Result (PlayedAt M.Played) CellFault) × HasLooked M tally c place target answer d
       HasDone (job.Mark reply) c d = (answer : Result (MarkTurn M.Body M.Effect) CellFault) × HasMarked M tally marked mark c answer d
@@ -168,10 +165,11 @@ module _ (M : Machine) {Setup Hosted Store U : Type 0} where
       HasDone (job.Status reply) c d = d ≡ c
 
       -- these jobs were done, in order, each once
-      abbrev pub HasDoneAll : List JobOf → CellOf M Setup Hosted Store U → CellOf M Setup Hosted Store U → Type 0
+      abbrev pub HasDoneAll : List (Job Hosted Action M.Line M.Target M.Played Setup M.Body M.Effect) → CellOf M Setup Hosted Store U → CellOf M Setup Hosted Store U → Type 0
       HasDoneAll [] c d = d ≡ c
       HasDoneAll (j ∷ js) c d = (b : CellOf M Setup Hosted Store U) × HasDone j c b × HasDoneAll js b d
 
+    module _ (marked : M.Body → Option Mark) (mark : Mark → M.Body) (Action : Type 0) where
       -- some jobs were done
       abbrev pub HasDoneSome : CellOf M Setup Hosted Store U → CellOf M Setup Hosted Store U → Type 0
-      HasDoneSome c d = (js : List JobOf) × HasDoneAll js c d
+      HasDoneSome c d = (js : List (Job Hosted Action M.Line M.Target M.Played Setup M.Body M.Effect)) × HasDoneAll marked mark js c d
