@@ -50,7 +50,7 @@ module _ (M : Machine) {Setup Hosted Store U : Type 0} (tally : U → Tally) whe
   takes_next c b d h k = (h.0 ++ k.0, takes_both h.0 k.0 c b d h.1 k.1)
 
   pub takes_one : (c d : CellOf M Setup Hosted Store U) (from : ℕ) → HasLookedIn M tally c from d → HasTakenAll M tally c d
-  takes_one c d from h = (from ∷ [], d, h, refl)
+  takes_one c d from h = (from ∷ [], (d, h, refl))
 
   pub takes_none : (c : CellOf M Setup Hosted Store U) → HasTakenAll M tally c c
   takes_none c = ([], refl)
@@ -60,7 +60,7 @@ module _ (M : Machine) {Setup Hosted Store U : Type 0} (tally : U → Tally) whe
 
   -- one place more is applied
   pub applies_next : (c b e : CellOf M Setup Hosted Store U) → HasHadTurn M tally c input.Apply b → HasApplied M tally b e → HasApplied M tally c e
-  applies_next c b e turned rest = (suc rest.0, b, turned, rest.1)
+  applies_next c b e turned rest = (suc rest.0, (b, turned, rest.1))
 
   pub applies_none : (c : CellOf M Setup Hosted Store U) → HasApplied M tally c c
   applies_none c = (0, refl)
@@ -122,7 +122,7 @@ module _ (M : Machine) {Setup Hosted Store U : Type 0} (tally : U → Tally) whe
 
     -- one job more is done
     pub some_next : (j : Job Hosted Action M.Line M.Target M.Played Setup M.Body M.Effect) (c b e : CellOf M Setup Hosted Store U) → HasDone M tally marked mark j c b → HasDoneSome M tally marked mark Action b e → HasDoneSome M tally marked mark Action c e
-    some_next j c b e done rest = (j ∷ rest.0, b, done, rest.1)
+    some_next j c b e done rest = (j ∷ rest.0, (b, done, rest.1))
 
   pub some_none : (marked : M.Body → Option Mark) (mark : Mark → M.Body) (Action : Type 0) (c : CellOf M Setup Hosted Store U) → HasDoneSome M tally marked mark Action c c
   some_none marked mark Action c = ([], refl)

@@ -217,10 +217,13 @@ impl<M: Marking, G: Gate + Drop, O: Outlet<M::Effect>> Station<M, G, O> {
     /// How the node stands, and how far its worker is.
     fn stand<S: Stable<M::Command>, U: Upstream>(&mut self, cell: &MarkedCell<M, S, U>) -> Told
         ensures status { IsStatusOf M.next_claim cell.now.parts result.status }
-        ensures progress { result.progress ≡ record { done = self.old.done;
-            waiting = length self.old.requests.waiting.items;
-            lost = (in_term cell.now.parts.node.state.standing.term
-            (queue_of self.old.requests)).lost; contacts = self.old.contacts } }
+        ensures progress { result.progress ≡ record {
+          done = self.old.done;
+          waiting = length self.old.requests.waiting.items;
+          lost = (in_term cell.now.parts.node.state.standing.term
+              (queue_of self.old.requests)).lost;
+          contacts = self.old.contacts;
+        } }
         ensures requests { queue_of self.new.requests
             ≡ in_term cell.now.parts.node.state.standing.term (queue_of self.old.requests) }
         ensures round { self.new.round ≡ self.old.round }

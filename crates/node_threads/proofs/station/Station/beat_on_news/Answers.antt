@@ -1,28 +1,24 @@
 use Rattle.std.proofs.Common.{rules, ◌≡◌, Bool, true, false, refl, sym, ◌∙◌, subst}
 use Rattle.raft_node.specs.Hosts.{hosted}
 use Rattle.raft_node.specs.Machine.{Machine}
-use Rattle.node_threads.specs.Reports.{is_news}
 use Rattle.node_threads.specs.Work.{HasBeaten}
 use Rattle.node_threads.proofs.station.Station.beat_on_news.Given as given
 use Rattle.node_threads.proofs.station.Station.beat_on_news.Goals as goal
-use Rattle.node_threads.proofs.station.Station.beat_on_news.Goals.{After-turn}
 
 abbrev machine : (g : given.Over) → g.row.M-Setup.Denot → Machine
 machine g s =
     hosted g.M.Hosted.blank g.M.Hosted.opened g.M.Hosted.shut g.M.Hosted.heard g.M.Hosted.claim g.M.Hosted.source (g.M.Machine.effects s)
     (g.M.Hosted.next_claim s) (g.M.Hosted.playback s) g.M.Hosted.class
 
-beaten : (g : given.Over) → (c : After-turn g) → HasBeaten (machine g c.args.cell.now.parts.ether.setup) g.U.Upstream.tally
-    (is_news c.args.self.now.beats c.args.self.now.beaten c.args.self.now.round.is_behind c.args.cell.now.parts) c.args.cell.now.parts c.turn.new.cell.parts
-beaten g c =
+pub returns-then-turn : goal.returns-then-turn
+returns-then-turn g c =
     let there : c.has_news.result ≡ true = search rules in
     subst (λ (news : Bool). HasBeaten (machine g c.args.cell.now.parts.ether.setup) g.U.Upstream.tally news c.args.cell.now.parts c.turn.new.cell.parts) (sym there ∙ c.has_news.ensures) (c.turn.new.cell.parts, c.turn.ensures.turn, refl)
 
-pub returns-then-turn : goal.returns-then-turn
-returns-then-turn g c = beaten g c
-
 pub returns-else-turn : goal.returns-else-turn
-returns-else-turn g c = beaten g c
+returns-else-turn g c =
+    let there : c.has_news.result ≡ true = search rules in
+    subst (λ (news : Bool). HasBeaten (machine g c.args.cell.now.parts.ether.setup) g.U.Upstream.tally news c.args.cell.now.parts c.turn.new.cell.parts) (sym there ∙ c.has_news.ensures) (c.turn.new.cell.parts, c.turn.ensures.turn, refl)
 
 pub returns-then-not-has_news : goal.returns-then-not-has_news
 returns-then-not-has_news g c =

@@ -1,6 +1,7 @@
 use Rattle.std.proofs.Common.{◌≡◌, refl, ap, ◌∙◌, subst}
 use Rattle.raft_node.specs.Hosts.{hosted}
 use Rattle.raft_node.specs.Machine.{Machine}
+use Rattle.node_threads.specs.Reports.{is_news}
 use Rattle.node_threads.specs.Work.{HasApplied, HasAskedOn, HasBeaten}
 use Rattle.node_threads.proofs.Going.{home_after, home_after_taking}
 use Rattle.node_threads.proofs.station.Station.go_round.Given as given
@@ -25,5 +26,7 @@ returns g c =
     let two = home_after M tally asks.0 heard asked asks.2 in
     let applies = subst (λ (s : g.row.M-Setup.Denot). HasApplied (machine g s) tally asked applied) (ap (λ e. e.setup) (two.ether ∙ one.ether)) c.apply_all-all_applied.ensures in
     let three = home_after M tally _ asked applied applies.1 in
-    let beats = subst (λ (s : g.row.M-Setup.Denot). HasBeaten (machine g s) tally _ applied last) (ap (λ e. e.setup) (three.ether ∙ (two.ether ∙ one.ether))) c.beat_on_news.ensures in
-    record { heard = heard; asked = asked; applied = applied; has_news = _; takes = c.take_all.ensures; asks = asks; applies_on = applies; beats = beats }
+    let now = c.apply_all-all_applied.new.self in
+    let news = is_news now.beats now.beaten now.round.is_behind applied in
+    let beats = subst (λ (s : g.row.M-Setup.Denot). HasBeaten (machine g s) tally news applied last) (ap (λ e. e.setup) (three.ether ∙ (two.ether ∙ one.ether))) c.beat_on_news.ensures in
+    record { heard = heard; asked = asked; applied = applied; has_news = news; takes = c.take_all.ensures; asks = asks; applies_on = applies; beats = beats }

@@ -29,5 +29,5 @@ returns-in_default g c =
     (looked_in M g.U.Upstream.tally first c.args.from None c.next_from.new.cell.parts c.next_from.new.cell.parts
     (subst (λ (o : Option _). HasTaken M first c.args.from o c.next_from.new.cell.parts) c.in_default.is c.next_from.ensures.taken) refl)
 
-pub returns-then-value-le-from : goal.returns-then-value-le-from
-returns-then-value-le-from g c = takes_none (machine g c.args.cell.now.parts.ether.setup) g.U.Upstream.tally c.args.cell.now.parts
+pub returns-then-value-from : goal.returns-then-value-from
+returns-then-value-from g c = takes_none (machine g c.args.cell.now.parts.ether.setup) g.U.Upstream.tally c.args.cell.now.parts
