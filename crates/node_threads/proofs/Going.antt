@@ -12,69 +12,73 @@ use Rattle.node_notes.specs.declared.note.Note.TheVariants as note
 use Rattle.node_threads.specs.declared.job.Job.{Job}
 use Rattle.node_threads.specs.declared.job.Job.TheVariants as job
 use Rattle.node_threads.specs.Homes.{IsSameHome}
-use Rattle.node_threads.specs.Work.{AreOfAsking, Deed, Does, HasApplied, HasAskedOn, HasBeaten, HasDeed, HasDone, HasDoneAll, HasDoneNote, HasDoneSome, HasGoneRound, HasHadTurn, HasLookedIn, HasTaken, HasTimedOut, HasTurnedIn, beats_on, takes_from}
+use Rattle.node_threads.specs.Work.{AreOfAsking, Deed, Does, HasApplied, HasAskedOn, HasBeaten, HasDeed, HasDone, HasDoneAll, HasDoneNote, HasDoneSome, HasGoneRound, HasHadTurn, HasLookedIn, HasTaken, HasTimedOut, HasTurnedIn, HasTakenAll, beats_on, takes_of}
 use Rattle.node_threads.specs.Work.Deed.{Takes, Sees, Turns}
 use Rattle.node_threads.proofs.Home.{home_after_input, home_after_look, home_after_restart, home_after_seen, home_after_take, same_home, same_home_still}
 use Rattle.node_threads.proofs.HomeMarked.{home_after_mark, home_after_waiting}
 
 module _ (M : Machine) {Setup Hosted Store U : Type 0} (tally : U → Tally) where
-  abbrev Cell : Type 0
-  Cell = CellOf M Setup Hosted Store U
-
-  home_after_turning : (next : Option (NodeInput M.Body M.Line)) (c d : Cell) → HasTurnedIn M tally next c d → IsSameHome c d
+  home_after_turning : (next : Option (NodeInput M.Body M.Line)) (c d : CellOf M Setup Hosted Store U) → HasTurnedIn M tally next c d → IsSameHome c d
   home_after_turning None c d h = same_home c d h
   home_after_turning (Some x) c d h = home_after_input M tally c x d h
 
   -- what was taken was turned
-  pub looked_in : (c : Cell) (from : ℕ) (next : Option (NodeInput M.Body M.Line)) (b d : Cell) → HasTaken M c from next b → HasTurnedIn M tally next b d
+  pub looked_in : (c : CellOf M Setup Hosted Store U) (from : ℕ) (next : Option (NodeInput M.Body M.Line)) (b d : CellOf M Setup Hosted Store U) → HasTaken M c from next b → HasTurnedIn M tally next b d
       → HasLookedIn M tally c from d
   looked_in c from next b d h turned =
       record { came = h.came; between = b; taken = h.taken; turned = subst (λ (o : Option (NodeInput M.Body M.Line)). HasTurnedIn M tally o b d) h.next_is turned }
 
-  pub home_after_looking : (c : Cell) (from : ℕ) (d : Cell) → HasLookedIn M tally c from d → IsSameHome c d
+  pub home_after_looking : (c : CellOf M Setup Hosted Store U) (from : ℕ) (d : CellOf M Setup Hosted Store U) → HasLookedIn M tally c from d → IsSameHome c d
   home_after_looking c from d h =
       same_home_still c h.between d (home_after_take c from h.came h.between h.taken) (home_after_turning (option_map input.Deliver h.came) h.between d h.turned)
 
-  home_after_deed : (e : Deed M.Body M.Line) (c d : Cell) → HasDeed M tally e c d → IsSameHome c d
+  home_after_deed : (e : Deed M.Body M.Line) (c d : CellOf M Setup Hosted Store U) → HasDeed M tally e c d → IsSameHome c d
   home_after_deed (Takes from) c d h = home_after_looking c from d h
   home_after_deed (Sees to) c d h = home_after_seen c to h.0 d h.1
   home_after_deed (Turns x) c d h = home_after_input M tally c x d h
 
-  pub home_after : (es : List (Deed M.Body M.Line)) (c d : Cell) → Does M tally es c d → IsSameHome c d
+  pub home_after : (es : List (Deed M.Body M.Line)) (c d : CellOf M Setup Hosted Store U) → Does M tally es c d → IsSameHome c d
   home_after [] c d h = same_home c d h
   home_after (e ∷ es) c d h = same_home_still c h.0 d (home_after_deed e c h.0 h.1) (home_after es h.0 d h.2)
 
-  -- one mailbox more is taken
-  pub takes_next : (i j size : ℕ) (c b e : Cell) → j ≡ i + 1 → i < size → HasLookedIn M tally c i b → Does M tally (takes_from j (size - j)) b e → Does M tally (takes_from i (size - i)) c e
-  takes_next i j size c b e next near looked rest =
-      let more : size - i ≡ suc (size - j) = omega (arith, near, next) in
-      let one : j ≡ suc i = omega (arith, next) in
-      subst (λ (n : ℕ). Does M tally (takes_from i n) c e) (sym more) (b, looked, subst (λ (k : ℕ). Does M tally (takes_from k (size - j)) b e) one rest)
+  takes_both : (froms more : List ℕ) (c b d : CellOf M Setup Hosted Store U) → Does M tally (takes_of froms) c b → Does M tally (takes_of more) b d → Does M tally (takes_of (froms ++ more)) c d
+  takes_both [] more c b d h k = subst (λ (z : CellOf M Setup Hosted Store U). Does M tally (takes_of more) z d) h k
+  takes_both (x ∷ froms) more c b d h k = (h.0, h.1, takes_both froms more h.0 b d h.2 k)
 
-  pub takes_none : (i size : ℕ) (c : Cell) → size - i ≡ 0 → Does M tally (takes_from i (size - i)) c c
-  takes_none i size c none = subst (λ (n : ℕ). Does M tally (takes_from i n) c c) (sym none) refl
+  -- more mailboxes are taken
+  pub takes_next : (c b d : CellOf M Setup Hosted Store U) → HasTakenAll M tally c b → HasTakenAll M tally b d → HasTakenAll M tally c d
+  takes_next c b d h k = (h.0 ++ k.0, takes_both h.0 k.0 c b d h.1 k.1)
+
+  pub takes_one : (c d : CellOf M Setup Hosted Store U) (from : ℕ) → HasLookedIn M tally c from d → HasTakenAll M tally c d
+  takes_one c d from h = (from ∷ [], (d, h, refl))
+
+  pub takes_none : (c : CellOf M Setup Hosted Store U) → HasTakenAll M tally c c
+  takes_none c = ([], refl)
+
+  pub home_after_taking : (c d : CellOf M Setup Hosted Store U) → HasTakenAll M tally c d → IsSameHome c d
+  home_after_taking c d h = home_after (takes_of h.0) c d h.1
 
   -- one place more is applied
-  pub applies_next : (c b e : Cell) → HasHadTurn M tally c input.Apply b → HasApplied M tally b e → HasApplied M tally c e
-  applies_next c b e turned rest = (suc rest.0, b, turned, rest.1)
+  pub applies_next : (c b e : CellOf M Setup Hosted Store U) → HasHadTurn M tally c input.Apply b → HasApplied M tally b e → HasApplied M tally c e
+  applies_next c b e turned rest = (suc rest.0, (b, turned, rest.1))
 
-  pub applies_none : (c : Cell) → HasApplied M tally c c
+  pub applies_none : (c : CellOf M Setup Hosted Store U) → HasApplied M tally c c
   applies_none c = (0, refl)
 
   -- one request more is asked, or one look more comes before it
-  pub asks_next : (c b e : Cell) (body : M.Body) → HasHadTurn M tally c (input.Ask body) b → HasAskedOn M tally b e → HasAskedOn M tally c e
+  pub asks_next : (c b e : CellOf M Setup Hosted Store U) (body : M.Body) → HasHadTurn M tally c (input.Ask body) b → HasAskedOn M tally b e → HasAskedOn M tally c e
   asks_next c b e body turned rest = (Turns (input.Ask body) ∷ rest.0, ((body, refl), rest.1), (b, turned, rest.2))
 
-  pub asks_none : (c : Cell) → HasAskedOn M tally c c
+  pub asks_none : (c : CellOf M Setup Hosted Store U) → HasAskedOn M tally c c
   asks_none c = ([], tt, refl)
 
-  pub sees_next : (c b e : Cell) (to : ℕ) (taken : Bool) → HasSeenTo c to taken b → HasAskedOn M tally b e → HasAskedOn M tally c e
+  pub sees_next : (c b e : CellOf M Setup Hosted Store U) (to : ℕ) (taken : Bool) → HasSeenTo c to taken b → HasAskedOn M tally b e → HasAskedOn M tally c e
   sees_next c b e to taken seen rest = (Sees to ∷ rest.0, (tt, rest.1), (b, (taken, seen), rest.2))
 
-  home_after_timeout : (few : Bool) (c d : Cell) → HasTimedOut M tally few c d → IsSameHome c d
-  home_after_timeout few c d h = same_home_still c h.between d (home_after _ c h.between h.taken) (home_after _ h.between d h.turned)
+  home_after_timeout : (few : Bool) (c d : CellOf M Setup Hosted Store U) → HasTimedOut M tally few c d → IsSameHome c d
+  home_after_timeout few c d h = same_home_still c h.between d (home_after_taking c h.between h.taken) (home_after _ h.between d h.turned)
 
-  home_after_note : (n : Note M.Body M.Line) (c d : Cell) → HasDoneNote M tally n c d → IsSameHome c d
+  home_after_note : (n : Note M.Body M.Line) (c d : CellOf M Setup Hosted Store U) → HasDoneNote M tally n c d → IsSameHome c d
   home_after_note (note.Timeout contacts) c d h = home_after_timeout h.0 c d h.1
   home_after_note note.Beat c d h = home_after_input M tally c _ d h
   home_after_note (note.Ask body) c d h = same_home c d h
@@ -86,21 +90,18 @@ module _ (M : Machine) {Setup Hosted Store U : Type 0} (tally : U → Tally) whe
   home_after_note note.Restart c d h = home_after_restart M c h.0 d h.1
   home_after_note note.End c d h = same_home c d h
 
-  pub home_after_round : (c d : Cell) → HasGoneRound M tally c d → IsSameHome c d
+  pub home_after_round : (c d : CellOf M Setup Hosted Store U) → HasGoneRound M tally c d → IsSameHome c d
   home_after_round c d h =
-      same_home_still c h.heard d (home_after _ c h.heard h.takes)
+      same_home_still c h.heard d (home_after_taking c h.heard h.takes)
       (same_home_still h.heard h.asked d (home_after _ h.heard h.asked h.asks.2)
       (same_home_still h.asked h.applied d (home_after _ h.asked h.applied h.applies_on.1) (home_after _ h.applied d h.beats)))
 
   -- a note that is this one was done
-  pub note_as : (n m : Note M.Body M.Line) (c d : Cell) → n ≡ m → HasDoneNote M tally m c d → HasDoneNote M tally n c d
+  pub note_as : (n m : Note M.Body M.Line) (c d : CellOf M Setup Hosted Store U) → n ≡ m → HasDoneNote M tally m c d → HasDoneNote M tally n c d
   note_as n m c d is h = subst (λ (z : Note M.Body M.Line). HasDoneNote M tally z c d) (sym is) h
 
   module _ (marked : M.Body → Option Mark) (mark : Mark → M.Body) {Action : Type 0} where
-    abbrev Job' : Type 0
-    Job' = Job Hosted Action M.Line M.Target M.Played Setup M.Body M.Effect
-
-    pub home_after_job : (j : Job') (c d : Cell) → HasDone M tally marked mark j c d → IsSameHome c d
+    pub home_after_job : (j : Job Hosted Action M.Line M.Target M.Played Setup M.Body M.Effect) (c d : CellOf M Setup Hosted Store U) → HasDone M tally marked mark j c d → IsSameHome c d
     home_after_job (job.Note n) c d h = home_after_note n c d h
     home_after_job (job.Look place target reply) c d h = home_after_look M tally c place target h.0 d h.1
     home_after_job (job.Mark reply) c d h = home_after_mark M tally marked mark c h.0 d h.1
@@ -109,19 +110,19 @@ module _ (M : Machine) {Setup Hosted Store U : Type 0} (tally : U → Tally) whe
     home_after_job (job.Status reply) c d h = same_home c d h
 
     -- a job that is this one was done
-    pub done_as : (j k : Job') (c d : Cell) → j ≡ k → HasDone M tally marked mark k c d → HasDone M tally marked mark j c d
-    done_as j k c d is h = subst (λ (z : Job'). HasDone M tally marked mark z c d) (sym is) h
+    pub done_as : (j k : Job Hosted Action M.Line M.Target M.Played Setup M.Body M.Effect) (c d : CellOf M Setup Hosted Store U) → j ≡ k → HasDone M tally marked mark k c d → HasDone M tally marked mark j c d
+    done_as j k c d is h = subst (λ (z : Job Hosted Action M.Line M.Target M.Played Setup M.Body M.Effect). HasDone M tally marked mark z c d) (sym is) h
 
-    home_after_jobs : (js : List Job') (c d : Cell) → HasDoneAll M tally marked mark js c d → IsSameHome c d
+    home_after_jobs : (js : List (Job Hosted Action M.Line M.Target M.Played Setup M.Body M.Effect)) (c d : CellOf M Setup Hosted Store U) → HasDoneAll M tally marked mark js c d → IsSameHome c d
     home_after_jobs [] c d h = same_home c d h
     home_after_jobs (j ∷ js) c d h = same_home_still c h.0 d (home_after_job j c h.0 h.1) (home_after_jobs js h.0 d h.2)
 
-    pub home_after_some : (c d : Cell) → HasDoneSome M tally marked mark {Action = Action} c d → IsSameHome c d
+    pub home_after_some : (c d : CellOf M Setup Hosted Store U) → HasDoneSome M tally marked mark Action c d → IsSameHome c d
     home_after_some c d h = home_after_jobs h.0 c d h.1
 
     -- one job more is done
-    pub some_next : (j : Job') (c b e : Cell) → HasDone M tally marked mark j c b → HasDoneSome M tally marked mark {Action = Action} b e → HasDoneSome M tally marked mark {Action = Action} c e
-    some_next j c b e done rest = (j ∷ rest.0, b, done, rest.1)
+    pub some_next : (j : Job Hosted Action M.Line M.Target M.Played Setup M.Body M.Effect) (c b e : CellOf M Setup Hosted Store U) → HasDone M tally marked mark j c b → HasDoneSome M tally marked mark Action b e → HasDoneSome M tally marked mark Action c e
+    some_next j c b e done rest = (j ∷ rest.0, (b, done, rest.1))
 
-    pub some_none : (c : Cell) → HasDoneSome M tally marked mark {Action = Action} c c
-    some_none c = ([], refl)
+  pub some_none : (marked : M.Body → Option Mark) (mark : Mark → M.Body) (Action : Type 0) (c : CellOf M Setup Hosted Store U) → HasDoneSome M tally marked mark Action c c
+  some_none marked mark Action c = ([], refl)

@@ -13,27 +13,24 @@ use Rattle.node_threads.specs.Work.{HasAskedOn}
 use Rattle.node_threads.proofs.Going.{asks_none, sees_next}
 
 module _ (M : Machine) {Setup Hosted Store U : Type 0} (tally : U → Tally) where
-  abbrev Cell : Type 0
-  Cell = CellOf M Setup Hosted Store U
+  same_asked : (c d e : CellOf M Setup Hosted Store U) → d ≡ c → HasAskedOn M tally d e → HasAskedOn M tally c e
+  same_asked c d e is rest = subst (λ (z : CellOf M Setup Hosted Store U). HasAskedOn M tally z e) is rest
 
-  same_asked : (c d e : Cell) → d ≡ c → HasAskedOn M tally d e → HasAskedOn M tally c e
-  same_asked c d e is rest = subst (λ (z : Cell). HasAskedOn M tally z e) is rest
-
-  seen_asked : (node : ℕ) (c : Cell) (taken : Bool) (d e : Cell) → HasSeenIf node c taken d → HasAskedOn M tally d e → HasAskedOn M tally c e
+  seen_asked : (node : ℕ) (c : CellOf M Setup Hosted Store U) (taken : Bool) (d e : CellOf M Setup Hosted Store U) → HasSeenIf node c taken d → HasAskedOn M tally d e → HasAskedOn M tally c e
   seen_asked node c taken d e h rest =
       ⊎_elim (λ (s : (to : ℕ) × (node ≡ suc to) × HasSeenTo c to taken d). sees_next M tally c d e s.0 taken s.2 rest) (λ (s : (taken ≡ false) × (d ≡ c)). same_asked c d e s.1 rest) h
 
-  in_position : (p : Position) (c : Cell) (may : Bool) (d e : Cell) → MayIn p c may d → HasAskedOn M tally d e → HasAskedOn M tally c e
+  in_position : (p : Position) (c : CellOf M Setup Hosted Store U) (may : Bool) (d e : CellOf M Setup Hosted Store U) → MayIn p c may d → HasAskedOn M tally d e → HasAskedOn M tally c e
   in_position (Follower None) c may d e h rest = same_asked c d e h.1 rest
   in_position (Follower (Some leader)) c may d e h rest = seen_asked leader c may d e h rest
   in_position Candidate c may d e h rest = same_asked c d e h.1 rest
   in_position (Leader live) c may d e h rest = same_asked c d e h.1 rest
 
-  in_phase : (p : Phase M.Body M.Line) (c : Cell) (may : Bool) (d e : Cell) → MayUp p c may d → HasAskedOn M tally d e → HasAskedOn M tally c e
+  in_phase : (p : Phase M.Body M.Line) (c : CellOf M Setup Hosted Store U) (may : Bool) (d e : CellOf M Setup Hosted Store U) → MayUp p c may d → HasAskedOn M tally d e → HasAskedOn M tally c e
   in_phase Up c may d e h rest = in_position c.node.state.standing.position c may d e h rest
   in_phase (DownInTurn x done) c may d e h rest = same_asked c d e h.1 rest
   in_phase DownInRestart c may d e h rest = same_asked c d e h.1 rest
 
   -- a look whether the node may ask comes before
-  pub may_next : (c : Cell) (may : Bool) (d e : Cell) → MayAsk c may d → HasAskedOn M tally d e → HasAskedOn M tally c e
+  pub may_next : (c : CellOf M Setup Hosted Store U) (may : Bool) (d e : CellOf M Setup Hosted Store U) → MayAsk c may d → HasAskedOn M tally d e → HasAskedOn M tally c e
   may_next c may d e h rest = in_phase c.phase c may d e h rest

@@ -14,7 +14,7 @@ use Rattle.node_notes.specs.Notes as notes
 use Rattle.node_notes.specs.Notes.{status_of}
 use Rattle.node_threads.specs.Reports.{IsStatusOf, leads_in, leads_up}
 
-pub status_told : {Setup Hosted Store B L T E P U : Type 0} (next_claim : Setup → List B → Option ℕ) (c : CellParts Setup Hosted Store B L T E P U) (s : Status) (state : NodeState B) (claim : Option ℕ) (down : Option Cause)
+pub status_told : {Setup Hosted Store B L T E P U : Type 0} (next_claim : Setup → List (ℕ × B) → Option ℕ) (c : CellParts Setup Hosted Store B L T E P U) (s : Status) (state : NodeState B) (claim : Option ℕ) (down : Option Cause)
     → s ≡ status_of state claim down → state ≡ c.node.state → (down ≡ None) ↔ (c.phase ≡ Up) → (c.node.down ≡ None → claim ≡ next_claim c.node.setup (applied_bodies c.node.state)) → IsStatusOf next_claim c s
 status_told next_claim c s state claim down is same up claims =
     subst (λ (z : Status). IsStatusOf next_claim c z) (sym is) (record { told = ap (λ (x : NodeState _). status_of x claim down) same; up = up; claim = claims })
@@ -34,6 +34,6 @@ module _ {B L : Type 0} where
   by_phase DownInRestart Follower down h = refl
   by_phase DownInRestart Candidate down h = refl
 
-pub leads_told : {Setup Hosted Store B L T E P U : Type 0} (next_claim : Setup → List B → Option ℕ) (c : CellParts Setup Hosted Store B L T E P U) (s : Status) → IsStatusOf next_claim c s
+pub leads_told : {Setup Hosted Store B L T E P U : Type 0} (next_claim : Setup → List (ℕ × B) → Option ℕ) (c : CellParts Setup Hosted Store B L T E P U) (s : Status) → IsStatusOf next_claim c s
     → notes.leads s ≡ leads_in c
 leads_told next_claim c s h = ap (λ (z : Status). notes.leads_up z.role s.down) h.told ∙ by_phase c.phase (role_of c.node.state.standing.position) s.down h.up

@@ -98,7 +98,7 @@ module _ {Setup Hosted Store B L T E P U : Type 0} where
   leads_in c = leads_up c.phase (role_of c.node.state.standing.position)
 
   -- how the node of a cell stands; while it is up, the line to be claimed next is by what it applied
-  pub record IsStatusOf (next_claim : Setup → List B → Option ℕ) (c : CellParts Setup Hosted Store B L T E P U) (s : Status) : Type 0 where
+  pub record IsStatusOf (next_claim : Setup → List (ℕ × B) → Option ℕ) (c : CellParts Setup Hosted Store B L T E P U) (s : Status) : Type 0 where
     pub told : s ≡ status_of c.node.state s.next_claim s.down
     pub up : (s.down ≡ None) ↔ (c.phase ≡ Up)
     pub claim : c.node.down ≡ None → s.next_claim ≡ next_claim c.node.setup (applied_bodies c.node.state)

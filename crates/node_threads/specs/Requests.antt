@@ -15,6 +15,11 @@ pub record Queue (B : Type 0) : Type 0 where
   pub asked : Option Asked
   pub lost : ℕ
 
+-- the note of the last request, if it was asked in this term
+abbrev pub note_in : ℕ → Option Asked → Option ℕ
+note_in term None = None
+note_in term (Some asked) = if nat_eq asked.term term then Some asked.note else None
+
 module _ {B : Type 0} where
   abbrev pub queue_of : Requests B → Queue B
   queue_of r = record { waiting = r.waiting.items; asked = r.asked; lost = r.lost }
@@ -54,10 +59,6 @@ module _ {B : Type 0} where
   HasAsked term old None new = (old.waiting ≡ []) × (new ≡ old)
   HasAsked term old (Some body) new =
       (note : ℕ) × (old.waiting ≡ request note body ∷ new.waiting) × (new ≡ asked_now note term (in_term term (record old { waiting = new.waiting })))
-
-  abbrev pub note_in : ℕ → Option Asked → Option ℕ
-  note_in term None = None
-  note_in term (Some asked) = if nat_eq asked.term term then Some asked.note else None
 
   -- none waits, and none was asked in this run
   abbrev pub ended : Queue B → Queue B

@@ -30,10 +30,10 @@ pub data Deed (B L : Type 0) : Type 0 where
   Turns : NodeInput B L → Deed B L
 
 module _ {B L : Type 0} where
-  -- so many mailboxes are taken by rising number of the sender, from this place on
-  abbrev pub takes_from : ℕ → ℕ → List (Deed B L)
-  takes_from i zero = []
-  takes_from i (suc n) = Takes i ∷ takes_from (suc i) n
+  -- the mailboxes from the nodes at these places are taken
+  abbrev pub takes_of : List ℕ → List (Deed B L)
+  takes_of [] = []
+  takes_of (from ∷ more) = Takes from ∷ takes_of more
 
   -- so many places are applied
   abbrev pub applies : ℕ → List (Deed B L)
@@ -60,15 +60,15 @@ module _ {B L : Type 0} where
   times_out true = Turns input.Timeout ∷ []
   times_out false = []
 
+-- the number of the mark that was asked
+abbrev pub number_in : {B E : Type 0} → Result (MarkTurn B E) CellFault → Result ℕ CellFault
+number_in (Ok asked) = Ok asked.number
+number_in (Err fault) = Err fault
+
 module _ (M : Machine) {Setup Hosted Store U : Type 0} where
   -- the node was started again, or was not
   abbrev pub HasTriedAgain : CellOf M Setup Hosted Store U → CellOf M Setup Hosted Store U → Type 0
   HasTriedAgain c d = (answer : Result (Unit {0}) CellFault) × HasRestarted M c answer d
-
-  -- the number of the mark that was asked
-  abbrev pub number_in : Result (MarkTurn M.Body M.Effect) CellFault → Result ℕ CellFault
-  number_in (Ok asked) = Ok asked.number
-  number_in (Err fault) = Err fault
 
   -- one look into a mailbox: the delivery of what lay there comes next
   pub record HasTaken (c : CellOf M Setup Hosted Store U) (from : ℕ) (next : Option (NodeInput M.Body M.Line)) (d : CellOf M Setup Hosted Store U) : Type 0 where
@@ -104,6 +104,10 @@ module _ (M : Machine) {Setup Hosted Store U : Type 0} where
     Does [] c d = d ≡ c
     Does (e ∷ es) c d = (b : CellOf M Setup Hosted Store U) × HasDeed e c b × Does es b d
 
+    -- some mailboxes were taken, and nothing else was done
+    abbrev pub HasTakenAll : CellOf M Setup Hosted Store U → CellOf M Setup Hosted Store U → Type 0
+    HasTakenAll c d = (froms : List ℕ) × Does (takes_of froms) c d
+
     -- requests were asked, each after a look or none
     abbrev pub HasAskedOn : CellOf M Setup Hosted Store U → CellOf M Setup Hosted Store U → Type 0
     HasAskedOn c d = (es : List (Deed M.Body M.Line)) × AreOfAsking es × Does es c d
@@ -112,10 +116,10 @@ module _ (M : Machine) {Setup Hosted Store U : Type 0} where
     abbrev pub HasApplied : CellOf M Setup Hosted Store U → CellOf M Setup Hosted Store U → Type 0
     HasApplied c d = (n : ℕ) × Does (applies n) c d
 
-    -- Each mailbox was taken once. Then the node asked for votes, where it leads not and had heard few enough times of a leader.
+    -- Mailboxes were taken. Then the node asked for votes, where it leads not and had heard few enough times of a leader.
     pub record HasTimedOut (is_few : Bool) (c d : CellOf M Setup Hosted Store U) : Type 0 where
       pub between : CellOf M Setup Hosted Store U
-      pub taken : Does (takes_from 0 c.ether.size) c between
+      pub taken : HasTakenAll c between
       pub turned : Does (times_out (is_few && not (leads_in between))) between d
 
     -- what a note comes to: a turn of it, a restart, or nothing; a request waits for a leader
@@ -135,14 +139,14 @@ module _ (M : Machine) {Setup Hosted Store U : Type 0} where
     abbrev pub HasBeaten : Bool → CellOf M Setup Hosted Store U → CellOf M Setup Hosted Store U → Type 0
     HasBeaten has_news c d = Does (beats_on has_news) c d
 
-    -- What a round does behind its jobs: each mailbox is taken once, by rising number; requests are asked; agreed places are applied; and where there is
+    -- What a round does behind its jobs: mailboxes are taken; requests are asked; agreed places are applied; and where there is
     -- news, the node beats.
     pub record HasGoneRound (c d : CellOf M Setup Hosted Store U) : Type 0 where
       pub heard : CellOf M Setup Hosted Store U
       pub asked : CellOf M Setup Hosted Store U
       pub applied : CellOf M Setup Hosted Store U
       pub has_news : Bool
-      pub takes : Does (takes_from 0 c.ether.size) c heard
+      pub takes : HasTakenAll c heard
       pub asks : HasAskedOn heard asked
       pub applies_on : HasApplied asked applied
       pub beats : HasBeaten has_news applied d
@@ -155,11 +159,8 @@ module _ (M : Machine) {Setup Hosted Store U : Type 0} where
         pub asked : HasMarked M tally marked mark c answer d
 
     module _ (marked : M.Body → Option Mark) (mark : Mark → M.Body) {Action : Type 0} where
-      abbrev pub JobOf : Type 0
-      JobOf = Job Hosted Action M.Line M.Target M.Played Setup M.Body M.Effect
-
       -- what a job comes to by itself
-      abbrev pub HasDone : JobOf → CellOf M Setup Hosted Store U → CellOf M Setup Hosted Store U → Type 0
+      abbrev pub HasDone : Job Hosted Action M.Line M.Target M.Played Setup M.Body M.Effect → CellOf M Setup Hosted Store U → CellOf M Setup Hosted Store U → Type 0
       HasDone (job.Note note) c d = HasDoneNote note c d
       HasDone (job.Look place target reply) c d = (answer : Result (PlayedAt M.Played) CellFault) × HasLooked M tally c place target answer d
       HasDone (job.Mark reply) c d = (answer : Result (MarkTurn M.Body M.Effect) CellFault) × HasMarked M tally marked mark c answer d
@@ -168,10 +169,11 @@ module _ (M : Machine) {Setup Hosted Store U : Type 0} where
       HasDone (job.Status reply) c d = d ≡ c
 
       -- these jobs were done, in order, each once
-      abbrev pub HasDoneAll : List JobOf → CellOf M Setup Hosted Store U → CellOf M Setup Hosted Store U → Type 0
+      abbrev pub HasDoneAll : List (Job Hosted Action M.Line M.Target M.Played Setup M.Body M.Effect) → CellOf M Setup Hosted Store U → CellOf M Setup Hosted Store U → Type 0
       HasDoneAll [] c d = d ≡ c
       HasDoneAll (j ∷ js) c d = (b : CellOf M Setup Hosted Store U) × HasDone j c b × HasDoneAll js b d
 
+    module _ (marked : M.Body → Option Mark) (mark : Mark → M.Body) (Action : Type 0) where
       -- some jobs were done
       abbrev pub HasDoneSome : CellOf M Setup Hosted Store U → CellOf M Setup Hosted Store U → Type 0
-      HasDoneSome c d = (js : List JobOf) × HasDoneAll js c d
+      HasDoneSome c d = (js : List (Job Hosted Action M.Line M.Target M.Played Setup M.Body M.Effect)) × HasDoneAll marked mark js c d

@@ -1,5 +1,5 @@
 //! What a worker has beside its node's cell, and what it does with it, in rounds.
-ghost use Rattle.std.specs.Prelude.{◌≡◌, [], length};
+ghost use Rattle.std.specs.Prelude.{◌≡◌, ◌&&◌, [], length};
 ghost use Rattle.node_threads.specs.Homes.{IsSameHome};
 ghost use Rattle.node_threads.specs.Reports.{IsReport, IsStatusOf, TellsFirst, has_grown, is_news};
 ghost use Rattle.node_threads.specs.Requests.{in_term, queue_of};
@@ -72,6 +72,8 @@ pub struct Station<M: Marking, G: Drop, O: Outlet<M::Effect>> {
     pub told: Option<Told>,
     /// What its node had where it sent last, as the leader of its term.
     pub beaten: Option<Beaten>,
+    /// Whether nothing is left to do until a job comes.
+    pub may_wait: bool,
 }
 
 /// What a leader had where it sent last: its term, the last place of its log, and what was agreed.
@@ -91,14 +93,26 @@ impl<M: Marking, G: Gate + Drop, O: Outlet<M::Effect>> Station<M, G, O> {
     )
         ensures { IsSameHome cell.old.parts cell.new.parts }
     {
-        let mut may_wait = false;
         for _ in rt.forever() {
-            let is_over = self.do_jobs(rt, cell, may_wait);
-            may_wait = self.go_round(rt, cell);
-            if is_over {
+            if !self.do_round(rt, cell) {
                 break;
             }
         }
+    }
+
+    /// A round. False where it is told to end, or nobody tells it anything any more.
+    fn do_round<R: Wait, S: Stable<M::Command>, U: Upstream>(
+        &mut self,
+        rt: &R,
+        cell: &mut MarkedCell<M, S, U>,
+    ) -> bool
+        ensures { IsSameHome cell.old.parts cell.new.parts }
+    {
+        let may_wait = self.may_wait;
+        let is_over = self.do_jobs(rt, cell, may_wait);
+        let all_done = self.go_round(rt, cell);
+        self.may_wait = all_done;
+        !is_over
     }
 
     /// What a round does behind its jobs. False where there is more to do, even if nothing comes.
@@ -116,7 +130,7 @@ impl<M: Marking, G: Gate + Drop, O: Outlet<M::Effect>> Station<M, G, O> {
         self.beat_on_news(rt, cell);
         self.wake_all(rt);
         let all_told = self.tell(rt, cell);
-        all_asked && all_applied && all_told
+        all_of(all_asked, all_applied, all_told)
     }
 
     /// A leader whose worker is to send by itself sends, where there is news.
@@ -203,10 +217,13 @@ impl<M: Marking, G: Gate + Drop, O: Outlet<M::Effect>> Station<M, G, O> {
     /// How the node stands, and how far its worker is.
     fn stand<S: Stable<M::Command>, U: Upstream>(&mut self, cell: &MarkedCell<M, S, U>) -> Told
         ensures status { IsStatusOf M.next_claim cell.now.parts result.status }
-        ensures progress { result.progress ≡ record { done = self.old.done;
-            waiting = length self.old.requests.waiting.items;
-            lost = (in_term cell.now.parts.node.state.standing.term
-            (queue_of self.old.requests)).lost; contacts = self.old.contacts } }
+        ensures progress { result.progress ≡ record {
+          done = self.old.done;
+          waiting = length self.old.requests.waiting.items;
+          lost = (in_term cell.now.parts.node.state.standing.term
+              (queue_of self.old.requests)).lost;
+          contacts = self.old.contacts;
+        } }
         ensures requests { queue_of self.new.requests
             ≡ in_term cell.now.parts.node.state.standing.term (queue_of self.old.requests) }
         ensures round { self.new.round ≡ self.old.round }
@@ -249,6 +266,13 @@ impl<M: Marking, G: Gate + Drop, O: Outlet<M::Effect>> Station<M, G, O> {
             None => true,
         }
     }
+}
+
+/// Whether all of these are so.
+fn all_of(one: bool, two: bool, three: bool) -> bool
+    ensures { result ≡ (one && (two && three)) }
+{
+    one && two && three
 }
 
 /// Whether a leader's log or what is agreed of it grew since it sent last in its term, or a node that lags

@@ -146,6 +146,7 @@ fn station<M: Marking, G: Drop, O: Outlet<M::Effect>>(
         round: Round::new(alloc),
         told: None,
         beaten: None,
+        may_wait: false,
     })
 }
 

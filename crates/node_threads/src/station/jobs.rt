@@ -38,7 +38,7 @@ impl<M: Marking, G: Gate + Drop, O: Outlet<M::Effect>> Station<M, G, O> {
         may_wait: bool,
     ) -> bool
         ensures { HasDoneSome (⟦<M as Described>⟧.machine cell.old.parts.ether.setup) U.tally
-            M.marked M.mark {Action = M.Action} cell.old.parts cell.new.parts }
+            M.marked M.mark M.Action cell.old.parts cell.new.parts }
     {
         for place in 0..MOST_JOBS {
             match self.next_job(rt, may_wait && place == 0) {

@@ -3,12 +3,12 @@ ghost use Rattle.std.specs.Prelude.{◌≡◌, ◌<◌, ◌+◌, ◌^◌, ◌-�
 ghost use Rattle.world_views.specs.Views.{carries};
 ghost use Rattle.node_cells.specs.Cells.{HasHeard, view_in};
 ghost use Rattle.node_threads.specs.Rounds.{is_behind, is_led};
-ghost use Rattle.node_threads.specs.Work.{Does, HasLookedIn, HasTaken, takes_from};
+ghost use Rattle.node_threads.specs.Work.{HasTaken, HasTakenAll};
 
 use crate::gate::Gate;
 use crate::outlet::Outlet;
 use crate::station::telling::wake;
-use crate::station::Station;
+use crate::station::{MOST_NODES, Station};
 use body_marks::Marking;
 use machine_laws::{Hosted, Machine};
 use marked_cells::MarkedCell;
@@ -27,26 +27,28 @@ impl<M: Marking, G: Gate + Drop, O: Outlet<M::Effect>> Station<M, G, O> {
         rt: &R,
         cell: &mut MarkedCell<M, S, U>,
     )
-        ensures { Does (⟦<M as Described>⟧.machine cell.old.parts.ether.setup) U.tally
-            (takes_from 0 cell.old.parts.ether.size) cell.old.parts cell.new.parts }
+        ensures { HasTakenAll (⟦<M as Described>⟧.machine cell.old.parts.ether.setup) U.tally
+            cell.old.parts cell.new.parts }
     {
-        let size = cell.size().value() as u64;
-        for from in 0..size {
-            self.take_from(rt, cell, from);
+        for from in 0..MOST_NODES {
+            self.take_from(rt, cell, from as u64);
         }
     }
 
-    /// Takes what lies in the mailbox from the node at this place, from 0 on, and turns its delivery.
+    /// Takes what lies in the mailbox from the node at this place, from 0 on, if there is one, and turns its
+    /// delivery.
     fn take_from<R: Wait, S: Stable<M::Command>, U: Upstream>(
         &mut self,
         rt: &R,
         cell: &mut MarkedCell<M, S, U>,
         from: u64,
     )
-        requires { from < cell.old.parts.ether.size }
-        ensures { HasLookedIn (⟦<M as Described>⟧.machine cell.old.parts.ether.setup) U.tally
-            cell.old.parts from cell.new.parts }
+        ensures { HasTakenAll (⟦<M as Described>⟧.machine cell.old.parts.ether.setup) U.tally
+            cell.old.parts cell.new.parts }
     {
+        if cell.size().value() as u64 <= from {
+            return;
+        }
         let Some(input) = next_from(cell, from) else {
             return;
         };

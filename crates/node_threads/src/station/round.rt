@@ -1,5 +1,5 @@
 //! What a round of a worker gathers.
-ghost use Rattle.std.specs.Prelude.{◌≡◌, ◌++◌, ◌∷◌, [], ◌↔◌, IsFalse, None, Some};
+ghost use Rattle.std.specs.Prelude.{◌≡◌, ◌++◌, ◌∷◌, [], ◌↔◌, IsFalse, false, None, Some};
 ghost use Rattle.node_threads.specs.Reports.{told_fault};
 ghost use Rattle.node_threads.specs.Rounds.{first_fault, leaving, woken_by};
 
@@ -37,8 +37,8 @@ impl<E: Drop> Round<E> {
 
     /// What left in a turn comes behind what left before.
     pub fn leave(&mut self, effects: Vec<E>)
-        requires { self.old.further.items ≡ [] }
-        ensures leaving { leaving self.new ≡ leaving self.old ++ effects.items }
+        ensures leaving { self.old.further.items ≡ []
+            → leaving self.new ≡ leaving self.old ++ effects.items }
         ensures fault { self.new.fault ≡ self.old.fault }
         ensures woken { self.new.woken ≡ self.old.woken }
         ensures behind { self.new.is_behind ≡ self.old.is_behind }
@@ -77,6 +77,13 @@ impl<E: Drop> Round<E> {
         for node in nodes {
             self.wake(*node);
         }
+    }
+
+    /// Whether there is more to tell than one report takes.
+    pub fn has_further(&self) -> bool
+        ensures { result ≡ false → self.now.further.items ≡ [] }
+    {
+        !self.further.is_empty()
     }
 
     /// Whether there is something to tell, whatever became of the node.

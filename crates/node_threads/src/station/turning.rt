@@ -33,7 +33,7 @@ impl<M: Marking, G: Gate + Drop, O: Outlet<M::Effect>> Station<M, G, O> {
             cell.old.parts input cell.new.parts }
         ensures contacts { self.new.contacts ≡ self.old.contacts }
     {
-        if !self.round.further.is_empty() {
+        if self.round.has_further() {
             self.round.fail(CellFault::Memory);
             return false;
         }
@@ -59,7 +59,7 @@ impl<M: Marking, G: Gate + Drop, O: Outlet<M::Effect>> Station<M, G, O> {
         ensures { HasMarkedOne (⟦<M as Described>⟧.machine cell.old.parts.ether.setup) U.tally
             M.marked M.mark cell.old.parts result cell.new.parts }
     {
-        if !self.round.further.is_empty() {
+        if self.round.has_further() {
             return Err(CellFault::Memory);
         }
         pass_gate(rt, &*self.gate, self.id, &mut self.turns);
@@ -78,8 +78,8 @@ impl<M: Marking, G: Gate + Drop, O: Outlet<M::Effect>> Station<M, G, O> {
         cell: &MarkedCell<M, S, U>,
         output: TurnOutput<M::Command, M::Effect>,
     )
-        requires { self.old.round.further.items ≡ [] }
-        ensures leaving { leaving self.new.round ≡ leaving self.old.round ++ output.effects.items }
+        ensures leaving { self.old.round.further.items ≡ []
+            → leaving self.new.round ≡ leaving self.old.round ++ output.effects.items }
         ensures woken { self.new.round.woken
             ≡ woken_by self.old.round.woken output.posted_to.items }
         ensures contacts { self.new.contacts ≡ self.old.contacts }
@@ -94,9 +94,7 @@ impl<M: Marking, G: Gate + Drop, O: Outlet<M::Effect>> Station<M, G, O> {
         for envelope in replaced {
             self.take_back(cell, &envelope);
         }
-        if !effects.is_empty() {
-            self.round.leave(effects);
-        }
+        self.round.leave(effects);
     }
 
     /// A request that lay on its way to the leader of this term comes first again.
@@ -143,7 +141,7 @@ impl<M: Marking, G: Gate + Drop, O: Outlet<M::Effect>> Station<M, G, O> {
                 return true;
             }
             if !self.turn(rt, cell, NodeInput::Apply) {
-                return self.round.further.is_empty();
+                return !self.round.has_further();
             }
         }
         false

@@ -24,8 +24,8 @@ loop-preserved g c =
 pub returns-then-is_some : goal.returns-then-is_some
 returns-then-is_some g c = c.loop.invariant.1 c.loop.cell.parts (applies_none (machine g c.args.cell.now.parts.ether.setup) g.U.Upstream.tally c.loop.cell.parts)
 
-pub returns-then : goal.returns-then
-returns-then g c =
+pub returns-then-not-turn : goal.returns-then-not-turn
+returns-then-not-turn g c =
     let first = c.args.cell.now.parts in
     let old = c.loop.cell.parts in
     let new = c.turn.new.cell.parts in

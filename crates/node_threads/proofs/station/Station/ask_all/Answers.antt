@@ -32,8 +32,8 @@ returns g c = c.loop.invariant.1 c.loop.cell.parts (asks_none (machine g c.args.
 pub returns-then-is_empty : goal.returns-then-is_empty
 returns-then-is_empty g c = c.loop.invariant.1 c.loop.cell.parts (asks_none (machine g c.args.cell.now.parts.ether.setup) g.U.Upstream.tally c.loop.cell.parts)
 
-pub returns-then : goal.returns-then
-returns-then g c =
+pub returns-then-not-may_ask : goal.returns-then-not-may_ask
+returns-then-not-may_ask g c =
     let M = machine g c.args.cell.now.parts.ether.setup in
     let seen = c.may_ask.new.cell.parts in
     c.loop.invariant.1 seen (may_next M g.U.Upstream.tally c.loop.cell.parts c.may_ask.result seen seen c.may_ask.ensures (asks_none M g.U.Upstream.tally seen))

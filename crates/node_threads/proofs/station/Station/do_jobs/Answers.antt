@@ -20,13 +20,13 @@ loop-place-preserved g c =
     )
 
 pub returns : goal.returns
-returns g c = c.loop-place.invariant.1 c.loop-place.cell.parts (some_none (machine g c.args.cell.now.parts.ether.setup) g.U.Upstream.tally g.M.Marking.marked g.M.Hosted.mark c.loop-place.cell.parts)
+returns g c = c.loop-place.invariant.1 c.loop-place.cell.parts (some_none (machine g c.args.cell.now.parts.ether.setup) g.U.Upstream.tally g.M.Marking.marked g.M.Hosted.mark g.row.M-Action.Denot c.loop-place.cell.parts)
 
-pub returns-in-Job : goal.returns-in-Job
-returns-in-Job g c = c.loop-place.invariant.1 c.loop-place.cell.parts (some_none (machine g c.args.cell.now.parts.ether.setup) g.U.Upstream.tally g.M.Marking.marked g.M.Hosted.mark c.loop-place.cell.parts)
+pub returns-then-is_end : goal.returns-then-is_end
+returns-then-is_end g c = c.loop-place.invariant.1 c.loop-place.cell.parts (some_none (machine g c.args.cell.now.parts.ether.setup) g.U.Upstream.tally g.M.Marking.marked g.M.Hosted.mark g.row.M-Action.Denot c.loop-place.cell.parts)
 
 pub returns-in-Nothing : goal.returns-in-Nothing
-returns-in-Nothing g c = c.loop-place.invariant.1 c.loop-place.cell.parts (some_none (machine g c.args.cell.now.parts.ether.setup) g.U.Upstream.tally g.M.Marking.marked g.M.Hosted.mark c.loop-place.cell.parts)
+returns-in-Nothing g c = c.loop-place.invariant.1 c.loop-place.cell.parts (some_none (machine g c.args.cell.now.parts.ether.setup) g.U.Upstream.tally g.M.Marking.marked g.M.Hosted.mark g.row.M-Action.Denot c.loop-place.cell.parts)
 
 pub returns-in-Over : goal.returns-in-Over
-returns-in-Over g c = c.loop-place.invariant.1 c.loop-place.cell.parts (some_none (machine g c.args.cell.now.parts.ether.setup) g.U.Upstream.tally g.M.Marking.marked g.M.Hosted.mark c.loop-place.cell.parts)
+returns-in-Over g c = c.loop-place.invariant.1 c.loop-place.cell.parts (some_none (machine g c.args.cell.now.parts.ether.setup) g.U.Upstream.tally g.M.Marking.marked g.M.Hosted.mark g.row.M-Action.Denot c.loop-place.cell.parts)

@@ -15,5 +15,5 @@ invariant-loop-place g l =
     let first = l.fn.cell.parts in
     let M = machine g first.ether.setup in
     IsSameHome first l.cell.parts
-    × ((e : CellOf M _ _ _ _) → HasDoneSome M g.U.Upstream.tally g.M.Marking.marked g.M.Hosted.mark {Action = g.row.M-Action.Denot} l.cell.parts e
-    → HasDoneSome M g.U.Upstream.tally g.M.Marking.marked g.M.Hosted.mark {Action = g.row.M-Action.Denot} first e)
+    × ((e : CellOf M _ _ _ _) → HasDoneSome M g.U.Upstream.tally g.M.Marking.marked g.M.Hosted.mark g.row.M-Action.Denot l.cell.parts e
+    → HasDoneSome M g.U.Upstream.tally g.M.Marking.marked g.M.Hosted.mark g.row.M-Action.Denot first e)

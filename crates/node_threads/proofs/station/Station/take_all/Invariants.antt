@@ -1,9 +1,6 @@
 use Rattle.raft_node.specs.Hosts.{hosted}
 use Rattle.raft_node.specs.Machine.{Machine}
-use Rattle.std.proofs.Common.{◌-◌}
-use Rattle.node_cells.specs.Turns.{CellOf}
-use Rattle.node_threads.specs.Homes.{IsSameHome}
-use Rattle.node_threads.specs.Work.{Does, takes_from}
+use Rattle.node_threads.specs.Work.{HasTakenAll}
 use Rattle.node_threads.proofs.station.Station.take_all.Given as goal
 
 abbrev pub machine : (g : goal.Over) → g.row.M-Setup.Denot → Machine
@@ -12,9 +9,4 @@ machine g s =
     (g.M.Hosted.next_claim s) (g.M.Hosted.playback s) g.M.Hosted.class
 
 abbrev pub invariant-loop-from : goal.invariant-loop-from
-invariant-loop-from g l =
-    let first = l.fn.cell.parts in
-    let size = first.ether.size in
-    IsSameHome first l.cell.parts
-    × ((e : CellOf (machine g first.ether.setup) _ _ _ _) → Does (machine g first.ether.setup) g.U.Upstream.tally (takes_from l.from (size - l.from)) l.cell.parts e
-    → Does (machine g first.ether.setup) g.U.Upstream.tally (takes_from 0 size) first e)
+invariant-loop-from g l = HasTakenAll (machine g l.fn.cell.parts.ether.setup) g.U.Upstream.tally l.fn.cell.parts l.cell.parts
