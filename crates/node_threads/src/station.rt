@@ -40,11 +40,12 @@ mod turning;
 /// The most nodes that there may be.
 const MOST_NODES: u8 = 7;
 
-/// The most jobs that a round takes, so that messages and reports do not wait for long.
-const MOST_JOBS: u64 = 256;
+/// The most jobs that a round takes: each may be saved on its own, and a leader sends behind them all, so that on a
+/// disk of 8 ms a sync the others would else wait too long for it.
+const MOST_JOBS: u64 = 16;
 
 /// The most requests that a round asks, for the same.
-const MOST_ASKED: u64 = 256;
+const MOST_ASKED: u64 = 16;
 
 /// The most places that a round applies, for the same.
 const MOST_APPLIED: u64 = 1_000;
