@@ -6,7 +6,14 @@ HEADER = b"RBSTOR01"
 CHANGE = struct.Struct(">QQBQH")  # boot, term, vote, entries kept, entries that follow
 ENTRY = struct.Struct(">QI")  # term, length of the body
 MOST_ENTRIES = 256  # in one change
-ASKED, BLANK, CLAIM = b"\x01", b"\x02", b"\x00\x01"  # how bodies begin
+ASKED, BLANK, CLAIM, SAID = b"\x01", b"\x02", b"\x00\x01", b"\x00\x00\x00\x02"  # how bodies begin
+
+
+def said(line, at=1_700_000_000):
+    """A line that came from the server, as a body."""
+    text = line.encode()
+    return SAID + struct.pack(">QH", at, len(text)) + text
+
 
 
 def records(data):

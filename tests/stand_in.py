@@ -92,6 +92,8 @@ class Session:
         self.rest = b""
         self.said = []
         self.is_joined = False  # it joined #x just now
+        self.nick = "me"
+        self.is_registered = False
 
     def send(self, line):
         try:
@@ -101,11 +103,15 @@ class Session:
 
     def answer(self, line):
         if line.startswith("USER"):
-            self.send(":irc.test 001 me :Welcome")
+            self.send(f":irc.test 001 {self.nick} :Welcome")
+            self.is_registered = True
+        elif line.startswith("NICK") and self.is_registered:
+            was, self.nick = self.nick, line[5:].lstrip(":")
+            self.send(f":{was}!u@h NICK {self.nick}")
         elif line.startswith("PING"):
             self.send("PONG" + line[4:])
         elif line.startswith("JOIN #x"):
-            self.send(":me!u@h JOIN #x")
+            self.send(f":{self.nick}!u@h JOIN #x")
             self.is_joined = True
         elif line.startswith("PRIVMSG #x :"):
             self.said.append(line.split(" :", 1)[1])

@@ -1,4 +1,6 @@
 //! What leaves a node, told to the loop.
+ghost use Rattle.std.specs.Prelude.{◌≡◌, IfErr};
+
 use crate::inlet::{Inlet, Word};
 use bouncer_tower::TowerEffect;
 use node_notes::Report;
@@ -16,7 +18,9 @@ impl Outlet<TowerEffect> for LoopOutlet {
         &mut self,
         rt: &R,
         report: Report<TowerEffect>,
-    ) -> Result<(), Report<TowerEffect>> {
+    ) -> Result<(), Report<TowerEffect>>
+        ensures { IfErr result (λ back. back ≡ report) }
+    {
         match self.inlet.tell(rt, Word::Report(report)) {
             Ok(_) => Ok(()),
             Err(Word::Report(report)) => Err(report),
