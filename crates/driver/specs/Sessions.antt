@@ -1,5 +1,5 @@
 -- What comes of the connection to the server, at the driver.
-use Rattle.std.specs.Prelude.{◌≡◌, ◌++◌, ℕ, Bool, true, false, List, [], ◌∷◌, Option, Some, None}
+use Rattle.std.specs.Prelude.{◌≡◌, ℕ, Bool, true, false, List, [], ◌∷◌, Option, Some, None}
 use Rattle.wire_bytes.specs.declared.moment.Moment.{Moment}
 use Rattle.buffer_commands.specs.declared.wire_line.WireLine.{WireLine}
 use Rattle.bouncer_tower.specs.Bodies.{TowerBody}
