@@ -8,15 +8,16 @@ use crate::connection::Got;
 use crate::sockets::Sockets;
 use driver::{Driver, Ending};
 
-/// How many bytes are read before it is asked again whether more are to be read: few, since each line of
-/// them is a note that waits.
+/// How many bytes are read before it is asked again whether more are to be read: few, since each
+/// line of them is a note that waits.
 pub const PIECE: usize = 512;
 
 /// How many pieces of one connection are read before the others are looked at.
 pub const PIECES: usize = 16;
 
 impl Sockets {
-    /// The next piece of what a client sent. It is read where the driver reads the client, and nowhere else.
+    /// The next piece of what a client sent. It is read where the driver reads the client, and
+    /// nowhere else.
     pub fn next_of_client(&mut self, driver: &Driver, number: u64, piece: &mut [u8]) -> Got
         ensures later { IsReadOf (not (is_later result)) driver.now.orders driver.now.desks
             (client_at driver.now.clients number) }
@@ -31,7 +32,8 @@ impl Sockets {
         }
     }
 
-    /// The next piece of what the server sent. It is read where the driver reads the server, and nowhere else.
+    /// The next piece of what the server sent. It is read where the driver reads the server, and
+    /// nowhere else.
     pub fn next_of_server(&mut self, driver: &Driver, piece: &mut [u8]) -> Got
         ensures later { is_later result ≡ not (is_read_for driver.now.orders driver.now.desks
             (node_of driver.now.link.stage)) }
