@@ -148,7 +148,8 @@ impl Sockets {
         self.leaving.add(now.ms, stream);
     }
 
-    /// The oldest client that has not registered gives its place to a new one. Whether there is one.
+    /// The oldest client that has not registered gives its place to a new one. Whether there is
+    /// one.
     fn make_place(&mut self, now: &Now, driver: &mut Driver) -> Result<bool, LoopFault> {
         let Some(number) = self.oldest_unregistered(driver) else {
             return Ok(false);

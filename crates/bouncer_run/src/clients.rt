@@ -48,7 +48,8 @@ impl Sockets {
         Ok(self.watch_client(number))
     }
 
-    /// More may wait at a client's connection than was read, so that it is told of again. Whether it is.
+    /// More may wait at a client's connection than was read, so that it is told of again. Whether
+    /// it is.
     fn watch_client(&mut self, number: u64) -> bool {
         let Some(guest) = self.clients.get_mut(&number) else {
             return false;
@@ -84,8 +85,8 @@ impl Sockets {
     }
 }
 
-/// What a client sent goes to the driver. Where nothing new is taken of it, it is told so, but for a PING, which
-/// asks for nothing that is kept.
+/// What a client sent goes to the driver. Where nothing new is taken of it, it is told so, but for
+/// a PING, which asks for nothing that is kept.
 fn take(now: &Now, driver: &mut Driver, number: u64, bytes: &[u8]) -> Result<(), LoopFault> {
     if driver.refuses(number) && !bytes.starts_with(b"PING") {
         driver.refuse(number)?;

@@ -8,12 +8,12 @@ use driver::Ending;
 use std::alloc::{AllocError, Global};
 use std::io::{ErrorKind, Read, Write};
 
-/// The most bytes that may wait to be written to one connection: who leaves so much unread is not there to read it, and
-/// what waits is held in memory.
+/// The most bytes that may wait to be written to one connection: who leaves so much unread is not
+/// there to read it, and what waits is held in memory.
 const MOST_UNSENT: usize = 4 << 20;
 
-/// How long a connection that is to be closed may take no byte, in milliseconds: one that takes none for so long is not
-/// read, and would keep its place for good.
+/// How long a connection that is to be closed may take no byte, in milliseconds: one that takes
+/// none for so long is not read, and would keep its place for good.
 const LONGEST_END: u64 = 60_000;
 
 /// What a read gave.
@@ -54,7 +54,8 @@ pub struct Connection<S: Read + Write + Drop> {
     unsent: Outgoing,
     phase: Phase,
     flow: Flow,
-    /// Something may have come that is not read yet, since the notes that it would bring had to wait.
+    /// Something may have come that is not read yet, since the notes that it would bring had to
+    /// wait.
     pub is_put_off: bool,
 }
 
@@ -83,8 +84,8 @@ impl<S: Read + Write + Drop> Connection<S> {
         }
     }
 
-    /// Bytes are to be written, behind those that wait; not where the connection is to be closed. Whether the
-    /// connection still stands: it does not where too much would wait.
+    /// Bytes are to be written, behind those that wait; not where the connection is to be closed.
+    /// Whether the connection still stands: it does not where too much would wait.
     pub fn write(&mut self, bytes: &[u8]) -> Result<bool, AllocError>
         ensures stands { IfOk result (λ stands.
             stands ≡ may_wait self.old.phase self.old.unsent bytes.now) }

@@ -10,7 +10,8 @@ pub enum EdgeNews {
     Came(NodeId, u64, SocketAddr),
     /// A client's connection is closed.
     Closed(NodeId, u64, SocketAddr),
-    /// A client had not registered, or was to be closed, when a new one came and all places were taken: it gave its own.
+    /// A client had not registered, or was to be closed, when a new one came and all places were
+    /// taken: it gave its own.
     GaveWay(NodeId, u64, SocketAddr),
     /// All places were taken by clients that registered, so that a new one was turned away.
     Crowded(NodeId, SocketAddr),

@@ -29,8 +29,8 @@ pub enum InputState {
     Unreadable,
 }
 
-/// How an input stands, without a wait for what may still come. What came already may be read, and is
-/// forgotten.
+/// How an input stands, without a wait for what may still come. What came already may be read, and
+/// is forgotten.
 pub fn look_at<N: Net, I: Read + AsRawFd>(
     net: &N,
     alloc: Global,

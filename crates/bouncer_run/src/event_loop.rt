@@ -45,7 +45,8 @@ impl From<AllocError> for LoopFault {
 
 /// The nodes' workers, as the loop speaks to them.
 pub trait Nodes {
-    /// A node's worker is told something. Whether it was: else there was no memory, or the worker ended.
+    /// A node's worker is told something. Whether it was: else there was no memory, or the worker
+    /// ended.
     fn tell<R: Wait>(&self, rt: &R, node: NodeId, note: TowerNote) -> bool;
 }
 
@@ -130,7 +131,8 @@ fn hear_word(now: &Now, driver: &mut Driver, word: Word) -> Result<bool, LoopFau
     Ok(false)
 }
 
-/// Does what the driver orders, until it orders nothing more; then what waits at the sockets is written.
+/// Does what the driver orders, until it orders nothing more; then what waits at the sockets is
+/// written.
 fn carry_out_all<R: Net + Wait, N: Nodes, O: Operator>(
     rt: &R,
     now: &Now,

@@ -32,7 +32,8 @@ impl Sockets {
         Ok(true)
     }
 
-    /// What waits is written to each client. The clients that are to be closed now, or whose connection broke.
+    /// What waits is written to each client. The clients that are to be closed now, or whose
+    /// connection broke.
     fn flush_clients(&mut self, now: &Now) -> Result<Vec<u64>, AllocError> {
         let mut closing = Vec::new(self.alloc);
         for (number, guest) in self.clients.iter_mut() {

@@ -3,8 +3,8 @@ use mio::net::TcpStream;
 use std::alloc::Global;
 use std::net::Shutdown;
 
-/// How long a connection is held that is closed, in milliseconds: what its other side still sends would else be answered
-/// by a reset, which can overtake the last line that it was sent.
+/// How long a connection is held that is closed, in milliseconds: what its other side still sends
+/// would else be answered by a reset, which can overtake the last line that it was sent.
 const HELD: u64 = 1_000;
 
 /// How many such connections are held: few, since each takes a file.

@@ -12,7 +12,8 @@ use stable_store::{Change, Saved, Stable, StoreFault};
 use std::alloc::Global;
 use wire_bytes::Number;
 
-/// What stores tell of the earlier runs of a node: its greatest run, and the greatest term that there was.
+/// What stores tell of the earlier runs of a node: its greatest run, and the greatest term that
+/// there was.
 #[derive(Drop)]
 pub struct Earlier {
     pub run: Number,
@@ -63,8 +64,8 @@ pub fn earlier_of<S: Stable<TowerBody>>(node: NodeId, stores: &[S]) -> Result<Ea
     Ok(earlier)
 }
 
-/// A node whose store is new begins behind its earlier runs, and votes in no term that there was. Whether its
-/// store is given that: not where something stands in it, or nothing is told.
+/// A node whose store is new begins behind its earlier runs, and votes in no term that there was.
+/// Whether its store is given that: not where something stands in it, or nothing is told.
 pub fn give<S: Stable<TowerBody>>(
     alloc: Global,
     node: NodeId,
@@ -86,8 +87,8 @@ pub fn give<S: Stable<TowerBody>>(
     Ok(true)
 }
 
-/// The change that puts a new node behind its earlier runs: it has had the greatest of them, and voted for
-/// itself in the greatest term that there was, so for no other one.
+/// The change that puts a new node behind its earlier runs: it has had the greatest of them, and
+/// voted for itself in the greatest term that there was, so for no other one.
 fn behind(alloc: Global, node: NodeId, earlier: &Earlier) -> Change<TowerBody>
     ensures { result ≡ change earlier.now.run earlier.now.term (Some node) 0 [] }
 {

@@ -70,7 +70,8 @@ impl Outgoing {
         self.bytes.extend_from_slice(bytes)
     }
 
-    /// Writes what waits, as far as the writer takes it. What it took leaves the front, and nothing else.
+    /// Writes what waits, as far as the writer takes it. What it took leaves the front, and nothing
+    /// else.
     #[tactic(auto, using(crate::proofs::Movements::moves_both, crate::proofs::Movements::stays))]
     pub fn write_to<W: Write>(&mut self, writer: &mut W) -> Sent
         ensures moves { Moves self.old self.new (W.contents writer.old) (W.contents writer.new) }
@@ -121,7 +122,8 @@ impl Outgoing {
         self.make_room();
     }
 
-    /// Forgets what was written, once it is no less than what waits: so moving costs no more than writing did.
+    /// Forgets what was written, once it is no less than what waits: so moving costs no more than
+    /// writing did.
     fn make_room(&mut self)
         ensures { self.new ≡ self.old }
     {

@@ -1,27 +1,27 @@
 //! The next piece of what came, where it is to be read: what it would bring may have to wait.
-ghost use Rattle.std.specs.Prelude.{◌≡◌, false, not};
+ghost use Rattle.std.specs.Prelude.{◌≡◌, not, IsTrue};
 ghost use Rattle.driver.specs.Links.{node_of};
-ghost use Rattle.driver.specs.Rosters.{client_at, is_read_for, node_in};
+ghost use Rattle.driver.specs.Rosters.{IsReadOf, client_at, is_read_for};
 ghost use Rattle.bouncer_run.specs.Connections.{is_later};
 
 use crate::connection::Got;
 use crate::sockets::Sockets;
 use driver::{Driver, Ending};
 
-/// How many bytes are read before it is asked again whether more are to be read: few, since each line of
-/// them is a note that waits.
+/// How many bytes are read before it is asked again whether more are to be read: few, since each
+/// line of them is a note that waits.
 pub const PIECE: usize = 512;
 
 /// How many pieces of one connection are read before the others are looked at.
 pub const PIECES: usize = 16;
 
 impl Sockets {
-    /// The next piece of what a client sent. It is read where the driver reads the client, and nowhere else.
+    /// The next piece of what a client sent. It is read where the driver reads the client, and
+    /// nowhere else.
     pub fn next_of_client(&mut self, driver: &Driver, number: u64, piece: &mut [u8]) -> Got
-        ensures later { is_later result ≡ not (is_read_for driver.now.desks
-            (node_in (client_at driver.now.clients number))) }
-        ensures untouched { is_read_for driver.now.desks
-            (node_in (client_at driver.now.clients number)) ≡ false → piece.new ≡ piece.old }
+        ensures later { IsReadOf (not (is_later result)) driver.now.orders driver.now.desks
+            (client_at driver.now.clients number) }
+        ensures untouched { IsTrue (is_later result) → piece.new ≡ piece.old }
     {
         if !driver.reads_client(number) {
             return Got::Later;
@@ -32,12 +32,12 @@ impl Sockets {
         }
     }
 
-    /// The next piece of what the server sent. It is read where the driver reads the server, and nowhere else.
+    /// The next piece of what the server sent. It is read where the driver reads the server, and
+    /// nowhere else.
     pub fn next_of_server(&mut self, driver: &Driver, piece: &mut [u8]) -> Got
-        ensures later { is_later result
-            ≡ not (is_read_for driver.now.desks (node_of driver.now.link.stage)) }
-        ensures untouched { is_read_for driver.now.desks (node_of driver.now.link.stage) ≡ false
-            → piece.new ≡ piece.old }
+        ensures later { is_later result ≡ not (is_read_for driver.now.orders driver.now.desks
+            (node_of driver.now.link.stage)) }
+        ensures untouched { IsTrue (is_later result) → piece.new ≡ piece.old }
     {
         if !driver.reads_server() {
             return Got::Later;

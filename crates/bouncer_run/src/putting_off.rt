@@ -1,5 +1,5 @@
-//! What is ready to be read while the notes that it would bring have to wait. The system tells of it once,
-//! so it is kept in mind here, and read once there is room.
+//! What is ready to be read while the notes that it would bring have to wait. The system tells of
+//! it once, so it is kept in mind here, and read once there is room.
 use crate::event_loop::LoopFault;
 use crate::sockets::Sockets;
 use driver::{Driver, Now};

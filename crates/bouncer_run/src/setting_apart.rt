@@ -15,9 +15,9 @@ use stable_store::StoreFault;
 use std::{fmt, io};
 use wire_bytes::Number;
 
-/// A node whose journal is new while another's is not had earlier runs, and its journal was moved away: the
-/// others tell of them, and it begins behind them. Where that can't be, a line was written to standard error
-/// that names the folder, and says why.
+/// A node whose journal is new while another's is not had earlier runs, and its journal was moved
+/// away: the others tell of them, and it begins behind them. Where that can't be, a line was
+/// written to standard error that names the folder, and says why.
 pub fn set_apart<R: System>(
     rt: &R,
     config: &Config,
@@ -42,8 +42,8 @@ pub fn set_apart<R: System>(
     Ok(())
 }
 
-/// What a node begins behind, where its journal is new. To read a journal is to copy all that stands in it,
-/// so none is read where this one is not new.
+/// What a node begins behind, where its journal is new. To read a journal is to copy all that
+/// stands in it, so none is read where this one is not new.
 fn set_node_apart<R: System>(
     rt: &R,
     node: NodeId,

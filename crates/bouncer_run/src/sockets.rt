@@ -19,8 +19,8 @@ pub const SERVER: usize = 100;
 /// The token of the client of number 0; that of each further one is one more.
 pub const CLIENTS: usize = 1000;
 
-/// How many clients may be connected at once: far more than one person has, and far fewer than the files that a program
-/// may have open.
+/// How many clients may be connected at once: far more than one person has, and far fewer than the
+/// files that a program may have open.
 pub const MOST_CLIENTS: usize = 256;
 
 /// Where a node's clients come.

@@ -10,8 +10,8 @@ use jiff::Timestamp;
 use std::fmt::Display;
 use std::rt::Runtime;
 
-/// Writes to standard error what an operator is to know: a line for each event, with the time and, where it
-/// is of one, the node. No line has a password or the text of a message in it.
+/// Writes to standard error what an operator is to know: a line for each event, with the time and,
+/// where it is of one, the node. No line has a password or the text of a message in it.
 #[derive(Drop)]
 pub struct Telling<R: Runtime> {
     rt: R,

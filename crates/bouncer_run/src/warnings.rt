@@ -6,7 +6,8 @@ use crate::telling::Telling;
 use bouncer_config::Config;
 use driver::Now;
 
-/// How many times a leader is to be heard before the others take it for gone: one that is heard once may be late.
+/// How many times a leader is to be heard before the others take it for gone: one that is heard
+/// once may be late.
 const LEAST_BEATS: u32 = 3;
 
 /// An operator is warned of a leader that is heard too seldom to stay.
