@@ -1,4 +1,5 @@
-use Rattle.std.proofs.Common.{◌≡◌, length, arith}
+use Rattle.std.proofs.Common.{◌≡◌, length, arith, sym, ap, ◌∙◌}
+use Rattle.ether.specs.Passes.{EtherParts}
 use Rattle.node_threads.proofs.Started.{has_started, homes_opened}
 use Rattle.node_threads.proofs.cluster.Cluster.start.Goals as goal
 
@@ -6,6 +7,16 @@ pub begin-requires-clause-homes : goal.begin-requires-clause-homes
 begin-requires-clause-homes g c κs within =
     let ground = c.in_ok-ground.ensures in
     homes_opened _ _ _ _ _ _ _ 0 c.in_ok-workers.workers.items ground.closing.0 ground.closing.1 c.in_ok-workers.ensures.opened
+
+pub begin-requires-clause-inboxes : goal.begin-requires-clause-inboxes
+begin-requires-clause-inboxes g c κs within =
+    let ground = c.in_ok-ground.ensures in
+    ground.ends.0 ∙ sym (ap (λ (z : EtherParts g.row.M-Setup.Denot). z.size) ground.closing.0 ∙ ground.size)
+
+pub begin-requires-clause-workers : goal.begin-requires-clause-workers
+begin-requires-clause-workers g c κs within =
+    let ground = c.in_ok-ground.ensures in
+    c.in_ok-workers.ensures.all ∙ sym (ap (λ (z : EtherParts g.row.M-Setup.Denot). z.size) ground.closing.0)
 
 pub returns : goal.returns
 returns g c =
