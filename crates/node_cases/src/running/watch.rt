@@ -1,4 +1,6 @@
 //! What leaves a node.
+ghost use Rattle.std.specs.Prelude.{◌≡◌, IfErr};
+
 use crate::running::clusters::Counter;
 use bouncer_tower::TowerEffect;
 use node_notes::Report;
@@ -20,7 +22,9 @@ impl Outlet<TowerEffect> for Watch {
         &mut self,
         _rt: &R,
         report: Report<TowerEffect>,
-    ) -> Result<(), Report<TowerEffect>> {
+    ) -> Result<(), Report<TowerEffect>>
+        ensures { IfErr result (λ back. back ≡ report) }
+    {
         for effect in &report.effects {
             match effect {
                 Answer::Done(_, number) => self.done.store(*number, Ordering::SeqCst),
