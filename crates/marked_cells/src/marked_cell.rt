@@ -172,8 +172,7 @@ impl<M: Marking, S: Stable<M::Command>, U: Upstream> MarkedCell<M, S, U> {
         self.cell.take(from)
     }
 
-    /// Whether what this node posted last to the node at this place, from 0 on, was taken, as that of a
-    /// `NodeCell`.
+    /// Whether what this node posted last to the node at this place, from 0 on, was taken.
     pub fn is_taken(&mut self, to: u64) -> bool
         requires { to < self.old.parts.ether.size }
         ensures { HasSeenTo self.old.parts to result self.new.parts }
@@ -181,8 +180,7 @@ impl<M: Marking, S: Stable<M::Command>, U: Upstream> MarkedCell<M, S, U> {
         self.cell.is_taken(to)
     }
 
-    /// Takes what lies in the mailbox from the node at this place, from 0 on, and turns its delivery.
-    /// Nothing where nothing lies there.
+    /// Takes and turns what lies in the mailbox from the node at this place, from 0 on, if something does.
     pub fn deliver(
         &mut self,
         from: u64,
