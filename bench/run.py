@@ -1,5 +1,5 @@
 """Times `run` of the program named as argument: three nodes over journals in a new folder (of TMPDIR, if that is set), and
-a server on loopback that is played here, which says lines to one channel.
+a server on loopback that is played here, which says lines to one channel. bench/beside.py times ZNC and bip the same way.
 
 Prints the disk's own rate of syncs; the memory and the processor of a run at rest; for 1, 10 and 50 clients spread over the
 nodes how long 20,000 lines take that are said at once, with the lines and the deliveries a second, and the delay of 2,000
@@ -89,11 +89,22 @@ class End:
 class Run:
     """The program, the server, and clients."""
 
+    password = "word"
+
     def __init__(self, program):
         self.room = selectors.DefaultSelector()
         self.folder = tempfile.mkdtemp()
         self.ports = [free_port() for _ in range(3)]
         self.server = socket.create_server(("127.0.0.1", 0))
+        self.start(program)
+        self.server.settimeout(LIMIT)
+        stream, _ = self.server.accept()
+        self.upstream = End(self.room, stream)
+        self.until(lambda: any(line.startswith(b"USER ") for line in self.upstream.lines))
+        self.upstream.send(b":server 001 me :hi\r\n:server 422 me :no words\r\n")
+        self.until(self.is_open)
+
+    def start(self, program):
         config = os.path.join(self.folder, "hukbarg.toml")
         with open(config, "w") as out:
             out.write(
@@ -106,12 +117,10 @@ class Run:
         self.program = subprocess.Popen(
             [program, "run", config], stdin=subprocess.PIPE, stderr=self.log, cwd=self.folder
         )
-        self.server.settimeout(LIMIT)
-        stream, _ = self.server.accept()
-        self.upstream = End(self.room, stream)
-        self.until(lambda: any(line.startswith(b"USER ") for line in self.upstream.lines))
-        self.upstream.send(b":server 001 me :hi\r\n")
-        self.until(lambda: "upstream opened" in self.told())
+
+    def is_open(self):
+        """Whether the session stands for the program, too."""
+        return "upstream opened" in self.told()
 
     def serve(self, wait):
         """Reads whatever came, or comes within so many seconds."""
@@ -151,9 +160,13 @@ class Run:
     def client(self, node):
         stream = socket.create_connection(("127.0.0.1", self.ports[node]))
         client = End(self.room, stream)
-        client.send(b"PASS word\r\nNICK me\r\nUSER me 0 * me\r\n")
+        client.send(self.hello())
         self.until(lambda: any(b" 001 " in line for line in client.lines))
         return client
+
+    def hello(self):
+        """What a client sends first."""
+        return f"PASS {self.password}\r\nNICK me\r\nUSER me 0 * me\r\n".encode()
 
     def join(self, client):
         client.send(b"JOIN #x\r\n")
@@ -167,7 +180,7 @@ class Run:
         self.rest()
         first = self.leader()
         clients = [self.client((first + place) % 3) for place in range(count)]
-        self.until(lambda: all(any(b" JOIN #x" in line for line in client.lines) for client in clients))
+        self.until(lambda: all(any(b" JOIN " in line for line in client.lines) for client in clients))
         return clients
 
     def memory(self):
@@ -192,17 +205,19 @@ def said(number):
 
 
 def at_rest(run):
+    """The share of a processor that it takes while nothing happens, in percent."""
     before, began = run.processor(), time.perf_counter()
     time.sleep(10)
-    share = (run.processor() - before) / (time.perf_counter() - began)
-    print(f"at rest: {run.memory():.1f} MB, {100 * share:.2f} % of a processor")
+    return 100 * (run.processor() - before) / (time.perf_counter() - began)
 
 
 def flood(run, count):
+    """Lines a second where all are said at once, and the microseconds of processor that each delivery takes."""
     clients = run.spread(count)
     for client in clients:
         client.keeps, client.count, client.rest = False, 0, b""
     data = b"".join(said(number) for number in range(FLOOD))
+    used = run.processor()
     began, sent, stream = time.perf_counter(), 0, run.upstream.stream
     while sent < len(data):
         try:
@@ -213,15 +228,14 @@ def flood(run, count):
         run.serve(wait)
     run.until(lambda: all(client.count >= FLOOD for client in clients))
     taken = time.perf_counter() - began
-    print(
-        f"{FLOOD:,} lines to {count} clients: {taken:.3f} s, {FLOOD / taken:,.0f} lines a second,"
-        f" {count * FLOOD / taken:,.0f} deliveries a second"
-    )
+    used = run.processor() - used
     for client in clients:
         client.close()
+    return FLOOD / taken, 1e6 * used / (count * FLOOD)
 
 
 def delays(run, count):
+    """How late lines come, 200 a second, in milliseconds: median and 99th percentile at the node that leads, and at others."""
     clients = run.spread(count)
     sent = {}
     began = time.perf_counter()
@@ -232,32 +246,34 @@ def delays(run, count):
         sent[b"line %d" % number] = time.perf_counter()
         run.upstream.send(said(number))
     run.until(lambda: all(client.count >= PACED for client in clients))
-    leading = [client for place, client in enumerate(clients) if place % 3 == 0]
-    others = [client for place, client in enumerate(clients) if place % 3 != 0]
-    print(f"200 lines a second to {count} clients: {late(leading, sent)} at the node that leads, {late(others, sent)} at the others")
+    leading = late(clients[::3], sent)
+    others = late([client for place, client in enumerate(clients) if place % 3 != 0], sent)
     for client in clients:
         client.close()
+    return leading, others
 
 
 def late(clients, sent):
-    """How late lines came to these clients."""
+    """How late lines came to these clients, in milliseconds: median and 99th percentile, if there are clients."""
     delays = sorted(at - sent[line.split(b" :", 1)[1]] for client in clients for at, line in client.times)
-    median, high = statistics.median(delays), delays[len(delays) * 99 // 100]
-    return f"median {1000 * median:.2f} ms, 99th percentile {1000 * high:.2f} ms"
+    if not delays:
+        return None
+    return 1000 * statistics.median(delays), 1000 * delays[len(delays) * 99 // 100]
 
 
 def playback(run):
+    """How long a client waits for what it missed, from PASS to the last line, in milliseconds."""
     run.rest()
     run.upstream.send(b"".join(said(number) for number in range(PLAYED)))
     run.rest()
     stream = socket.create_connection(("127.0.0.1", run.ports[run.leader()]))
     client = End(run.room, stream)
     began = time.perf_counter()
-    client.send(b"PASS word\r\nNICK me\r\nUSER me 0 * me\r\n")
+    client.send(run.hello())
     run.until(lambda: client.count >= PLAYED)
     taken = time.perf_counter() - began
     client.close()
-    print(f"playback of {PLAYED} lines, from PASS to the last: {1000 * taken:.2f} ms")
+    return 1000 * taken
 
 
 def syncs(folder):
@@ -273,17 +289,29 @@ def syncs(folder):
     print(f"the disk: {1000 / taken:,.0f} syncs a second")
 
 
-def measure(run):
-    syncs(run.folder)
-    at_rest(run)
+def begin(run):
+    """A client joins the channel, and leaves."""
     first = run.client(run.leader())
     run.join(first)
     first.close()
-    for count in (3, 10, 50):
-        delays(run, count)
+
+
+def shown(delay):
+    return "no client" if delay is None else f"median {delay[0]:.2f} ms, 99th percentile {delay[1]:.2f} ms"
+
+
+def measure(run):
+    syncs(run.folder)
+    share = at_rest(run)
+    print(f"at rest: {run.memory():.1f} MB, {share:.2f} % of a processor")
+    begin(run)
+    for count in (1, 3, 10, 50):
+        leading, others = delays(run, count)
+        print(f"{RATE} lines a second to {count} clients: {shown(leading)} at the node that leads, {shown(others)} at the others")
     for count in (1, 10, 50):
-        flood(run, count)
-    playback(run)
+        lines, used = flood(run, count)
+        print(f"{FLOOD:,} lines to {count} clients: {lines:,.0f} lines a second, {count * lines:,.0f} deliveries at {used:.1f} µs of processor")
+    print(f"playback of {PLAYED} lines, from PASS to the last: {playback(run):.2f} ms")
     print(f"in the end: {run.memory():.1f} MB")
 
 
@@ -296,4 +324,5 @@ def main():
     run.end()
 
 
-main()
+if __name__ == "__main__":
+    main()
