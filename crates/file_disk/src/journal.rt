@@ -5,6 +5,7 @@ ghost use Rattle.file_disk.specs.Opening.{IsKept, IsOpened, IsUnreadable};
 
 use crate::file_disk::FileDisk;
 use crate::open_fault::OpenFault;
+use crate::system_file::SystemFile;
 use journal_store::{Disk, JournalStore};
 use stable_store::StoreFault;
 use std::alloc::Global;
@@ -13,7 +14,7 @@ use std::io;
 use wire_bytes::Wire;
 
 /// A store in a journal over a file of the system.
-pub type FileJournal<B> = JournalStore<B, FileDisk<File>>;
+pub type FileJournal<B> = JournalStore<B, FileDisk<SystemFile>>;
 
 /// The length of a journal in which nothing is saved.
 const EMPTY_LEN: usize = 9;
@@ -50,7 +51,7 @@ const MOST_NEW: u64 = 64;
 
 /// Whether a journal's file is so short that nothing may be saved in it.
 pub fn may_be_new<B: Wire>(journal: &FileJournal<B>) -> io::Result<bool> {
-    Ok(journal.disk().file.metadata()?.len() <= MOST_NEW)
+    Ok(journal.disk().file.len()? <= MOST_NEW)
 }
 
 /// The store in the journal of a path, which is made where it is not there, or has at most 9 bytes, and
@@ -62,6 +63,6 @@ pub fn open_journal<B: Wire, R: Files<File = File>>(
 ) -> Result<FileJournal<B>, OpenFault>
     ensures { IfOk result (λ j. j.broken ≡ false) }
 {
-    let disk = FileDisk::open(rt, path)?;
+    let disk = FileDisk::open(rt, alloc, path)?;
     Ok(adopt_or_make(alloc, disk)?)
 }

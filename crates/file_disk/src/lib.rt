@@ -8,10 +8,13 @@
 mod disk_file;
 mod file_disk;
 mod journal;
+mod last_error;
 mod open_fault;
 mod system_file;
 
 pub use disk_file::DiskFile;
 pub use file_disk::FileDisk;
 pub use journal::{FileJournal, adopt_or_make, may_be_new, open_journal};
+pub use last_error::LastError;
 pub use open_fault::OpenFault;
+pub use system_file::SystemFile;

@@ -3,7 +3,10 @@ ghost use Rattle.std.specs.Prelude.{◌≡◌, IfOk};
 
 use crate::disk_file::DiskFile;
 use crate::file_disk::FileDisk;
+use crate::last_error::LastError;
 use crate::open_fault::OpenFault;
+use stable_store::StoreFault;
+use std::alloc::{AllocError, Global};
 use std::fs::{self, File, Files, OpenOptions, TryLockError};
 use std::io;
 use std::os::fd::AsRawFd;
@@ -13,8 +16,22 @@ use std::path::Path;
 /// Nobody but its owner reads a journal.
 const OWNERS: u32 = 0o600;
 
+/// A file of the system, and why a call of it failed last.
+#[derive(Drop)]
+pub struct SystemFile {
+    file: File,
+    last_error: LastError,
+}
+
+impl SystemFile {
+    /// How many bytes it has.
+    pub fn len(&self) -> io::Result<u64> {
+        Ok(self.file.metadata()?.len())
+    }
+}
+
 /// Each call is one of the system's, of which nothing is known.
-impl DiskFile for File {
+impl DiskFile for SystemFile {
     ghost use Rattle.std.specs.Prelude.{false, []};
     ghost use Rattle.journal_store.specs.DiskLaws.{own_image};
 
@@ -23,29 +40,29 @@ impl DiskFile for File {
     ghost states = { λ _. [] };
 
     fn size(&mut self) -> io::Result<u64> {
-        Ok(self.metadata()?.len())
+        self.last_error.note(self.len())
     }
 
     fn fill(&mut self, place: u64, buffer: &mut [u8]) -> io::Result<()> {
-        self.read_exact_at(buffer, place)
+        self.last_error.note(self.file.read_exact_at(buffer, place))
     }
 
     fn write(&mut self, place: u64, bytes: &[u8]) -> io::Result<()> {
-        self.write_all_at(bytes, place)
+        self.last_error.note(self.file.write_all_at(bytes, place))
     }
 
     fn sync(&mut self) -> io::Result<()> {
-        self.sync_data()
+        self.last_error.note(self.file.sync_data())
     }
 
     ghost reads_as = { λ f h. own_image [] };
 }
 
-impl FileDisk<File> {
+impl FileDisk<SystemFile> {
     /// The file of a path, which is made where it is not there, and locked until the disk is dropped. Its
     /// folder is synced, so that a crash leaves the file there. `InUse` where it is open as a disk
     /// already, in this program or another; `NotAFile` where the path names something else.
-    pub fn open<R: Files<File = File>>(rt: &R, path: &str) -> Result<Self, OpenFault>
+    pub fn open<R: Files<File = File>>(rt: &R, alloc: Global, path: &str) -> Result<Self, OpenFault>
         ensures { IfOk result (λ d. d.failures ≡ 0) }
     {
         let mut file = OpenOptions::new()
@@ -64,7 +81,13 @@ impl FileDisk<File> {
         lock(&file)?;
         file.sync_all()?;
         sync_folder(rt, path)?;
-        Ok(FileDisk::new(file))
+        let last_error = LastError::none(alloc).map_err(|_| OpenFault::Store(StoreFault::Memory))?;
+        Ok(FileDisk::new(SystemFile { file, last_error }))
+    }
+
+    /// Why a call of its file failed last, now and later on.
+    pub fn last_error(&self) -> Result<LastError, AllocError> {
+        self.file.last_error.share()
     }
 }
 
