@@ -11,7 +11,6 @@ nodes' journals fail at random, how many come to the server, and how many came t
 import os
 import random
 import shutil
-import subprocess
 import sys
 import tempfile
 import threading
@@ -21,27 +20,13 @@ sys.path.insert(0, os.path.join(os.path.dirname(os.path.dirname(os.path.realpath
 sys.dont_write_bytecode = True
 import journal
 from client import Client, Late, until
-from harness import TOP, Bouncer
-from stand_in import StandIn
+from shims import built
+from stand_in import running
 
 PASTED = 90
 CROWD = 50
 SLOW_SECONDS = 40
 FAULT_SECONDS = 45
-
-
-def running(room, name, nodes=3, environment=None, **more):
-    server = StandIn()
-    bouncer = Bouncer(os.path.join(room, name), server.port, nodes, **more).start(**(environment or {})).ready()
-    until(server.is_joined, "a session with #x")
-    return server, bouncer
-
-
-def shim(room, name):
-    built = os.path.join(room, f"{name}.so")
-    source = os.path.join(TOP, "tests", f"{name}.c")
-    subprocess.run(["gcc", "-shared", "-fPIC", "-O2", "-o", built, source, "-ldl"], check=True)
-    return built
 
 
 def paste(server, bouncer, node):
@@ -108,7 +93,7 @@ def bursts(room):
 
 def slow_syncs(room):
     control = os.path.join(room, "slow")
-    server, bouncer = running(room, "slow", environment={"LD_PRELOAD": shim(room, "slow_sync"), "SLOW": control})
+    server, bouncer = running(room, "slow", environment={"LD_PRELOAD": built(room, "slow_sync"), "SLOW": control})
     end = time.monotonic() + SLOW_SECONDS
     count = 0
     while time.monotonic() < end:
@@ -149,7 +134,7 @@ class Speaker:
 
 def faults(room):
     control = os.path.join(room, "failing")
-    server, bouncer = running(room, "faults", environment={"LD_PRELOAD": shim(room, "fail_write"), "FAILING": control})
+    server, bouncer = running(room, "faults", environment={"LD_PRELOAD": built(room, "fail_write"), "FAILING": control})
     chosen = random.Random(1)
     speakers = [Speaker(bouncer, node) for node in bouncer.nodes]
     end = time.monotonic() + FAULT_SECONDS

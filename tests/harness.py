@@ -29,6 +29,12 @@ def check(name, holds, shown=""):
         print(f"failed: {name} {shown}", flush=True)
 
 
+def figures(name, text):
+    """What was measured, where it is asked for."""
+    if "TIMES" in os.environ:
+        print(f"{name}: {text}", flush=True)
+
+
 class Ports:
     """Ports that nobody else gets, chosen by the system, all different. They are bound here and not listened at, so that a
     program that asks to use an address again may listen there, and nobody else is given them, also while it is down."""
@@ -102,6 +108,10 @@ class Bouncer:
         """The node that led last, by its number."""
         return [int(line.split(" node ")[1][0]) for line in self.log().splitlines() if " leads in term " in line][-1]
 
+    def leaders(self):
+        """How often a node came to lead."""
+        return self.log().count(" leads in term ")
+
     def followers(self):
         """The other nodes."""
         leader = self.leader()
@@ -125,11 +135,11 @@ class Bouncer:
 
     def stays(self):
         """Whether there is a session, and no node came to lead for a while."""
-        before = self.log()
+        before = self.leaders()
         time.sleep(STAYS)
         log = self.log()
         is_open = log.rfind("upstream opened") > log.rfind("upstream closed")
-        return is_open and log.count(" leads in term ") == before.count(" leads in term ")
+        return is_open and self.leaders() == before
 
     def end(self):
         """Ends standard input. The exit code."""

@@ -1,18 +1,61 @@
 """A server that the tests play: it takes every session, keeps what is said to #x, and says what it is told to say there."""
 
+import os
 import selectors
 import socket
 import threading
 import time
 
-from client import PAUSE
-from harness import Ports
+from client import PAUSE, until
+from harness import Bouncer, Ports
+
+
+def running(room, name, nodes=3, environment=None, **more):
+    """A server, and a bouncer that joined #x there."""
+    server = StandIn()
+    bouncer = Bouncer(os.path.join(room, name), server.port, nodes, **more).start(**(environment or {})).ready()
+    until(server.is_joined, lambda: f"a session with #x:\n{bouncer.log()}")
+    return server, bouncer
+
+
+def attached(bouncer, node):
+    client = bouncer.attach(node)
+    client.wait("JOIN #x")
+    return client
+
+
+def say_all(client, texts):
+    """Says lines in #x, all in one write."""
+    client.say("\r\n".join(f"PRIVMSG #x :{text}" for text in texts))
+
+
+class Flood(threading.Thread):
+    """A server that says numbered lines in #x, so many a second, until it is stopped."""
+
+    def __init__(self, server, rate):
+        super().__init__(daemon=True)
+        self.server, self.rate, self.said, self.goes_on = server, rate, [], True
+        self.start()
+
+    def run(self):
+        begun = time.monotonic()
+        while self.goes_on:
+            self.said.append(f"flood {len(self.said)}")
+            self.server.say(self.said[-1])
+            time.sleep(max(0, begun + len(self.said) / self.rate - time.monotonic()))
+
+    def stop(self):
+        """All lines that were said."""
+        self.goes_on = False
+        self.join()
+        return self.said
 
 
 class StandIn:
-    """A server, in a thread of its own while it is there."""
+    """A server, in a thread of its own while it is there. Nobody is given a nick that is taken."""
 
-    def __init__(self):
+    def __init__(self, taken=()):
+        self.taken = taken
         self.held = Ports(1)
         self.port = self.held.numbers[0]
         self.lock = threading.Lock()
@@ -40,7 +83,7 @@ class StandIn:
             for key, _ in room.select(PAUSE):
                 if key.data is None:
                     stream, _ = listener.accept()
-                    session = Session(stream)
+                    session = Session(stream, self.taken)
                     self.sessions.append(session.said)
                     room.register(stream, selectors.EVENT_READ, session)
                 elif not self.read(key.data):
@@ -59,7 +102,7 @@ class StandIn:
             data = b""
         *lines, session.rest = (session.rest + data).split(b"\r\n")
         for line in lines:
-            session.answer(line.decode())
+            session.answer(line.decode(errors="replace"))
             self.last = time.monotonic()
         with self.lock:
             if session.is_joined:
@@ -79,6 +122,12 @@ class StandIn:
             if self.joined is not None:
                 self.joined.send(f":eve!e@h PRIVMSG #x :{text}")
 
+    def force(self, nick):
+        """Gives the session another nick."""
+        with self.lock:
+            if self.joined is not None:
+                self.joined.rename(nick)
+
     def said(self):
         """All that was said to #x, in order."""
         return [text for session in list(self.sessions) for text in list(session)]
@@ -87,13 +136,14 @@ class StandIn:
 class Session:
     """A connection of a bouncer."""
 
-    def __init__(self, stream):
+    def __init__(self, stream, taken):
         self.stream = stream
+        self.taken = taken
         self.rest = b""
         self.said = []
         self.is_joined = False  # it joined #x just now
-        self.nick = "me"
-        self.is_registered = False
+        self.nick = None
+        self.has_user = self.is_registered = False
 
     def send(self, line):
         try:
@@ -103,11 +153,10 @@ class Session:
 
     def answer(self, line):
         if line.startswith("USER"):
-            self.send(f":irc.test 001 {self.nick} :Welcome")
-            self.is_registered = True
-        elif line.startswith("NICK") and self.is_registered:
-            was, self.nick = self.nick, line[5:].lstrip(":")
-            self.send(f":{was}!u@h NICK {self.nick}")
+            self.has_user = True
+            self.welcome()
+        elif line.startswith("NICK"):
+            self.name(line[5:].lstrip(":"))
         elif line.startswith("PING"):
             self.send("PONG" + line[4:])
         elif line.startswith("JOIN #x"):
@@ -115,3 +164,21 @@ class Session:
             self.is_joined = True
         elif line.startswith("PRIVMSG #x :"):
             self.said.append(line.split(" :", 1)[1])
+
+    def name(self, nick):
+        """A nick is asked for."""
+        if nick in self.taken:
+            self.send(f":irc.test 433 {self.nick or '*'} {nick} :Nickname is already in use")
+            return
+        self.rename(nick)
+        self.welcome()
+
+    def rename(self, nick):
+        was, self.nick = self.nick, nick
+        if self.is_registered:
+            self.send(f":{was}!u@h NICK {nick}")
+
+    def welcome(self):
+        if self.nick and self.has_user and not self.is_registered:
+            self.send(f":irc.test 001 {self.nick} :Welcome")
+            self.is_registered = True

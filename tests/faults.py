@@ -1,0 +1,124 @@
+"""What a bouncer does whose nodes' journals fail: cases of tests/edge."""
+
+import os
+import time
+
+import journal
+from client import Client, until
+from harness import check, figures
+from people import Person, talk_while_journals_fail
+from shims import built
+from stand_in import attached, running, say_all
+
+FAULT_SECONDS = 12
+
+
+def no_majority(room):
+    """A leader whose followers are down is told what waits once, and it goes out once they are back."""
+    control = os.path.join(room, "failing")
+    environment = {"LD_PRELOAD": built(room, "fail_write"), "FAILING": control}
+    server, bouncer = running(room, "no-majority", environment=environment, timeout_ms="300", beat_ms="60")
+    client = attached(bouncer, bouncer.leader())
+    path = bouncer.journal(bouncer.leader())
+    before = len(journal.bodies(path))
+    leader, followers = bouncer.leader(), bouncer.followers()
+    with open(control, "w") as file:
+        file.write("\n".join(f"/node-{node}" for node in followers))
+    server.say("a line that is saved")
+    for node in followers:
+        bouncer.wait(f" node {node}: down: ")
+    wanted = [f"line {number}" for number in range(20)]
+    say_all(client, wanted)
+    time.sleep(3)
+    grown = len(journal.bodies(path)) - before
+    # a node that fails to start takes a new number each time, of which word is entered once
+    check("the log does not fill", grown <= len(wanted) + 20, grown)
+    os.unlink(control)
+    until(lambda: sorted(set(server.said())) == sorted(wanted), lambda: f"all lines, of which came {server.said()}")
+    check("each line goes out once", server.said() == wanted, server.said())
+    check("it ends", bouncer.end() == 0)
+
+
+def claims_without_a_majority(room):
+    """The claim of a line that a leader makes while its followers are down is entered once, and the line goes out once."""
+    control = os.path.join(room, "failing")
+    environment = {"LD_PRELOAD": built(room, "fail_write"), "FAILING": control}
+    more = {"flood_burst": "1", "flood_ms": "1000", "timeout_ms": "300", "beat_ms": "60"}
+    server, bouncer = running(room, "claims", environment=environment, **more)
+    leader, followers = bouncer.leader(), bouncer.followers()
+    client, path = attached(bouncer, leader), bouncer.journal(leader)
+    wanted = [f"line {number}" for number in range(3)]
+    say_all(client, wanted)
+    until(lambda: server.said() == wanted[:1], lambda: f"the first line, of which came {server.said()}")
+    before = journal.count(path, journal.CLAIM)
+    with open(control, "w") as file:
+        file.write("\n".join(f"/node-{node}" for node in followers))
+    server.say("a line that is saved")
+    for node in followers:
+        bouncer.wait(f" node {node}: down: ")
+    time.sleep(4)
+    grown = journal.count(path, journal.CLAIM) - before
+    check("a claim is entered once", grown <= 1, grown)
+    os.unlink(control)
+    until(lambda: len(server.said()) >= len(wanted), lambda: f"all lines, of which came {server.said()}")
+    check("each line goes out once", server.said() == wanted, server.said())
+    figures("claims without a majority", f"{grown} claims in 4 s")
+    check("it ends", bouncer.end() == 0)
+
+
+def faults_at_random(room):
+    """Nodes' journals fail at random while people at all nodes talk: what comes to the server comes once and in order, nobody
+    is hung up without a word, and each line that was said on a connection that stayed comes."""
+    control = os.path.join(room, "failing")
+    environment = {"LD_PRELOAD": built(room, "fail_write"), "FAILING": control}
+    server, bouncer = running(room, "faults", environment=environment, timeout_ms="300", beat_ms="60")
+    people = [Person(bouncer, node) for node in bouncer.nodes]
+    count = talk_while_journals_fail(people, control, FAULT_SECONDS, seed=1)
+    for person in people:
+        kept = person.kept()
+        lacking = lambda: [text for text in kept if text not in server.said()]
+        until(lambda: not lacking(), lambda: f"of node {person.node}'s lines these: {lacking()}\n{bouncer.log()}", 20)
+    check("each line of a connection that stayed comes", True)
+    came = server.said()
+    check("none comes twice", len(came) == len(set(came)), came)
+    for person in people:
+        said = [text for text, _ in person.said]
+        places = [said.index(text) for text in came if text in said]
+        check(f"in the order of who said them, at node {person.node}", places == sorted(places), places)
+    ends = [end for person in people for end in person.ends]
+    check("who is hung up is told why", all(end.startswith("ERROR :") for end in ends), ends)
+    said = sum(len(person.said) for person in people)
+    figures("faults at random", f"{count} faults, {len(ends)} hung up, {said} lines said, {len(came)} came")
+    check("it ends", bouncer.end() == 0)
+
+
+def a_node_that_goes_down(room):
+    """Clients of a node that goes down are told so and let go at once, new ones too, and a client that attaches elsewhere
+    then is played what came since."""
+    control = os.path.join(room, "failing")
+    server, bouncer = running(room, "down", environment={"LD_PRELOAD": built(room, "fail_write"), "FAILING": control})
+    node = bouncer.followers()[0]
+    client = attached(bouncer, node)
+    with open(control, "w") as file:
+        file.write(f"/node-{node}")
+    server.say("a line that is saved")
+    bouncer.wait(f" node {node}: down: ")
+    gone = time.monotonic()
+    client.wait_closed()
+    check("it is let go at once", time.monotonic() - gone < 0.5, time.monotonic() - gone)
+    check("it is told why", client.lines[-1:] == [f"ERROR :node {node} is down"], client.lines[-3:])
+    late = Client(bouncer.ports[node - 1], "me", "pw")
+    late.wait_closed()
+    check("so is a new one", late.lines[-1:] == [f"ERROR :node {node} is down"], late.lines[-3:])
+    time.sleep(0.1)
+    came = [f"came {number}" for number in range(20)]
+    for text in came:
+        server.say(text)
+        time.sleep(0.02)
+    other = attached(bouncer, [n for n in bouncer.followers() if n != node][0])
+    other.wait_texts("#x", lambda texts: any(came[-1] in text for text in texts), "what came meanwhile")
+    heard = [text for text in other.texts("#x") if "came" in text]
+    check("all that came meanwhile is played", len(heard) == len(came), heard)
+    os.unlink(control)
+    bouncer.wait(f" node {node}: up, run 2")
+    check("it ends", bouncer.end() == 0)
