@@ -79,7 +79,7 @@ def flooded(server, seconds):
 
 def bursts(room):
     for nodes in (3, 5, 7):
-        server, bouncer = running(room, f"burst-{nodes}", nodes)
+        server, bouncer = running(room, f"burst-{nodes}", nodes=nodes)
         print(f"{nodes} nodes, {PASTED} lines pasted at the leader: {paste(server, bouncer, bouncer.leader())}", flush=True)
         print(f"{nodes} nodes, the same at another node: {paste(server, bouncer, bouncer.followers()[0])}", flush=True)
         print(f"{nodes} nodes, {CROWD} clients attach at once: {crowd(bouncer)}", flush=True)

@@ -10,7 +10,7 @@ from client import PAUSE, until
 from harness import Bouncer, Ports
 
 
-def running(room, name, nodes=3, environment=None, **more):
+def running(room, name, environment=None, nodes=3, **more):
     """A server, and a bouncer that joined #x there."""
     server = StandIn()
     bouncer = Bouncer(os.path.join(room, name), server.port, nodes, **more).start(**(environment or {})).ready()

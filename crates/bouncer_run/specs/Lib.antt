@@ -3,6 +3,7 @@ pub mod Configs
 pub mod Connections
 pub mod Faults
 pub mod Groups
+pub mod Guests
 pub mod Inputs
 pub mod Levels
 pub mod Moved
@@ -11,4 +12,5 @@ pub mod Pasts
 pub mod Paths
 pub mod Runs
 pub mod Settings
+pub mod Turns
 pub mod Words

@@ -1,10 +1,11 @@
 //! What happens at the clients' connections, told to the driver.
-use crate::connection::Got;
+use crate::connection::{Got, Reading};
 use crate::edge_news::EdgeNews;
 use crate::event_loop::LoopFault;
+use crate::guest::Stage;
 use crate::pieces::{PIECE, PIECES};
 use crate::sockets::{CLIENTS, Sockets};
-use driver::{Driver, Now};
+use driver::{Driver, Ending, Now};
 use mio::{Interest, Token};
 
 impl Sockets {
@@ -14,21 +15,20 @@ impl Sockets {
             return Ok(());
         };
         let takes = guest.connection.flush(now.ms);
-        let stands = self.read_client(now, driver, number)?;
-        if stands && (takes || self.is_put_off(number)) {
-            return Ok(());
+        match self.read_client(now, driver, number)? {
+            Reading::Later => Ok(()),
+            Reading::Done if takes => Ok(()),
+            Reading::Done | Reading::Ended(_) => self.drop_client(now, driver, number),
         }
-        self.drop_client(now, driver, number)
     }
 
-    /// Reads what a client sent, as far as it is to be read. Whether its connection still stands.
+    /// Reads what a client sent, as far as it is to be read.
     fn read_client(
         &mut self,
         now: &Now,
         driver: &mut Driver,
         number: u64,
-    ) -> Result<bool, LoopFault> {
-        self.set_put_off(number, false);
+    ) -> Result<Reading, LoopFault> {
         let mut piece = [0u8; PIECE];
         for _ in 0..PIECES {
             match self.next_of_client(driver, number, &mut piece) {
@@ -37,15 +37,18 @@ impl Sockets {
                         take(now, driver, number, bytes)?;
                     }
                 }
-                Got::Nothing => return Ok(true),
-                Got::End(_) => return Ok(false),
+                Got::Nothing => return Ok(Reading::Done),
+                Got::End(why) => return Ok(Reading::Ended(why)),
                 Got::Later => {
-                    self.set_put_off(number, true);
-                    return Ok(true);
+                    self.queue.join(CLIENTS.saturating_add(number as usize))?;
+                    return Ok(Reading::Later);
                 }
             }
         }
-        Ok(self.watch_client(number))
+        if self.watch_client(number) {
+            return Ok(Reading::Done);
+        }
+        Ok(Reading::Ended(Ending::Lost))
     }
 
     /// More may wait at a client's connection than was read, so that it is told of again. Whether
@@ -62,6 +65,13 @@ impl Sockets {
             .is_ok()
     }
 
+    /// A client registered at its node.
+    pub fn register(&mut self, number: u64) {
+        if let Some(guest) = self.clients.get_mut(&number) {
+            guest.stage = Stage::Registered;
+        }
+    }
+
     /// A client's connection is gone.
     pub fn drop_client(
         &mut self,
@@ -69,6 +79,9 @@ impl Sockets {
         driver: &mut Driver,
         number: u64,
     ) -> Result<(), LoopFault> {
+        if driver.is_attached(number) {
+            self.register(number);
+        }
         self.forget_client(now, number)?;
         driver.lose(now, number)?;
         Ok(())
@@ -79,6 +92,9 @@ impl Sockets {
         let Some(guest) = self.clients.remove(&number) else {
             return Ok(());
         };
+        if let Some(news) = guest.parting(number) {
+            self.tell(news)?;
+        }
         self.tell(EdgeNews::Closed(guest.node, number, guest.address))?;
         self.leaving.add(now.ms, guest.connection.stream);
         Ok(())

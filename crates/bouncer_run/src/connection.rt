@@ -28,6 +28,16 @@ pub enum Got {
     Later,
 }
 
+/// How far a connection was read.
+pub enum Reading {
+    /// All that came, or the system tells of the rest.
+    Done,
+    /// The rest has to wait.
+    Later,
+    /// To its end, and why it is gone.
+    Ended(Ending),
+}
+
 /// Whether a connection is to be closed.
 #[derive(Clone, Copy, Debug, PartialEq, Eq)]
 pub enum Phase {
@@ -54,9 +64,6 @@ pub struct Connection<S: Read + Write + Drop> {
     unsent: Outgoing,
     phase: Phase,
     flow: Flow,
-    /// Something may have come that is not read yet, since the notes that it would bring had to
-    /// wait.
-    pub is_put_off: bool,
 }
 
 impl<S: Read + Write + Drop> Connection<S> {
@@ -66,7 +73,6 @@ impl<S: Read + Write + Drop> Connection<S> {
             unsent: Outgoing::new(alloc),
             phase: Phase::Open,
             flow: Flow::Free,
-            is_put_off: false,
         }
     }
 

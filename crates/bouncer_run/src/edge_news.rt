@@ -10,6 +10,10 @@ pub enum EdgeNews {
     Came(NodeId, u64, SocketAddr),
     /// A client's connection is closed.
     Closed(NodeId, u64, SocketAddr),
+    /// A client came with a wrong password, or with none.
+    WrongPassword(NodeId, u64, SocketAddr),
+    /// A client left, or was closed, before it registered.
+    Unregistered(NodeId, u64, SocketAddr),
     /// A client had not registered, or was to be closed, when a new one came and all places were
     /// taken: it gave its own.
     GaveWay(NodeId, u64, SocketAddr),
@@ -17,6 +21,8 @@ pub enum EdgeNews {
     Crowded(NodeId, SocketAddr),
     /// No client can be taken, and why.
     Deaf(NodeId, io::Error),
+    /// The server refuses the session, or ends it, and says so.
+    Refused(String),
     /// Standard input ended, which ends the bouncer.
     InputEnded,
 }
@@ -26,9 +32,11 @@ impl EdgeNews {
     pub fn node(&self) -> Option<NodeId> {
         match self {
             EdgeNews::Came(node, _, _) | EdgeNews::Closed(node, _, _) => Some(*node),
+            EdgeNews::WrongPassword(node, _, _) => Some(*node),
+            EdgeNews::Unregistered(node, _, _) => Some(*node),
             EdgeNews::GaveWay(node, _, _) | EdgeNews::Crowded(node, _) => Some(*node),
             EdgeNews::Deaf(node, _) => Some(*node),
-            EdgeNews::InputEnded => None,
+            EdgeNews::Refused(_) | EdgeNews::InputEnded => None,
         }
     }
 
@@ -43,11 +51,18 @@ impl fmt::Display for EdgeNews {
         match self {
             EdgeNews::Came(_, number, from) => write!(f, "client {number} came from {from}"),
             EdgeNews::Closed(_, number, from) => write!(f, "client {number} of {from} is closed"),
+            EdgeNews::WrongPassword(_, number, from) => {
+                write!(f, "wrong password: client {number} of {from} is turned away")
+            }
+            EdgeNews::Unregistered(_, number, from) => {
+                write!(f, "client {number} of {from} did not register")
+            }
             EdgeNews::GaveWay(_, number, from) => {
                 write!(f, "too many clients: client {number} of {from} gives way")
             }
             EdgeNews::Crowded(_, from) => write!(f, "too many clients: {from} is turned away"),
             EdgeNews::Deaf(_, error) => write!(f, "no client can be taken: {error}"),
+            EdgeNews::Refused(text) => write!(f, "the server says: {text}"),
             EdgeNews::InputEnded => write!(f, "standard input ended: stopping"),
         }
     }

@@ -83,7 +83,7 @@ pub fn run_loop<R: Net + Wait + Clock, N: Nodes, O: Operator>(
         now = clock.now(rt).map_err(|_| LoopFault::Socket)?;
         sockets.serve_all(&now, driver, &events)?;
         let is_over = hear_words(rt, &now, driver, words)?;
-        sockets.take_up(&now, driver)?;
+        sockets.take_turns(&now, driver)?;
         if ticks.take(now.ms) {
             driver.tick(&now)?;
             driver.watch_log()?;
@@ -169,6 +169,9 @@ fn carry_out<R: Net + Wait, N: Nodes, O: Operator>(
         },
         Order::Tells(news) => {
             tell_clients(driver, &news)?;
+            if let News::Attached(origin) = news {
+                sockets.register(origin.client());
+            }
             operator.hear(now, news);
         }
         other => sockets.carry_out(rt, now, driver, other)?,

@@ -47,6 +47,7 @@ impl Sockets {
         let Some(guest) = self.clients.get_mut(&number) else {
             return Ok(());
         };
+        guest.note(bytes);
         if guest.connection.write(bytes)? {
             return Ok(());
         }

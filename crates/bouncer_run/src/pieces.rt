@@ -1,8 +1,9 @@
 //! The next piece of what came, where it is to be read: what it would bring may have to wait.
 ghost use Rattle.std.specs.Prelude.{◌≡◌, not, IsTrue};
 ghost use Rattle.driver.specs.Links.{node_of};
-ghost use Rattle.driver.specs.Rosters.{IsReadOf, client_at, is_read_for};
+ghost use Rattle.driver.specs.Rosters.{client_at, is_read_for};
 ghost use Rattle.bouncer_run.specs.Connections.{is_later};
+ghost use Rattle.bouncer_run.specs.Turns.{IsReadNow};
 
 use crate::connection::Got;
 use crate::sockets::Sockets;
@@ -16,14 +17,14 @@ pub const PIECE: usize = 512;
 pub const PIECES: usize = 16;
 
 impl Sockets {
-    /// The next piece of what a client sent. It is read where the driver reads the client, and
-    /// nowhere else.
+    /// The next piece of what a client sent. It is read before it registered, then where the driver
+    /// reads the client, and nowhere else.
     pub fn next_of_client(&mut self, driver: &Driver, number: u64, piece: &mut [u8]) -> Got
-        ensures later { IsReadOf (not (is_later result)) driver.now.orders driver.now.desks
+        ensures later { IsReadNow (not (is_later result)) driver.now.orders driver.now.desks
             (client_at driver.now.clients number) }
         ensures untouched { IsTrue (is_later result) → piece.new ≡ piece.old }
     {
-        if !driver.reads_client(number) {
+        if !reads_client(driver, number) {
             return Got::Later;
         }
         match self.clients.get_mut(&number) {
@@ -47,4 +48,13 @@ impl Sockets {
             None => Got::End(Ending::Lost),
         }
     }
+}
+
+/// Whether a client is read at this moment: before it registered in any case, since what it sends
+/// until then asks for nothing of its node, and its time to register passes.
+pub fn reads_client(driver: &Driver, number: u64) -> bool
+    ensures { IsReadNow result driver.now.orders driver.now.desks
+        (client_at driver.now.clients number) }
+{
+    !driver.is_attached(number) || driver.reads_client(number)
 }

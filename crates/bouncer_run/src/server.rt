@@ -1,5 +1,5 @@
 //! What happens at the sockets, told to the driver.
-use crate::connection::Got;
+use crate::connection::{Got, Reading};
 use crate::event_loop::LoopFault;
 use crate::pieces::{PIECE, PIECES};
 use crate::sockets::{CLIENTS, SERVER, Sockets};
@@ -8,7 +8,7 @@ use mio::{Events, Interest, Token};
 use raft_log::NodeId;
 
 impl Sockets {
-    /// Whatever is ready is served.
+    /// Whoever is ready lines up, and clients that come are taken.
     pub fn serve_all(
         &mut self,
         now: &Now,
@@ -17,10 +17,8 @@ impl Sockets {
     ) -> Result<(), LoopFault> {
         for event in events {
             let token = event.token().0;
-            if token >= CLIENTS {
-                self.serve(now, driver, (token - CLIENTS) as u64)?;
-            } else if token == SERVER {
-                self.serve_server(now, driver)?;
+            if token == SERVER || token >= CLIENTS {
+                self.line_up(now, token)?;
             } else if 1 <= token && token <= 7 {
                 self.accept(now, driver, NodeId::new(token as u8))?;
             }
@@ -37,38 +35,44 @@ impl Sockets {
             driver.connected(now)?;
         }
         let takes = connection.flush(now.ms);
-        if let Some(why) = self.read_server(now, driver)? {
-            return self.drop_server(now, driver, why);
+        match self.read_server(now, driver)? {
+            Reading::Ended(why) => self.drop_server(now, driver, why),
+            Reading::Done if !takes => self.drop_server(now, driver, Ending::Lost),
+            Reading::Done | Reading::Later => Ok(()),
         }
-        if takes || self.is_server_put_off() {
-            return Ok(());
-        }
-        self.drop_server(now, driver, Ending::Lost)
     }
 
-    /// Reads what the server sent, as far as it is to be read. Why its connection stands no more, if so.
-    fn read_server(&mut self, now: &Now, driver: &mut Driver) -> Result<Option<Ending>, LoopFault> {
-        self.set_server_put_off(false);
+    /// Reads what the server sent, as far as it is to be read.
+    fn read_server(&mut self, now: &Now, driver: &mut Driver) -> Result<Reading, LoopFault> {
         let mut piece = [0u8; PIECE];
         for _ in 0..PIECES {
             match self.next_of_server(driver, &mut piece) {
                 Got::Bytes(count) => {
                     if let Some(bytes) = piece.get(..count) {
+                        self.tell_reasons(bytes)?;
                         driver.receive_line(now, bytes)?;
                     }
                 }
-                Got::Nothing => return Ok(None),
-                Got::End(why) => return Ok(Some(why)),
+                Got::Nothing => return Ok(Reading::Done),
+                Got::End(why) => return Ok(Reading::Ended(why)),
                 Got::Later => {
-                    self.set_server_put_off(true);
-                    return Ok(None);
+                    self.queue.join(SERVER)?;
+                    return Ok(Reading::Later);
                 }
             }
         }
         if self.watch_server() {
-            return Ok(None);
+            return Ok(Reading::Done);
         }
-        Ok(Some(Ending::Lost))
+        Ok(Reading::Ended(Ending::Lost))
+    }
+
+    /// An operator is told why the server refuses, where it says so.
+    fn tell_reasons(&mut self, bytes: &[u8]) -> Result<(), LoopFault> {
+        for news in self.reasons.hear(bytes)? {
+            self.tell(news)?;
+        }
+        Ok(())
     }
 
     /// More may wait at the server's connection than was read, so that it is told of again. Whether it is.

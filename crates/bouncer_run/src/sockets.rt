@@ -1,7 +1,10 @@
 //! All sockets.
 use crate::connection::Connection;
 use crate::edge_news::EdgeNews;
+use crate::guest::Guest;
 use crate::leaving::Leaving;
+use crate::queue::Queue;
+use crate::reasons::Reasons;
 use mio::net::{TcpListener, TcpStream};
 use mio::{Interest, Poll, Token, Waker};
 use raft_log::NodeId;
@@ -31,14 +34,6 @@ pub struct Listening {
     pub is_deaf: bool,
 }
 
-/// A client's connection.
-#[derive(Drop)]
-pub struct Guest {
-    pub node: NodeId,
-    pub address: SocketAddr,
-    pub connection: Connection<TcpStream>,
-}
-
 /// All sockets: the nodes' listeners, their clients, and the server.
 #[derive(Drop)]
 pub struct Sockets {
@@ -49,6 +44,9 @@ pub struct Sockets {
     pub clients: BTreeMap<u64, Guest>,
     pub server_address: SocketAddr,
     pub server: Option<Connection<TcpStream>>,
+    pub reasons: Reasons,
+    /// The connections that are ready to be read.
+    pub queue: Queue,
     /// Connections that were closed, as far as the bouncer is concerned.
     pub leaving: Leaving,
     /// What an operator is still to be told.
@@ -65,6 +63,8 @@ impl Sockets {
             clients: BTreeMap::new(alloc),
             server_address,
             server: None,
+            reasons: Reasons::new(alloc),
+            queue: Queue::new(alloc),
             leaving: Leaving::new(alloc),
             news: Vec::new(alloc),
         })
@@ -102,11 +102,7 @@ impl Sockets {
         let _ = stream.set_nodelay(true);
         let token = Token(CLIENTS.saturating_add(number as usize));
         self.poll.registry().register(&mut stream, token, Interest::READABLE | Interest::WRITABLE)?;
-        let guest = Guest {
-            node,
-            address,
-            connection: Connection::new(self.alloc, stream),
-        };
+        let guest = Guest::new(self.alloc, node, stream, address);
         match self.clients.insert(number, guest) {
             Ok(_) => Ok(()),
             Err(_) => Err(io::Error::from(io::ErrorKind::OutOfMemory)),
@@ -123,6 +119,7 @@ impl Sockets {
             Interest::READABLE | Interest::WRITABLE,
         )?;
         self.server = Some(Connection::new(self.alloc, stream));
+        self.reasons = Reasons::new(self.alloc);
         Ok(())
     }
 
