@@ -9,22 +9,22 @@ nodes' journals fail at random, how many come to the server, and how many came t
 """
 
 import os
-import random
 import shutil
 import sys
 import tempfile
-import threading
 import time
 
 sys.path.insert(0, os.path.join(os.path.dirname(os.path.dirname(os.path.realpath(__file__))), "tests"))
 sys.dont_write_bytecode = True
 import journal
 from client import Client, Late, until
+from people import Person, talk_while_journals_fail
 from shims import built
-from stand_in import running
+from stand_in import Flood, running
 
 PASTED = 90
 CROWD = 50
+RATE = 200
 SLOW_SECONDS = 40
 FAULT_SECONDS = 45
 
@@ -64,29 +64,16 @@ def crowd(bouncer):
     return f"{took[len(took) // 2]:.0f} ms, the last {took[-1]:.0f} ms"
 
 
-def flooded(server, seconds):
-    """The server says 200 lines a second, in a thread of its own."""
-
-    def flood():
-        for number in range(200 * seconds):
-            server.say(f"flood {number}")
-            time.sleep(0.005)
-
-    thread = threading.Thread(target=flood, daemon=True)
-    thread.start()
-    return thread
-
-
 def bursts(room):
     for nodes in (3, 5, 7):
         server, bouncer = running(room, f"burst-{nodes}", nodes=nodes)
         print(f"{nodes} nodes, {PASTED} lines pasted at the leader: {paste(server, bouncer, bouncer.leader())}", flush=True)
         print(f"{nodes} nodes, the same at another node: {paste(server, bouncer, bouncer.followers()[0])}", flush=True)
         print(f"{nodes} nodes, {CROWD} clients attach at once: {crowd(bouncer)}", flush=True)
-        thread = flooded(server, 3)
+        flood = Flood(server, RATE)
         time.sleep(0.5)
         print(f"{nodes} nodes, the same while the server says 200 lines a second: {crowd(bouncer)}", flush=True)
-        thread.join()
+        flood.stop()
         print(f"{nodes} nodes: {bouncer.log().count(' leads in term ')} leader", flush=True)
         bouncer.end()
 
@@ -107,63 +94,19 @@ def slow_syncs(room):
     bouncer.end()
 
 
-class Speaker:
-    """A person at one node, who attaches again when hung up, and says three lines a second."""
-
-    def __init__(self, bouncer, node):
-        self.bouncer, self.node = bouncer, node
-        self.client, self.count, self.said = None, 0, []
-
-    def go_on(self):
-        if self.client is None or not self.client.is_open:
-            try:
-                self.client = Client(self.bouncer.ports[self.node - 1], "me", "pw")
-            except OSError:
-                return
-            self.is_there = False
-        self.client.read()
-        if not self.is_there:
-            self.is_there = self.client.has("Welcome to the bouncer")
-            return
-        if self.client.is_open:
-            self.count += 1
-            text = f"node {self.node} line {self.count}"
-            self.client.say(f"PRIVMSG #x :{text}")
-            self.said.append((text, self.client))
-
-
 def faults(room):
     control = os.path.join(room, "failing")
     server, bouncer = running(room, "faults", environment={"LD_PRELOAD": built(room, "fail_write"), "FAILING": control})
-    chosen = random.Random(1)
-    speakers = [Speaker(bouncer, node) for node in bouncer.nodes]
-    end = time.monotonic() + FAULT_SECONDS
-    fails_until, quiet_until = 0.0, time.monotonic() + 1
-    while time.monotonic() < end:
-        now = time.monotonic()
-        if fails_until and now > fails_until:
-            os.unlink(control)
-            fails_until, quiet_until = 0.0, now + chosen.uniform(0.5, 3)
-        if not fails_until and now > quiet_until:
-            with open(control, "w") as file:
-                file.write(f"/node-{chosen.choice(list(bouncer.nodes))}")
-            fails_until = now + chosen.uniform(0.05, 1.2)
-        for speaker in speakers:
-            speaker.go_on()
-        time.sleep(0.33)
-    if fails_until:
-        os.unlink(control)
+    people = [Person(bouncer, node) for node in bouncer.nodes]
+    count = talk_while_journals_fail(people, control, FAULT_SECONDS, seed=1)
     time.sleep(10)
-    for speaker in speakers:
-        if speaker.client is not None:
-            speaker.client.read()
-    said = [(text, client) for speaker in speakers for text, client in speaker.said]
+    said = [text for person in people for text, _ in person.said]
+    kept = [text for person in people for text in person.kept()]
     came = server.said()
-    taken = [text for text, client in said if client.is_open]
-    lost, silent = sum(text not in came for text, _ in said), sum(text not in came for text in taken)
+    lost, silent = sum(text not in came for text in said), sum(text not in came for text in kept)
     twice = len(came) - len(set(came))
     print(
-        f"journals that fail at random for {FAULT_SECONDS} s: {len(said)} lines said, {lost} did not come, of which {silent} by a "
+        f"journals that fail {count} times in {FAULT_SECONDS} s: {len(said)} lines said, {lost} did not come, of which {silent} by a "
         f"client that was not hung up; {twice} came twice; {len(server.sessions)} sessions",
         flush=True,
     )
