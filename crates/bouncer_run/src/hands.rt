@@ -54,7 +54,8 @@ impl<R: Wait + Drop> Hands<R> {
     }
 
     /// The loop was told this line.
-    fn keep(&mut self, number: u64, line: &Line)
+    fn keep(&mut self, number: u64, line: &Line, _told: Told)
+        requires { _told.word.value ≡ Hand self.old.node line.now }
         ensures told { lines_of self.new.told.value
             ≡ lines_of self.old.told.value ++ (number, line.now) ∷ [] }
         ensures failures { self.new.failures ≡ self.old.failures }
@@ -84,11 +85,11 @@ impl<R: Wait + Drop> Upstream for Hands<R> {
             self.miss();
             return Err(UpstreamFault::Memory);
         };
-        if self.tell(copy).is_none() {
+        let Some(told) = self.tell(copy) else {
             self.miss();
             return Err(UpstreamFault::Lost);
-        }
-        self.keep(number, line);
+        };
+        self.keep(number, line, told);
         Ok(())
     }
 

@@ -43,36 +43,38 @@ impl Reasons {
     /// Bytes came, however they are cut. What is to be told of the lines that they end.
     pub fn hear(&mut self, bytes: &[u8]) -> Result<Vec<EdgeNews>, AllocError> {
         let mut news = Vec::new(self.alloc);
-        for byte in bytes {
-            if *byte != b'\n' {
-                self.add(*byte)?;
-            } else if let Some(one) = self.end()? {
-                news.push(one)?;
+        for (index, part) in bytes.split(|byte| *byte == b'\n').enumerate() {
+            if index > 0 {
+                self.end(&mut news)?;
             }
+            self.add(part)?;
         }
         Ok(news)
     }
 
     /// A line goes on.
-    fn add(&mut self, byte: u8) -> Result<(), AllocError> {
-        if self.line.len() < LONGEST {
-            self.line.push(byte)?;
+    fn add(&mut self, part: &[u8]) -> Result<(), AllocError> {
+        let room = LONGEST.saturating_sub(self.line.len());
+        let (part, _) = part.split_at(room.min(part.len()));
+        self.line.extend_from_slice(part)
+    }
+
+    /// A line ends. It is to be told where it says why a session is refused.
+    fn end(&mut self, news: &mut Vec<EdgeNews>) -> Result<(), AllocError> {
+        if self.is_refusal() && self.told < MOST_TOLD {
+            self.told += 1;
+            let text = shown(self.alloc, self.line.as_slice())?;
+            news.push(EdgeNews::Refused(text))?;
         }
+        self.line.clear();
         Ok(())
     }
 
-    /// A line ends. What is to be told of it, if it says why a session is refused.
-    fn end(&mut self) -> Result<Option<EdgeNews>, AllocError> {
-        let line = std::mem::replace(&mut self.line, Vec::new(self.alloc));
-        let command = command_of(line.as_slice());
+    /// Whether the line says why a session is refused, or ends it.
+    fn is_refusal(&mut self) -> bool {
+        let command = command_of(self.line.as_slice());
         self.is_welcomed = self.is_welcomed || command == WELCOME;
-        let is_refusal = !self.is_welcomed && REFUSALS.contains(&command);
-        if (command != ERROR && !is_refusal) || self.told >= MOST_TOLD {
-            return Ok(None);
-        }
-        self.told += 1;
-        let text = shown(self.alloc, line.as_slice())?;
-        Ok(Some(EdgeNews::Refused(text)))
+        command == ERROR || (!self.is_welcomed && REFUSALS.contains(&command))
     }
 }
 
