@@ -1,4 +1,5 @@
-// Fails each write to the files whose path ends in a line of the file named by FAILING, as long as that file is there.
+// Fails each write to the files whose path ends in a line of the file named by FAILING, as long as that file is there, with the
+// system's error of the number FAILS_WITH, or EIO.
 #define _GNU_SOURCE
 #include <dlfcn.h>
 #include <errno.h>
@@ -25,12 +26,17 @@ static int fails(int fd) {
     return is_meant;
 }
 
+static int why(void) {
+    const char *number = getenv("FAILS_WITH");
+    return number ? atoi(number) : EIO;
+}
+
 #define GUARDED(name, parameters, arguments)                                   \
     ssize_t name parameters {                                                  \
         static ssize_t(*real) parameters;                                      \
         if (!real) real = (ssize_t(*) parameters)dlsym(RTLD_NEXT, #name);      \
         if (fails(fd)) {                                                       \
-            errno = EIO;                                                       \
+            errno = why();                                                     \
             return -1;                                                         \
         }                                                                      \
         return real arguments;                                                 \
@@ -43,7 +49,7 @@ int fdatasync(int fd) {
     static int (*real)(int);
     if (!real) real = (int (*)(int))dlsym(RTLD_NEXT, "fdatasync");
     if (fails(fd)) {
-        errno = EIO;
+        errno = why();
         return -1;
     }
     return real(fd);

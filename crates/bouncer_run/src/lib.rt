@@ -19,6 +19,7 @@ mod hands;
 mod inlet;
 mod inlets;
 mod input;
+mod journal_errors;
 mod journal_files;
 mod leaving;
 mod listening;

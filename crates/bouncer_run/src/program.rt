@@ -10,6 +10,7 @@ use crate::group::{address_of, size_of};
 use crate::inlet::{Inlet, Word};
 use crate::inlets::Inlets;
 use crate::input::open_input;
+use crate::journal_errors::JournalErrors;
 use crate::journal_files::journals;
 use crate::listening::listen_all;
 use crate::parts::parts;
@@ -54,10 +55,11 @@ pub fn run<
     let size = size_of(&config);
     let mut journals = journals(rt, &config, size)?;
     set_apart(rt, &config, &mut journals)?;
+    let errors = JournalErrors::of(rt.alloc(), journals.as_slice())?;
     let mut edge = Edge::new(rt, &config)?;
     let parts = parts(rt, &edge.inlets, journals, hands)?;
     let running = Running::start(rt, &config, size, parts)?;
-    let ran = edge.serve(rt, &config, input, &running);
+    let ran = edge.serve(rt, &config, errors, input, &running);
     let records = running.stop(rt);
     ran?;
     write_record(rt, config, size, records)
@@ -98,6 +100,7 @@ impl Edge {
         &mut self,
         rt: &R,
         config: &Config,
+        errors: JournalErrors,
         input: Option<I>,
         running: &Running<U>,
     ) -> Result<(), RunFault>
@@ -108,7 +111,7 @@ impl Edge {
             .map_err(socket_fault)?
             .now(rt)
             .map_err(socket_fault)?;
-        let mut telling = Telling::new(*rt, config.log);
+        let mut telling = Telling::over(*rt, config.log, errors);
         warn(&now, config, &telling);
         listen_all(rt, config, &now, &mut self.sockets, &telling)?;
         try_record(rt, config)?;

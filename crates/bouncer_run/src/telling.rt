@@ -4,10 +4,12 @@ ghost use Rattle.bouncer_run.specs.Levels.{is_told};
 
 use crate::edge_news::EdgeNews;
 use crate::event_loop::Operator;
+use crate::journal_errors::{Because, JournalErrors};
 use bouncer_config::LogLevel;
 use driver::{News, Now};
 use jiff::Timestamp;
 use std::fmt::Display;
+use std::io;
 use std::rt::Runtime;
 
 /// Writes to standard error what an operator is to know: a line for each event, with the time and,
@@ -16,11 +18,26 @@ use std::rt::Runtime;
 pub struct Telling<R: Runtime> {
     rt: R,
     level: LogLevel,
+    errors: Option<JournalErrors>,
 }
 
 impl<R: Runtime> Telling<R> {
+    /// Of a store that fails it is not told why.
     pub fn new(rt: R, level: LogLevel) -> Telling<R> {
-        Telling { rt, level }
+        Telling {
+            rt,
+            level,
+            errors: None,
+        }
+    }
+
+    /// It tells, too, why the store of a node failed.
+    pub fn over(rt: R, level: LogLevel, errors: JournalErrors) -> Telling<R> {
+        Telling {
+            rt,
+            level,
+            errors: Some(errors),
+        }
     }
 
     /// One event of a node.
@@ -30,6 +47,14 @@ impl<R: Runtime> Telling<R> {
         }
         if let Ok(time) = Timestamp::from_second(now.at.seconds() as i64) {
             let _ = eprintln!(self.rt; "{time} node {node}: {event}");
+        }
+    }
+
+    /// Why the store of a node failed, where this tells that it did, and it is known.
+    fn error_of(&self, news: &News) -> Option<io::Error> {
+        match &self.errors {
+            Some(errors) => errors.of_news(news),
+            None => None,
         }
     }
 
@@ -46,7 +71,13 @@ impl<R: Runtime> Telling<R> {
 
 impl<R: Runtime> Operator for Telling<R> {
     fn hear(&mut self, now: &Now, news: News) {
-        self.tell(now, news.node(), &news);
+        match self.error_of(&news) {
+            Some(error) => {
+                let because = Because { news: &news, error };
+                self.tell(now, news.node(), &because);
+            }
+            None => self.tell(now, news.node(), &news),
+        }
     }
 
     fn hear_edge(&mut self, now: &Now, news: EdgeNews) {

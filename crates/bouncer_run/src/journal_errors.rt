@@ -1,0 +1,49 @@
+//! Why journals failed.
+use bouncer_tower::TowerBody;
+use driver::News;
+use file_disk::{FileJournal, LastError};
+use raft_node::Cause;
+use std::alloc::{AllocError, Global};
+use std::{fmt, io};
+
+/// Why each node's journal failed last, node 1's first, also while the nodes have them.
+#[derive(Drop)]
+pub struct JournalErrors {
+    errors: Vec<LastError>,
+}
+
+impl JournalErrors {
+    /// Of these journals.
+    pub fn of(
+        alloc: Global,
+        journals: &[FileJournal<TowerBody>],
+    ) -> Result<JournalErrors, AllocError> {
+        let mut errors = Vec::new(alloc);
+        for journal in journals {
+            errors.push(journal.disk().last_error()?)?;
+        }
+        Ok(JournalErrors { errors })
+    }
+
+    /// Why the journal of a node failed, where this tells that the node is down for that.
+    pub fn of_news(&self, news: &News) -> Option<io::Error> {
+        let News::Down(node, Cause::Store) = news else {
+            return None;
+        };
+        let place = (node.value() as usize).checked_sub(1)?;
+        self.errors.get(place)?.get()
+    }
+}
+
+/// What happened, and why.
+#[derive(Drop)]
+pub struct Because<'a> {
+    pub news: &'a News,
+    pub error: io::Error,
+}
+
+impl fmt::Display for Because<'_> {
+    fn fmt<W: fmt::Write>(&self, f: &mut fmt::Formatter<W>) -> fmt::Result {
+        write!(f, "{}: {}", self.news, self.error)
+    }
+}
