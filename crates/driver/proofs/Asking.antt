@@ -19,13 +19,14 @@ use Rattle.client_gate.specs.Gates.{GateEffect, Given, given_effect, last_reques
 use Rattle.client_gate.specs.Numbers.{all_requests}
 use Rattle.driver.specs.declared.client.Client.{Client}
 use Rattle.driver.specs.declared.order.Order.{Order}
+use Rattle.driver.specs.declared.order.Order.TheVariants.{Write}
 use Rattle.driver.specs.Asking.{HearsNode, anew_if, asks_if, held_if, is_stuck, may_be_lost, now_asked}
 use Rattle.driver.specs.Clients.{asked_all, asks_of, parting_unless, passed, welcome, write_some, written}
 use Rattle.driver.specs.Crowds.{Ticks}
 use Rattle.driver.specs.Once.{AreQuiet, AsksOnce, Event, Happens, TellsOnce, asks_again, number_told, numbers_of, numbers_told}
 use Rattle.driver.specs.Once.{Goes, Learns, Speaks, Waits, Words}
 use Rattle.driver.specs.Serving.{HasPassed, Hears, IsCutOff, IsLost, Receives, ended, ended_if}
-use Rattle.driver.specs.Silence.{IsKept, IsPing, is_silent, is_too_slow}
+use Rattle.driver.specs.Silence.{IsKept, IsPing, IsSentOff, held_back, is_silent, is_too_slow, waited}
 use Rattle.driver.specs.Telling.{Ordered, ordered}
 
 -- what orders tell, and those behind them
@@ -216,11 +217,28 @@ kept_once timeout now at s calls old new before after quiet stands k =
       once = sym (append-nil (numbers_of (all_requests s calls))) ∙ ap (λ numbers. numbers_of (all_requests s calls) ++ numbers) (sym none);
     }
 
-ticks_by : (slow : Bool) (timeout now : ℕ) (at : Moment) (s : Settings) (calls : List Call) (old new : Client) (before after : Ordered) → is_too_slow old now ≡ slow → is_stuck timeout now old ≡ false → Stands s calls old.gate → Ticks timeout now at s calls old before new after → TellsOnce s calls before new after
-ticks_by true timeout now at s calls old new before after is quiet stands t =
-    lost_by old.is_gone now at s calls old new before after refl stands (t.slow is)
-ticks_by false timeout now at s calls old new before after is quiet stands t =
+-- a client that is too slow is told so, and then it is lost
+sent_once : (now : ℕ) (at : Moment) (s : Settings) (calls : List Call) (old new : Client) (before after : Ordered) → Stands s calls old.gate → IsSentOff now at s calls old before new after → TellsOnce s calls before new after
+sent_once now at s calls old new before after stands sent =
+    let line = Write old.origin.2 sent.line in
+    let h = lost_by old.is_gone now at s calls old new (ordered before (line ∷ [])) after refl stands sent.lost in
+    record {
+      behind = h.behind;
+      stands = h.stands;
+      told = line ∷ h.told;
+      orders = h.orders ∙ ap (λ (items : List Order). record before { items = items }) (append_assoc before.items (line ∷ []) h.told);
+      once = h.once;
+    }
+
+ticks_by : (reads slow : Bool) (timeout now : ℕ) (at : Moment) (s : Settings) (calls : List Call) (old new : Client) (before after : Ordered) → is_too_slow (waited reads now old) now ≡ slow → is_stuck timeout now old ≡ false → Stands s calls old.gate → Ticks reads timeout now at s calls old before new after → TellsOnce s calls before new after
+ticks_by true true timeout now at s calls old new before after is quiet stands t =
+    sent_once now at s calls old new before after stands (t.slow is)
+ticks_by false true timeout now at s calls old new before after is quiet stands t =
+    sent_once now at s calls (held_back now old) new before after stands (t.slow is)
+ticks_by true false timeout now at s calls old new before after is quiet stands t =
     kept_once timeout now at s calls old new before after quiet stands (t.kept is)
+ticks_by false false timeout now at s calls old new before after is quiet stands t =
+    kept_once timeout now at s calls (held_back now old) new before after quiet stands (t.kept is)
 
 event_once : (event : Event) (now : ℕ) (at : Moment) (s : Settings) (calls : List Call) (old new : Client) (before after : Ordered) → asks_again event now old ≡ false → Happens event now at old before new after → Stands s calls old.gate → TellsOnce s calls before new after
 event_once (Speaks bytes) now at s calls old new before after quiet h stands =
@@ -231,8 +249,8 @@ event_once Goes now at s calls old new before after quiet h stands =
     lost_by old.is_gone now at s calls old new before after refl stands (h s calls stands)
 event_once (Words lost refused) now at s calls old new before after quiet h stands =
     words_once lost refused now at s calls old new before after quiet stands (h s calls stands)
-event_once (Waits timeout) now at s calls old new before after quiet h stands =
-    ticks_by (is_too_slow old now) timeout now at s calls old new before after refl quiet stands (h s calls stands)
+event_once (Waits reads timeout) now at s calls old new before after quiet h stands =
+    ticks_by reads (is_too_slow (waited reads now old) now) timeout now at s calls old new before after refl quiet stands (h s calls stands)
 
 -- what is told first, and then
 both_once : (s : Settings) (calls : List Call) (before between after : Ordered) (client new : Client) → (first : TellsOnce s calls before client between) → TellsOnce s first.behind between new after → TellsOnce s calls before new after

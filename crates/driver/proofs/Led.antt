@@ -16,6 +16,7 @@ use Rattle.driver.specs.Driving.{LeavesIf, ServesIf, TickNodes, TicksNode, chang
 use Rattle.driver.specs.Leading.{IsLeader, is_older, is_that, term_at, term_in, term_of}
 use Rattle.driver.specs.Led.{IsOf, IsOfLeader, IsOfLeaderHeard, IsOfLeaderTicked}
 use Rattle.driver.specs.Links.{idle_behind, may_connect, node_of}
+use Rattle.driver.specs.Telling.{Ordered}
 
 -- one of two desks at the same place leads in the term in which the other leads, where they stand alike
 term_same : (desks : List Desk) (i : ℕ) (d v : Desk) → slice_get desks i ≡ Some d → v.status ≡ d.status → term_in (slice_get (set desks i v) i) ≡ term_in (slice_get desks i)
@@ -65,10 +66,10 @@ leader_kept desks changed (Some node) same (term, is, above) =
     (term, same node ∙ is, λ other t low high leads. above other t low high (sym (same other) ∙ leads))
 
 -- a claim keeps how its node stands
-claimed_stands : (now : ℕ) (may : Bool) (due : Option ((ℕ × ℕ) × ℕ)) (desk : Desk) → (desk_claimed desk now may due).status ≡ desk.status
-claimed_stands now may None desk = refl
-claimed_stands now true (Some line) desk = refl
-claimed_stands now false (Some line) desk = refl
+claimed_stands : (orders : Ordered) (now : ℕ) (may : Bool) (due : Option ((ℕ × ℕ) × ℕ)) (desk : Desk) → (desk_claimed orders desk now may due).status ≡ desk.status
+claimed_stands orders now may None desk = refl
+claimed_stands orders now true (Some line) desk = refl
+claimed_stands orders now false (Some line) desk = refl
 
 -- a connection that is gone is of no node
 idle_of_none : (stage : Stage) (backoff : Backoff) (now : ℕ) → node_of (idle_behind stage backoff now) ≡ None
@@ -111,10 +112,10 @@ served_of false now node left new leader is same leads own = record {
 }
 served_of true now node left new leader is h leads own =
     let may = may_go left.pace.burst left.pace.line_ms left.pace.free_at now in
-    let claim : Desk → Desk = λ desk. desk_claimed desk now may (claim_due desk left.settings now) in
+    let claim : Desk → Desk = λ desk. desk_claimed left.orders desk now may (claim_due desk left.settings now) in
     let desks = ap (λ (driver : Driver). driver.desks) h.connects.rest ∙ h.claims.desks in
     let stage = ap (λ (driver : Driver). driver.link.stage) h.claims.rest in
-    let same = λ (other : ℕ). terms_kept claim (λ desk. claimed_stands now may (claim_due desk left.settings now) desk) left.desks node other (slice_get left.desks (node - 1)) refl in
+    let same = λ (other : ℕ). terms_kept claim (λ desk. claimed_stands left.orders now may (claim_due desk left.settings now) desk) left.desks node other (slice_get left.desks (node - 1)) refl in
     record {
       leader = leader;
       is_leader = subst (λ (desks : List Desk). IsLeader desks leader) (sym desks) (leader_kept left.desks (changed_at claim left.desks node) leader same leads);

@@ -4,7 +4,7 @@ use Rattle.std.specs.Global.{Vec}
 use Rattle.driver.specs.declared.client.Client.{Client}
 use Rattle.driver.specs.declared.clients.Clients.{Clients}
 use Rattle.driver.specs.declared.order.Order.TheVariants.{Write}
-use Rattle.driver.specs.Nicks.{AreWritten, IsWritten, IsWrittenIf, is_reached}
+use Rattle.driver.specs.Nicks.{AreWritten, IsNamed, IsWritten, IsWrittenIf, is_misnamed, is_reached, renaming}
 use Rattle.driver.specs.Rosters.{client_at}
 use Rattle.driver.specs.Telling.{Ordered, ordered}
 
@@ -25,3 +25,8 @@ pub one_written : (found : Option Client) (client : Client) (text : List ℕ) (b
 one_written found client text before after line is reached same wrote =
     subst (λ (o : Option Client). IsWritten o text before after) (sym is)
     (subst (λ (b : Bool). IsWrittenIf b client.origin.2 text before after) (sym reached) (line, same, wrote))
+
+-- a client that was greeted by another nick is written a line that says so
+pub one_named : (client : Client) (nick : List ℕ) (before after : Ordered) (line : Vec ℕ) → is_misnamed client nick ≡ true → line.items ≡ renaming client.nick nick → after ≡ ordered before (Write client.origin.2 line ∷ []) → IsNamed client nick before after
+one_named client nick before after line is same wrote =
+    subst (λ (b : Bool). IsWrittenIf b client.origin.2 (renaming client.nick nick) before after) (sym is) (line, same, wrote)

@@ -13,79 +13,80 @@ use Rattle.client_gate.specs.Gates.{GateEffect, Given, given_effect, last_reques
 use Rattle.driver.specs.declared.client.Asked.{Asked}
 use Rattle.driver.specs.declared.client.Client.{Client}
 use Rattle.driver.specs.declared.order.Order.{Order}
+use Rattle.driver.specs.declared.order.Order.TheVariants.{Write}
 use Rattle.driver.specs.Asking.{HearsNode, anew_if, held_if, is_stuck, may_be_lost, now_asked}
 use Rattle.driver.specs.Clients.{asked_all, asks_of, parting_unless, passed, write_some, written}
 use Rattle.driver.specs.Crowds.{Ticks}
 use Rattle.driver.specs.Once.{AsksOwn, Event, Goes, HappenAll, Happens, Learns, Speaks, TellsOnly, Waits, Words}
 use Rattle.driver.specs.Serving.{HasPassed, Hears, IsCutOff, IsLost, Receives, ended, ended_if}
-use Rattle.driver.specs.Silence.{IsKept, IsPing, is_silent, is_too_slow}
+use Rattle.driver.specs.Silence.{IsKept, IsPing, IsSentOff, held_back, is_silent, is_too_slow, waited}
 use Rattle.driver.specs.Telling.{Ordered, ordered}
 
 -- the same of orders behind others
-only_append : (node : ℕ) (xs ys : List Order) → TellsOnly node xs → TellsOnly node ys → TellsOnly node (xs ++ ys)
+pub only_append : (origin : Origin) (xs ys : List Order) → TellsOnly origin xs → TellsOnly origin ys → TellsOnly origin (xs ++ ys)
 unfolding TellsOnly
-only_append node [] ys own more = more
-only_append node (x ∷ xs) ys (is, own) more = (is, only_append node xs ys own more)
+only_append origin [] ys own more = more
+only_append origin (x ∷ xs) ys (is, own) more = (is, only_append origin xs ys own more)
 
-only_asks : (origin : Origin) (at : Moment) (requests : List Request) → TellsOnly origin.0 (asks_of origin at requests)
+only_asks : (origin : Origin) (at : Moment) (requests : List Request) → TellsOnly origin (asks_of origin at requests)
 unfolding TellsOnly asks_of
 only_asks origin at [] = tt
-only_asks origin at (request ∷ requests) = (refl, only_asks origin at requests)
+only_asks origin at (request ∷ requests) = ((refl, refl), only_asks origin at requests)
 
-only_all : (attached : Bool) (origin : Origin) (at : Moment) (requests : List Request) → TellsOnly origin.0 (asked_all attached origin at requests)
+only_all : (attached : Bool) (origin : Origin) (at : Moment) (requests : List Request) → TellsOnly origin (asked_all attached origin at requests)
 unfolding TellsOnly asked_all
 only_all attached origin at [] = tt
 only_all true origin at (request ∷ requests) = only_asks origin at (request ∷ requests)
 only_all false origin at (request ∷ requests) = (tt, only_asks origin at (request ∷ requests))
 
-only_some : (node client : ℕ) (bytes : Vec ℕ) (items : List ℕ) → TellsOnly node (write_some client bytes items)
+only_some : (origin : Origin) (bytes : Vec ℕ) (items : List ℕ) → TellsOnly origin (write_some origin.2 bytes items)
 unfolding TellsOnly
-only_some node client bytes [] = tt
-only_some node client bytes (byte ∷ more) = (tt, tt)
+only_some origin bytes [] = tt
+only_some origin bytes (byte ∷ more) = (refl, tt)
 
-only_written : (node : ℕ) (gone : Bool) (client : ℕ) (bytes : Vec ℕ) → TellsOnly node (written gone client bytes)
+only_written : (origin : Origin) (gone : Bool) (bytes : Vec ℕ) → TellsOnly origin (written gone origin.2 bytes)
 unfolding TellsOnly
-only_written node true client bytes = tt
-only_written node false client bytes = only_some node client bytes bytes.items
+only_written origin true bytes = tt
+only_written origin false bytes = only_some origin bytes bytes.items
 
-only_parting : (gone : Bool) (origin : Origin) (at : Moment) (last : Option Request) → TellsOnly origin.0 (parting_unless gone origin at last)
+pub only_parting : (gone : Bool) (origin : Origin) (at : Moment) (last : Option Request) → TellsOnly origin (parting_unless gone origin at last)
 unfolding TellsOnly parting_unless
 only_parting true origin at last = tt
-only_parting false origin at None = (tt, (tt, tt))
-only_parting false origin at (Some request) = (tt, (tt, (refl, tt)))
+only_parting false origin at None = (refl, (tt, tt))
+only_parting false origin at (Some request) = (refl, (tt, ((refl, refl), tt)))
 
-only_end : (close gone : Bool) (origin : Origin) (at : Moment) (last : Option Request) → TellsOnly origin.0 (if close then parting_unless gone origin at last else [])
+only_end : (close gone : Bool) (origin : Origin) (at : Moment) (last : Option Request) → TellsOnly origin (if close then parting_unless gone origin at last else [])
 unfolding TellsOnly
 only_end false gone origin at last = tt
 only_end true gone origin at last = only_parting gone origin at last
 
-only_passed : (c : Client) (at : Moment) (last : Option Request) (fed : Fed) → TellsOnly c.origin.0 (passed c at last fed)
+only_passed : (c : Client) (at : Moment) (last : Option Request) (fed : Fed) → TellsOnly c.origin (passed c at last fed)
 only_passed c at last fed =
     let bytes = written c.is_gone c.origin.2 fed.reply in
     let asks = asked_all c.is_attached c.origin at fed.requests.items in
     let end = if fed.close then parting_unless c.is_gone c.origin at last else [] in
-    only_append c.origin.0 (bytes ++ asks) end
-    (only_append c.origin.0 bytes asks (only_written c.origin.0 c.is_gone c.origin.2 fed.reply) (only_all c.is_attached c.origin at fed.requests.items))
+    only_append c.origin (bytes ++ asks) end
+    (only_append c.origin bytes asks (only_written c.origin c.is_gone fed.reply) (only_all c.is_attached c.origin at fed.requests.items))
     (only_end fed.close c.is_gone c.origin at last)
 
-only_again : (again : Bool) (origin : Origin) (at : Moment) (waiting : List Request) → TellsOnly origin.0 (if again then asks_of origin at waiting else [])
+only_again : (again : Bool) (origin : Origin) (at : Moment) (waiting : List Request) → TellsOnly origin (if again then asks_of origin at waiting else [])
 unfolding TellsOnly
 only_again true origin at waiting = only_asks origin at waiting
 only_again false origin at waiting = tt
 
-only_ping : (node : ℕ) (b : Bool) (client : ℕ) (orders : List Order) → IsPing b client orders → TellsOnly node orders
+only_ping : (origin : Origin) (b : Bool) (orders : List Order) → IsPing b origin.2 orders → TellsOnly origin orders
 unfolding TellsOnly
-only_ping node false client orders is = subst (λ (orders : List Order). TellsOnly node orders) (sym is) tt
-only_ping node true client orders (bytes, are, is) = subst (λ (orders : List Order). TellsOnly node orders) (sym is) (tt, tt)
+only_ping origin false orders is = subst (λ (orders : List Order). TellsOnly origin orders) (sym is) tt
+only_ping origin true orders (bytes, are, is) = subst (λ (orders : List Order). TellsOnly origin orders) (sym is) (refl, tt)
 
 -- A client became another of the same origin, whose gate stands behind some calls, and what was ordered goes to its node.
-record Owns (s : Settings) (old : Client) (before : Ordered) (new : Client) (after : Ordered) : Type 0 where
-  behind : List Call
-  stands : Stands s behind new.gate
-  origin : new.origin ≡ old.origin
-  told : List Order
-  orders : after ≡ ordered before told
-  own : TellsOnly old.origin.0 told
+pub record Owns (s : Settings) (old : Client) (before : Ordered) (new : Client) (after : Ordered) : Type 0 where
+  pub behind : List Call
+  pub stands : Stands s behind new.gate
+  pub origin : new.origin ≡ old.origin
+  pub told : List Order
+  pub orders : after ≡ ordered before told
+  pub own : TellsOnly old.origin told
 
 passed_own : (s : Settings) (behind : List Call) (answer : Given) (at : Moment) (c new : Client) (before after : Ordered) → HasPassed s behind answer at c before new after → Owns s c before new after
 passed_own s behind answer at c new before after h = record {
@@ -115,7 +116,7 @@ renamed s old c new before after same h = record {
   origin = h.origin ∙ same;
   told = h.told;
   orders = h.orders;
-  own = subst (λ (origin : Origin). TellsOnly origin.0 h.told) same h.own;
+  own = subst (λ (origin : Origin). TellsOnly origin h.told) same h.own;
 }
 
 nothing_own : (s : Settings) (calls : List Call) (old new : Client) (before after : Ordered) → Stands s calls old.gate → new ≡ old → after ≡ before → Owns s old before new after
@@ -129,7 +130,7 @@ nothing_own s calls old new before after stands same none = record {
   own = tt;
 }
 
-reads_own : (gone : Bool) (bytes : List ℕ) (now : ℕ) (at : Moment) (s : Settings) (calls : List Call) (old new : Client) (before after : Ordered) → old.is_gone ≡ gone → Stands s calls old.gate → Receives bytes now at s calls old before new after → Owns s old before new after
+pub reads_own : (gone : Bool) (bytes : List ℕ) (now : ℕ) (at : Moment) (s : Settings) (calls : List Call) (old new : Client) (before after : Ordered) → old.is_gone ≡ gone → Stands s calls old.gate → Receives bytes now at s calls old before new after → Owns s old before new after
 reads_own true bytes now at s calls old new before after is stands h =
     let (same, none) = h.gone is in nothing_own s calls old new before after stands same none
 reads_own false bytes now at s calls old new before after is stands h =
@@ -138,14 +139,14 @@ reads_own false bytes now at s calls old new before after is stands h =
     (λ p. renamed s old _ new before after refl (cut_own s calls at _ new before after p))
     (h.stays is)
 
-hears_own : (e : GateEffect) (now : ℕ) (at : Moment) (s : Settings) (calls : List Call) (old new : Client) (before after : Ordered) → Hears e now at s calls old before new after → Owns s old before new after
+pub hears_own : (e : GateEffect) (now : ℕ) (at : Moment) (s : Settings) (calls : List Call) (old new : Client) (before after : Ordered) → Hears e now at s calls old before new after → Owns s old before new after
 hears_own e now at s calls old new before after h =
     ⊎_elim
     (λ p. renamed s old _ new before after refl (passed_own s (Hear e ∷ calls) (given_effect s e) at _ new before after p))
     (λ p. renamed s old _ new before after refl (cut_own s calls at _ new before after p))
     h
 
-lost_own : (gone : Bool) (now : ℕ) (at : Moment) (s : Settings) (calls : List Call) (old new : Client) (before after : Ordered) → old.is_gone ≡ gone → Stands s calls old.gate → IsLost now at s calls old before new after → Owns s old before new after
+pub lost_own : (gone : Bool) (now : ℕ) (at : Moment) (s : Settings) (calls : List Call) (old new : Client) (before after : Ordered) → old.is_gone ≡ gone → Stands s calls old.gate → IsLost now at s calls old before new after → Owns s old before new after
 lost_own true now at s calls old new before after is stands h = record {
   behind = calls;
   stands = subst (λ (client : Client). Stands s calls client.gate) (sym (h.gone is)) stands;
@@ -171,7 +172,7 @@ anew_origin : (again : Bool) (asked : Asked) (c : Client) → (anew_if again ask
 anew_origin true asked c = refl
 anew_origin false asked c = refl
 
-words_own : (lost : ℕ) (refused : Bool) (now : ℕ) (at : Moment) (s : Settings) (calls : List Call) (old new : Client) (before after : Ordered) → Stands s calls old.gate → HearsNode lost refused now at s calls old before new after → Owns s old before new after
+pub words_own : (lost : ℕ) (refused : Bool) (now : ℕ) (at : Moment) (s : Settings) (calls : List Call) (old new : Client) (before after : Ordered) → Stands s calls old.gate → HearsNode lost refused now at s calls old before new after → Owns s old before new after
 words_own lost refused now at s calls old new before after stands h =
     let again = may_be_lost lost old in
     let asked = now_asked before now old in
@@ -200,14 +201,33 @@ kept_own timeout now at s calls old new before after stands k =
           k.orders
           ∙ ap (λ (orders : Ordered). ordered orders asks) k.asked.orders
           ∙ ap (λ (items : List Order). record before { items = items }) (append_assoc before.items ping asks);
-      own = only_append old.origin.0 ping asks (only_ping old.origin.0 (is_silent old now) old.origin.2 ping k.asked.is_ping) (only_again again old.origin at (gate s calls).waiting);
+      own = only_append old.origin ping asks (only_ping old.origin (is_silent old now) ping k.asked.is_ping) (only_again again old.origin at (gate s calls).waiting);
     }
 
-ticks_own : (slow : Bool) (timeout now : ℕ) (at : Moment) (s : Settings) (calls : List Call) (old new : Client) (before after : Ordered) → is_too_slow old now ≡ slow → Stands s calls old.gate → Ticks timeout now at s calls old before new after → Owns s old before new after
-ticks_own true timeout now at s calls old new before after is stands t =
-    lost_own old.is_gone now at s calls old new before after refl stands (t.slow is)
-ticks_own false timeout now at s calls old new before after is stands t =
+-- a client that is too slow is told so, and then it is lost
+sent_own : (now : ℕ) (at : Moment) (s : Settings) (calls : List Call) (old new : Client) (before after : Ordered) → Stands s calls old.gate → IsSentOff now at s calls old before new after → Owns s old before new after
+unfolding TellsOnly
+sent_own now at s calls old new before after stands sent =
+    let line = Write old.origin.2 sent.line in
+    let h = lost_own old.is_gone now at s calls old new (ordered before (line ∷ [])) after refl stands sent.lost in
+    record {
+      behind = h.behind;
+      stands = h.stands;
+      origin = h.origin;
+      told = line ∷ h.told;
+      orders = h.orders ∙ ap (λ (items : List Order). record before { items = items }) (append_assoc before.items (line ∷ []) h.told);
+      own = (refl, h.own);
+    }
+
+pub ticks_own : (reads slow : Bool) (timeout now : ℕ) (at : Moment) (s : Settings) (calls : List Call) (old new : Client) (before after : Ordered) → is_too_slow (waited reads now old) now ≡ slow → Stands s calls old.gate → Ticks reads timeout now at s calls old before new after → Owns s old before new after
+ticks_own true true timeout now at s calls old new before after is stands t =
+    sent_own now at s calls old new before after stands (t.slow is)
+ticks_own false true timeout now at s calls old new before after is stands t =
+    renamed s old (held_back now old) new before after refl (sent_own now at s calls (held_back now old) new before after stands (t.slow is))
+ticks_own true false timeout now at s calls old new before after is stands t =
     kept_own timeout now at s calls old new before after stands (t.kept is)
+ticks_own false false timeout now at s calls old new before after is stands t =
+    renamed s old (held_back now old) new before after refl (kept_own timeout now at s calls (held_back now old) new before after stands (t.kept is))
 
 event_own : (event : Event) (now : ℕ) (at : Moment) (s : Settings) (calls : List Call) (old new : Client) (before after : Ordered) → Happens event now at old before new after → Stands s calls old.gate → Owns s old before new after
 event_own (Speaks bytes) now at s calls old new before after h stands =
@@ -218,8 +238,8 @@ event_own Goes now at s calls old new before after h stands =
     lost_own old.is_gone now at s calls old new before after refl stands (h s calls stands)
 event_own (Words lost refused) now at s calls old new before after h stands =
     words_own lost refused now at s calls old new before after stands (h s calls stands)
-event_own (Waits timeout) now at s calls old new before after h stands =
-    ticks_own (is_too_slow old now) timeout now at s calls old new before after refl stands (h s calls stands)
+event_own (Waits reads timeout) now at s calls old new before after h stands =
+    ticks_own reads (is_too_slow (waited reads now old) now) timeout now at s calls old new before after refl stands (h s calls stands)
 
 pub asks_own : AsksOwn
 unfolding HappenAll TellsOnly
@@ -234,5 +254,5 @@ asks_own (h ∷ more) s calls old new before after (client, orders, happens, res
           last.orders
           ∙ ap (λ (orders : Ordered). ordered orders last.told) first.orders
           ∙ ap (λ (items : List Order). record before { items = items }) (append_assoc before.items first.told last.told);
-      own = only_append old.origin.0 first.told last.told first.own (subst (λ (origin : Origin). TellsOnly origin.0 last.told) first.origin last.own);
+      own = only_append old.origin first.told last.told first.own (subst (λ (origin : Origin). TellsOnly origin last.told) first.origin last.own);
     }

@@ -68,7 +68,7 @@ pub record Arrives (origin : Origin) (password nick : List ℕ) (now : ℕ) (new
   pub client : Client
   pub is_there : client_at new origin.2 ≡ Some client
   pub held : Held
-  pub is_new : IsNew origin held now client
+  pub is_new : IsNew origin held nick now client
   pub is_made : Stands (made origin password nick) [] held
 
 -- a client has connected to a node that is up in this run, if it was given a number

@@ -112,13 +112,13 @@ abbrev pub line_to_claim : Option Status → Option ((ℕ × ℕ) × ℕ)
 line_to_claim (Some status) = line_in status.session status.next_claim
 line_to_claim None = None
 
--- this line was claimed last, and not so long ago
+-- this line was claimed last, and the claim may be in the log, or was told not so long ago
 abbrev pub is_claimed : Option Claimed → ℕ → ℕ → (ℕ × ℕ) → ℕ → Bool
 is_claimed None wait now session number = false
 is_claimed (Some last) wait now session number =
-    same_session last.session session && nat_eq last.number number && not (is_over last.at wait now)
+    same_session last.session session && nat_eq last.number number && not (last.is_settled && is_over last.at wait now)
 
--- the line that is to be claimed, but for one that was claimed last and not so long ago
+-- the line that is to be claimed, but for one whose claim may still stand
 abbrev pub unless_claimed : Desk → ℕ → ℕ → Option ((ℕ × ℕ) × ℕ) → Option ((ℕ × ℕ) × ℕ)
 unless_claimed desk wait now None = None
 unless_claimed desk wait now (Some line) = if is_claimed desk.claimed wait now line.0 line.1 then None else Some line
@@ -140,10 +140,12 @@ abbrev pub paced : Pace → ℕ → Option ((ℕ × ℕ) × ℕ) → Pace
 paced pace now None = pace
 paced pace now (Some line) = record pace { free_at = free_after pace.burst pace.line_ms pace.free_at now }
 
--- the desk behind it: it knows which line was claimed, and when
-abbrev pub desk_claimed : Desk → ℕ → Bool → Option ((ℕ × ℕ) × ℕ) → Desk
-desk_claimed desk now may None = desk
-desk_claimed desk now may (Some line) =
-    if may
-    then record desk { claimed = Some (record { session = line.0; number = line.1; at = at now }) }
-    else desk
+-- the claim of a line, which the node is told now, by its next note
+abbrev pub claim_told : Ordered → Desk → ℕ → ((ℕ × ℕ) × ℕ) → Claimed
+claim_told orders desk now line =
+    record { session = line.0; number = line.1; at = at now; note = next_note orders desk.id; is_settled = false }
+
+-- the desk behind it: it knows which line was claimed, when, and by which note
+abbrev pub desk_claimed : Ordered → Desk → ℕ → Bool → Option ((ℕ × ℕ) × ℕ) → Desk
+desk_claimed orders desk now may None = desk
+desk_claimed orders desk now may (Some line) = if may then record desk { claimed = Some (claim_told orders desk now line) } else desk

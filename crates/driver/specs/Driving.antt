@@ -100,7 +100,7 @@ LeavesIf true now why old new = Leaves now why old new
 pub record Claims (now node : ℕ) (old new : Driver) : Type 0 where
   pub desks :
       new.desks
-      ≡ changed_at (λ desk. desk_claimed desk now (may_go old.pace.burst old.pace.line_ms old.pace.free_at now) (claim_due desk old.settings now)) old.desks node
+      ≡ changed_at (λ desk. desk_claimed old.orders desk now (may_go old.pace.burst old.pace.line_ms old.pace.free_at now) (claim_due desk old.settings now)) old.desks node
   pub orders : new.orders ≡ ordered old.orders (orders_at (λ desk. told desk.id (claim_at desk old.settings now old.pace)) old.desks node)
   pub rest : new ≡ record old { desks = new.desks; orders = new.orders; pace = new.pace }
 
@@ -152,7 +152,7 @@ pub record Ticks (now : ℕ) (at : Moment) (old new : Driver) : Type 0 where
   pub left : Driver
   pub leaves : LeavesIf (is_silent old.link.stage now) now Silent (awake now old) left
   pub served : Driver
-  pub clients : TickEach at left.settings.timeout_ms now (keys left.clients.all) (told_of left) (told_of served)
+  pub clients : TickEach at left.settings.timeout_ms now left.desks (keys left.clients.all) (told_of left) (told_of served)
   pub is_served : served ≡ record left { clients = served.clients; orders = served.orders }
   pub asked : Driver
   pub nodes : TickNodes 7 now 1 served asked

@@ -1,5 +1,5 @@
 -- What is known of a node behind word of how it stands, and what an operator is told of it.
-use Rattle.std.specs.Prelude.{ℕ, ◌&&◌, ◌||◌, Bool, true, false, not, max, min, nat_eq, nat_lt, if◌then◌else◌, List, [], ◌∷◌, ◌++◌, Option, Some, None}
+use Rattle.std.specs.Prelude.{ℕ, ◌&&◌, ◌||◌, Bool, true, false, not, max, min, nat_eq, nat_le, nat_lt, if◌then◌else◌, List, [], ◌∷◌, ◌++◌, Option, Some, None}
 use Rattle.node_notes.specs.declared.progress.Progress.{Progress}
 use Rattle.node_notes.specs.declared.status.Status.{Status}
 use Rattle.node_notes.specs.Notes.{leads}
@@ -8,6 +8,7 @@ use Rattle.pacing.specs.Pacing.{doubled}
 use Rattle.raft_log.specs.declared.role.Role.{Role}
 use Rattle.raft_log.specs.declared.role.Role.TheVariants.{Follower, Candidate, Leader}
 use Rattle.raft_node.specs.declared.node_fault.Cause.{Cause}
+use Rattle.driver.specs.declared.desk.Claimed.{Claimed}
 use Rattle.driver.specs.declared.desk.Desk.{Desk}
 use Rattle.driver.specs.declared.desk.hearing.Heard.{Heard}
 use Rattle.driver.specs.declared.news.News.TheVariants.{Down, Elected, TurnedAway, Up}
@@ -100,12 +101,22 @@ progressed known told heard = record {
   contacts = max known.contacts heard.contacts;
 }
 
+-- The claim of a line is applied, or is not in the log, once its note is done and the node has applied all of its log.
+abbrev pub settles : ℕ → Status → ℕ → Bool
+settles note status done = nat_le note done && nat_eq status.applied status.last
+
+-- what is known of the last claim of a node that stands so, and of which so many notes are done
+abbrev pub settled : Option Claimed → Status → ℕ → Option Claimed
+settled None status done = None
+settled (Some claim) status done = Some (record claim { is_settled = claim.is_settled || settles claim.note status done })
+
 -- it stands so, its worker is so far, and a leader was heard of where it had more contacts with one than were known
 abbrev pub told_behind : Desk → ℕ → ℕ → Status → Progress → Desk
 told_behind desk now told status progress =
     record (waiting_behind desk now status (nat_lt desk.progress.contacts progress.contacts)) {
       status = Some status;
       progress = progressed desk.progress told progress;
+      claimed = settled desk.claimed status (progressed desk.progress told progress).done;
     }
 
 abbrev pub stood_behind : Desk → ℕ → Bool → Option Cause → Desk

@@ -1,12 +1,16 @@
 pub mod Arriving
 pub mod Asking
+pub mod Calls
+pub mod Claiming
 pub mod Clients
+pub mod Coming
 pub mod Crowds
 pub mod Desks
 pub mod Driving
 pub mod Filling
 pub mod Gone
 pub mod Hearing
+pub mod Kicks
 pub mod Leading
 pub mod Led
 pub mod Links

@@ -65,6 +65,23 @@ AreWritten (number ∷ numbers) clients text before after =
 abbrev pub AllAreWritten : Clients → List ℕ → Ordered → Ordered → Type 0
 AllAreWritten clients text before after = AreWritten (keys clients.all) clients text before after
 
+-- a client that registered, and whose connection stands, was greeted by another nick than this one
+abbrev pub is_misnamed : Client → List ℕ → Bool
+is_misnamed client nick = is_reached client && not (same_bytes client.nick nick)
+
+-- and is told of this one
+abbrev pub IsNamed : Client → List ℕ → Ordered → Ordered → Type 0
+IsNamed client nick before after = IsWrittenIf (is_misnamed client nick) client.origin.2 (renaming client.nick nick) before after
+
+abbrev pub IsNamedIn : Option Client → List ℕ → Ordered → Ordered → Type 0
+IsNamedIn None nick before after = after ≡ before
+IsNamedIn (Some client) nick before after = IsNamed client nick before after
+
+-- A client that had not registered before, and has now, is told of the nick in force where it was greeted by another.
+abbrev pub IsGreeted : Bool → Option Client → List ℕ → Ordered → Ordered → Type 0
+IsGreeted true found nick before after = after ≡ before
+IsGreeted false found nick before after = IsNamedIn found nick before after
+
 -- all clients are told of another nick where they are to be
 abbrev pub RenamesIf : Bool → Clients → List ℕ → Ordered → Ordered → Type 0
 RenamesIf false clients text before after = after ≡ before

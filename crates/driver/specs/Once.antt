@@ -11,9 +11,10 @@ use Rattle.client_gate.specs.Numbers.{all_requests}
 use Rattle.node_notes.specs.declared.note.Note.{Note}
 use Rattle.node_notes.specs.declared.note.Note.TheVariants.{Ask}
 use Rattle.wire_bytes.specs.declared.moment.Moment.{Moment}
+use Rattle.wire_bytes.specs.declared.origin.Origin.{Origin}
 use Rattle.driver.specs.declared.client.Client.{Client}
 use Rattle.driver.specs.declared.order.Order.{Order}
-use Rattle.driver.specs.declared.order.Order.TheVariants.{Tell}
+use Rattle.driver.specs.declared.order.Order.TheVariants.{Close, Tell, Tells, Write}
 use Rattle.driver.specs.Asking.{HearsNode, is_stuck, may_be_lost}
 use Rattle.driver.specs.Crowds.{Ticks}
 use Rattle.driver.specs.Serving.{Hears, IsLost, Receives}
@@ -46,13 +47,13 @@ pub record TellsOnce (s : Settings) (calls : List Call) (before : Ordered) (new 
   pub once : numbers_of (all_requests s behind) ≡ numbers_of (all_requests s calls) ++ numbers_told told
 
 -- What happens to a client at a moment: bytes of it come, something comes of a request, its connection is gone, its node tells what
--- may be lost and whether it refused a turn, or time passes.
+-- may be lost and whether it refused a turn, or time passes, in which it is read or not.
 pub data Event : Type 0 where
   Speaks : List ℕ → Event
   Learns : GateEffect → Event
   Goes : Event
   Words : ℕ → Bool → Event
-  Waits : ℕ → Event
+  Waits : Bool → ℕ → Event
 
 -- This happens to a client, whatever calls its gate stands behind.
 abbrev pub Happens : Event → ℕ → Moment → Client → Ordered → Client → Ordered → Type 0
@@ -64,13 +65,13 @@ Happens Goes now at old before new after =
     (s : Settings) (calls : List Call) → Stands s calls old.gate → IsLost now at s calls old before new after
 Happens (Words lost refused) now at old before new after =
     (s : Settings) (calls : List Call) → Stands s calls old.gate → HearsNode lost refused now at s calls old before new after
-Happens (Waits timeout) now at old before new after =
-    (s : Settings) (calls : List Call) → Stands s calls old.gate → Ticks timeout now at s calls old before new after
+Happens (Waits reads timeout) now at old before new after =
+    (s : Settings) (calls : List Call) → Stands s calls old.gate → Ticks reads timeout now at s calls old before new after
 
 -- what waits is asked again: it may be lost, or is held up
 abbrev pub asks_again : Event → ℕ → Client → Bool
 asks_again (Words lost refused) now c = may_be_lost lost c
-asks_again (Waits timeout) now c = is_stuck timeout now c
+asks_again (Waits reads timeout) now c = is_stuck timeout now c
 asks_again event now c = false
 
 -- An event and its moment.
@@ -100,24 +101,32 @@ AsksOnce =
     (happenings : List Happening) (s : Settings) (calls : List Call) (old new : Client) (before after : Ordered)
     → AreQuiet happenings old before new after → Stands s calls old.gate → TellsOnce s calls before new after
 
--- an order tells this node something, or no node anything
-abbrev pub IsFor : ℕ → Order → Type 0
-IsFor node (Tell other note) = other ≡ node
-IsFor node order = Unit {0}
+-- a note is a request of this client
+abbrev pub IsAskOf : Origin → Note TowerBody WireLine → Type 0
+IsAskOf origin (Ask (Asked other number at action)) = other ≡ origin
+IsAskOf origin note = ⊥
 
--- no other node is told anything
-unfoldable pub TellsOnly : ℕ → List Order → Type 0
-TellsOnly node [] = Unit {0}
-TellsOnly node (order ∷ more) = IsFor node order × TellsOnly node more
+-- an order is of this client: its node is told a request of it, it is written to or closed, or an operator is told something
+abbrev pub IsFor : Origin → Order → Type 0
+IsFor origin (Tell node note) = (node ≡ origin.0) × IsAskOf origin note
+IsFor origin (Write client bytes) = client ≡ origin.2
+IsFor origin (Close client) = client ≡ origin.2
+IsFor origin (Tells news) = Unit {0}
+IsFor origin order = ⊥
 
--- What was ordered between tells no other node than this one anything.
-pub record TellsOwn (node : ℕ) (before after : Ordered) : Type 0 where
+-- all orders are of this client
+unfoldable pub TellsOnly : Origin → List Order → Type 0
+TellsOnly origin [] = Unit {0}
+TellsOnly origin (order ∷ more) = IsFor origin order × TellsOnly origin more
+
+-- What was ordered between is of this client alone.
+pub record TellsOwn (origin : Origin) (before after : Ordered) : Type 0 where
   pub told : List Order
   pub orders : after ≡ ordered before told
-  pub own : TellsOnly node told
+  pub own : TellsOnly origin told
 
--- Whatever happens to a client: what it asks goes to its own node alone.
+-- Whatever happens to a client: what it asks goes to its own node, under its own origin, and what is written goes to it.
 abbrev pub AsksOwn : Type 0
 AsksOwn =
     (happenings : List Happening) (s : Settings) (calls : List Call) (old new : Client) (before after : Ordered)
-    → HappenAll happenings old before new after → Stands s calls old.gate → TellsOwn old.origin.0 before after
+    → HappenAll happenings old before new after → Stands s calls old.gate → TellsOwn old.origin before after

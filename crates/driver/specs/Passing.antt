@@ -1,37 +1,44 @@
 -- Where effects that left a node go.
-use Rattle.std.specs.Prelude.{◌≡◌, ℕ, List, [], ◌∷◌, None, Some}
+use Rattle.std.specs.Prelude.{◌≡◌, ℕ, true, false, List, [], ◌∷◌, None, Some}
 use Rattle.bouncer_tower.specs.Hosting.{class_of}
 use Rattle.client_gate.specs.Gates.{GateEffect}
 use Rattle.irc_line.specs.Lines.{Parts}
+use Rattle.machine_laws.specs.Origins.{same_origin}
 use Rattle.machine_laws.specs.declared.class.Class.{Class}
 use Rattle.machine_laws.specs.declared.class.Class.TheVariants.{To, Hand, Rejoin, Nowhere}
 use Rattle.wire_bytes.specs.declared.moment.Moment.{Moment}
 use Rattle.wire_bytes.specs.declared.origin.Origin.{Origin}
+use Rattle.driver.specs.declared.client.Client.{Client}
 use Rattle.driver.specs.declared.link.Stage.{Stage}
 use Rattle.driver.specs.Crowds.{Told}
-use Rattle.driver.specs.Links.{Sends}
+use Rattle.driver.specs.Kicks.{Rejoins}
 use Rattle.driver.specs.Rosters.{AreOthersSame, Serves, client_at}
 use Rattle.driver.specs.Serving.{Hears}
 
--- An effect for the client of this origin is heard by it, where there is one; all others are as they were.
+-- An effect for the client of this origin is heard by it, where there is one; all others are as they were, one of another origin that has
+-- the same number too.
 pub record HearsOne (now : ℕ) (at : Moment) (origin : Origin) (effect : GateEffect) (old new : Told) : Type 0 where
   pub others : AreOthersSame origin.2 old.clients new.clients
   pub nobody : client_at old.clients origin.2 ≡ None → (new.clients ≡ old.clients) × (new.orders ≡ old.orders)
+  pub stranger :
+      (c : Client) → client_at old.clients origin.2 ≡ Some c → same_origin c.origin origin ≡ false
+      → (new.clients ≡ old.clients) × (new.orders ≡ old.orders)
   pub served :
       Serves
-      (λ c. (client_at old.clients origin.2 ≡ Some c) × (c.origin ≡ origin))
+      (λ c. (client_at old.clients origin.2 ≡ Some c) × (same_origin c.origin origin ≡ true))
       (λ s calls c client. Hears effect now at s calls c old.orders client new.orders)
       origin.2 new.clients
 
 -- An effect that joins anew goes to the server in a session of this node, one for a client to that client, and others nowhere.
-abbrev pub PassesBy : Class Parts → ℕ → Moment → Stage → ℕ → GateEffect → Told → Told → Type 0
-PassesBy (To origin) now at stage node effect old new = HearsOne now at origin effect old new
-PassesBy (Rejoin session line) now at stage node effect old new = (new.clients ≡ old.clients) × Sends stage node line old.orders new.orders
-PassesBy (Hand session number line) now at stage node effect old new = new ≡ old
-PassesBy Nowhere now at stage node effect old new = new ≡ old
+abbrev pub PassesBy : Class Parts → ℕ → Moment → Stage → List ℕ → ℕ → GateEffect → Told → Told → Type 0
+PassesBy (To origin) now at stage nick node effect old new = HearsOne now at origin effect old new
+PassesBy (Rejoin session line) now at stage nick node effect old new =
+    (new.clients ≡ old.clients) × Rejoins stage node line nick old.clients old.orders new.orders
+PassesBy (Hand session number line) now at stage nick node effect old new = new ≡ old
+PassesBy Nowhere now at stage nick node effect old new = new ≡ old
 
--- effects pass in turn
-unfoldable pub PassEach : ℕ → Moment → Stage → ℕ → List GateEffect → Told → Told → Type 0
-PassEach now at stage node [] old new = new ≡ old
-PassEach now at stage node (effect ∷ effects) old new =
-    (behind : Told) × PassesBy (class_of effect) now at stage node effect old behind × PassEach now at stage node effects behind new
+-- effects pass in turn, under the nick in force
+unfoldable pub PassEach : ℕ → Moment → Stage → List ℕ → ℕ → List GateEffect → Told → Told → Type 0
+PassEach now at stage nick node [] old new = new ≡ old
+PassEach now at stage nick node (effect ∷ effects) old new =
+    (behind : Told) × PassesBy (class_of effect) now at stage nick node effect old behind × PassEach now at stage nick node effects behind new

@@ -13,6 +13,7 @@ use Rattle.driver.specs.Crowds.{CutEach, LeaveEach, Told, WordEach}
 use Rattle.driver.specs.Driving.{TicksNode, changed_at, orders_at, told_of}
 use Rattle.driver.specs.Gone.{fresh, heard_in}
 use Rattle.driver.specs.Hearing.{heard_behind, heard_news, heard_of}
+use Rattle.driver.specs.Nicks.{nick_in}
 use Rattle.driver.specs.Passing.{PassEach}
 use Rattle.driver.specs.Rounds.{word_begun, word_told}
 use Rattle.driver.specs.Telling.{Ordered, ordered, told_to}
@@ -79,7 +80,7 @@ pub record Hears (now : ℕ) (at : Moment) (node : ℕ) (status : Status) (effec
   pub stood : Driver
   pub stands : Stands now node status progress refused (awake now old) stood
   pub passed : Driver
-  pub passes : PassEach now at stood.link.stage node effects (told_of stood) (told_of passed)
+  pub passes : PassEach now at stood.link.stage (nick_in stood) node effects (told_of stood) (told_of passed)
   pub is_passed : passed ≡ record stood { clients = passed.clients; orders = passed.orders }
   pub worded : Driver
   pub words : WordsBy status.down refused (heard_at (awake now old) node status progress).has_lost now at node passed (told_of passed) (told_of worded)

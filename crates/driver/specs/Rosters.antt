@@ -4,6 +4,7 @@ use Rattle.std.specs.Ordering.{nat_cmp}
 use Rattle.std.specs.BTreeMap.{get}
 use Rattle.client_gate.specs.declared.settings.Settings.{Settings}
 use Rattle.client_gate.specs.Calls.{Call, Held, Stands, gate}
+use Rattle.machine_laws.specs.Origins.{same_origin}
 use Rattle.wire_bytes.specs.declared.origin.Origin.{Origin}
 use Rattle.driver.specs.declared.client.Client.{Client}
 use Rattle.driver.specs.declared.clients.Clients.{Clients}
@@ -20,6 +21,11 @@ client_at clients number = get nat_cmp clients.all number
 abbrev pub node_in : Option Client → Option ℕ
 node_in None = None
 node_in (Some client) = Some client.origin.0
+
+-- a client is the one of this origin, if there is one
+abbrev pub is_there : Option Client → Origin → Bool
+is_there None origin = false
+is_there (Some client) origin = same_origin client.origin origin
 
 -- a client registered at its node, if there is one
 abbrev pub is_attached_in : Option Client → Bool
@@ -71,13 +77,15 @@ Serves is_meant happens number new =
     (s : Settings) (calls : List Call) (c : Client) → is_meant c → Stands s calls c.gate → Becomes (happens s calls c) number s new
 
 -- A client that has just connected: nothing was asked of it, or by it.
-pub record IsNew (origin : Origin) (held : Held) (now : ℕ) (client : Client) : Type 0 where
+pub record IsNew (origin : Origin) (held : Held) (nick : List ℕ) (now : ℕ) (client : Client) : Type 0 where
   pub origin_is : client.origin ≡ origin
   pub gate_is : client.gate ≡ held
+  pub nick_is : client.nick ≡ nick
   pub since : client.since ≡ at now
   pub heard : client.heard ≡ at now
   pub asked_is : client.asked ≡ record { note = 0; at = at now }
   pub is_not_held_up : client.is_held_up ≡ false
   pub is_not_attached : client.is_attached ≡ false
+  pub has_not_joined : client.has_joined ≡ false
   pub is_not_pinged : client.is_pinged ≡ false
   pub is_not_gone : client.is_gone ≡ false

@@ -1,5 +1,5 @@
 -- What comes of a client's bytes, of what came of its requests, and of its end.
-use Rattle.std.specs.Prelude.{◌≡◌, ◌⊎◌, ℕ, Bool, true, false, List, ◌∷◌}
+use Rattle.std.specs.Prelude.{◌≡◌, ◌⊎◌, ◌||◌, ℕ, Bool, true, false, List, ◌∷◌}
 use Rattle.client_gate.specs.declared.fed.Fed.{Fed}
 use Rattle.client_gate.specs.declared.request.Request.{Request}
 use Rattle.client_gate.specs.declared.settings.Settings.{Settings}
@@ -12,6 +12,7 @@ use Rattle.driver.specs.declared.client.Client.{Client}
 use Rattle.driver.specs.Asking.{begun, held_behind, now_asked}
 use Rattle.driver.specs.Clients.{behind_fed, parting_unless, passed}
 use Rattle.driver.specs.Desks.{at}
+use Rattle.driver.specs.Kicks.{shows_join}
 use Rattle.driver.specs.Telling.{Ordered, ordered}
 
 -- a client of which bytes came: it was heard of
@@ -22,7 +23,7 @@ spoke asked now waiting c = record (begun asked waiting c) { heard = at now; is_
 abbrev pub answered : Asked → GateEffect → List Request → Client → Client
 answered asked effect waiting c =
     let behind = begun asked waiting c in
-    record behind { is_held_up = held_behind effect behind.is_held_up }
+    record behind { is_held_up = held_behind effect behind.is_held_up; has_joined = behind.has_joined || shows_join effect }
 
 -- a client whose connection is gone
 abbrev pub gone_from : Asked → List Request → Client → Client

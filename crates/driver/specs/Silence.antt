@@ -8,7 +8,8 @@ use Rattle.driver.specs.declared.client.Client.{Client}
 use Rattle.driver.specs.declared.order.Order.{Order}
 use Rattle.driver.specs.declared.order.Order.TheVariants.{Write}
 use Rattle.driver.specs.Asking.{anew_if, asks_if, is_stuck, now_asked}
-use Rattle.driver.specs.Desks.{is_over}
+use Rattle.driver.specs.Desks.{at, is_over}
+use Rattle.driver.specs.Serving.{IsLost}
 use Rattle.driver.specs.Telling.{Ordered, ordered}
 
 -- a client that is still there did not register within 10 seconds, or did not answer within four minutes
@@ -17,6 +18,25 @@ is_too_slow c now =
     if c.is_gone
     then false
     else if c.is_attached then c.is_pinged && is_over c.heard 240_000 now else is_over c.since 10_000 now
+
+-- a client that is not read: its time to register, and to be silent, begins anew
+abbrev pub held_back : ℕ → Client → Client
+held_back now c = record c { since = at now; heard = at now }
+
+-- A client behind time in which it was read or was not: what it says is heard only where it is read.
+abbrev pub waited : Bool → ℕ → Client → Client
+waited reads now c = if reads then c else held_back now c
+
+-- what a client that is too slow is told, one that registered or that did not
+abbrev pub late_line : Bool → List ℕ
+late_line true = codes "ERROR :no word from you for too long" ++ 13 ∷ 10 ∷ []
+late_line false = codes "ERROR :you did not register in time" ++ 13 ∷ 10 ∷ []
+
+-- A client that is too slow is told so, and is parted from.
+pub record IsSentOff (now : ℕ) (at : Moment) (s : Settings) (calls : List Call) (old : Client) (before : Ordered) (new : Client) (after : Ordered) : Type 0 where
+  pub line : Vec ℕ
+  pub says : line.items ≡ late_line old.is_attached
+  pub lost : IsLost now at s calls old (ordered before (Write old.origin.2 line ∷ [])) new after
 
 -- a client that is still there was silent for two minutes, and was not asked for a word since
 abbrev pub is_silent : Client → ℕ → Bool

@@ -10,15 +10,20 @@ ghost use Rattle.driver.specs.Serving.{Hears, IsLost, Receives, StandsSo, ended,
 ghost use Rattle.driver.specs.Telling.{ordered};
 
 mod asking;
+mod joining;
+mod naming;
+mod reading;
 mod silence;
 mod word;
 
 use crate::client::asking::asks;
+use crate::client::joining::shows_join;
 use crate::news::News;
 use crate::order::Now;
 use crate::orders::Orders;
 use bouncer_tower::TowerEffect;
 use client_gate::{ClientGate, Fed};
+use irc_line::Name;
 use pacing::Timer;
 use raft_log::NodeId;
 use request_once::Answer;
@@ -42,9 +47,11 @@ pub struct Client {
     alloc: Global,
     origin: Origin,
     gate: ClientGate,
-    /// When it connected.
+    /// The nick that its gate greets it by.
+    nick: Name,
+    /// When it connected, or was last not read.
     since: Timer,
-    /// When it was last heard of.
+    /// When it was last heard of, or not read.
     heard: Timer,
     /// Of what waits; where nothing waits it says nothing.
     asked: Asked,
@@ -52,6 +59,8 @@ pub struct Client {
     /// waits may be lost.
     is_held_up: bool,
     is_attached: bool,
+    /// It was shown that someone joined a channel: it has channels open.
+    has_joined: bool,
     /// It was asked for a word since it was last heard of.
     is_pinged: bool,
     /// Its connection is gone, or is to be closed.
@@ -60,13 +69,14 @@ pub struct Client {
 
 impl Client {
     /// A client that has just connected.
-    pub fn new(alloc: Global, origin: Origin, gate: ClientGate, now: &Now) -> Client
-        ensures { IsNew origin gate now.now.ms result }
+    pub fn new(alloc: Global, origin: Origin, gate: ClientGate, nick: Name, now: &Now) -> Client
+        ensures { IsNew origin gate nick now.now.ms result }
     {
         Client {
             alloc,
             origin,
             gate,
+            nick,
             since: Timer::from(now.ms),
             heard: Timer::from(now.ms),
             asked: Asked {
@@ -75,6 +85,7 @@ impl Client {
             },
             is_held_up: false,
             is_attached: false,
+            has_joined: false,
             is_pinged: false,
             is_gone: false,
         }
@@ -99,6 +110,13 @@ impl Client {
         ensures { result ≡ self.now.is_attached }
     {
         self.is_attached
+    }
+
+    /// Whether it was shown that someone joined a channel.
+    pub fn has_joined(&self) -> bool
+        ensures { result ≡ self.now.has_joined }
+    {
+        self.has_joined
     }
 
     /// Whether its connection is gone, or is to be closed.
@@ -155,6 +173,7 @@ impl Client {
         match self.gate.on_effect(effect) {
             Ok(fed) => {
                 self.is_held_up = is_held_behind(effect, self.is_held_up);
+                self.has_joined = self.has_joined || shows_join(effect);
                 self.pass(now, fed, orders)?;
             }
             Err(_) => self.part(now, orders)?,

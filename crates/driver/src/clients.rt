@@ -3,15 +3,19 @@ ghost use Rattle.std.specs.Prelude.{◌≡◌, ℕ, List, true, false, Option, N
 ghost use Rattle.std.specs.BTreeMap.{keys};
 ghost use Rattle.client_gate.specs.Calls.{Call, Stands};
 ghost use Rattle.client_gate.specs.declared.settings.Settings.{Settings};
-ghost use Rattle.driver.specs.Crowds.{TickEach, Ticks, told};
-ghost use Rattle.driver.specs.Rosters.{AreOthersSame, IsFullIn, IsKept, Serves, client_at, is_attached_in, node_in};
+ghost use Rattle.driver.specs.declared.client.Client.{Client};
+ghost use Rattle.machine_laws.specs.Origins.{same_origin};
+ghost use Rattle.driver.specs.Crowds.{TickEach, TicksRead, told};
+ghost use Rattle.driver.specs.Rosters.{AreOthersSame, IsFullIn, IsKept, Serves, client_at, is_attached_in, is_there, node_in};
 ghost use Rattle.driver.specs.Serving.{Hears, IsLost, Receives};
 
+mod kicking;
 mod leaving;
 mod news;
 mod writing;
 
 use crate::client::Client;
+use crate::desk::Desk;
 use crate::order::Now;
 use crate::orders::Orders;
 use bouncer_tower::TowerEffect;
@@ -19,6 +23,9 @@ use raft_log::NodeId;
 use std::alloc::{AllocError, Global};
 use std::collections::BTreeMap;
 use wire_bytes::Origin;
+
+/// The most nodes that there may be.
+const MOST_NODES: usize = 7;
 
 /// The clients, by their numbers, which rise in the order in which they connected.
 #[derive(Drop)]
@@ -74,7 +81,8 @@ impl Clients {
         Ok(())
     }
 
-    /// Something came of a request of the client of this origin.
+    /// Something came of a request of the client of this origin. A client of another origin that has the
+    /// same number is as it was.
     pub fn hear(
         &mut self,
         now: &Now,
@@ -85,20 +93,32 @@ impl Clients {
         ensures others { AreOthersSame origin.2 self.old self.new }
         ensures nobody { client_at self.old origin.2 ≡ None →
             (self.new ≡ self.old) × (orders.new ≡ orders.old) }
+        ensures stranger { (c : Client) → client_at self.old origin.2 ≡ Some c →
+            same_origin c.origin origin ≡ false → (self.new ≡ self.old) × (orders.new ≡ orders.old) }
         ensures served { OnOk result (Serves
-            (λ c. (client_at self.old origin.2 ≡ Some c) × (c.origin ≡ origin))
+            (λ c. (client_at self.old origin.2 ≡ Some c) × (same_origin c.origin origin ≡ true))
             (λ s calls c new. Hears effect.now now.now.ms now.now.at s calls c orders.old
             new orders.new) origin.2 self.new) }
     {
+        if !self.is_there(origin) {
+            return Ok(());
+        }
         let Some(client) = self.all.get_mut(&origin.client()) else {
             return Ok(());
         };
-        if client.origin() != origin {
-            return Ok(());
-        }
         client.hear(now, effect, orders)?;
         self.forget_if_over(origin.client());
         Ok(())
+    }
+
+    /// Whether there is a client of this origin.
+    fn is_there(&self, origin: Origin) -> bool
+        ensures { result ≡ is_there (client_at self.now origin.2) origin }
+    {
+        match self.all.get(&origin.client()) {
+            Some(client) => is_same(client.origin(), origin),
+            None => false,
+        }
     }
 
     /// A client's connection is gone.
@@ -167,14 +187,15 @@ impl Clients {
         &mut self,
         now: &Now,
         timeout_ms: u16,
+        desks: &[Desk; MOST_NODES],
         orders: &mut Orders,
     ) -> Result<(), AllocError>
-        ensures { OnOk result (TickEach now.now.at timeout_ms now.now.ms (keys self.old.all)
+        ensures { OnOk result (TickEach now.now.at timeout_ms now.now.ms desks.now (keys self.old.all)
             (told self.old orders.old) (told self.new orders.new)) }
     {
         let numbers = self.numbers()?;
         for number in numbers {
-            self.tick_client(now, timeout_ms, number, orders)?;
+            self.tick_client(now, timeout_ms, desks, number, orders)?;
         }
         Ok(())
     }
@@ -184,6 +205,7 @@ impl Clients {
         &mut self,
         now: &Now,
         timeout_ms: u16,
+        desks: &[Desk; MOST_NODES],
         number: u64,
         orders: &mut Orders,
     ) -> Result<(), AllocError>
@@ -191,13 +213,14 @@ impl Clients {
         ensures nobody { client_at self.old number ≡ None →
             (self.new ≡ self.old) × (orders.new ≡ orders.old) }
         ensures served { OnOk result (Serves (λ c. client_at self.old number ≡ Some c)
-            (λ s calls c new. Ticks timeout_ms now.now.ms now.now.at s calls c
+            (λ s calls c new. TicksRead timeout_ms now.now.ms now.now.at desks.now s calls c
             orders.old new orders.new) number self.new) }
     {
         let Some(client) = self.all.get_mut(&number) else {
             return Ok(());
         };
-        client.tick(now, timeout_ms, orders)?;
+        let is_read = client.is_read(desks, orders);
+        client.tick(now, timeout_ms, is_read, orders)?;
         self.forget_if_over(number);
         Ok(())
     }
@@ -212,4 +235,11 @@ impl Clients {
         }
         Ok(numbers)
     }
+}
+
+/// Whether these are the same.
+fn is_same(a: Origin, b: Origin) -> bool
+    ensures { result ≡ same_origin a b }
+{
+    a.node() == b.node() && a.boot() == b.boot() && a.client() == b.client()
 }

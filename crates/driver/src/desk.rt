@@ -9,6 +9,7 @@ ghost use Rattle.driver.specs.Waking.{waited_longer};
 
 mod clock;
 mod hearing;
+mod reading;
 
 use crate::news::News;
 use crate::order::Now;
@@ -18,6 +19,7 @@ pub use hearing::Heard;
 use node_notes::{Note, Progress, Status};
 use pacing::{Backoff, Pace, Timer};
 use raft_log::NodeId;
+pub use reading::reads_for;
 use std::alloc::AllocError;
 use wire_bytes::{Number, SessionId};
 
@@ -35,12 +37,16 @@ const MOST_WAITING: u64 = 32;
 /// The largest boot.
 const MOST_BOOT: u64 = 1 << 60;
 
-/// A claim that was submitted.
+/// The last claim that the node was told.
 #[derive(Clone, Copy)]
 struct Claimed {
     session: SessionId,
     number: Number,
+    /// When, and by which of the node's notes.
     at: Timer,
+    note: u64,
+    /// Its note is done, and all of the node's log was applied since: it is applied, or it is not in the log.
+    is_settled: bool,
 }
 
 /// What the driver knows of one node, and what the node is told by the clock.

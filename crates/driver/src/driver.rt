@@ -2,19 +2,21 @@
 ghost use Rattle.std.specs.Prelude.{◌≡◌, IfOk, IfSome, None, OnErr, OnOk};
 ghost use Rattle.driver.specs.Arriving.{Arrives, ArrivesIf, IsNewDriver, boot_at, desks_behind};
 ghost use Rattle.driver.specs.Arriving.{last_number, new_desks, next_number, turned_away_at};
+ghost use Rattle.driver.specs.Coming.{Comes};
 ghost use Rattle.driver.specs.Driving.{changed_at, orders_at};
 ghost use Rattle.driver.specs.Gone.{with_seen};
 ghost use Rattle.driver.specs.Hearing.{turned_away, turned_away_news};
 ghost use Rattle.driver.specs.Links.{Sends};
 ghost use Rattle.driver.specs.Nicks.{nick_in};
 ghost use Rattle.driver.specs.Rosters.{AreOthersSame, Serves, client_at, is_attached_in};
-ghost use Rattle.driver.specs.Serving.{IsLost, Receives};
+ghost use Rattle.driver.specs.Serving.{IsLost};
 ghost use Rattle.driver.specs.Telling.{emptied, ordered};
 
 mod filling;
 mod hearing;
 mod nick;
 mod reading;
+mod rejoining;
 mod session;
 mod ticking;
 
@@ -171,24 +173,27 @@ impl Driver {
         let password = Vec::from_slice(self.alloc, self.settings.password.as_slice())?;
         let nick = self.nick().copy(self.alloc)?;
         let gate = ClientGate::new(self.alloc, origin, password, nick)?;
+        let greeted_by = self.nick().copy(self.alloc)?;
         self.clients
-            .insert(Client::new(self.alloc, origin, gate, now))?;
+            .insert(Client::new(self.alloc, origin, gate, greeted_by, now))?;
         Ok(())
     }
 
-    /// Bytes came from a client, however they are cut.
+    /// Bytes came from a client, however they are cut. Where it registered by them, and the nick in force is
+    /// another than the one that it was greeted by, it is told so.
     pub fn receive(&mut self, now: &Now, number: u64, bytes: &[u8]) -> Result<(), AllocError>
         ensures others { AreOthersSame number self.old.clients self.new.clients }
         ensures nobody { client_at self.old.clients number ≡ None →
             (self.new.clients ≡ self.old.clients)
             × (self.new.orders ≡ self.old.orders) }
-        ensures served { OnOk result (Serves (λ c. client_at self.old.clients number ≡ Some c)
-            (λ s calls c new. Receives bytes.now now.now.ms now.now.at s calls c self.old.orders
-            new self.new.orders) number self.new.clients) }
+        ensures served { OnOk result
+            (Comes bytes.now now.now.ms now.now.at number self.old self.new) }
         ensures rest { self.new ≡ record self.old
             { clients = self.new.clients; orders = self.new.orders } }
     {
-        self.clients.receive(now, number, bytes, &mut self.orders)
+        let was_attached = self.clients.is_attached(number);
+        self.clients.receive(now, number, bytes, &mut self.orders)?;
+        self.greet(was_attached, number)
     }
 
     /// A client's connection is gone.

@@ -1,4 +1,5 @@
 //! What holds of every driver, as contracts of functions that do nothing.
+ghost use Rattle.driver.specs.Claiming.{OneClaimWaits};
 ghost use Rattle.driver.specs.Led.{IsOfLeaderHeard, IsOfLeaderTicked};
 ghost use Rattle.driver.specs.Once.{AsksOnce, AsksOwn};
 
@@ -18,4 +19,10 @@ pub fn requests_go_to_their_own_node()
 pub fn the_server_is_of_the_greatest_leader()
     ensures heard { IsOfLeaderHeard }
     ensures ticked { IsOfLeaderTicked }
+{}
+
+/// Over every list of calls of a driver at most one claim of a line waits at a node: where the node is told
+/// to claim a line, and its next claim is of the same line, it told in between that all of its log is applied.
+pub fn one_claim_waits()
+    ensures { OneClaimWaits }
 {}

@@ -10,6 +10,7 @@ mod gone;
 pub mod laws;
 mod leader;
 mod level;
+mod lines;
 mod link;
 mod news;
 mod notices;

@@ -200,7 +200,7 @@ impl Link {
     }
 
     /// Whether there is a session of this node.
-    fn is_session_of(&self, node: NodeId) -> bool
+    pub fn is_session_of(&self, node: NodeId) -> bool
         ensures { result ≡ is_session_of self.now.stage node }
     {
         match &self.stage {

@@ -2,12 +2,12 @@
 ghost use Rattle.std.specs.Prelude.{◌≡◌, ◌||◌, true, false, List, OnOk};
 ghost use Rattle.client_gate.specs.Calls.{Call, Stands};
 ghost use Rattle.client_gate.specs.declared.settings.Settings.{Settings};
-ghost use Rattle.driver.specs.Serving.{IsLost};
-ghost use Rattle.driver.specs.Silence.{IsAsked, IsKept, is_too_slow};
+ghost use Rattle.driver.specs.Silence.{IsAsked, IsKept, IsSentOff, held_back, is_too_slow, late_line, waited};
 
 use crate::client::Client;
 use crate::order::Now;
 use crate::orders::Orders;
+use pacing::Timer;
 use std::alloc::AllocError;
 
 /// How long a client may take to register, in milliseconds: programs send all of it at once, and one that
@@ -21,10 +21,47 @@ const SILENCE: u64 = 120_000;
 /// What a client is asked that was silent for long.
 const PING: &[u8] = b"PING bouncer.local\r\n";
 
+/// What a client is told that did not register in time.
+const TOO_SLOW: &[u8] = b"ERROR :you did not register in time\r\n";
+
+/// What a client is told that did not answer.
+const TOO_SILENT: &[u8] = b"ERROR :no word from you for too long\r\n";
+
 impl Client {
-    /// Time passed: it may be too slow to register, or too silent; and where it is held up, what waits is
-    /// asked for again, once each timeout.
+    /// Time passed, in which it was read or was not: it may be too slow to register, or too silent, where it
+    /// was read; and where it is held up, what waits is asked for again, once each timeout.
     pub fn tick(
+        &mut self,
+        now: &Now,
+        timeout_ms: u16,
+        is_read: bool,
+        orders: &mut Orders,
+    ) -> Result<(), AllocError>
+        ensures slow { (s : Settings) (calls : List Call) → Stands s calls self.old.gate →
+            is_too_slow (waited is_read now.now.ms self.old) now.now.ms ≡ true → OnOk result
+            (IsSentOff now.now.ms now.now.at s calls (waited is_read now.now.ms self.old)
+            orders.old self.new orders.new) }
+        ensures kept { (s : Settings) (calls : List Call) → Stands s calls self.old.gate →
+            is_too_slow (waited is_read now.now.ms self.old) now.now.ms ≡ false → OnOk result
+            (IsKept timeout_ms now.now.ms now.now.at s calls (waited is_read now.now.ms self.old)
+            orders.old self.new orders.new) }
+    {
+        if !is_read {
+            self.hold_back(now);
+        }
+        self.tick_read(now, timeout_ms, orders)
+    }
+
+    /// It is not read: what it says meanwhile is not heard.
+    fn hold_back(&mut self, now: &Now)
+        ensures { self.new ≡ held_back now.now.ms self.old }
+    {
+        self.since = Timer::from(now.ms);
+        self.heard = Timer::from(now.ms);
+    }
+
+    /// Time passed.
+    fn tick_read(
         &mut self,
         now: &Now,
         timeout_ms: u16,
@@ -32,13 +69,13 @@ impl Client {
     ) -> Result<(), AllocError>
         ensures slow { (s : Settings) (calls : List Call) → Stands s calls self.old.gate →
             is_too_slow self.old now.now.ms ≡ true → OnOk result
-            (IsLost now.now.ms now.now.at s calls self.old orders.old self.new orders.new) }
+            (IsSentOff now.now.ms now.now.at s calls self.old orders.old self.new orders.new) }
         ensures kept { (s : Settings) (calls : List Call) → Stands s calls self.old.gate →
             is_too_slow self.old now.now.ms ≡ false → OnOk result
             (IsKept timeout_ms now.now.ms now.now.at s calls self.old orders.old self.new orders.new) }
     {
         if self.is_too_slow(now) {
-            return self.hang_up(now, orders);
+            return self.send_off(now, orders);
         }
         self.ask_for_word(now, orders)?;
         if self.is_held_up && self.asked.at.has_passed(timeout_ms as u64, now.ms) {
@@ -58,6 +95,27 @@ impl Client {
         let ping = Vec::from_slice(self.alloc, PING)?;
         orders.write(self.origin.client(), ping)?;
         Ok(())
+    }
+
+    /// It is told that it was too slow, and its connection is closed.
+    fn send_off(&mut self, now: &Now, orders: &mut Orders) -> Result<(), AllocError>
+        ensures { (s : Settings) (calls : List Call) → Stands s calls self.old.gate → OnOk result
+            (IsSentOff now.now.ms now.now.at s calls self.old orders.old self.new orders.new) }
+    {
+        let error = Vec::from_slice(self.alloc, self.late_line())?;
+        orders.write(self.origin.client(), error)?;
+        self.hang_up(now, orders)
+    }
+
+    /// What it is told where it is too slow.
+    fn late_line(&self) -> &'static [u8]
+        ensures { result.now ≡ late_line self.now.is_attached }
+    {
+        if self.is_attached {
+            TOO_SILENT
+        } else {
+            TOO_SLOW
+        }
     }
 
     /// Whether it did not register in time, or did not answer; one that is gone no more is.

@@ -1,6 +1,6 @@
 //! What is written to all clients.
-ghost use Rattle.std.specs.Prelude.{◌≡◌, OnOk};
-ghost use Rattle.driver.specs.Nicks.{AllAreWritten, IsWritten, is_reached};
+ghost use Rattle.std.specs.Prelude.{◌≡◌, None, OnOk};
+ghost use Rattle.driver.specs.Nicks.{AllAreWritten, IsNamedIn, IsWritten, is_reached};
 ghost use Rattle.driver.specs.Rosters.{client_at};
 
 use crate::client::Client;
@@ -18,6 +18,18 @@ impl Clients {
             self.write_to(number, text, orders)?;
         }
         Ok(())
+    }
+
+    /// The client of this number is told of this nick, which is in force, where it was greeted by another.
+    pub fn tell_nick(&self, number: u64, nick: &[u8], orders: &mut Orders) -> Result<(), AllocError>
+        ensures told { OnOk result
+            (IsNamedIn (client_at self.now number) nick.now orders.old orders.new) }
+        ensures nobody { client_at self.now number ≡ None → orders.new ≡ orders.old }
+    {
+        match self.all.get(&number) {
+            Some(client) => client.tell_nick(nick, orders),
+            None => Ok(()),
+        }
     }
 
     /// The client of this number is written this, where it is attached and its connection stands.

@@ -86,7 +86,7 @@ impl Desk {
     }
 
     /// The next line is claimed for the session, where the node has one, and where the pace allows it.
-    /// The same claim is submitted again only after a while.
+    /// The same claim is told again only behind a while, and where it is known not to be in the log.
     pub fn claim(
         &mut self,
         now: &Now,
@@ -96,7 +96,7 @@ impl Desk {
     ) -> Result<(), AllocError>
         ensures told { OnOk result (orders.new ≡ ordered orders.old
             (told self.old.id (claim_at self.old settings.now now.now.ms pace.old))) }
-        ensures desk { OnOk result (self.new ≡ desk_claimed self.old now.now.ms
+        ensures desk { OnOk result (self.new ≡ desk_claimed orders.old self.old now.now.ms
             (may_go pace.old.burst pace.old.line_ms pace.old.free_at now.now.ms)
             (claim_due self.old settings.now now.now.ms)) }
         ensures pace { pace.new
@@ -108,16 +108,18 @@ impl Desk {
         if !pace.go(now.ms) {
             return Ok(());
         }
+        let note = orders.tell(self.id, Note::Claim)?;
         self.claimed = Some(Claimed {
             session,
             number,
             at: Timer::from(now.ms),
+            note,
+            is_settled: false,
         });
-        orders.tell(self.id, Note::Claim)?;
         Ok(())
     }
 
-    /// The line that is to be claimed, if there is one that was not claimed just before.
+    /// The line that is to be claimed, if there is one whose claim may not still stand.
     #[tactic(auto, unfolding(crate::specs::Desks::claim_due))]
     fn claim_due(&self, now: &Now, settings: &Settings) -> Option<(SessionId, Number)>
         ensures { result ≡ claim_due self.now settings.now now.now.ms }
@@ -141,13 +143,13 @@ impl Desk {
 }
 
 impl Claimed {
-    /// Whether this line was claimed, and not so long ago.
+    /// Whether it is of this line, and may be in the log, or was told not so long ago.
     fn is_of(&self, now: &Now, settings: &Settings, session: SessionId, number: Number) -> bool
         ensures { result ≡ is_claimed (Some self.now) settings.now.timeout_ms now.now.ms
             session number }
     {
         self.session == session
             && self.number == number
-            && !self.at.has_passed(settings.timeout_ms as u64, now.ms)
+            && !(self.is_settled && self.at.has_passed(settings.timeout_ms as u64, now.ms))
     }
 }

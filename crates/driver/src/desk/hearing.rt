@@ -2,10 +2,10 @@
 ghost use Rattle.std.specs.Prelude.{◌≡◌, ◌++◌, IfOk, OnOk, None, Some};
 ghost use Rattle.driver.specs.Hearing.{down_behind, down_news, elected_news, heard_behind, heard_news};
 ghost use Rattle.driver.specs.Hearing.{heard_of, is_new_run, is_raised, led_in, up_behind, up_news};
-ghost use Rattle.driver.specs.Hearing.{progressed, waiting_behind, was_up};
+ghost use Rattle.driver.specs.Hearing.{progressed, settled, waiting_behind, was_up};
 ghost use Rattle.driver.specs.Telling.{ordered, told_to};
 
-use crate::desk::Desk;
+use crate::desk::{Claimed, Desk};
 use crate::news::News;
 use crate::order::Now;
 use crate::orders::Orders;
@@ -53,6 +53,7 @@ impl Desk {
         self.hear_term(now, status, self.progress.contacts < progress.contacts);
         self.status = Some(*status);
         self.progress = progressed(&self.progress, told, progress);
+        self.claimed = settled(self.claimed, status, self.progress.done);
         match status.down {
             Some(cause) => self.hear_down(now, cause, orders)?,
             None => self.hear_up(now, was_up, status.boot, orders)?,
@@ -168,6 +169,18 @@ impl Desk {
         }
         Ok(())
     }
+}
+
+/// What is known of the last claim of a node that stands so, and of which so many notes are done.
+fn settled(claimed: Option<Claimed>, status: &Status, done: u64) -> Option<Claimed>
+    ensures { result ≡ settled claimed status.now done }
+{
+    let claim = claimed?;
+    let is_settled = claim.note <= done && status.applied.value() == status.last.value();
+    Some(Claimed {
+        is_settled: claim.is_settled || is_settled,
+        ..claim
+    })
 }
 
 /// How far a worker is that was told so many notes, by what was known of it and what it tells: it never

@@ -5,6 +5,7 @@ ghost use Rattle.driver.specs.Passing.{PassEach, PassesBy};
 ghost use Rattle.driver.specs.Driving.{changed_at, orders_at, told_of};
 ghost use Rattle.driver.specs.Gone.{fresh};
 ghost use Rattle.driver.specs.Rounds.{word_begun, word_told};
+ghost use Rattle.driver.specs.Nicks.{nick_in};
 ghost use Rattle.driver.specs.Hearing.{heard_behind, heard_news, heard_of};
 ghost use Rattle.driver.specs.Reports.{Begins, BeginsIf, Hears, Stands, WordsBy, heard_at};
 ghost use Rattle.driver.specs.Telling.{ordered, told_to};
@@ -96,8 +97,8 @@ impl Driver {
         node: NodeId,
         effects: &[TowerEffect],
     ) -> Result<(), AllocError>
-        ensures passes { OnOk result (PassEach now.now.ms now.now.at self.old.link.stage node effects.now
-            (told_of self.old) (told_of self.new)) }
+        ensures passes { OnOk result (PassEach now.now.ms now.now.at self.old.link.stage
+            (nick_in self.old) node effects.now (told_of self.old) (told_of self.new)) }
         ensures rest { self.new ≡ record self.old
             { clients = self.new.clients; orders = self.new.orders } }
     {
@@ -110,13 +111,13 @@ impl Driver {
     /// An effect that left a node goes to its client, or to the server.
     fn pass(&mut self, now: &Now, node: NodeId, effect: &TowerEffect) -> Result<(), AllocError>
         ensures passes { OnOk result (PassesBy (class_of effect.now) now.now.ms
-            now.now.at self.old.link.stage node effect.now (told_of self.old) (told_of self.new)) }
+            now.now.at self.old.link.stage (nick_in self.old) node effect.now (told_of self.old) (told_of self.new)) }
         ensures rest { self.new ≡ record self.old
             { clients = self.new.clients; orders = self.new.orders } }
     {
         match <Tower as Hosted>::class(effect) {
             Class::To(origin) => self.clients.hear(now, origin, effect, &mut self.orders)?,
-            Class::Rejoin(_, line) => self.link.send(node, line, &mut self.orders)?,
+            Class::Rejoin(_, line) => self.rejoin(node, line)?,
             Class::Hand(_, _, _) | Class::Nowhere => {}
         }
         Ok(())

@@ -1,9 +1,11 @@
 //! The nick in force, and what clients are told of it.
-ghost use Rattle.std.specs.Prelude.{◌≡◌, IfOk, OnOk};
-ghost use Rattle.driver.specs.Nicks.{AllAreWritten, HearsNick, RenamesIf, TakesNick, is_renamed, nick_in, notice, renaming};
+ghost use Rattle.std.specs.Prelude.{◌≡◌, IfOk, None, OnOk};
+ghost use Rattle.driver.specs.Nicks.{AllAreWritten, HearsNick, IsGreeted, RenamesIf, TakesNick, is_renamed, nick_by, nick_in, notice, renaming};
+ghost use Rattle.driver.specs.Rosters.{client_at};
 ghost use Rattle.irc_line.specs.Lines.{parameter};
 
 use crate::driver::Driver;
+use crate::lines::renaming;
 use crate::order::TowerNote;
 use buffer_machine::is_new_nick;
 use irc_line::{Line, Name, is_same};
@@ -15,10 +17,7 @@ impl Driver {
     pub(crate) fn nick(&self) -> &Name
         ensures { result.now ≡ nick_in self.now }
     {
-        match &self.given {
-            Some(nick) => nick,
-            None => &self.settings.nick,
-        }
+        nick_by(&self.given, &self.settings.nick)
     }
 
     /// Each client that is attached is told this by `*status`, in a NOTICE of its nick.
@@ -29,6 +28,21 @@ impl Driver {
     {
         let line = notice(self.alloc, self.nick().as_bytes(), text)?;
         self.clients.write_all(line.as_slice(), &mut self.orders)
+    }
+
+    /// A client that has just registered is told of the nick in force where it was greeted by another.
+    pub(crate) fn greet(&mut self, was_attached: bool, number: u64) -> Result<(), AllocError>
+        ensures told { OnOk result (IsGreeted was_attached (client_at self.old.clients number)
+            (nick_in self.old) self.old.orders self.new.orders) }
+        ensures nobody { client_at self.old.clients number ≡ None → self.new ≡ self.old }
+        ensures rest { self.new ≡ record self.old { orders = self.new.orders } }
+    {
+        if was_attached {
+            return Ok(());
+        }
+        let nick = nick_by(&self.given, &self.settings.nick);
+        self.clients
+            .tell_nick(number, nick.as_bytes(), &mut self.orders)
     }
 
     /// What came in a session may give another nick.
@@ -69,6 +83,16 @@ impl Driver {
     }
 }
 
+/// The nick that the server gave, if it gave one, and else the one that is asked for.
+fn nick_by<'a>(given: &'a Option<Name>, asked: &'a Name) -> &'a Name
+    ensures { result.now ≡ nick_by given.now asked.now }
+{
+    match given {
+        Some(nick) => nick,
+        None => asked,
+    }
+}
+
 /// Whether clients are to be told that a line gives who has this nick another.
 fn is_renamed(line: &Line, nick: &[u8]) -> bool
     ensures { result ≡ is_renamed nick.now line.now }
@@ -84,18 +108,6 @@ pub fn notice(alloc: Global, nick: &[u8], text: &[u8]) -> Result<Vec<u8>, AllocE
     line.extend_from_slice(nick)?;
     line.extend_from_slice(b" :")?;
     line.extend_from_slice(text)?;
-    line.extend_from_slice(b"\r\n")?;
-    Ok(line)
-}
-
-/// The line that tells a client that its nick is another.
-fn renaming(alloc: Global, was: &[u8], new: &[u8]) -> Result<Vec<u8>, AllocError>
-    ensures { IfOk result (λ line. line.items ≡ renaming was.now new.now) }
-{
-    let mut line = Vec::from_slice(alloc, b":")?;
-    line.extend_from_slice(was)?;
-    line.extend_from_slice(b" NICK ")?;
-    line.extend_from_slice(new)?;
     line.extend_from_slice(b"\r\n")?;
     Ok(line)
 }

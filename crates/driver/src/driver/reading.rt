@@ -3,8 +3,8 @@ ghost use Rattle.std.specs.Prelude.{◌≡◌};
 ghost use Rattle.driver.specs.Links.{node_of};
 ghost use Rattle.driver.specs.Rosters.{IsReadOf, client_at, is_read_for};
 
+use crate::desk::reads_for;
 use crate::driver::Driver;
-use raft_log::NodeId;
 
 impl Driver {
     /// Whether the server's bytes are to be read. Where they are not, they are once `hear` was told that
@@ -13,7 +13,7 @@ impl Driver {
         ensures { result ≡ is_read_for self.now.orders self.now.desks
             (node_of self.now.link.stage) }
     {
-        self.reads_for(self.link.node())
+        reads_for(&self.desks, &self.orders, self.link.node())
     }
 
     /// Whether this client's bytes are to be read. Where they are not, they are once `hear` was told that
@@ -23,19 +23,6 @@ impl Driver {
             (client_at self.now.clients number) }
     {
         let is_full = self.clients.is_full(number);
-        !is_full && self.reads_for(self.clients.node_of(number))
-    }
-
-    /// Whether fewer notes of a node wait than may, if it is for one.
-    fn reads_for(&self, node: Option<NodeId>) -> bool
-        ensures { result ≡ is_read_for self.now.orders self.now.desks node }
-    {
-        let Some(node) = node else {
-            return true;
-        };
-        match self.desks.get(node.value() as usize - 1) {
-            Some(desk) => !desk.is_full(&self.orders),
-            None => true,
-        }
+        !is_full && reads_for(&self.desks, &self.orders, self.clients.node_of(number))
     }
 }

@@ -21,7 +21,8 @@ impl Driver {
         self.wake(now);
         self.leave_silent(now)?;
         let timeout = self.settings.timeout_ms;
-        self.clients.tick(now, timeout, &mut self.orders)?;
+        self.clients
+            .tick(now, timeout, &self.desks, &mut self.orders)?;
         self.tick_nodes(now)?;
         self.notices
             .tick(now, &self.settings, &self.desks, &mut self.orders)?;

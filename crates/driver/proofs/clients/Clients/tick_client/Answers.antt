@@ -1,10 +1,25 @@
-use Rattle.std.proofs.Common.{rules}
+use Rattle.std.proofs.Common.{rules, ◌≡◌, subst, sym}
+use Rattle.client_gate.specs.Calls.{Stands}
+use Rattle.driver.specs.declared.client.Client.{Client}
+use Rattle.driver.specs.Crowds.{Ticks}
 use Rattle.driver.proofs.clients.Clients.tick_client.Goals as goal
 
 pub returns-clause-served : goal.returns-clause-served
 returns-clause-served c s calls d is stands =
+    let now = c.args.now.now in
+    let reads = c.is_read-is_read.result in
+    let same : c.in-Some.client.now ≡ d = search rules in
+    let here = subst (λ (x : Client). Stands s calls x.gate) (sym same) stands in
     record {
       client = c.tick.new.self;
-      happened = record { slow = search rules; kept = search rules };
+      happened = record {
+        reads = reads;
+        is_read = search rules;
+        ticks =
+            subst
+            (λ (x : Client). Ticks reads c.args.timeout_ms now.ms now.at s calls x c.args.orders.now c.tick.new.self c.tick.new.orders)
+            same
+            (record { slow = λ late. c.in_ok-tick.ensures.slow s calls here late; kept = λ late. c.in_ok-tick.ensures.kept s calls here late });
+      };
       is_kept = search rules;
     }

@@ -2,8 +2,9 @@ use Rattle.std.proofs.Common.{rules, ◌≡◌, ◌+◌, ◌∷◌, ◌∙◌, [
 use Rattle.std.proofs.lemmas.List.{at_drop_more, drop_all}
 use Rattle.bouncer_tower.specs.Hosting.{class_of}
 use Rattle.client_gate.specs.Gates.{GateEffect}
-use Rattle.driver.specs.declared.link.Stage.{Stage}
+use Rattle.driver.specs.declared.driver.Driver.{Driver}
 use Rattle.driver.specs.Driving.{told_of}
+use Rattle.driver.specs.Nicks.{nick_in}
 use Rattle.driver.specs.Passing.{PassesBy}
 use Rattle.driver.proofs.Passing.{pass_more, pass_none}
 use Rattle.driver.proofs.driver.Driver.pass_all.Goals as goal
@@ -19,10 +20,10 @@ loop-effect-preserved c =
     let same : effect ≡ get_or effects i effect = search rules in
     let split : drop i effects ≡ effect ∷ drop (i + 1) effects =
     at_drop_more (λ (left : List GateEffect). left) effects i effect c.loop-effect-test.true ∙ ap (λ (effect : GateEffect). effect ∷ drop (i + 1) effects) (sym same) in
-    let stage = ap (λ driver. driver.link.stage) c.loop-effect.invariant.rest in
-    let passes = subst (λ (stage : Stage). PassesBy (class_of effect) now.ms now.at stage c.args.node effect old behind) stage c.in_ok-pass.ensures.passes in
+    let nick = nick_in c.args.self.now in
+    let passes = subst (λ (driver : Driver). PassesBy (class_of effect) now.ms now.at driver.link.stage (nick_in driver) c.args.node effect old behind) c.loop-effect.invariant.rest c.in_ok-pass.ensures.passes in
     record {
-      passes = λ new more. c.loop-effect.invariant.passes new (pass_more now.ms now.at c.args.self.now.link.stage c.args.node effect (drop i effects) (drop (i + 1) effects) old behind new split passes more);
+      passes = λ new more. c.loop-effect.invariant.passes new (pass_more now.ms now.at c.args.self.now.link.stage nick c.args.node effect (drop i effects) (drop (i + 1) effects) old behind new split passes more);
       rest = search rules;
     }
 
@@ -32,4 +33,4 @@ returns-clause-passes c =
     let i = c.loop-effect.effect-index in
     let last = told_of c.loop-effect.self in
     let none : drop i effects ≡ [] = drop_all i effects (search rules) in
-    c.loop-effect.invariant.passes last (pass_none c.args.now.now.ms c.args.now.now.at c.args.self.now.link.stage c.args.node (drop i effects) last none)
+    c.loop-effect.invariant.passes last (pass_none c.args.now.now.ms c.args.now.now.at c.args.self.now.link.stage (nick_in c.args.self.now) c.args.node (drop i effects) last none)

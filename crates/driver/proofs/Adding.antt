@@ -1,0 +1,138 @@
+-- What is written to clients, what goes to the server, and effects that pass, as orders that are all of one kind.
+use Rattle.std.proofs.Common.{◌≡◌, ◌∙◌, ◌++◌, ℕ, Bool, true, false, List, [], ◌∷◌, Option, Some, None, refl, sym, ap, subst}
+use Rattle.std.specs.Global.{Vec}
+use Rattle.std.specs.BTreeMap.{keys}
+use Rattle.std.proofs.lemmas.List.{append_assoc, append-nil}
+use Rattle.machine_laws.specs.Origins.{same_origin}
+use Rattle.machine_laws.specs.declared.class.Class.{Class}
+use Rattle.machine_laws.specs.declared.class.Class.TheVariants.{Hand, Nowhere, Rejoin, To}
+use Rattle.bouncer_tower.specs.Hosting.{class_of}
+use Rattle.client_gate.specs.Gates.{GateEffect}
+use Rattle.irc_line.specs.Lines.{Parts}
+use Rattle.wire_bytes.specs.declared.moment.Moment.{Moment}
+use Rattle.wire_bytes.specs.declared.origin.Origin.{Origin}
+use Rattle.driver.specs.declared.client.Client.{Client}
+use Rattle.driver.specs.declared.clients.Clients.{Clients}
+use Rattle.driver.specs.declared.link.Stage.{Stage}
+use Rattle.driver.specs.declared.order.Order.{Order}
+use Rattle.driver.specs.declared.order.Order.TheVariants.{Send, Write}
+use Rattle.driver.specs.Crowds.{Told}
+use Rattle.driver.specs.Kicks.{AreKicked, IsKickedIf, RejoinsIf, has_joined_in}
+use Rattle.driver.specs.Links.{SendsIf, is_session_of}
+use Rattle.driver.specs.Nicks.{AreWritten, IsNamedIn, IsWritten, IsWrittenIf, is_misnamed, is_reached}
+use Rattle.driver.specs.Passing.{HearsOne, PassEach, PassesBy}
+use Rattle.driver.specs.Rosters.{client_at}
+use Rattle.driver.specs.Telling.{Ordered, ordered}
+use Rattle.driver.proofs.Growing.{AllAre, AllGood, Grows, all_append, grows_both, one_grows, same_grows}
+use Rattle.driver.proofs.Owning.{hears_own}
+
+-- More is ordered, all of it so.
+pub record Adds (P : Order → Type 0) (before after : Ordered) : Type 0 where
+  pub told : List Order
+  pub orders : after ≡ ordered before told
+  pub all : AllAre P told
+
+pub nothing_adds : (P : Order → Type 0) (before after : Ordered) → after ≡ before → Adds P before after
+unfolding AllAre
+nothing_adds P before after none = record {
+  told = [];
+  orders = none ∙ sym (ap (λ (items : List Order). record before { items = items }) (append-nil before.items));
+  all = tt;
+}
+
+pub one_adds : (P : Order → Type 0) (order : Order) (before after : Ordered) → after ≡ ordered before (order ∷ []) → P order → Adds P before after
+unfolding AllAre
+one_adds P order before after orders is = record { told = order ∷ []; orders = orders; all = (is, tt) }
+
+pub adds_both : (P : Order → Type 0) (before between after : Ordered) → Adds P before between → Adds P between after → Adds P before after
+adds_both P before between after first last = record {
+  told = first.told ++ last.told;
+  orders =
+      last.orders
+      ∙ ap (λ (orders : Ordered). ordered orders last.told) first.orders
+      ∙ ap (λ (items : List Order). record before { items = items }) (append_assoc before.items first.told last.told);
+  all = all_append P first.told last.told first.all last.all;
+}
+
+-- where the clients stay
+pub adds_grow : (P : Order → Type 0) (old new : Told) → AllGood P old.clients → new.clients ≡ old.clients → Adds P old.orders new.orders → Grows P old new
+adds_grow P old new good same adds = record {
+  told = adds.told;
+  orders = adds.orders;
+  all = adds.all;
+  good = subst (λ (clients : Clients). AllGood P clients) (sym same) good;
+}
+
+written_if : (P : Order → Type 0) (is : Bool) (client : ℕ) (text : List ℕ) (before after : Ordered) → ((line : Vec ℕ) → P (Write client line)) → IsWrittenIf is client text before after → Adds P before after
+written_if P false client text before after fits none = nothing_adds P before after none
+written_if P true client text before after fits (line, says, orders) = one_adds P (Write client line) before after orders (fits line)
+
+pub written_adds : (P : Order → Type 0) (clients : Clients) (number : ℕ) (found : Option Client) (text : List ℕ) (before after : Ordered) → client_at clients number ≡ found → AllGood P clients → IsWritten found text before after → Adds P before after
+written_adds P clients number None text before after is good none = nothing_adds P before after none
+written_adds P clients number (Some c) text before after is good w =
+    written_if P (is_reached c) c.origin.2 text before after (λ line. (good number c is).fits (Write c.origin.2 line) refl) w
+
+pub named_adds : (P : Order → Type 0) (clients : Clients) (number : ℕ) (found : Option Client) (nick : List ℕ) (before after : Ordered) → client_at clients number ≡ found → AllGood P clients → IsNamedIn found nick before after → Adds P before after
+named_adds P clients number None nick before after is good none = nothing_adds P before after none
+named_adds P clients number (Some c) nick before after is good w =
+    written_if P (is_misnamed c nick) c.origin.2 _ before after (λ line. (good number c is).fits (Write c.origin.2 line) refl) w
+
+pub all_written_add : (P : Order → Type 0) (numbers : List ℕ) (clients : Clients) (text : List ℕ) (before after : Ordered) → AllGood P clients → AreWritten numbers clients text before after → Adds P before after
+unfolding AreWritten
+all_written_add P [] clients text before after good none = nothing_adds P before after none
+all_written_add P (number ∷ numbers) clients text before after good (behind, first, more) =
+    adds_both P before behind after
+    (written_adds P clients number (client_at clients number) text before behind refl good first)
+    (all_written_add P numbers clients text behind after good more)
+
+kicked_if : (P : Order → Type 0) (joined : Bool) (clients : Clients) (number : ℕ) (text : List ℕ) (before after : Ordered) → AllGood P clients → IsKickedIf joined (client_at clients number) text before after → Adds P before after
+kicked_if P false clients number text before after good none = nothing_adds P before after none
+kicked_if P true clients number text before after good w = written_adds P clients number (client_at clients number) text before after refl good w
+
+kicked_adds : (P : Order → Type 0) (numbers : List ℕ) (clients : Clients) (text : List ℕ) (before after : Ordered) → AllGood P clients → AreKicked numbers clients text before after → Adds P before after
+unfolding AreKicked
+kicked_adds P [] clients text before after good none = nothing_adds P before after none
+kicked_adds P (number ∷ numbers) clients text before after good (behind, first, more) =
+    adds_both P before behind after
+    (kicked_if P (has_joined_in (client_at clients number)) clients number text before behind good first)
+    (kicked_adds P numbers clients text behind after good more)
+
+pub sends_add : (P : Order → Type 0) (is : Bool) (line : Parts) (before after : Ordered) → ((bytes : Vec ℕ) → P (Send bytes)) → SendsIf is line before after → Adds P before after
+sends_add P false line before after fits none = nothing_adds P before after none
+sends_add P true line before after fits sent = one_adds P (Send sent.bytes) before after sent.orders (fits sent.bytes)
+
+rejoins_add : (P : Order → Type 0) (is : Bool) (line : Parts) (nick : List ℕ) (clients : Clients) (before after : Ordered) → ((bytes : Vec ℕ) → P (Send bytes)) → AllGood P clients → RejoinsIf is line nick clients before after → Adds P before after
+rejoins_add P false line nick clients before after fits good none = nothing_adds P before after none
+rejoins_add P true line nick clients before after fits good r =
+    adds_both P before r.kicked after
+    (kicked_adds P (keys clients.all) clients _ before r.kicked good r.kicks)
+    (one_adds P (Send r.sent.bytes) r.kicked after r.sent.orders (fits r.sent.bytes))
+
+heard_of : (P : Order → Type 0) (now : ℕ) (at : Moment) (origin : Origin) (effect : GateEffect) (c : Client) (same : Bool) (old new : Told) → client_at old.clients origin.2 ≡ Some c → same_origin c.origin origin ≡ same → AllGood P old.clients → HearsOne now at origin effect old new → Grows P old new
+heard_of P now at origin effect c false old new is own good h =
+    same_grows P old new good (h.stranger c is own)
+heard_of P now at origin effect c true old new is own good h =
+    one_grows P origin.2 _ _ old new c is (is, own) good h.others h.served
+    (λ s calls client stands e. hears_own effect now at s calls c client old.orders new.orders e)
+
+heard_by : (P : Order → Type 0) (now : ℕ) (at : Moment) (origin : Origin) (effect : GateEffect) (found : Option Client) (old new : Told) → client_at old.clients origin.2 ≡ found → AllGood P old.clients → HearsOne now at origin effect old new → Grows P old new
+heard_by P now at origin effect None old new is good h = same_grows P old new good (h.nobody is)
+heard_by P now at origin effect (Some c) old new is good h = heard_of P now at origin effect c (same_origin c.origin origin) old new is refl good h
+
+-- An effect passes.
+pass_by : (P : Order → Type 0) (class : Class Parts) (now : ℕ) (at : Moment) (stage : Stage) (nick : List ℕ) (node : ℕ) (effect : GateEffect) (old new : Told) → ((bytes : Vec ℕ) → P (Send bytes)) → AllGood P old.clients → PassesBy class now at stage nick node effect old new → Grows P old new
+pass_by P (To origin) now at stage nick node effect old new fits good h = heard_by P now at origin effect (client_at old.clients origin.2) old new refl good h
+pass_by P (Rejoin session line) now at stage nick node effect old new fits good (same, rejoins) =
+    adds_grow P old new good same (rejoins_add P (is_session_of stage node) line nick old.clients old.orders new.orders fits good rejoins)
+pass_by P (Hand session number line) now at stage nick node effect old new fits good same =
+    same_grows P old new good (ap (λ (told : Told). told.clients) same, ap (λ (told : Told). told.orders) same)
+pass_by P Nowhere now at stage nick node effect old new fits good same =
+    same_grows P old new good (ap (λ (told : Told). told.clients) same, ap (λ (told : Told). told.orders) same)
+
+pub passes_grow : (P : Order → Type 0) (now : ℕ) (at : Moment) (stage : Stage) (nick : List ℕ) (node : ℕ) (effects : List GateEffect) (old new : Told) → ((bytes : Vec ℕ) → P (Send bytes)) → AllGood P old.clients → PassEach now at stage nick node effects old new → Grows P old new
+unfolding PassEach
+passes_grow P now at stage nick node [] old new fits good same =
+    same_grows P old new good (ap (λ (told : Told). told.clients) same, ap (λ (told : Told). told.orders) same)
+passes_grow P now at stage nick node (effect ∷ effects) old new fits good (behind, passes, more) =
+    let first = pass_by P (class_of effect) now at stage nick node effect old behind fits good passes in
+    grows_both P old behind new first (passes_grow P now at stage nick node effects behind new fits first.good more)

@@ -1,0 +1,30 @@
+//! Lines that clients are told by the driver itself.
+ghost use Rattle.std.specs.Prelude.{◌≡◌, IfOk};
+ghost use Rattle.driver.specs.Kicks.{kick_line};
+ghost use Rattle.driver.specs.Nicks.{renaming};
+
+use std::alloc::{AllocError, Global};
+
+/// The line that tells a client that its nick is another.
+pub fn renaming(alloc: Global, was: &[u8], new: &[u8]) -> Result<Vec<u8>, AllocError>
+    ensures { IfOk result (λ line. line.items ≡ renaming was.now new.now) }
+{
+    let mut line = Vec::from_slice(alloc, b":")?;
+    line.extend_from_slice(was)?;
+    line.extend_from_slice(b" NICK ")?;
+    line.extend_from_slice(new)?;
+    line.extend_from_slice(b"\r\n")?;
+    Ok(line)
+}
+
+/// The line that puts who has this nick out of a channel, since the server was gone.
+pub fn kick_line(alloc: Global, channel: &[u8], nick: &[u8]) -> Result<Vec<u8>, AllocError>
+    ensures { IfOk result (λ line. line.items ≡ kick_line channel.now nick.now) }
+{
+    let mut line = Vec::from_slice(alloc, b":bouncer.local KICK ")?;
+    line.extend_from_slice(channel)?;
+    line.extend_from_slice(b" ")?;
+    line.extend_from_slice(nick)?;
+    line.extend_from_slice(b" :The server was gone\r\n")?;
+    Ok(line)
+}
