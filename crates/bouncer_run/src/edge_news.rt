@@ -1,6 +1,8 @@
 //! What happens at the edge, as the log tells it.
+use irc_line::Name;
 use raft_log::NodeId;
 use std::net::SocketAddr;
+use std::str::from_utf8;
 use std::{fmt, io};
 
 /// What happens at the edge, a line each: never what is sent there.
@@ -23,6 +25,8 @@ pub enum EdgeNews {
     Deaf(NodeId, io::Error),
     /// The server refuses the session, or ends it, and says so.
     Refused(String),
+    /// The server took the session of this node, by this nick.
+    Nick(NodeId, Name),
     /// Standard input ended, which ends the bouncer.
     InputEnded,
 }
@@ -35,7 +39,7 @@ impl EdgeNews {
             EdgeNews::WrongPassword(node, _, _) => Some(*node),
             EdgeNews::Unregistered(node, _, _) => Some(*node),
             EdgeNews::GaveWay(node, _, _) | EdgeNews::Crowded(node, _) => Some(*node),
-            EdgeNews::Deaf(node, _) => Some(*node),
+            EdgeNews::Deaf(node, _) | EdgeNews::Nick(node, _) => Some(*node),
             EdgeNews::Refused(_) | EdgeNews::InputEnded => None,
         }
     }
@@ -63,6 +67,10 @@ impl fmt::Display for EdgeNews {
             EdgeNews::Crowded(_, from) => write!(f, "too many clients: {from} is turned away"),
             EdgeNews::Deaf(_, error) => write!(f, "no client can be taken: {error}"),
             EdgeNews::Refused(text) => write!(f, "the server says: {text}"),
+            EdgeNews::Nick(_, nick) => {
+                let nick = from_utf8(nick.as_bytes()).unwrap_or("one that is no text");
+                write!(f, "the nick is {nick}")
+            }
             EdgeNews::InputEnded => write!(f, "standard input ended: stopping"),
         }
     }

@@ -173,6 +173,10 @@ fn carry_out<R: Net + Wait, N: Nodes, O: Operator>(
                 sockets.register(origin.client());
             }
             operator.hear(now, news);
+            if let News::Opened(node) = news {
+                let nick = driver.nick().copy(sockets.alloc)?;
+                operator.hear_edge(now, EdgeNews::Nick(node, nick));
+            }
         }
         other => sockets.carry_out(rt, now, driver, other)?,
     }

@@ -14,7 +14,7 @@ use std::alloc::{AllocError, Global};
 
 impl Driver {
     /// The nick in force, as far as is known: the machine has it once it has applied what its node was told.
-    pub(crate) fn nick(&self) -> &Name
+    pub fn nick(&self) -> &Name
         ensures { result.now ≡ nick_in self.now }
     {
         nick_by(&self.given, &self.settings.nick)
