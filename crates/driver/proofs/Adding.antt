@@ -120,7 +120,7 @@ heard_by P now at origin effect None old new is good h = same_grows P old new go
 heard_by P now at origin effect (Some c) old new is good h = heard_of P now at origin effect c (same_origin c.origin origin) old new is refl good h
 
 -- An effect passes.
-pass_by : (P : Order → Type 0) (class : Class Parts) (now : ℕ) (at : Moment) (stage : Stage) (nick : List ℕ) (node : ℕ) (effect : GateEffect) (old new : Told) → ((bytes : Vec ℕ) → P (Send bytes)) → AllGood P old.clients → PassesBy class now at stage nick node effect old new → Grows P old new
+pub pass_by : (P : Order → Type 0) (class : Class Parts) (now : ℕ) (at : Moment) (stage : Stage) (nick : List ℕ) (node : ℕ) (effect : GateEffect) (old new : Told) → ((bytes : Vec ℕ) → P (Send bytes)) → AllGood P old.clients → PassesBy class now at stage nick node effect old new → Grows P old new
 pass_by P (To origin) now at stage nick node effect old new fits good h = heard_by P now at origin effect (client_at old.clients origin.2) old new refl good h
 pass_by P (Rejoin session line) now at stage nick node effect old new fits good (same, rejoins) =
     adds_grow P old new good same (rejoins_add P (is_session_of stage node) line nick old.clients old.orders new.orders fits good rejoins)

@@ -1,260 +1,64 @@
 -- What a node is told of claims as nodes tick, and what is known of its last claim behind it.
-use Rattle.std.proofs.Common.{◌≡◌, ◌∙◌, ◌++◌, ◌⊎◌, inl, inr, ℕ, zero, suc, ◌+◌, ◌-◌, ◌<◌, ◌≤◌, Bool, true, false, List, [], ◌∷◌, Option, Some, None, refl, sym, ap, subst, slice_get, ⊎_elim, arith}
+use Rattle.std.proofs.Common.{◌≡◌, ◌∙◌, inl, inr, ℕ, zero, suc, ◌+◌, ◌-◌, ◌<◌, ◌≤◌, Bool, true, false, List, [], ◌∷◌, Option, Some, None, refl, sym, ap, subst, slice_get, ⊎_elim, arith}
 use Rattle.std.specs.Prelude.{◌||◌, if◌then◌else◌, nat_eq, option_map}
-use Rattle.std.specs.List.{list_any}
 use Rattle.std.proofs.lemmas.Bool.{cases_Bool, eqb-true}
 use Rattle.std.proofs.lemmas.Bool.Decides.{nat_tests}
-use Rattle.std.proofs.lemmas.List.{append_assoc}
-use Rattle.std.proofs.lemmas.List.Folds.{list_any-append}
 use Rattle.node_notes.specs.declared.note.Note.TheVariants as note
 use Rattle.pacing.specs.Pacing.{may_go}
 use Rattle.driver.specs.declared.clients.Clients.{Clients}
-use Rattle.driver.specs.declared.desk.Claimed.{Claimed}
 use Rattle.driver.specs.declared.desk.Desk.{Desk}
 use Rattle.driver.specs.declared.driver.Driver.{Driver}
-use Rattle.driver.specs.declared.link.Stage.{Stage}
-use Rattle.driver.specs.declared.link.Stage.TheVariants.{Connecting, Idle, Open}
-use Rattle.driver.specs.declared.news.Ending.{Ending}
 use Rattle.driver.specs.declared.news.Ending.TheVariants.{LedNoMore}
 use Rattle.driver.specs.declared.order.Order.{Order}
 use Rattle.driver.specs.declared.order.Order.TheVariants as order
 use Rattle.driver.specs.declared.settings.Settings.{Settings}
-use Rattle.driver.specs.Claiming.{claims}
 use Rattle.driver.specs.Desks.{claim_due, claim_if, claim_told, desk_claimed, is_claimed, line_to_claim, told, unless_claimed}
-use Rattle.driver.specs.Driving.{Claims, Connects, Ends, LeavesIf, ServesIf, TickNodes, TicksDesk, TicksNode, closed_of, closed_orders, orders_of, tick_orders, ticked}
+use Rattle.driver.specs.Driving.{Claims, ServesIf, TickNodes, TicksNode, orders_of}
 use Rattle.driver.specs.Leading.{is_older, is_that}
-use Rattle.driver.specs.Links.{ending, may_connect, node_of}
+use Rattle.driver.specs.Links.{node_of}
 use Rattle.driver.specs.Telling.{Ordered, ordered}
-use Rattle.driver.proofs.Adding.{Adds, adds_both, nothing_adds, one_adds}
-use Rattle.driver.proofs.Desks.{Ids, Look, changed_other, changed_own, changed_same, ids_changed, ids_kept, look, look_at, look_in, ticked_look}
-use Rattle.driver.proofs.Growing.{AllAre, AllGood, all_append, by_number}
-use Rattle.driver.proofs.Quiet.{NoClaim, none_claims, quiet_tick}
-
--- the line of a session
-abbrev pub Line : Type 0
-Line = (ℕ × ℕ) × ℕ
-
--- each client stands behind calls of its gate, and each desk is that of its node
-pub record Sound (n : ℕ) (driver : Driver) : Type 0 where
-  pub good : AllGood (NoClaim n) driver.clients
-  pub ids : Ids driver.desks
-
--- The node was told no claim, and what is known of its last one is as before.
-pub record Keeps (n : ℕ) (old new : Driver) : Type 0 where
-  pub adds : Adds (NoClaim n) old.orders new.orders
-  pub sound : Sound n new
-  pub same : look_at new.desks (n - 1) ≡ look_at old.desks (n - 1)
-
--- The node was told the claim of a line, of which none was unsettled.
-pub record IsClaimed (n : ℕ) (old new : Driver) : Type 0 where
-  pub told : List Order
-  pub orders : new.orders ≡ ordered old.orders told
-  pub has : list_any (claims n) told ≡ true
-  pub sound : Sound n new
-  pub before : Look
-  pub is_before : look_at old.desks (n - 1) ≡ Some before
-  pub line : Line
-  pub is_line : line_to_claim before.status ≡ Some line
-  pub wait : ℕ
-  pub now : ℕ
-  pub is_free : is_claimed before.claimed wait now line.0 line.1 ≡ false
-  pub claim : Claimed
-  pub is_claim : look_at new.desks (n - 1) ≡ Some (record { id = before.id; claimed = Some claim; status = before.status })
-  pub session : claim.session ≡ line.0
-  pub number : claim.number ≡ line.1
-  pub unsettled : claim.is_settled ≡ false
-
-abbrev pub Result : ℕ → Driver → Driver → Type 0
-Result n old new = Keeps n old new ⊎ IsClaimed n old new
-
-pub same_keeps : (n : ℕ) (old new : Driver) → Sound n old → new ≡ old → Keeps n old new
-same_keeps n old new sound same = record {
-  adds = nothing_adds (NoClaim n) old.orders new.orders (ap (λ (driver : Driver). driver.orders) same);
-  sound = subst (λ (driver : Driver). Sound n driver) (sym same) sound;
-  same = ap (λ (driver : Driver). look_at driver.desks (n - 1)) same;
-}
-
-pub keeps_both : (n : ℕ) (old behind new : Driver) → Keeps n old behind → Keeps n behind new → Keeps n old new
-keeps_both n old behind new first last = record {
-  adds = adds_both (NoClaim n) old.orders behind.orders new.orders first.adds last.adds;
-  sound = last.sound;
-  same = last.same ∙ first.same;
-}
-
-pub keeps_claimed : (n : ℕ) (old behind new : Driver) → Keeps n old behind → IsClaimed n behind new → IsClaimed n old new
-keeps_claimed n old behind new k c = record {
-  told = k.adds.told ++ c.told;
-  orders =
-      c.orders
-      ∙ ap (λ (orders : Ordered). ordered orders c.told) k.adds.orders
-      ∙ ap (λ (items : List Order). record old.orders { items = items }) (append_assoc old.orders.items k.adds.told c.told);
-  has =
-      list_any-append (claims n) k.adds.told c.told
-      ∙ ap (λ (b : Bool). b || list_any (claims n) c.told) (none_claims n k.adds.told k.adds.all)
-      ∙ c.has;
-  sound = c.sound;
-  before = c.before;
-  is_before = sym k.same ∙ c.is_before;
-  line = c.line;
-  is_line = c.is_line;
-  wait = c.wait;
-  now = c.now;
-  is_free = c.is_free;
-  claim = c.claim;
-  is_claim = c.is_claim;
-  session = c.session;
-  number = c.number;
-  unsettled = c.unsettled;
-}
-
-pub claimed_keeps : (n : ℕ) (old behind new : Driver) → IsClaimed n old behind → Keeps n behind new → IsClaimed n old new
-claimed_keeps n old behind new c k = record {
-  told = c.told ++ k.adds.told;
-  orders =
-      k.adds.orders
-      ∙ ap (λ (orders : Ordered). ordered orders k.adds.told) c.orders
-      ∙ ap (λ (items : List Order). record old.orders { items = items }) (append_assoc old.orders.items c.told k.adds.told);
-  has =
-      list_any-append (claims n) c.told k.adds.told
-      ∙ ap (λ (b : Bool). b || list_any (claims n) k.adds.told) c.has;
-  sound = k.sound;
-  before = c.before;
-  is_before = c.is_before;
-  line = c.line;
-  is_line = c.is_line;
-  wait = c.wait;
-  now = c.now;
-  is_free = c.is_free;
-  claim = c.claim;
-  is_claim = k.same ∙ c.is_claim;
-  session = c.session;
-  number = c.number;
-  unsettled = c.unsettled;
-}
-
-pub keeps_result : (n : ℕ) (old behind new : Driver) → Keeps n old behind → Result n behind new → Result n old new
-keeps_result n old behind new k r =
-    ⊎_elim (λ last. inl (keeps_both n old behind new k last)) (λ last. inr (keeps_claimed n old behind new k last)) r
-
-pub result_keeps : (n : ℕ) (old behind new : Driver) → Result n old behind → Keeps n behind new → Result n old new
-result_keeps n old behind new r k =
-    ⊎_elim (λ first. inl (keeps_both n old behind new first k)) (λ first. inr (claimed_keeps n old behind new first k)) r
-
--- what keeps the desks and the clients
-pub orders_keep : (n : ℕ) (old new : Driver) → Sound n old → new.desks ≡ old.desks → new.clients ≡ old.clients → Adds (NoClaim n) old.orders new.orders → Keeps n old new
-orders_keep n old new sound desks clients adds = record {
-  adds = adds;
-  sound = record {
-    good = subst (λ (clients : Clients). AllGood (NoClaim n) clients) (sym clients) sound.good;
-    ids = subst (λ (desks : List Desk). Ids desks) (sym desks) sound.ids;
-  };
-  same = ap (λ (desks : List Desk). look_at desks (n - 1)) desks;
-}
-
--- a node is told what the clock and word of its runs tell it
-pub desk_keeps : (n now node : ℕ) (old new : Driver) → Sound n old → TicksDesk now node old new → Keeps n old new
-desk_keeps n now node old new sound t =
-    let change : Desk → Desk = ticked old.orders old.notices.all old.settings now in
-    let same = λ (j : ℕ). ap (λ (desks : List Desk). look_at desks j) t.desks ∙ changed_same change (ticked_look old.orders old.notices.all old.settings now) old.desks node j in
-    record {
-      adds = record {
-        told = orders_of (tick_orders old.orders old.notices.all old.settings now) (slice_get old.desks (node - 1));
-        orders = t.orders;
-        all = quiet_tick n old.orders old.notices.all old.settings now (slice_get old.desks (node - 1));
-      };
-      sound = record {
-        good = subst (λ (clients : Clients). AllGood (NoClaim n) clients) (sym (ap (λ (driver : Driver). driver.clients) t.rest)) sound.good;
-        ids = ids_kept old.desks new.desks same sound.ids;
-      };
-      same = same (n - 1);
-    }
-
-ending_quiet : (n : ℕ) (stage : Stage) (why : Ending) → AllAre (NoClaim n) (ending stage why)
-unfolding AllAre
-ending_quiet n (Idle since wait) why = tt
-ending_quiet n (Connecting node) why = (refl, tt)
-ending_quiet n (Open session) why = (refl, tt)
-
-closed_quiet : (n : ℕ) (node : Option ℕ) → AllAre (NoClaim n) (closed_orders node)
-unfolding AllAre
-closed_quiet n None = tt
-closed_quiet n (Some node) = (refl, tt)
-
--- the connection to the server is gone
-pub ends_keep : (n now : ℕ) (why : Ending) (old new : Driver) → Sound n old → Ends now why old new → Keeps n old new
-ends_keep n now why old new sound e =
-    let node = closed_of (node_of old.link.stage) e.lost in
-    orders_keep n old new sound
-    (ap (λ (driver : Driver). driver.desks) e.rest)
-    (ap (λ (driver : Driver). driver.clients) e.rest)
-    (record {
-      told = ending old.link.stage why ++ closed_orders node;
-      orders = e.orders;
-      all = all_append (NoClaim n) (ending old.link.stage why) (closed_orders node) (ending_quiet n old.link.stage why) (closed_quiet n node);
-    })
-
--- or is left
-pub leaves_keep : (n : ℕ) (leaves : Bool) (now : ℕ) (why : Ending) (old new : Driver) → Sound n old → LeavesIf leaves now why old new → Keeps n old new
-leaves_keep n false now why old new sound same = same_keeps n old new sound same
-leaves_keep n true now why old new sound l =
-    let first =
-    orders_keep n old l.closed sound
-    (ap (λ (driver : Driver). driver.desks) l.rest)
-    (ap (λ (driver : Driver). driver.clients) l.rest)
-    (one_adds (NoClaim n) order.Disconnect old.orders l.closed.orders l.orders refl)
-    in
-    keeps_both n old l.closed new first (ends_keep n now why l.closed new first.sound l.ends)
-
-connects_add : (n : ℕ) (may : Bool) (before after : Ordered) → after ≡ ordered before (if may then order.Connect ∷ [] else []) → Adds (NoClaim n) before after
-unfolding AllAre
-connects_add n true before after is = record { told = order.Connect ∷ []; orders = is; all = (refl, tt) }
-connects_add n false before after is = record { told = []; orders = is; all = tt }
-
--- the server is connected to
-pub connects_keep : (n now node : ℕ) (old new : Driver) → Sound n old → Connects now node old new → Keeps n old new
-connects_keep n now node old new sound c =
-    orders_keep n old new sound
-    (ap (λ (driver : Driver). driver.desks) c.rest)
-    (ap (λ (driver : Driver). driver.clients) c.rest)
-    (connects_add n (may_connect old.link.stage now) old.orders new.orders c.orders)
+use Rattle.driver.proofs.Desks.{Ids, changed_other, changed_own, ids_changed, look, look_at, look_in}
+use Rattle.driver.proofs.Growing.{AllAre, AllGood, by_number}
+use Rattle.driver.proofs.Quiet.{NoClaim}
+use Rattle.driver.proofs.Keeping.{Keeps, Line, Result, Sound, connects_keep, desk_keeps, keeps_both, keeps_result, leaves_keep, result_keeps, same_keeps}
 
 -- numbers that are apart are not the same
-apart_eq : (a b : ℕ) → (a ≡ b → ⊥) → nat_eq a b ≡ false
+pub apart_eq : (a b : ℕ) → (a ≡ b → ⊥) → nat_eq a b ≡ false
 apart_eq a b apart = ⊎_elim (λ is. absurd (apart (eqb-true a b is))) (λ is. is) (cases_Bool (nat_eq a b))
 
 pub same_eq : (a : ℕ) → nat_eq a a ≡ true
 same_eq a = grind (arith, nat_tests)
 
 -- a claim of another node
-claim_apart : (n id : ℕ) (may : Bool) (due : Option Line) → nat_eq id n ≡ false → AllAre (NoClaim n) (told id (claim_if may due))
+pub claim_apart : (n id : ℕ) (may : Bool) (due : Option Line) → nat_eq id n ≡ false → AllAre (NoClaim n) (told id (claim_if may due))
 unfolding AllAre
 claim_apart n id may None apart = tt
 claim_apart n id true (Some line) apart = (apart, tt)
 claim_apart n id false (Some line) apart = tt
 
-claimed_id : (orders : Ordered) (now : ℕ) (may : Bool) (due : Option Line) (d : Desk) → (desk_claimed orders d now may due).id ≡ d.id
+pub claimed_id : (orders : Ordered) (now : ℕ) (may : Bool) (due : Option Line) (d : Desk) → (desk_claimed orders d now may due).id ≡ d.id
 claimed_id orders now may None d = refl
 claimed_id orders now true (Some line) d = refl
 claimed_id orders now false (Some line) d = refl
 
 -- what a claim changes of its desk, and orders
-abbrev claim_change : Driver → ℕ → Bool → Desk → Desk
+abbrev pub claim_change : Driver → ℕ → Bool → Desk → Desk
 claim_change old now may = λ d. desk_claimed old.orders d now may (claim_due d old.settings now)
 
-abbrev claim_orders : Driver → ℕ → Bool → Desk → List Order
+abbrev pub claim_orders : Driver → ℕ → Bool → Desk → List Order
 claim_orders old now may = λ d. told d.id (claim_if may (claim_due d old.settings now))
 
-abbrev may_claim : Driver → ℕ → Bool
+abbrev pub may_claim : Driver → ℕ → Bool
 may_claim old now = may_go old.pace.burst old.pace.line_ms old.pace.free_at now
 
-apart_orders : (n m now : ℕ) (may : Bool) (old : Driver) (found : Option Desk) → 1 ≤ n → 1 ≤ m → (m ≡ n → ⊥) → Ids old.desks → slice_get old.desks (m - 1) ≡ found → AllAre (NoClaim n) (orders_of (claim_orders old now may) found)
+pub apart_orders : (n m now : ℕ) (may : Bool) (old : Driver) (found : Option Desk) → 1 ≤ n → 1 ≤ m → (m ≡ n → ⊥) → Ids old.desks → slice_get old.desks (m - 1) ≡ found → AllAre (NoClaim n) (orders_of (claim_orders old now may) found)
 unfolding AllAre
 apart_orders n m now may old None low low_m apart ids is = tt
 apart_orders n m now may old (Some d) low low_m apart ids is =
     let id : d.id ≡ m - 1 + 1 = ids (m - 1) (look d) (ap look_in is) in
     claim_apart n d.id may (claim_due d old.settings now) (apart_eq d.id n (λ e. apart (omega (arith, id, e, low, low_m))))
 
-claims_sound : (n now node : ℕ) (old new : Driver) → Sound n old → Claims now node old new → Sound n new
+pub claims_sound : (n now node : ℕ) (old new : Driver) → Sound n old → Claims now node old new → Sound n new
 claims_sound n now node old new sound c = record {
   good = subst (λ (clients : Clients). AllGood (NoClaim n) clients) (sym (ap (λ (driver : Driver). driver.clients) c.rest)) sound.good;
   ids =
@@ -263,7 +67,7 @@ claims_sound n now node old new sound c = record {
 }
 
 -- another node claims
-claims_apart : (n now node : ℕ) (old new : Driver) → 1 ≤ n → 1 ≤ node → (node ≡ n → ⊥) → Sound n old → Claims now node old new → Keeps n old new
+pub claims_apart : (n now node : ℕ) (old new : Driver) → 1 ≤ n → 1 ≤ node → (node ≡ n → ⊥) → Sound n old → Claims now node old new → Keeps n old new
 claims_apart n now node old new low low_node apart sound c =
     let change = claim_change old now (may_claim old now) in
     record {
@@ -278,25 +82,25 @@ claims_apart n now node old new low low_node apart sound c =
           ∙ changed_other change old.desks node (n - 1) (λ e. apart (omega (arith, e, low, low_node)));
     }
 
-abbrev or_line : Line → Option Line → Line
+abbrev pub or_line : Line → Option Line → Line
 or_line line None = line
 or_line line (Some other) = other
 
-free_by : (d : Desk) (wait now : ℕ) (here line : Line) (claimed : Bool) → is_claimed d.claimed wait now here.0 here.1 ≡ claimed → (if claimed then None else Some here) ≡ Some line → (Some here ≡ Some line) × (is_claimed d.claimed wait now line.0 line.1 ≡ false)
+pub free_by : (d : Desk) (wait now : ℕ) (here line : Line) (claimed : Bool) → is_claimed d.claimed wait now here.0 here.1 ≡ claimed → (if claimed then None else Some here) ≡ Some line → (Some here ≡ Some line) × (is_claimed d.claimed wait now line.0 line.1 ≡ false)
 free_by d wait now here line true is e = absurd (cc e)
 free_by d wait now here line false is e =
     (e, subst (λ (x : Line). is_claimed d.claimed wait now x.0 x.1 ≡ false) (ap (or_line here) e) is)
 
-unless_by : (d : Desk) (wait now : ℕ) (here : Option Line) (line : Line) → unless_claimed d wait now here ≡ Some line → (here ≡ Some line) × (is_claimed d.claimed wait now line.0 line.1 ≡ false)
+pub unless_by : (d : Desk) (wait now : ℕ) (here : Option Line) (line : Line) → unless_claimed d wait now here ≡ Some line → (here ≡ Some line) × (is_claimed d.claimed wait now line.0 line.1 ≡ false)
 unless_by d wait now None line e = absurd (cc e)
 unless_by d wait now (Some here) line e = free_by d wait now here line (is_claimed d.claimed wait now here.0 here.1) refl e
 
-due_is : (d : Desk) (settings : Settings) (now : ℕ) (line : Line) → claim_due d settings now ≡ Some line → (line_to_claim d.status ≡ Some line) × (is_claimed d.claimed settings.timeout_ms now line.0 line.1 ≡ false)
+pub due_is : (d : Desk) (settings : Settings) (now : ℕ) (line : Line) → claim_due d settings now ≡ Some line → (line_to_claim d.status ≡ Some line) × (is_claimed d.claimed settings.timeout_ms now line.0 line.1 ≡ false)
 unfolding claim_due
 due_is d settings now line e = unless_by d settings.timeout_ms now (line_to_claim d.status) line e
 
 -- the node claims, where something is due and the pace allows it
-own_may : (n now : ℕ) (may : Bool) (old new : Driver) (d : Desk) (line : Line) → 1 ≤ n → Sound n old → Sound n new → slice_get old.desks (n - 1) ≡ Some d → claim_due d old.settings now ≡ Some line → look_at new.desks (n - 1) ≡ Some (look (desk_claimed old.orders d now may (Some line))) → new.orders ≡ ordered old.orders (told d.id (claim_if may (Some line))) → Result n old new
+pub own_may : (n now : ℕ) (may : Bool) (old new : Driver) (d : Desk) (line : Line) → 1 ≤ n → Sound n old → Sound n new → slice_get old.desks (n - 1) ≡ Some d → claim_due d old.settings now ≡ Some line → look_at new.desks (n - 1) ≡ Some (look (desk_claimed old.orders d now may (Some line))) → new.orders ≡ ordered old.orders (told d.id (claim_if may (Some line))) → Result n old new
 unfolding AllAre
 own_may n now false old new d line low sound new_sound is due changed orders = inl (record {
   adds = record { told = []; orders = orders; all = tt };
@@ -326,7 +130,7 @@ own_may n now true old new d line low sound new_sound is due changed orders =
       unsettled = refl;
     })
 
-own_due : (n now : ℕ) (may : Bool) (old new : Driver) (d : Desk) (due : Option Line) → 1 ≤ n → Sound n old → Sound n new → slice_get old.desks (n - 1) ≡ Some d → claim_due d old.settings now ≡ due → look_at new.desks (n - 1) ≡ Some (look (desk_claimed old.orders d now may due)) → new.orders ≡ ordered old.orders (told d.id (claim_if may due)) → Result n old new
+pub own_due : (n now : ℕ) (may : Bool) (old new : Driver) (d : Desk) (due : Option Line) → 1 ≤ n → Sound n old → Sound n new → slice_get old.desks (n - 1) ≡ Some d → claim_due d old.settings now ≡ due → look_at new.desks (n - 1) ≡ Some (look (desk_claimed old.orders d now may due)) → new.orders ≡ ordered old.orders (told d.id (claim_if may due)) → Result n old new
 unfolding AllAre
 own_due n now may old new d None low sound new_sound is due changed orders = inl (record {
   adds = record { told = []; orders = orders; all = tt };
@@ -335,7 +139,7 @@ own_due n now may old new d None low sound new_sound is due changed orders = inl
 })
 own_due n now may old new d (Some line) low sound new_sound is due changed orders = own_may n now may old new d line low sound new_sound is due changed orders
 
-own_by : (n now : ℕ) (may : Bool) (old new : Driver) (found : Option Desk) → 1 ≤ n → Sound n old → Sound n new → slice_get old.desks (n - 1) ≡ found → look_at new.desks (n - 1) ≡ look_in (option_map (claim_change old now may) found) → new.orders ≡ ordered old.orders (orders_of (claim_orders old now may) found) → Result n old new
+pub own_by : (n now : ℕ) (may : Bool) (old new : Driver) (found : Option Desk) → 1 ≤ n → Sound n old → Sound n new → slice_get old.desks (n - 1) ≡ found → look_at new.desks (n - 1) ≡ look_in (option_map (claim_change old now may) found) → new.orders ≡ ordered old.orders (orders_of (claim_orders old now may) found) → Result n old new
 unfolding AllAre
 own_by n now may old new None low sound new_sound is changed orders = inl (record {
   adds = record { told = []; orders = orders; all = tt };
@@ -345,20 +149,20 @@ own_by n now may old new None low sound new_sound is changed orders = inl (recor
 own_by n now may old new (Some d) low sound new_sound is changed orders =
     own_due n now may old new d (claim_due d old.settings now) low sound new_sound is refl changed orders
 
-claims_own : (n now : ℕ) (old new : Driver) → 1 ≤ n → Sound n old → Claims now n old new → Result n old new
+pub claims_own : (n now : ℕ) (old new : Driver) → 1 ≤ n → Sound n old → Claims now n old new → Result n old new
 claims_own n now old new low sound c =
     let may = may_claim old now in
     own_by n now may old new (slice_get old.desks (n - 1)) low sound (claims_sound n now n old new sound c) refl
     (ap (λ (desks : List Desk). look_at desks (n - 1)) c.desks ∙ changed_own (claim_change old now may) old.desks n)
     c.orders
 
-serves_own : (n : ℕ) (serves : Bool) (now : ℕ) (old new : Driver) → 1 ≤ n → Sound n old → ServesIf serves now n old new → Result n old new
+pub serves_own : (n : ℕ) (serves : Bool) (now : ℕ) (old new : Driver) → 1 ≤ n → Sound n old → ServesIf serves now n old new → Result n old new
 serves_own n false now old new low sound same = inl (same_keeps n old new sound same)
 serves_own n true now old new low sound s =
     let first = claims_own n now old s.claimed low sound s.claims in
     result_keeps n old s.claimed new first (connects_keep n now n s.claimed new (claims_sound n now n old s.claimed sound s.claims) s.connects)
 
-serves_apart : (n : ℕ) (serves : Bool) (now node : ℕ) (old new : Driver) → 1 ≤ n → 1 ≤ node → (node ≡ n → ⊥) → Sound n old → ServesIf serves now node old new → Keeps n old new
+pub serves_apart : (n : ℕ) (serves : Bool) (now node : ℕ) (old new : Driver) → 1 ≤ n → 1 ≤ node → (node ≡ n → ⊥) → Sound n old → ServesIf serves now node old new → Keeps n old new
 serves_apart n false now node old new low low_node apart sound same = same_keeps n old new sound same
 serves_apart n true now node old new low low_node apart sound s =
     let first = claims_apart n now node old s.claimed low low_node apart sound s.claims in
@@ -384,7 +188,7 @@ node_result n now node old new low low_node sound t =
     (λ apart. inl (node_apart n now node old new low low_node apart sound t))
 
 -- nodes behind this one tick
-nodes_behind : (n count now node : ℕ) (old new : Driver) → 1 ≤ n → n < node → Sound n old → TickNodes count now node old new → Keeps n old new
+pub nodes_behind : (n count now node : ℕ) (old new : Driver) → 1 ≤ n → n < node → Sound n old → TickNodes count now node old new → Keeps n old new
 unfolding TickNodes
 nodes_behind n zero now node old new low past sound same = same_keeps n old new sound same
 nodes_behind n (suc count) now node old new low past sound (behind, t, more) =

@@ -1,10 +1,13 @@
 mod Adding
 mod Asking
+mod Calling
 mod Claiming
+mod Counting
 mod Crowds
 mod Desks
 mod Driving
 mod Growing
+mod Keeping
 mod Kicks
 mod Leading
 mod Led
@@ -13,8 +16,10 @@ mod OneClaim
 mod Owning
 mod Passing
 mod Quiet
+mod Reaching
 mod Reporting
 mod Rounds
 mod Serving
 mod Sessions
 mod Telling
+mod Waiting

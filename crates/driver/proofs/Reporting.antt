@@ -1,14 +1,9 @@
--- At most one claim of a line waits at a node.
-use Rattle.std.proofs.Common.{◌≡◌, ◌∙◌, ◌++◌, inl, ℕ, zero, suc, ◌+◌, ◌-◌, ◌≤◌, Bool, true, false, List, [], ◌∷◌, Option, Some, None, refl, sym, ap, subst, slice_get, ⊎_elim, arith}
-use Rattle.std.specs.Prelude.{◌&&◌, ◌||◌, not, if◌then◌else◌, nat_eq, nat_le, map, option_map}
+-- What reports, and time, do to the claims of a node.
+use Rattle.std.proofs.Common.{◌≡◌, ◌∙◌, ℕ, zero, suc, ◌+◌, ◌-◌, ◌≤◌, Bool, true, false, List, [], ◌∷◌, Option, Some, None, refl, sym, ap, subst, slice_get, arith}
+use Rattle.std.specs.Prelude.{◌&&◌, ◌||◌, if◌then◌else◌, nat_eq, nat_le, map, option_map}
 use Rattle.std.specs.BTreeMap.{keys}
-use Rattle.std.specs.List.{list_any}
-use Rattle.std.proofs.lemmas.Bool.Decides.{nat_tests}
-use Rattle.std.proofs.lemmas.List.{append_assoc, append_cancel_left}
-use Rattle.std.proofs.lemmas.List.Folds.{list_any-append}
 use Rattle.wire_bytes.specs.declared.moment.Moment.{Moment}
 use Rattle.client_gate.specs.Gates.{GateEffect}
-use Rattle.machine_laws.specs.Sessions.{same_session}
 use Rattle.node_notes.specs.declared.progress.Progress.{Progress}
 use Rattle.node_notes.specs.declared.status.Status.{Status}
 use Rattle.raft_node.specs.declared.node_fault.Cause.{Cause}
@@ -20,9 +15,7 @@ use Rattle.driver.specs.declared.driver.Driver.{Driver}
 use Rattle.driver.specs.declared.gone.Notice.{Notice}
 use Rattle.driver.specs.declared.order.Order.{Order}
 use Rattle.driver.specs.declared.order.Order.TheVariants as order
-use Rattle.driver.specs.Claiming.{claims}
 use Rattle.driver.specs.Crowds.{Told}
-use Rattle.driver.specs.Desks.{is_claimed, line_to_claim}
 use Rattle.driver.specs.declared.news.Ending.TheVariants.{Silent}
 use Rattle.driver.specs.declared.news.News.{News}
 use Rattle.driver.specs.declared.news.News.TheVariants.{Elected}
@@ -30,173 +23,43 @@ use Rattle.driver.specs.declared.settings.Settings.{Settings}
 use Rattle.driver.specs.Driving.{Ticks, orders_of, round_of, told_of}
 use Rattle.driver.specs.Gone.{fresh, notice_at}
 use Rattle.driver.specs.Hearing.{down_behind, down_news, elected_news, heard_behind, heard_news, is_elected, progressed, settled, settles, stood_behind, stood_news, told_behind, up_behind, up_news, was_up}
-use Rattle.driver.specs.Links.{is_silent, status_at, status_in}
+use Rattle.driver.specs.Links.{is_silent}
 use Rattle.driver.specs.Nicks.{nick_in}
 use Rattle.driver.specs.Reports.{BeginsIf, Hears, Stands, WordsBy, WordsIf, heard_at, lost_at}
 use Rattle.driver.specs.Rounds.{Round, SpreadsAll, SpreadsBy, ask_orders, buried, word_due, word_told}
-use Rattle.driver.specs.Telling.{Ordered, ordered, told_to}
+use Rattle.driver.specs.Telling.{ordered, told_to}
 use Rattle.driver.specs.Waking.{awake, slept, waited_longer}
 use Rattle.driver.proofs.Adding.{Adds, adds_both, nothing_adds, passes_grow}
-use Rattle.driver.proofs.Claiming.{IsClaimed, Keeps, Line, Result, Sound, keeps_both, keeps_result, leaves_keep, node_result, nodes_result, orders_keep, result_keeps, same_eq, same_keeps, sound_behind}
+use Rattle.driver.proofs.Claiming.{node_result, nodes_result, same_eq, sound_behind}
+use Rattle.driver.proofs.Keeping.{Keeps, Line, Sound, keeps_both, keeps_result, leaves_keep, orders_keep, result_keeps, same_keeps}
 use Rattle.driver.proofs.Desks.{Ids, Look, changed_other, changed_own, ids_changed, ids_kept, look, look_at, look_in, mapped_same}
 use Rattle.driver.proofs.Growing.{AllAre, AllGood, Grows, all_append, by_number, cuts_grow, leaves_grow, same_grows, ticks_grow, words_grow}
-use Rattle.driver.proofs.Quiet.{NoClaim, none_claims}
-
--- The last claim that a node was told is of this line, and may be in its log.
-pub record Waits (n : ℕ) (line : Line) (driver : Driver) : Type 0 where
-  pub at : Look
-  pub is_at : look_at driver.desks (n - 1) ≡ Some at
-  pub claim : Claimed
-  pub is_claim : at.claimed ≡ Some claim
-  pub session : claim.session ≡ line.0
-  pub number : claim.number ≡ line.1
-  pub unsettled : claim.is_settled ≡ false
-
-pub waits_kept : (n : ℕ) (line : Line) (old new : Driver) → look_at new.desks (n - 1) ≡ look_at old.desks (n - 1) → Waits n line old → Waits n line new
-waits_kept n line old new same w = record {
-  at = w.at;
-  is_at = same ∙ w.is_at;
-  claim = w.claim;
-  is_claim = w.is_claim;
-  session = w.session;
-  number = w.number;
-  unsettled = w.unsettled;
-}
-
-abbrev pub or_status : Look → Option Look → Look
-or_status x None = x
-or_status x (Some y) = y
-
--- how a node stands, by what is looked at
-status_of : (found : Option Desk) (x : Look) → look_in found ≡ Some x → status_in found ≡ x.status
-status_of None x is = absurd (cc is)
-status_of (Some d) x is = ap (λ (y : Look). y.status) (ap (or_status x) is)
-
--- A node was told the claim of a line of its session, which is the last one now; if none may have been applied or refused meanwhile,
--- no claim of that line waited before.
-pub record Fresh (n : ℕ) (applied : Bool) (old new : Driver) : Type 0 where
-  pub line : Line
-  pub is_line : line_to_claim (status_at new.desks n) ≡ Some line
-  pub waits : Waits n line new
-  pub none_before : applied ≡ false → Waits n line old → ⊥
-
--- What comes of a call for the claims of a node.
-pub record Outcome (n : ℕ) (applied : Bool) (old new : Driver) (told : List Order) : Type 0 where
-  pub sound : Sound n new
-  pub quiet : list_any (claims n) told ≡ false → applied ≡ false → (line : Line) → Waits n line old → Waits n line new
-  pub claim : list_any (claims n) told ≡ true → Fresh n applied old new
-
-items_same : (before after : Ordered) (one other : List Order) → after ≡ ordered before one → after ≡ ordered before other → one ≡ other
-items_same before after one other first last =
-    append_cancel_left before.items one other (ap (λ (orders : Ordered). orders.items) (sym first ∙ last))
-
-pub true_false : (b : Bool) (P : Type 0) → b ≡ true → b ≡ false → P
-true_false b P here not_so = absurd (cc (here, not_so))
-
-session_same : (s : ℕ × ℕ) → same_session s s ≡ true
-session_same s = grind (arith, nat_tests)
-
--- a claim that may be in the log holds back another of its line
-held_back : (claimed : Option Claimed) (claim : Claimed) (wait now : ℕ) (line : Line) → claimed ≡ Some claim → claim.session ≡ line.0 → claim.number ≡ line.1 → claim.is_settled ≡ false → is_claimed claimed wait now line.0 line.1 ≡ true
-held_back claimed claim wait now line is session number unsettled =
-    let over = nat_le wait (now - claim.at.since) in
-    let same : same_session claim.session line.0 ≡ true = subst (λ (s : ℕ × ℕ). same_session claim.session s ≡ true) session (session_same claim.session) in
-    let equal : nat_eq claim.number line.1 ≡ true = subst (λ (k : ℕ). nat_eq claim.number k ≡ true) number (same_eq claim.number) in
-    ap (λ (c : Option Claimed). is_claimed c wait now line.0 line.1) is
-    ∙ ap (λ (b : Bool). b && nat_eq claim.number line.1 && not (claim.is_settled && over)) same
-    ∙ ap (λ (b : Bool). b && not (claim.is_settled && over)) equal
-    ∙ ap (λ (b : Bool). not (b && over)) unsettled
-
-abbrev or_claim : Claimed → Option Claimed → Claimed
-or_claim c None = c
-or_claim c (Some d) = d
-
--- where the last claim of a line may be in the log, that line is not free
-not_free : (n : ℕ) (line : Line) (driver : Driver) (before : Look) (wait now : ℕ) → Waits n line driver → look_at driver.desks (n - 1) ≡ Some before → is_claimed before.claimed wait now line.0 line.1 ≡ false → ⊥
-not_free n line driver before wait now w is free =
-    let same : w.at ≡ before = ap (or_status w.at) (sym w.is_at ∙ is) in
-    let held = held_back before.claimed w.claim wait now line (subst (λ (x : Look). x.claimed ≡ Some w.claim) same w.is_claim) w.session w.number w.unsettled in
-    true_false (is_claimed before.claimed wait now line.0 line.1) ⊥ held free
-
--- the claim that a node was told is the last one
-claimed_waits : (n : ℕ) (old new : Driver) → (c : IsClaimed n old new) → Waits n c.line new
-claimed_waits n old new c = record {
-  at = record { id = c.before.id; claimed = Some c.claim; status = c.before.status };
-  is_at = c.is_claim;
-  claim = c.claim;
-  is_claim = refl;
-  session = c.session;
-  number = c.number;
-  unsettled = c.unsettled;
-}
-
--- What comes of a call that first keeps, or is a report, and then lets nodes tick.
-outcome_kept : (n : ℕ) (applied : Bool) (old mid new : Driver) (told : List Order) → Adds (NoClaim n) old.orders mid.orders → (applied ≡ false → (line : Line) → Waits n line old → Waits n line mid) → Keeps n mid new → new.orders ≡ ordered old.orders told → Outcome n applied old new told
-outcome_kept n applied old mid new told adds waits k is =
-    let all = adds_both (NoClaim n) old.orders mid.orders new.orders adds k.adds in
-    let none = ap (list_any (claims n)) (items_same old.orders new.orders told all.told is all.orders) ∙ none_claims n all.told all.all in
-    record {
-      sound = k.sound;
-      quiet = λ _ not_applied line w. waits_kept n line mid new k.same (waits not_applied line w);
-      claim = λ here. true_false (list_any (claims n) told) (Fresh n applied old new) here none;
-    }
-
-outcome_claimed : (n : ℕ) (applied : Bool) (old mid new : Driver) (told : List Order) → Adds (NoClaim n) old.orders mid.orders → (applied ≡ false → (line : Line) → Waits n line old → Waits n line mid) → IsClaimed n mid new → new.orders ≡ ordered old.orders told → Outcome n applied old new told
-outcome_claimed n applied old mid new told adds waits c is =
-    let orders =
-    c.orders
-    ∙ ap (λ (orders : Ordered). ordered orders c.told) adds.orders
-    ∙ ap (λ (items : List Order). record old.orders { items = items }) (append_assoc old.orders.items adds.told c.told)
-    in
-    let has =
-    ap (list_any (claims n)) (items_same old.orders new.orders told (adds.told ++ c.told) is orders)
-    ∙ list_any-append (claims n) adds.told c.told
-    ∙ ap (λ (b : Bool). b || list_any (claims n) c.told) (none_claims n adds.told adds.all)
-    ∙ c.has
-    in
-    record {
-      sound = c.sound;
-      quiet = λ not_so. true_false (list_any (claims n) told) (applied ≡ false → (line : Line) → Waits n line old → Waits n line new) has not_so;
-      claim = λ _. record {
-        line = c.line;
-        is_line = ap line_to_claim (status_of (slice_get new.desks (n - 1)) (record { id = c.before.id; claimed = Some c.claim; status = c.before.status }) c.is_claim) ∙ c.is_line;
-        waits = claimed_waits n mid new c;
-        none_before = λ not_applied w. not_free n c.line mid c.before c.wait c.now (waits not_applied c.line w) c.is_before c.is_free;
-      };
-    }
-
-pub outcome_of : (n : ℕ) (applied : Bool) (old mid new : Driver) (told : List Order) → Adds (NoClaim n) old.orders mid.orders → (applied ≡ false → (line : Line) → Waits n line old → Waits n line mid) → Result n mid new → new.orders ≡ ordered old.orders told → Outcome n applied old new told
-outcome_of n applied old mid new told adds waits r is =
-    ⊎_elim (λ k. outcome_kept n applied old mid new told adds waits k is) (λ c. outcome_claimed n applied old mid new told adds waits c is) r
-
--- of a call that keeps
-pub outcome_keeps : (n : ℕ) (applied : Bool) (old new : Driver) (told : List Order) → Keeps n old new → new.orders ≡ ordered old.orders told → Outcome n applied old new told
-outcome_keeps n applied old new told k is =
-    outcome_of n applied old old new told (nothing_adds (NoClaim n) old.orders old.orders refl) (λ _ line w. w) (inl k) is
+use Rattle.driver.proofs.Quiet.{NoClaim}
+use Rattle.driver.proofs.Waiting.{Outcome, Waits, or_status, outcome_of, waits_kept}
 
 -- What is known of a node behind a report of it.
 
-down_look : (d : Desk) (now : ℕ) (down : Option Timer) → look (down_behind d now down) ≡ look d
+pub down_look : (d : Desk) (now : ℕ) (down : Option Timer) → look (down_behind d now down) ≡ look d
 down_look d now None = refl
 down_look d now (Some since) = refl
 
-up_look : (d : Desk) (now : ℕ) (up : Bool) → look (up_behind d now up) ≡ look d
+pub up_look : (d : Desk) (now : ℕ) (up : Bool) → look (up_behind d now up) ≡ look d
 up_look d now true = refl
 up_look d now false = refl
 
-stood_look : (d : Desk) (now : ℕ) (up : Bool) (down : Option Cause) → look (stood_behind d now up down) ≡ look d
+pub stood_look : (d : Desk) (now : ℕ) (up : Bool) (down : Option Cause) → look (stood_behind d now up down) ≡ look d
 stood_look d now up None = up_look d now up
 stood_look d now up (Some cause) = down_look d now d.down
 
 -- a node that does not tell that it has applied all leaves its last claim unsettled
-unsettled_by : (claim : Claimed) (done : Bool) (status : Status) → claim.is_settled ≡ false → nat_eq status.applied status.last ≡ false → (claim.is_settled || (done && nat_eq status.applied status.last)) ≡ false
+pub unsettled_by : (claim : Claimed) (done : Bool) (status : Status) → claim.is_settled ≡ false → nat_eq status.applied status.last ≡ false → (claim.is_settled || (done && nat_eq status.applied status.last)) ≡ false
 unsettled_by claim true status is apart = ap (λ (b : Bool). b || nat_eq status.applied status.last) is ∙ apart
 unsettled_by claim false status is apart = ap (λ (b : Bool). b || false) is
 
-heard_look : (d : Desk) (now told : ℕ) (status : Status) (progress : Progress) → look (heard_behind d now told status progress) ≡ record { id = d.id; claimed = settled d.claimed status (progressed d.progress told progress).done; status = Some status }
+pub heard_look : (d : Desk) (now told : ℕ) (status : Status) (progress : Progress) → look (heard_behind d now told status progress) ≡ record { id = d.id; claimed = settled d.claimed status (progressed d.progress told progress).done; status = Some status }
 heard_look d now told status progress = stood_look (told_behind d now told status progress) now (was_up d.status) status.down
 
-waits_heard_by : (n : ℕ) (line : Line) (old new : Driver) (now : ℕ) (counts : Desk → ℕ) (status : Status) (progress : Progress) (found : Option Desk) → nat_eq status.applied status.last ≡ false → (w : Waits n line old) → look_in found ≡ Some w.at → look_at new.desks (n - 1) ≡ look_in (option_map (λ d. heard_behind d now (counts d) status progress) found) → Waits n line new
+pub waits_heard_by : (n : ℕ) (line : Line) (old new : Driver) (now : ℕ) (counts : Desk → ℕ) (status : Status) (progress : Progress) (found : Option Desk) → nat_eq status.applied status.last ≡ false → (w : Waits n line old) → look_in found ≡ Some w.at → look_at new.desks (n - 1) ≡ look_in (option_map (λ d. heard_behind d now (counts d) status progress) found) → Waits n line new
 waits_heard_by n line old new now counts status progress None apart w is changed = absurd (cc is)
 waits_heard_by n line old new now counts status progress (Some d) apart w is changed =
     let done = (progressed d.progress (counts d) progress).done in
@@ -213,11 +76,11 @@ waits_heard_by n line old new now counts status progress (Some d) apart w is cha
     }
 
 -- where two things are, the second is where the first is
-second_false : (a b : Bool) → a ≡ true → (a && b) ≡ false → b ≡ false
+pub second_false : (a b : Bool) → a ≡ true → (a && b) ≡ false → b ≡ false
 second_false a b is not_so = sym (ap (λ (x : Bool). x && b) is) ∙ not_so
 
 -- A report of a node that does not tell that it has applied all leaves what waits.
-stood_waits : (n now node : ℕ) (status : Status) (progress : Progress) (refused : Bool) (line : Line) (old new : Driver) → 1 ≤ n → 1 ≤ node → (nat_eq node n && nat_eq status.applied status.last) ≡ false → Stands now node status progress refused old new → Waits n line old → Waits n line new
+pub stood_waits : (n now node : ℕ) (status : Status) (progress : Progress) (refused : Bool) (line : Line) (old new : Driver) → 1 ≤ n → 1 ≤ node → (nat_eq node n && nat_eq status.applied status.last) ≡ false → Stands now node status progress refused old new → Waits n line old → Waits n line new
 stood_waits n now node status progress refused line old new low low_node apart s w =
     let change : Desk → Desk = λ d. heard_behind d now (told_to old.orders d.id) status progress in
     by_number node n (Waits n line new)
@@ -232,26 +95,26 @@ stood_waits n now node status progress refused line old new low low_node apart s
     (ap (λ (desks : List Desk). look_at desks (n - 1)) s.desks ∙ changed_other change old.desks node (n - 1) (λ e. other (omega (arith, e, low, low_node))))
     w)
 
-if_quiet : (n : ℕ) (b : Bool) (news : News) → AllAre (NoClaim n) (if b then order.Tells news ∷ [] else [])
+pub if_quiet : (n : ℕ) (b : Bool) (news : News) → AllAre (NoClaim n) (if b then order.Tells news ∷ [] else [])
 unfolding AllAre
 if_quiet n true news = (refl, tt)
 if_quiet n false news = tt
 
-up_quiet : (n id boot : ℕ) (up : Bool) → AllAre (NoClaim n) (up_news id boot up)
+pub up_quiet : (n id boot : ℕ) (up : Bool) → AllAre (NoClaim n) (up_news id boot up)
 unfolding AllAre
 up_quiet n id boot true = tt
 up_quiet n id boot false = (refl, tt)
 
-down_quiet : (n id : ℕ) (cause : Cause) (down : Option Timer) → AllAre (NoClaim n) (down_news id cause down)
+pub down_quiet : (n id : ℕ) (cause : Cause) (down : Option Timer) → AllAre (NoClaim n) (down_news id cause down)
 unfolding AllAre
 down_quiet n id cause None = (refl, tt)
 down_quiet n id cause (Some since) = tt
 
-stood_quiet : (n : ℕ) (d : Desk) (status : Status) (down : Option Cause) → AllAre (NoClaim n) (stood_news d status down)
+pub stood_quiet : (n : ℕ) (d : Desk) (status : Status) (down : Option Cause) → AllAre (NoClaim n) (stood_news d status down)
 stood_quiet n d status None = up_quiet n d.id status.boot (was_up d.status)
 stood_quiet n d status (Some cause) = down_quiet n d.id cause d.down
 
-news_quiet : (n : ℕ) (status : Status) (found : Option Desk) → AllAre (NoClaim n) (orders_of (λ d. heard_news d status) found)
+pub news_quiet : (n : ℕ) (status : Status) (found : Option Desk) → AllAre (NoClaim n) (orders_of (λ d. heard_news d status) found)
 unfolding AllAre
 news_quiet n status None = tt
 news_quiet n status (Some d) =
@@ -260,7 +123,7 @@ news_quiet n status (Some d) =
     (stood_quiet n d status status.down)
 
 -- what is known behind it
-stood_sound : (n now node : ℕ) (status : Status) (progress : Progress) (refused : Bool) (old new : Driver) → Sound n old → Stands now node status progress refused old new → Sound n new
+pub stood_sound : (n now node : ℕ) (status : Status) (progress : Progress) (refused : Bool) (old new : Driver) → Sound n old → Stands now node status progress refused old new → Sound n new
 stood_sound n now node status progress refused old new sound s = record {
   good = subst (λ (clients : Clients). AllGood (NoClaim n) clients) (sym (ap (λ (driver : Driver). driver.clients) s.rest)) sound.good;
   ids =
@@ -269,7 +132,7 @@ stood_sound n now node status progress refused old new sound s = record {
       (λ d. ap (λ (x : Look). x.id) (heard_look d now (told_to old.orders d.id) status progress)) old.desks node sound.ids);
 }
 
-stood_adds : (n now node : ℕ) (status : Status) (progress : Progress) (refused : Bool) (old new : Driver) → Stands now node status progress refused old new → Adds (NoClaim n) old.orders new.orders
+pub stood_adds : (n now node : ℕ) (status : Status) (progress : Progress) (refused : Bool) (old new : Driver) → Stands now node status progress refused old new → Adds (NoClaim n) old.orders new.orders
 stood_adds n now node status progress refused old new s = record {
   told = orders_of (λ d. heard_news d status) (slice_get old.desks (node - 1));
   orders = s.orders;
@@ -284,24 +147,24 @@ grows_keep n old new sound same g = record {
   same = ap (λ (desks : List Desk). look_at desks (n - 1)) same;
 }
 
-told_same : (n : ℕ) (old new : Told) → AllGood (NoClaim n) old.clients → new ≡ old → Grows (NoClaim n) old new
+pub told_same : (n : ℕ) (old new : Told) → AllGood (NoClaim n) old.clients → new ≡ old → Grows (NoClaim n) old new
 told_same n old new good same =
     same_grows (NoClaim n) old new good (ap (λ (told : Told). told.clients) same, ap (λ (told : Told). told.orders) same)
 
-words_if : (n : ℕ) (b refused : Bool) (now : ℕ) (at : Moment) (node lost : ℕ) (old new : Told) → AllGood (NoClaim n) old.clients → WordsIf b refused now at node lost old new → Grows (NoClaim n) old new
+pub words_if : (n : ℕ) (b refused : Bool) (now : ℕ) (at : Moment) (node lost : ℕ) (old new : Told) → AllGood (NoClaim n) old.clients → WordsIf b refused now at node lost old new → Grows (NoClaim n) old new
 words_if n true refused now at node lost old new good w = words_grow (NoClaim n) at now node lost refused (keys old.clients.all) old new good w
 words_if n false refused now at node lost old new good same = told_same n old new good same
 
-words_by : (n : ℕ) (down : Option Cause) (refused lost : Bool) (now : ℕ) (at : Moment) (node : ℕ) (driver : Driver) (old new : Told) → AllGood (NoClaim n) old.clients → WordsBy down refused lost now at node driver old new → Grows (NoClaim n) old new
+pub words_by : (n : ℕ) (down : Option Cause) (refused lost : Bool) (now : ℕ) (at : Moment) (node : ℕ) (driver : Driver) (old new : Told) → AllGood (NoClaim n) old.clients → WordsBy down refused lost now at node driver old new → Grows (NoClaim n) old new
 words_by n (Some cause) refused lost now at node driver old new good w = cuts_grow (NoClaim n) node (keys old.clients.all) old new good w
 words_by n None refused lost now at node driver old new good w = words_if n (refused || lost) refused now at node (lost_at driver.desks node) old new good w
 
-word_quiet : (n boot : ℕ) (found : Option Desk) → AllAre (NoClaim n) (orders_of (λ d. word_told (fresh d.id boot) d) found)
+pub word_quiet : (n boot : ℕ) (found : Option Desk) → AllAre (NoClaim n) (orders_of (λ d. word_told (fresh d.id boot) d) found)
 unfolding AllAre
 word_quiet n boot None = tt
 word_quiet n boot (Some d) = (refl, tt)
 
-begins_keep : (n : ℕ) (begins : Bool) (now : ℕ) (at : Moment) (node boot : ℕ) (old new : Driver) → Sound n old → BeginsIf begins now at node boot old new → Keeps n old new
+pub begins_keep : (n : ℕ) (begins : Bool) (now : ℕ) (at : Moment) (node boot : ℕ) (old new : Driver) → Sound n old → BeginsIf begins now at node boot old new → Keeps n old new
 unfolding AllAre
 begins_keep n false now at node boot old new sound same = same_keeps n old new sound same
 begins_keep n true now at node boot old new sound b =
@@ -324,7 +187,7 @@ begins_keep n true now at node boot old new sound b =
     }
 
 -- the driver is awake
-awake_keeps : (n now : ℕ) (old : Driver) → Sound n old → Keeps n old (awake now old)
+pub awake_keeps : (n now : ℕ) (old : Driver) → Sound n old → Keeps n old (awake now old)
 awake_keeps n now old sound =
     let change = waited_longer (slept old.ran old.settings.timeout_ms now) in
     let same = λ (j : ℕ). mapped_same change (λ d. refl) old.desks j in
@@ -356,12 +219,12 @@ report_outcome n now at node status effects progress refused old new told low lo
     (keeps_result n h.stood h.begun new behind (node_result n now node h.begun new low low_node begun.sound h.ticks))
     is
 
-ask_quiet : (n : ℕ) (due : Option Notice) (desk : Desk) → AllAre (NoClaim n) (ask_orders due desk)
+pub ask_quiet : (n : ℕ) (due : Option Notice) (desk : Desk) → AllAre (NoClaim n) (ask_orders due desk)
 unfolding AllAre
 ask_quiet n None desk = tt
 ask_quiet n (Some notice) desk = (refl, tt)
 
-spreads_add : (n count : ℕ) (settings : Settings) (now leader node : ℕ) (desks : List Desk) (old new : Round) → SpreadsAll count settings now leader node desks old new → Adds (NoClaim n) old.orders new.orders
+pub spreads_add : (n count : ℕ) (settings : Settings) (now leader node : ℕ) (desks : List Desk) (old new : Round) → SpreadsAll count settings now leader node desks old new → Adds (NoClaim n) old.orders new.orders
 unfolding SpreadsAll
 spreads_add n zero settings now leader node desks old new same = nothing_adds (NoClaim n) old.orders new.orders (ap (λ (round : Round). round.orders) same)
 spreads_add n (suc count) settings now leader node desks old new (behind, s, more) =
@@ -370,7 +233,7 @@ spreads_add n (suc count) settings now leader node desks old new (behind, s, mor
     (record { told = ask_orders due s.via; orders = s.orders; all = ask_quiet n due s.via })
     (spreads_add n count settings now leader (node + 1) desks behind new more)
 
-spreads_by : (n : ℕ) (leader : Option ℕ) (settings : Settings) (now : ℕ) (desks : List Desk) (old new : Round) → SpreadsBy leader settings now desks old new → Adds (NoClaim n) old.orders new.orders
+pub spreads_by : (n : ℕ) (leader : Option ℕ) (settings : Settings) (now : ℕ) (desks : List Desk) (old new : Round) → SpreadsBy leader settings now desks old new → Adds (NoClaim n) old.orders new.orders
 spreads_by n None settings now desks old new same = nothing_adds (NoClaim n) old.orders new.orders (ap (λ (round : Round). round.orders) same)
 spreads_by n (Some leader) settings now desks old new s = spreads_add n 7 settings now leader 1 desks old new s
 

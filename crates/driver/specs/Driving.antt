@@ -1,6 +1,7 @@
 -- What comes of time, and how each node is driven.
-use Rattle.std.specs.Prelude.{◌≡◌, ◌++◌, ℕ, zero, suc, ◌+◌, ◌-◌, Bool, true, false, if◌then◌else◌, List, [], ◌∷◌, Option, Some, None, slice_get, slice_set}
+use Rattle.std.specs.Prelude.{◌≡◌, ◌++◌, ℕ, zero, suc, ◌+◌, ◌-◌, ◌&&◌, Bool, true, false, if◌then◌else◌, List, [], ◌∷◌, Option, Some, None, slice_get, slice_set}
 use Rattle.std.specs.BTreeMap.{keys}
+use Rattle.std.specs.Option.{is_some}
 use Rattle.wire_bytes.specs.declared.moment.Moment.{Moment}
 use Rattle.node_notes.specs.declared.note.Note.TheVariants as note
 use Rattle.driver.specs.declared.desk.Desk.{Desk}
@@ -16,7 +17,8 @@ use Rattle.driver.specs.Crowds.{TickEach, Told, told as crowd}
 use Rattle.driver.specs.Desks.{claim_at, claim_due, desk_behind, desk_claimed, note_at, told}
 use Rattle.driver.specs.Gone.{restart_at, restart_behind}
 use Rattle.driver.specs.Leading.{IsLeader, is_older, is_that}
-use Rattle.driver.specs.Links.{IsLost, backoff_behind, ending, idle_behind, is_silent, may_connect, node_of}
+use Rattle.driver.specs.Hearing.{boot_up}
+use Rattle.driver.specs.Links.{IsLost, backoff_behind, ending, idle_behind, is_silent, may_connect, node_of, status_at}
 use Rattle.driver.specs.Rounds.{GoesRound, Round, round}
 use Rattle.driver.specs.Telling.{Ordered, ordered}
 use Rattle.driver.specs.Waking.{awake}
@@ -65,21 +67,21 @@ pub record TicksDesk (now node : ℕ) (old new : Driver) : Type 0 where
   pub orders : new.orders ≡ ordered old.orders (orders_at (tick_orders old.orders old.notices.all old.settings now) old.desks node)
   pub rest : new ≡ record old { desks = new.desks; orders = new.orders }
 
--- the node of a connection is told of its end, where its uplink gave the end
-abbrev pub closed_of : Option ℕ → Bool → Option ℕ
-closed_of None lost = None
-closed_of (Some node) lost = if lost then Some node else None
+-- the node of a connection is told of its end, where its uplink gave the end, and the node is up
+abbrev pub closed_of : List Desk → Option ℕ → Bool → Option ℕ
+closed_of desks None lost = None
+closed_of desks (Some node) lost = if lost && is_some (boot_up (status_at desks node)) then Some node else None
 
 abbrev pub closed_orders : Option ℕ → List Order
 closed_orders None = []
 closed_orders (Some node) = Tell node note.Closed ∷ []
 
--- The connection to the server is gone: an operator is told why, and its node is told where it had a session.
+-- The connection to the server is gone: an operator is told why, and its node is told where it had a session and is up.
 pub record Ends (now : ℕ) (why : Ending) (old new : Driver) : Type 0 where
   pub lost : Bool
   pub is_lost : IsLost old.link.stage lost
   pub orders :
-      new.orders ≡ ordered old.orders (ending old.link.stage why ++ closed_orders (closed_of (node_of old.link.stage) lost))
+      new.orders ≡ ordered old.orders (ending old.link.stage why ++ closed_orders (closed_of old.desks (node_of old.link.stage) lost))
   pub stage : new.link.stage ≡ idle_behind old.link.stage old.link.backoff now
   pub backoff : new.link.backoff ≡ backoff_behind old.link.stage old.link.backoff now
   pub rest : new ≡ record old { orders = new.orders; link = new.link }

@@ -128,10 +128,14 @@ abbrev pub heard_behind : Desk → ℕ → ℕ → Status → Progress → Desk
 heard_behind desk now told status progress =
     stood_behind (told_behind desk now told status progress) now (was_up desk.status) status.down
 
+-- a run of a node began: it is up, and was not before, or was up in another run
+abbrev pub begins_run : Option Status → Status → Bool
+begins_run before status = is_none status.down && (not (was_up before) || is_new_run before status)
+
 -- what is new of it: a run of it began, and requests may be lost that were not known to be
 abbrev pub heard_of : Desk → ℕ → Status → Progress → Heard
 heard_of desk told status progress = record {
-  is_new = is_new_run desk.status status;
+  is_new = begins_run desk.status status;
   has_lost = nat_lt desk.progress.lost (progressed desk.progress told progress).lost;
 }
 

@@ -4,6 +4,7 @@ pub mod Calls
 pub mod Claiming
 pub mod Clients
 pub mod Coming
+pub mod Counting
 pub mod Crowds
 pub mod Desks
 pub mod Driving
@@ -19,6 +20,7 @@ pub mod Once
 pub mod Operators
 pub mod Outages
 pub mod Passing
+pub mod Reaching
 pub mod Reports
 pub mod Rosters
 pub mod Rounds

@@ -136,7 +136,7 @@ impl Driver {
     }
 
     /// The run in which a node is up, if it is.
-    fn boot_of(&self, node: NodeId) -> Option<Number>
+    pub(crate) fn boot_of(&self, node: NodeId) -> Option<Number>
         ensures { result ≡ boot_at self.now.desks node }
     {
         let desk = self.desks.get(node.value() as usize - 1)?;

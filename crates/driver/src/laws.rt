@@ -1,7 +1,9 @@
 //! What holds of every driver, as contracts of functions that do nothing.
 ghost use Rattle.driver.specs.Claiming.{OneClaimWaits};
+ghost use Rattle.driver.specs.Counting.{NotesAreCounted};
 ghost use Rattle.driver.specs.Led.{IsOfLeaderHeard, IsOfLeaderTicked};
 ghost use Rattle.driver.specs.Once.{AsksOnce, AsksOwn};
+ghost use Rattle.driver.specs.Reaching.{EffectsReach};
 
 /// Over whatever happens to a client, as long as its node told of nothing lost that it was told of it, and
 /// nothing holds it up, each request that its gate numbers is told to its node once, and in order.
@@ -25,4 +27,16 @@ pub fn the_server_is_of_the_greatest_leader()
 /// to claim a line, and its next claim is of the same line, it told in between that all of its log is applied.
 pub fn one_claim_waits()
     ensures { OneClaimWaits }
+{}
+
+/// Over every list of calls of a driver each effect of a report reaches the client of its origin, and no
+/// other, also none that has the same number.
+pub fn effects_reach_their_clients()
+    ensures { EffectsReach }
+{}
+
+/// Over every list of calls of a driver, however its orders are taken, how many notes a node was told is how
+/// many its orders told it.
+pub fn notes_are_counted()
+    ensures { NotesAreCounted }
 {}

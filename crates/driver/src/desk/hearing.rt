@@ -45,8 +45,8 @@ impl Desk {
         ensures desk { OnOk result (self.new ≡ heard_behind self.old now.now.ms
             (told_to orders.old self.old.id) status.now progress.now) }
     {
-        let is_new = self.is_new_run(status);
         let was_up = self.is_up();
+        let is_new = status.down.is_none() && (!was_up || self.is_new_run(status));
         let lost = self.progress.lost;
         let told = orders.told_to(self.id);
         self.hear_leading(status, orders)?;

@@ -83,14 +83,16 @@ impl Driver {
         self.end_session(now, why)
     }
 
-    /// There is no connection to the server, or none any more.
+    /// There is no connection to the server, or none any more. A node that is down is not told: the session
+    /// of its run is over with the run.
     fn end_session(&mut self, now: &Now, why: Ending) -> Result<(), AllocError>
         ensures { OnOk result (Ends now.now.ms why self.old self.new) }
     {
         let Some(node) = self.link.node() else {
             return Ok(());
         };
-        if self.link.lose(now, why, &mut self.orders)? {
+        let is_lost = self.link.lose(now, why, &mut self.orders)?;
+        if is_lost && self.boot_of(node).is_some() {
             self.orders.tell(node, Note::Closed)?;
         }
         Ok(())

@@ -1,0 +1,250 @@
+-- What comes of each call of a driver for the claims of a node.
+use Rattle.std.proofs.Common.{◌≡◌, ◌∙◌, ◌++◌, ℕ, ◌-◌, Bool, true, false, List, [], ◌∷◌, length, Option, Some, None, refl, sym, ap, subst, slice_get}
+use Rattle.std.specs.Prelude.{◌^◌, if◌then◌else◌, nat_lt, IfSome}
+use Rattle.std.specs.BTreeMap.{keys}
+use Rattle.std.specs.Global.{Vec}
+use Rattle.wire_bytes.specs.declared.moment.Moment.{Moment}
+use Rattle.client_gate.specs.Calls.{Held, Stands as GateStands}
+use Rattle.client_gate.specs.Made.{made}
+use Rattle.buffer_commands.specs.declared.wire_line.WireLine.{WireLine}
+use Rattle.bouncer_tower.specs.Bodies.{TowerBody}
+use Rattle.irc_line.specs.Lines.{Parts, spelling}
+use Rattle.node_notes.specs.declared.note.Note.{Note}
+use Rattle.node_notes.specs.declared.note.Note.TheVariants as note
+use Rattle.uplink.specs.declared.input.UplinkInput.{UplinkInput}
+use Rattle.uplink.specs.declared.input.UplinkInput.TheVariants as input
+use Rattle.driver.specs.declared.client.Client.{Client}
+use Rattle.driver.specs.declared.clients.Clients.{Clients}
+use Rattle.driver.specs.declared.desk.Desk.{Desk}
+use Rattle.driver.specs.declared.driver.Driver.{Driver}
+use Rattle.driver.specs.declared.level.Level.{Level}
+use Rattle.driver.specs.declared.link.Stage.{Stage}
+use Rattle.driver.specs.declared.link.Stage.TheVariants.{Connecting, Idle, Open}
+use Rattle.driver.specs.declared.news.News.TheVariants.{LogFills, TurnedAway}
+use Rattle.driver.specs.declared.order.Order.TheVariants as order
+use Rattle.driver.specs.declared.settings.Settings.{Settings}
+use Rattle.driver.specs.Arriving.{ArrivesBy, boot_at, next_number, turned_away_by, visited}
+use Rattle.driver.specs.Calls.{ConnectsTo, Goes, Orders, Speaks}
+use Rattle.driver.specs.Crowds.{told as crowd}
+use Rattle.driver.specs.Driving.{orders_of, told_of}
+use Rattle.driver.specs.Filling.{TellsLevelIf, WatchesFor}
+use Rattle.driver.specs.Gone.{with_seen}
+use Rattle.driver.specs.Hearing.{turned_away, turned_away_news}
+use Rattle.driver.specs.Links.{Connects, Receives, notes_of, send_some}
+use Rattle.driver.specs.Nicks.{IsGreeted, RenamesBy, RenamesIf, is_renamed, nick_in}
+use Rattle.driver.specs.Rosters.{AreOthersSame, client_at, is_attached_in}
+use Rattle.driver.specs.Sessions.{TakesIf, TellsAllOf, TellsIf, opened_of}
+use Rattle.driver.specs.Filling.{is_left_out}
+use Rattle.driver.specs.Telling.{Ordered, ordered}
+use Rattle.driver.proofs.Adding.{Adds, adds_both, all_written_add, named_adds, nothing_adds, one_adds}
+use Rattle.driver.proofs.Keeping.{Keeps, Sound, keeps_both, orders_keep, same_keeps}
+use Rattle.driver.proofs.Desks.{changed_same, ids_kept, look_at}
+use Rattle.driver.proofs.Growing.{AllAre, AllGood, Good, by_number, one_grows}
+use Rattle.driver.proofs.Owning.{lost_own, reads_own}
+use Rattle.driver.proofs.Quiet.{IsQuiet, NoClaim, quiet_client, quiet_told}
+use Rattle.driver.proofs.Reporting.{grows_keep}
+
+-- A client connects.
+
+abbrev pub or_client : Client → Option Client → Client
+or_client c None = c
+or_client c (Some d) = d
+
+pub arrived_good : (n node boot number : ℕ) (password nick : List ℕ) (now : ℕ) (old new : Clients) → AllGood (NoClaim n) old → AreOthersSame number old new → ArrivesBy (Some boot) (Some number) node password nick now old new → AllGood (NoClaim n) new
+arrived_good n node boot number password nick now old new good others a k c found =
+    by_number number k (Good (NoClaim n) c)
+    (λ same.
+    let here = subst (λ (k : ℕ). client_at new k ≡ Some c) (sym same) found in
+    let is : a.client ≡ c = ap (or_client a.client) (sym a.is_there ∙ here) in
+    let client : Good (NoClaim n) a.client = record {
+      settings = made (node, boot, number) password nick;
+      calls = [];
+      stands = subst (λ (held : Held). GateStands (made (node, boot, number) password nick) [] held) (sym a.is_new.gate_is) a.is_made;
+      fits = λ o own. quiet_client n a.client.origin o own;
+    } in
+    subst (λ (c : Client). Good (NoClaim n) c) is client)
+    (λ apart. good k c (sym (others k apart) ∙ found))
+
+pub arrive_good : (n node : ℕ) (boot number : Option ℕ) (password nick : List ℕ) (now : ℕ) (old new : Clients) → AllGood (NoClaim n) old → IfSome number (λ number. AreOthersSame number old new) → ArrivesBy boot number node password nick now old new → AllGood (NoClaim n) new
+arrive_good n node None number password nick now old new good others same = subst (λ (clients : Clients). AllGood (NoClaim n) clients) (sym same) good
+arrive_good n node (Some boot) None password nick now old new good others same = subst (λ (clients : Clients). AllGood (NoClaim n) clients) (sym same) good
+arrive_good n node (Some boot) (Some number) password nick now old new good others a = arrived_good n node boot number password nick now old new good others a
+
+pub visited_look : (boot : Option ℕ) (taken : Bool) (desks : List Desk) (node j : ℕ) → look_at (visited boot taken desks node) j ≡ look_at desks j
+visited_look None taken desks node j = changed_same turned_away (λ d. refl) desks node j
+visited_look (Some boot) true desks node j = changed_same (with_seen boot) (λ d. refl) desks node j
+visited_look (Some boot) false desks node j = refl
+
+pub away_quiet : (n : ℕ) (away : Bool) (id : ℕ) → AllAre (NoClaim n) (if away then [] else order.Tells (TurnedAway id) ∷ [])
+unfolding AllAre
+away_quiet n true id = tt
+away_quiet n false id = (refl, tt)
+
+pub turned_quiet : (n : ℕ) (found : Option Desk) → AllAre (NoClaim n) (orders_of turned_away_news found)
+unfolding AllAre
+turned_quiet n None = tt
+turned_quiet n (Some d) = away_quiet n d.has_turned_away d.id
+
+pub turned_by : (n : ℕ) (boot : Option ℕ) (desks : List Desk) (node : ℕ) → AllAre (NoClaim n) (turned_away_by boot desks node)
+unfolding AllAre
+turned_by n None desks node = turned_quiet n (slice_get desks (node - 1))
+turned_by n (Some boot) desks node = tt
+
+pub connect_keeps : (n now node : ℕ) (old new : Driver) → Sound n old → ConnectsTo now node old new → Keeps n old new
+connect_keeps n now node old new sound c =
+    let boot = boot_at old.desks node in
+    let same = λ (j : ℕ). ap (λ (desks : List Desk). look_at desks j) c.desks ∙ visited_look boot (nat_lt old.numbered (2 ^ 60)) old.desks node j in
+    record {
+      adds = record { told = turned_away_by boot old.desks node; orders = c.orders; all = turned_by n boot old.desks node };
+      sound = record {
+        good = arrive_good n node boot (next_number old.desks node old.numbered) old.settings.password.items (nick_in old) now old.clients new.clients sound.good c.others c.arrived;
+        ids = ids_kept old.desks new.desks same sound.ids;
+      };
+      same = same (n - 1);
+    }
+
+-- A client's bytes come.
+
+pub greeted_adds : (n : ℕ) (was : Bool) (clients : Clients) (number : ℕ) (nick : List ℕ) (before after : Ordered) → AllGood (NoClaim n) clients → IsGreeted was (client_at clients number) nick before after → Adds (NoClaim n) before after
+greeted_adds n true clients number nick before after good none = nothing_adds (NoClaim n) before after none
+greeted_adds n false clients number nick before after good named = named_adds (NoClaim n) clients number (client_at clients number) nick before after refl good named
+
+pub speaks_by : (n : ℕ) (bytes : List ℕ) (now : ℕ) (at : Moment) (number : ℕ) (found : Option Client) (old new : Driver) → client_at old.clients number ≡ found → Sound n old → Speaks bytes now at number old new → Keeps n old new
+speaks_by n bytes now at number None old new is sound s =
+    let (clients, orders) = s.nobody is in
+    orders_keep n old new sound (ap (λ (driver : Driver). driver.desks) s.rest) clients (nothing_adds (NoClaim n) old.orders new.orders orders)
+speaks_by n bytes now at number (Some c) old new is sound s =
+    let behind = crowd new.clients s.comes.told in
+    let g =
+    one_grows (NoClaim n) number _ _ (told_of old) behind c is is sound.good s.others s.comes.served
+    (λ gs calls client stands h. reads_own c.is_gone bytes now at gs calls c client old.orders s.comes.told refl stands h)
+    in
+    let greeted = greeted_adds n (is_attached_in (client_at old.clients number)) new.clients number (nick_in old) s.comes.told new.orders g.good s.comes.greeted in
+    let all = adds_both (NoClaim n) old.orders s.comes.told new.orders (record { told = g.told; orders = g.orders; all = g.all }) greeted in
+    grows_keep n old new sound (ap (λ (driver : Driver). driver.desks) s.rest) (record { told = all.told; orders = all.orders; all = all.all; good = g.good })
+
+pub goes_by : (n now : ℕ) (at : Moment) (number : ℕ) (found : Option Client) (old new : Driver) → client_at old.clients number ≡ found → Sound n old → Goes now at number old new → Keeps n old new
+goes_by n now at number None old new is sound s =
+    let (clients, orders) = s.nobody is in
+    orders_keep n old new sound (ap (λ (driver : Driver). driver.desks) s.rest) clients (nothing_adds (NoClaim n) old.orders new.orders orders)
+goes_by n now at number (Some c) old new is sound s =
+    grows_keep n old new sound (ap (λ (driver : Driver). driver.desks) s.rest)
+    (one_grows (NoClaim n) number _ _ (told_of old) (told_of new) c is is sound.good s.others s.served
+    (λ gs calls client stands h. lost_own c.is_gone now at gs calls c client old.orders new.orders refl stands h))
+
+-- Only orders are given.
+pub orders_of_call : (n : ℕ) (gives : Ordered → Ordered → Type 0) (old new : Driver) → Sound n old → (o : Orders gives old new) → Adds (NoClaim n) old.orders new.orders → Keeps n old new
+orders_of_call n gives old new sound o adds =
+    orders_keep n old new sound (ap (λ (driver : Driver). driver.desks) o.rest) (ap (λ (driver : Driver). driver.clients) o.rest) adds
+
+-- The server is connected to.
+pub stands_add : (n : ℕ) (stage : Stage) (settings : Settings) (now : ℕ) (before after : Ordered) (new : Stage) → Connects stage settings now before new after → Adds (NoClaim n) before after
+stands_add n (Idle since wait) settings now before after new (same, none) = nothing_adds (NoClaim n) before after none
+stands_add n (Connecting node) settings now before after new (session, begun, is) = one_adds (NoClaim n) (order.Send begun.first) before after begun.orders refl
+stands_add n (Open session) settings now before after new (same, none) = nothing_adds (NoClaim n) before after none
+
+-- Bytes of the server come.
+
+-- notes that are no claims
+abbrev pub AllQuiet : List (Note TowerBody WireLine) → Type 0
+AllQuiet [] = Unit {0}
+AllQuiet (came ∷ more) = IsQuiet (Some came) × AllQuiet more
+
+pub quiet_cut : (b : Bool) (at : Moment) (line : Parts) (more : List (Note TowerBody WireLine)) → AllQuiet more → AllQuiet ((if b then [] else note.Heard at line ∷ []) ++ more)
+quiet_cut true at line more all = all
+quiet_cut false at line more all = (refl, all)
+
+pub quiet_notes : (at : Moment) (inputs : List UplinkInput) → AllQuiet (notes_of at inputs)
+unfolding notes_of
+quiet_notes at [] = tt
+quiet_notes at (input.Opened ∷ inputs) = (refl, quiet_notes at inputs)
+quiet_notes at (input.Heard line ∷ inputs) = quiet_cut (nat_lt 511 (length (spelling line))) at line (notes_of at inputs) (quiet_notes at inputs)
+quiet_notes at (input.Closed ∷ inputs) = (refl, quiet_notes at inputs)
+
+pub renames_if : (n : ℕ) (is : Bool) (clients : Clients) (text : List ℕ) (before after : Ordered) → AllGood (NoClaim n) clients → RenamesIf is clients text before after → Adds (NoClaim n) before after
+renames_if n false clients text before after good none = nothing_adds (NoClaim n) before after none
+renames_if n true clients text before after good w = all_written_add (NoClaim n) (keys clients.all) clients text before after good w
+
+pub renames_by : (n : ℕ) (came : Note TowerBody WireLine) (old : Driver) (after : Ordered) → AllGood (NoClaim n) old.clients → RenamesBy came old after → Adds (NoClaim n) old.orders after
+renames_by n (note.Heard at line) old after good r = renames_if n (is_renamed (nick_in old) line) old.clients _ old.orders after good r
+renames_by n (note.Timeout contacts) old after good r = nothing_adds (NoClaim n) old.orders after r
+renames_by n note.Beat old after good r = nothing_adds (NoClaim n) old.orders after r
+renames_by n (note.Ask body) old after good r = nothing_adds (NoClaim n) old.orders after r
+renames_by n note.Opened old after good r = nothing_adds (NoClaim n) old.orders after r
+renames_by n note.Closed old after good r = nothing_adds (NoClaim n) old.orders after r
+renames_by n note.Claim old after good r = nothing_adds (NoClaim n) old.orders after r
+renames_by n note.Wake old after good r = nothing_adds (NoClaim n) old.orders after r
+renames_by n note.Restart old after good r = nothing_adds (NoClaim n) old.orders after r
+renames_by n note.End old after good r = nothing_adds (NoClaim n) old.orders after r
+
+pub opened_quiet : (n node : ℕ) (came : Note TowerBody WireLine) → AllAre (NoClaim n) (opened_of node came)
+unfolding AllAre
+opened_quiet n node note.Opened = (refl, tt)
+opened_quiet n node (note.Heard at line) = tt
+opened_quiet n node (note.Timeout contacts) = tt
+opened_quiet n node note.Beat = tt
+opened_quiet n node (note.Ask body) = tt
+opened_quiet n node note.Closed = tt
+opened_quiet n node note.Claim = tt
+opened_quiet n node note.Wake = tt
+opened_quiet n node note.Restart = tt
+opened_quiet n node note.End = tt
+
+pub tells_keep : (n : ℕ) (out : Bool) (node : ℕ) (came : Note TowerBody WireLine) (old new : Driver) → Sound n old → IsQuiet (Some came) → TellsIf out node came old new → Keeps n old new
+tells_keep n true node came old new sound is same = same_keeps n old new sound same
+tells_keep n false node came old new sound is t =
+    let named =
+    orders_keep n old t.named sound (ap (λ (driver : Driver). driver.desks) t.nick.rest) (ap (λ (driver : Driver). driver.clients) t.nick.rest)
+    (renames_by n came old t.named.orders sound.good t.nick.renames)
+    in
+    let opened =
+    orders_keep n t.named t.opened named.sound (ap (λ (driver : Driver). driver.desks) t.opens.rest) (ap (λ (driver : Driver). driver.clients) t.opens.rest)
+    (record { told = opened_of node came; orders = t.opens.orders; all = opened_quiet n node came })
+    in
+    let last =
+    orders_keep n t.opened new opened.sound (ap (λ (driver : Driver). driver.desks) t.rest) (ap (λ (driver : Driver). driver.clients) t.rest)
+    (one_adds (NoClaim n) (order.Tell node came) t.opened.orders new.orders t.orders (quiet_told n node came is))
+    in
+    keeps_both n old t.opened new (keeps_both n old t.named t.opened named opened) last
+
+pub tells_all_keep : (n node : ℕ) (notes : List (Note TowerBody WireLine)) (old new : Driver) → Sound n old → AllQuiet notes → TellsAllOf node notes old new → Keeps n old new
+unfolding TellsAllOf
+tells_all_keep n node [] old new sound all same = same_keeps n old new sound same
+tells_all_keep n node (came ∷ more) old new sound (is, all) (behind, first, rest) =
+    let k = tells_keep n (is_left_out old.level came) node came old behind sound is first in
+    keeps_both n old behind new k (tells_all_keep n node more behind new k.sound all rest)
+
+pub send_quiet : (n : ℕ) (bytes : Vec ℕ) (items : List ℕ) → AllAre (NoClaim n) (send_some bytes items)
+unfolding AllAre
+send_quiet n bytes [] = tt
+send_quiet n bytes (byte ∷ more) = (refl, tt)
+
+pub received_add : (n : ℕ) (stage : Stage) (now : ℕ) (at : Moment) (bytes : List ℕ) (before after : Ordered) (new : Stage) (notes : List (Note TowerBody WireLine)) → Receives stage now at bytes before new notes after → Adds (NoClaim n) before after × AllQuiet notes
+received_add n (Idle since wait) now at bytes before after new notes (same, none, is) =
+    (nothing_adds (NoClaim n) before after is, subst AllQuiet (sym none) tt)
+received_add n (Connecting node) now at bytes before after new notes (same, none, is) =
+    (nothing_adds (NoClaim n) before after is, subst AllQuiet (sym none) tt)
+received_add n (Open session) now at bytes before after new notes (behind, h, is) = (
+  record { told = send_some h.reply h.reply.items; orders = h.orders; all = send_quiet n h.reply h.reply.items },
+  subst AllQuiet (sym h.are_notes) (quiet_notes at h.given),
+)
+
+pub takes_keep : (n : ℕ) (node : Option ℕ) (now : ℕ) (at : Moment) (bytes : List ℕ) (old new : Driver) → Sound n old → TakesIf node now at bytes old new → Keeps n old new
+takes_keep n None now at bytes old new sound same = same_keeps n old new sound same
+takes_keep n (Some node) now at bytes old new sound t =
+    let (adds, all) = received_add n old.link.stage now at bytes old.orders t.taken.orders t.taken.link.stage t.notes t.receives in
+    let first = orders_keep n old t.taken sound (ap (λ (driver : Driver). driver.desks) t.rest) (ap (λ (driver : Driver). driver.clients) t.rest) adds in
+    keeps_both n old t.taken new first (tells_all_keep n node t.notes t.taken new first.sound all t.tells)
+
+-- The log is looked at.
+pub level_keeps : (n : ℕ) (rises : Bool) (node : ℕ) (level : Level) (old new : Driver) → Sound n old → TellsLevelIf rises node level old new → Keeps n old new
+level_keeps n false node level old new sound same = same_keeps n old new sound same
+level_keeps n true node level old new sound t =
+    orders_keep n old new sound (ap (λ (driver : Driver). driver.desks) t.rest) (ap (λ (driver : Driver). driver.clients) t.rest)
+    (adds_both (NoClaim n) old.orders (ordered old.orders (order.Tells (LogFills node level) ∷ [])) new.orders
+    (one_adds (NoClaim n) (order.Tells (LogFills node level)) old.orders _ refl refl)
+    (all_written_add (NoClaim n) (keys old.clients.all) old.clients _ _ new.orders sound.good t.written))
+
+pub watch_keeps : (n : ℕ) (leader : Option ℕ) (old new : Driver) → Sound n old → WatchesFor leader old new → Keeps n old new
+watch_keeps n None old new sound same = same_keeps n old new sound same
+watch_keeps n (Some node) old new sound w = level_keeps n _ node _ old new sound w

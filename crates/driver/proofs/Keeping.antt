@@ -1,0 +1,212 @@
+-- What keeps what is known of the last claim of a node.
+use Rattle.std.proofs.Common.{◌≡◌, ◌∙◌, ◌++◌, ◌⊎◌, inl, inr, ℕ, ◌-◌, Bool, true, false, List, [], ◌∷◌, Option, Some, None, refl, sym, ap, subst, slice_get, ⊎_elim}
+use Rattle.std.specs.Prelude.{◌||◌, if◌then◌else◌}
+use Rattle.std.specs.List.{list_any}
+use Rattle.std.proofs.lemmas.List.{append_assoc}
+use Rattle.std.proofs.lemmas.List.Folds.{list_any-append}
+use Rattle.driver.specs.declared.clients.Clients.{Clients}
+use Rattle.driver.specs.declared.desk.Claimed.{Claimed}
+use Rattle.driver.specs.declared.desk.Desk.{Desk}
+use Rattle.driver.specs.declared.driver.Driver.{Driver}
+use Rattle.driver.specs.declared.link.Stage.{Stage}
+use Rattle.driver.specs.declared.link.Stage.TheVariants.{Connecting, Idle, Open}
+use Rattle.driver.specs.declared.news.Ending.{Ending}
+use Rattle.driver.specs.declared.order.Order.{Order}
+use Rattle.driver.specs.declared.order.Order.TheVariants as order
+use Rattle.driver.specs.Claiming.{claims}
+use Rattle.driver.specs.Desks.{is_claimed, line_to_claim}
+use Rattle.driver.specs.Driving.{Connects, Ends, LeavesIf, TicksDesk, closed_of, closed_orders, orders_of, tick_orders, ticked}
+use Rattle.driver.specs.Links.{ending, may_connect, node_of}
+use Rattle.driver.specs.Telling.{Ordered, ordered}
+use Rattle.driver.proofs.Adding.{Adds, adds_both, nothing_adds, one_adds}
+use Rattle.driver.proofs.Desks.{Ids, Look, changed_same, ids_kept, look_at, ticked_look}
+use Rattle.driver.proofs.Growing.{AllAre, AllGood, all_append}
+use Rattle.driver.proofs.Quiet.{NoClaim, none_claims, quiet_tick}
+
+-- the line of a session
+abbrev pub Line : Type 0
+Line = (ℕ × ℕ) × ℕ
+
+-- each client stands behind calls of its gate, and each desk is that of its node
+pub record Sound (n : ℕ) (driver : Driver) : Type 0 where
+  pub good : AllGood (NoClaim n) driver.clients
+  pub ids : Ids driver.desks
+
+-- The node was told no claim, and what is known of its last one is as before.
+pub record Keeps (n : ℕ) (old new : Driver) : Type 0 where
+  pub adds : Adds (NoClaim n) old.orders new.orders
+  pub sound : Sound n new
+  pub same : look_at new.desks (n - 1) ≡ look_at old.desks (n - 1)
+
+-- The node was told the claim of a line, of which none was unsettled.
+pub record IsClaimed (n : ℕ) (old new : Driver) : Type 0 where
+  pub told : List Order
+  pub orders : new.orders ≡ ordered old.orders told
+  pub has : list_any (claims n) told ≡ true
+  pub sound : Sound n new
+  pub before : Look
+  pub is_before : look_at old.desks (n - 1) ≡ Some before
+  pub line : Line
+  pub is_line : line_to_claim before.status ≡ Some line
+  pub wait : ℕ
+  pub now : ℕ
+  pub is_free : is_claimed before.claimed wait now line.0 line.1 ≡ false
+  pub claim : Claimed
+  pub is_claim : look_at new.desks (n - 1) ≡ Some (record { id = before.id; claimed = Some claim; status = before.status })
+  pub session : claim.session ≡ line.0
+  pub number : claim.number ≡ line.1
+  pub unsettled : claim.is_settled ≡ false
+
+abbrev pub Result : ℕ → Driver → Driver → Type 0
+Result n old new = Keeps n old new ⊎ IsClaimed n old new
+
+pub same_keeps : (n : ℕ) (old new : Driver) → Sound n old → new ≡ old → Keeps n old new
+same_keeps n old new sound same = record {
+  adds = nothing_adds (NoClaim n) old.orders new.orders (ap (λ (driver : Driver). driver.orders) same);
+  sound = subst (λ (driver : Driver). Sound n driver) (sym same) sound;
+  same = ap (λ (driver : Driver). look_at driver.desks (n - 1)) same;
+}
+
+pub keeps_both : (n : ℕ) (old behind new : Driver) → Keeps n old behind → Keeps n behind new → Keeps n old new
+keeps_both n old behind new first last = record {
+  adds = adds_both (NoClaim n) old.orders behind.orders new.orders first.adds last.adds;
+  sound = last.sound;
+  same = last.same ∙ first.same;
+}
+
+pub keeps_claimed : (n : ℕ) (old behind new : Driver) → Keeps n old behind → IsClaimed n behind new → IsClaimed n old new
+keeps_claimed n old behind new k c = record {
+  told = k.adds.told ++ c.told;
+  orders =
+      c.orders
+      ∙ ap (λ (orders : Ordered). ordered orders c.told) k.adds.orders
+      ∙ ap (λ (items : List Order). record old.orders { items = items }) (append_assoc old.orders.items k.adds.told c.told);
+  has =
+      list_any-append (claims n) k.adds.told c.told
+      ∙ ap (λ (b : Bool). b || list_any (claims n) c.told) (none_claims n k.adds.told k.adds.all)
+      ∙ c.has;
+  sound = c.sound;
+  before = c.before;
+  is_before = sym k.same ∙ c.is_before;
+  line = c.line;
+  is_line = c.is_line;
+  wait = c.wait;
+  now = c.now;
+  is_free = c.is_free;
+  claim = c.claim;
+  is_claim = c.is_claim;
+  session = c.session;
+  number = c.number;
+  unsettled = c.unsettled;
+}
+
+pub claimed_keeps : (n : ℕ) (old behind new : Driver) → IsClaimed n old behind → Keeps n behind new → IsClaimed n old new
+claimed_keeps n old behind new c k = record {
+  told = c.told ++ k.adds.told;
+  orders =
+      k.adds.orders
+      ∙ ap (λ (orders : Ordered). ordered orders k.adds.told) c.orders
+      ∙ ap (λ (items : List Order). record old.orders { items = items }) (append_assoc old.orders.items c.told k.adds.told);
+  has =
+      list_any-append (claims n) c.told k.adds.told
+      ∙ ap (λ (b : Bool). b || list_any (claims n) k.adds.told) c.has;
+  sound = k.sound;
+  before = c.before;
+  is_before = c.is_before;
+  line = c.line;
+  is_line = c.is_line;
+  wait = c.wait;
+  now = c.now;
+  is_free = c.is_free;
+  claim = c.claim;
+  is_claim = k.same ∙ c.is_claim;
+  session = c.session;
+  number = c.number;
+  unsettled = c.unsettled;
+}
+
+pub keeps_result : (n : ℕ) (old behind new : Driver) → Keeps n old behind → Result n behind new → Result n old new
+keeps_result n old behind new k r =
+    ⊎_elim (λ last. inl (keeps_both n old behind new k last)) (λ last. inr (keeps_claimed n old behind new k last)) r
+
+pub result_keeps : (n : ℕ) (old behind new : Driver) → Result n old behind → Keeps n behind new → Result n old new
+result_keeps n old behind new r k =
+    ⊎_elim (λ first. inl (keeps_both n old behind new first k)) (λ first. inr (claimed_keeps n old behind new first k)) r
+
+-- what keeps the desks and the clients
+pub orders_keep : (n : ℕ) (old new : Driver) → Sound n old → new.desks ≡ old.desks → new.clients ≡ old.clients → Adds (NoClaim n) old.orders new.orders → Keeps n old new
+orders_keep n old new sound desks clients adds = record {
+  adds = adds;
+  sound = record {
+    good = subst (λ (clients : Clients). AllGood (NoClaim n) clients) (sym clients) sound.good;
+    ids = subst (λ (desks : List Desk). Ids desks) (sym desks) sound.ids;
+  };
+  same = ap (λ (desks : List Desk). look_at desks (n - 1)) desks;
+}
+
+-- a node is told what the clock and word of its runs tell it
+pub desk_keeps : (n now node : ℕ) (old new : Driver) → Sound n old → TicksDesk now node old new → Keeps n old new
+desk_keeps n now node old new sound t =
+    let change : Desk → Desk = ticked old.orders old.notices.all old.settings now in
+    let same = λ (j : ℕ). ap (λ (desks : List Desk). look_at desks j) t.desks ∙ changed_same change (ticked_look old.orders old.notices.all old.settings now) old.desks node j in
+    record {
+      adds = record {
+        told = orders_of (tick_orders old.orders old.notices.all old.settings now) (slice_get old.desks (node - 1));
+        orders = t.orders;
+        all = quiet_tick n old.orders old.notices.all old.settings now (slice_get old.desks (node - 1));
+      };
+      sound = record {
+        good = subst (λ (clients : Clients). AllGood (NoClaim n) clients) (sym (ap (λ (driver : Driver). driver.clients) t.rest)) sound.good;
+        ids = ids_kept old.desks new.desks same sound.ids;
+      };
+      same = same (n - 1);
+    }
+
+pub ending_quiet : (n : ℕ) (stage : Stage) (why : Ending) → AllAre (NoClaim n) (ending stage why)
+unfolding AllAre
+ending_quiet n (Idle since wait) why = tt
+ending_quiet n (Connecting node) why = (refl, tt)
+ending_quiet n (Open session) why = (refl, tt)
+
+pub closed_quiet : (n : ℕ) (node : Option ℕ) → AllAre (NoClaim n) (closed_orders node)
+unfolding AllAre
+closed_quiet n None = tt
+closed_quiet n (Some node) = (refl, tt)
+
+-- the connection to the server is gone
+pub ends_keep : (n now : ℕ) (why : Ending) (old new : Driver) → Sound n old → Ends now why old new → Keeps n old new
+ends_keep n now why old new sound e =
+    let node = closed_of old.desks (node_of old.link.stage) e.lost in
+    orders_keep n old new sound
+    (ap (λ (driver : Driver). driver.desks) e.rest)
+    (ap (λ (driver : Driver). driver.clients) e.rest)
+    (record {
+      told = ending old.link.stage why ++ closed_orders node;
+      orders = e.orders;
+      all = all_append (NoClaim n) (ending old.link.stage why) (closed_orders node) (ending_quiet n old.link.stage why) (closed_quiet n node);
+    })
+
+-- or is left
+pub leaves_keep : (n : ℕ) (leaves : Bool) (now : ℕ) (why : Ending) (old new : Driver) → Sound n old → LeavesIf leaves now why old new → Keeps n old new
+leaves_keep n false now why old new sound same = same_keeps n old new sound same
+leaves_keep n true now why old new sound l =
+    let first =
+    orders_keep n old l.closed sound
+    (ap (λ (driver : Driver). driver.desks) l.rest)
+    (ap (λ (driver : Driver). driver.clients) l.rest)
+    (one_adds (NoClaim n) order.Disconnect old.orders l.closed.orders l.orders refl)
+    in
+    keeps_both n old l.closed new first (ends_keep n now why l.closed new first.sound l.ends)
+
+pub connects_add : (n : ℕ) (may : Bool) (before after : Ordered) → after ≡ ordered before (if may then order.Connect ∷ [] else []) → Adds (NoClaim n) before after
+unfolding AllAre
+connects_add n true before after is = record { told = order.Connect ∷ []; orders = is; all = (refl, tt) }
+connects_add n false before after is = record { told = []; orders = is; all = tt }
+
+-- the server is connected to
+pub connects_keep : (n now node : ℕ) (old new : Driver) → Sound n old → Connects now node old new → Keeps n old new
+connects_keep n now node old new sound c =
+    orders_keep n old new sound
+    (ap (λ (driver : Driver). driver.desks) c.rest)
+    (ap (λ (driver : Driver). driver.clients) c.rest)
+    (connects_add n (may_connect old.link.stage now) old.orders new.orders c.orders)

@@ -1,0 +1,91 @@
+-- Effects reach the clients that they are for.
+use Rattle.std.proofs.Common.{◌≡◌, ◌∙◌, ℕ, ◌≤◌, Bool, true, false, List, [], ◌∷◌, Option, Some, None, refl, sym, ap, subst, arith}
+use Rattle.std.proofs.lemmas.List.{append-nil}
+use Rattle.bouncer_tower.specs.Hosting.{class_of}
+use Rattle.client_gate.specs.Gates.{GateEffect}
+use Rattle.irc_line.specs.Lines.{Parts}
+use Rattle.machine_laws.specs.Origins.{same_origin}
+use Rattle.machine_laws.specs.declared.class.Class.{Class}
+use Rattle.machine_laws.specs.declared.class.Class.TheVariants.{Hand, Nowhere, Rejoin, To}
+use Rattle.machine_laws.proofs.Origins.{same_origin-is}
+use Rattle.wire_bytes.specs.declared.moment.Moment.{Moment}
+use Rattle.wire_bytes.specs.declared.origin.Origin.{Origin}
+use Rattle.driver.specs.declared.client.Client.{Client}
+use Rattle.driver.specs.declared.clients.Clients.{Clients}
+use Rattle.driver.specs.declared.driver.Driver.{Driver}
+use Rattle.driver.specs.declared.link.Stage.{Stage}
+use Rattle.driver.specs.declared.order.Order.{Order}
+use Rattle.driver.specs.Crowds.{IsSame, Told}
+use Rattle.driver.specs.Driving.{told_of}
+use Rattle.driver.specs.Once.{TellsOnly}
+use Rattle.driver.specs.Passing.{HearsOne, PassEach, PassesBy}
+use Rattle.driver.specs.Reaching.{EffectsReach, ReachEach, Reaches, ReachesBy}
+use Rattle.driver.specs.Rosters.{client_at}
+use Rattle.driver.proofs.Adding.{pass_by}
+use Rattle.driver.proofs.Growing.{AllGood, by_number}
+use Rattle.driver.proofs.OneClaim.{led_sound, new_sound}
+use Rattle.driver.proofs.Calling.{or_client}
+use Rattle.driver.proofs.Owning.{hears_own}
+use Rattle.driver.proofs.Quiet.{NoClaim}
+
+-- where nothing happens
+same_reaches : (origin : Origin) (old new : Told) → IsSame old new → Reaches origin old new
+unfolding TellsOnly
+same_reaches origin old new (same, none) = record {
+  others = λ number c is _. subst (λ (clients : Clients). client_at clients number ≡ Some c) (sym same) is;
+  own = record {
+    told = [];
+    orders = none ∙ sym (ap (λ (items : List Order). record old.orders { items = items }) (append-nil old.orders.items));
+    own = tt;
+  };
+}
+
+-- the client of the origin is no client of another one
+others_stay : (origin : Origin) (c : Client) (old new : Told) → client_at old.clients origin.2 ≡ Some c → same_origin c.origin origin ≡ true → ((other : ℕ) → (origin.2 ≡ other → ⊥) → client_at new.clients other ≡ client_at old.clients other) → (number : ℕ) (d : Client) → client_at old.clients number ≡ Some d → same_origin d.origin origin ≡ false → client_at new.clients number ≡ Some d
+others_stay origin c old new is own others number d found apart =
+    by_number origin.2 number (client_at new.clients number ≡ Some d)
+    (λ same.
+    let here = subst (λ (k : ℕ). client_at old.clients k ≡ Some d) (sym same) found in
+    let one : c ≡ d = ap (or_client c) (sym is ∙ here) in
+    absurd (cc (subst (λ (x : Client). same_origin x.origin origin ≡ true) one own, apart)))
+    (λ other. others number other ∙ found)
+
+reach_of : (n now : ℕ) (at : Moment) (origin : Origin) (effect : GateEffect) (c : Client) (same : Bool) (old new : Told) → client_at old.clients origin.2 ≡ Some c → same_origin c.origin origin ≡ same → AllGood (NoClaim n) old.clients → HearsOne now at origin effect old new → Reaches origin old new
+reach_of n now at origin effect c false old new is own good h = same_reaches origin old new (h.stranger c is own)
+reach_of n now at origin effect c true old new is own good h =
+    let g = good origin.2 c is in
+    let b = h.served g.settings g.calls c (is, own) g.stands in
+    let o = hears_own effect now at g.settings g.calls c b.client old.orders new.orders b.happened in
+    record {
+      others = others_stay origin c old new is own h.others;
+      own = record {
+        told = o.told;
+        orders = o.orders;
+        own = subst (λ (origin : Origin). TellsOnly origin o.told) (same_origin-is c.origin origin own) o.own;
+      };
+    }
+
+reach_by : (n now : ℕ) (at : Moment) (origin : Origin) (effect : GateEffect) (found : Option Client) (old new : Told) → client_at old.clients origin.2 ≡ found → AllGood (NoClaim n) old.clients → HearsOne now at origin effect old new → Reaches origin old new
+reach_by n now at origin effect None old new is good h = same_reaches origin old new (h.nobody is)
+reach_by n now at origin effect (Some c) old new is good h = reach_of n now at origin effect c (same_origin c.origin origin) old new is refl good h
+
+reaches_by : (n : ℕ) (class : Class Parts) (now : ℕ) (at : Moment) (stage : Stage) (nick : List ℕ) (node : ℕ) (effect : GateEffect) (old new : Told) → AllGood (NoClaim n) old.clients → PassesBy class now at stage nick node effect old new → ReachesBy class old new
+reaches_by n (To origin) now at stage nick node effect old new good h = reach_by n now at origin effect (client_at old.clients origin.2) old new refl good h
+reaches_by n (Rejoin session line) now at stage nick node effect old new good (same, rejoins) = same
+reaches_by n (Hand session number line) now at stage nick node effect old new good same = ap (λ (told : Told). told.clients) same
+reaches_by n Nowhere now at stage nick node effect old new good same = ap (λ (told : Told). told.clients) same
+
+reach_each : (n now : ℕ) (at : Moment) (stage : Stage) (nick : List ℕ) (node : ℕ) (effects : List GateEffect) (old new : Told) → AllGood (NoClaim n) old.clients → PassEach now at stage nick node effects old new → ReachEach effects old new
+unfolding PassEach ReachEach
+reach_each n now at stage nick node [] old new good same = same
+reach_each n now at stage nick node (effect ∷ effects) old new good (behind, passes, more) =
+    let first = pass_by (NoClaim n) (class_of effect) now at stage nick node effect old behind (λ bytes. refl) good passes in
+    (behind, reaches_by n (class_of effect) now at stage nick node effect old behind good passes, reach_each n now at stage nick node effects behind new first.good more)
+
+pub effects_reach : EffectsReach
+effects_reach steps now at node status effects progress refused before new led report =
+    let low : 1 ≤ 1 = omega (arith) in
+    let sound = led_sound 1 steps led.first before low (new_sound 1 led.settings led.now led.first led.is_new) led.calls in
+    let h = report.hears in
+    let good = subst (λ (clients : Clients). AllGood (NoClaim 1) clients) (sym (ap (λ (driver : Driver). driver.clients) h.stands.rest)) sound.good in
+    reach_each 1 now at h.stood.link.stage _ node effects (told_of h.stood) (told_of h.passed) good h.passes
