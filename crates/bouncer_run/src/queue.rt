@@ -1,5 +1,5 @@
 //! Connections that are ready to be read, in the order in which they came to be.
-ghost use Rattle.std.specs.Prelude.{◌≡◌, ◌<◌, [], None, get_or, length, take, IfNone, IfSome, OnErr, OnOk};
+ghost use Rattle.std.specs.Prelude.{◌≡◌, [], false, length, IfNone, IfSome, OnErr, OnOk};
 ghost use Rattle.std.specs.List.{All};
 ghost use Rattle.bouncer_run.specs.Turns.{IsTurn, MayBeRead, TakesFirst, joined};
 
