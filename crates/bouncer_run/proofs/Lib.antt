@@ -2,4 +2,4 @@ pub mod Covering
 pub mod Greatest
 pub mod Movements
 pub mod PasswordTexts
-pub mod Turns
+pub mod Places

@@ -54,28 +54,28 @@ impl Queue {
     }
 
     /// The first that may be read at this moment waits no more; all others keep their places.
+    #[tactic(auto, using(crate::proofs::Places::takes_first))]
     pub fn next(&mut self, driver: &Driver) -> Option<usize>
         ensures turn { IfSome result (λ token. TakesFirst driver.now token self.old self.new) }
         ensures nobody { IfNone result ((self.new ≡ self.old)
             × All (λ token. MayBeRead driver.now token false) self.old) }
     {
-        let index = self.first(driver)?;
+        let index = first(driver, self.tokens.as_slice())?;
         Some(self.tokens.remove(index))
     }
+}
 
-    /// The place of the first that may be read at this moment.
-    fn first(&self, driver: &Driver) -> Option<usize>
-        ensures place { IfSome result (λ index. IsTurn driver.now index self.now) }
-        ensures nobody { IfNone result
-            (All (λ token. MayBeRead driver.now token false) self.now) }
-    {
-        for index in 0..self.tokens.len() {
-            if may_be_read(driver, self.tokens[index]) {
-                return Some(index);
-            }
+/// The place of the first that may be read at this moment.
+fn first(driver: &Driver, tokens: &[usize]) -> Option<usize>
+    ensures place { IfSome result (λ index. IsTurn driver.now index tokens.now) }
+    ensures nobody { IfNone result (All (λ token. MayBeRead driver.now token false) tokens.now) }
+{
+    for index in 0..tokens.len() {
+        if may_be_read(driver, tokens[index]) {
+            return Some(index);
         }
-        None
     }
+    None
 }
 
 /// Whether a connection may be read at this moment.

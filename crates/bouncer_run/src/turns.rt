@@ -1,18 +1,18 @@
 //! Whose turn it is to be read.
 use crate::event_loop::LoopFault;
-use crate::sockets::{CLIENTS, SERVER, Sockets};
+use crate::sockets::{CLIENTS, Sockets};
 use driver::{Driver, Now};
 
 impl Sockets {
     /// A connection may be read from or written to: what waits for it is written, and it waits for
     /// its turn to be read.
     pub fn line_up(&mut self, now: &Now, token: usize) -> Result<(), LoopFault> {
-        if token == SERVER {
-            if let Some(connection) = &mut self.server {
-                connection.flush(now.ms);
+        if token >= CLIENTS {
+            if let Some(guest) = self.clients.get_mut(&((token - CLIENTS) as u64)) {
+                guest.connection.flush(now.ms);
             }
-        } else if let Some(guest) = self.clients.get_mut(&((token - CLIENTS) as u64)) {
-            guest.connection.flush(now.ms);
+        } else if let Some(connection) = &mut self.server {
+            connection.flush(now.ms);
         }
         // one that broke is found so at its turn
         self.queue.join(token)?;

@@ -1,7 +1,7 @@
 -- Whose turn it is, and who goes on to wait.
-use Rattle.std.proofs.Common.{◌≡◌, ℕ, suc, ◌<◌, Bool, true, false, List, ◌++◌, ◌∷◌, length, take, drop, get_or, refl, sym, ap, ◌∙◌, subst, drop-cons}
+use Rattle.std.proofs.Common.{◌≡◌, ℕ, suc, true, List, ◌++◌, ◌∷◌, take, drop, get_or, refl, sym, ap, ◌∙◌, subst, drop-cons}
 use Rattle.std.proofs.lemmas.List.{take-append-drop, get_or_default}
-use Rattle.std.specs.List.{All, remove}
+use Rattle.std.specs.List.{remove}
 use Rattle.driver.specs.declared.driver.Driver.{Driver}
 use Rattle.bouncer_run.specs.Turns.{IsTurn, TakesFirst, MayBeRead}
 
