@@ -89,6 +89,8 @@ pub fn run_loop<R: Net + Wait + Clock, N: Nodes, O: Operator>(
             driver.watch_log()?;
             sockets.tick(&now, driver)?;
         }
+        // what the sockets tell comes before what the driver made of it
+        tell_edge(&now, sockets, operator);
         carry_out_all(rt, &now, driver, sockets, nodes, operator)?;
         tell_edge(&now, sockets, operator);
         if is_over {
