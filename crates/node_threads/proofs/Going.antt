@@ -4,7 +4,6 @@ use Rattle.wire_bytes.specs.declared.mark.Mark.{Mark}
 use Rattle.raft_node.specs.Machine.{Machine}
 use Rattle.world_views.specs.declared.node_event.NodeInput.{NodeInput}
 use Rattle.world_views.specs.declared.node_event.NodeInput.TheVariants as input
-use Rattle.node_cells.specs.Openings.{HasSeenTo}
 use Rattle.node_cells.specs.Turns.{CellOf}
 use Rattle.node_cells.specs.Upstreams.{Tally}
 use Rattle.node_notes.specs.declared.note.Note.{Note}
@@ -12,9 +11,12 @@ use Rattle.node_notes.specs.declared.note.Note.TheVariants as note
 use Rattle.node_threads.specs.declared.job.Job.{Job}
 use Rattle.node_threads.specs.declared.job.Job.TheVariants as job
 use Rattle.node_threads.specs.Homes.{IsSameHome}
-use Rattle.node_threads.specs.Work.{AreOfAsking, Deed, Does, HasApplied, HasAskedOn, HasBeaten, HasDeed, HasDone, HasDoneAll, HasDoneNote, HasDoneSome, HasGoneRound, HasHadTurn, HasLookedIn, HasTaken, HasTimedOut, HasTurnedIn, HasTakenAll, beats_on, takes_of}
-use Rattle.node_threads.specs.Work.Deed.{Takes, Sees, Turns}
-use Rattle.node_threads.proofs.Home.{home_after_input, home_after_look, home_after_restart, home_after_seen, home_after_take, same_home, same_home_still}
+use Rattle.node_threads.specs.declared.station.requests.Request.{Request}
+use Rattle.node_threads.specs.Forwarding.{is_left}
+use Rattle.node_threads.specs.Work.{Deed, Does, HasBeaten, HasDeed, HasDone, HasDoneAll, HasDoneNote, HasDoneSome, HasGoneRound, HasHadTurn, HasLookedIn, HasTaken, HasTakenBut, HasTimedOut, HasTurnedIn, applies, beats_on, takes_but, takes_unless}
+use Rattle.node_threads.specs.Work.Deed.{Takes, Turns}
+use Rattle.node_threads.proofs.Home.{home_after_input, home_after_look, home_after_restart, home_after_take, same_home, same_home_still}
+use Rattle.node_threads.proofs.Seen.{home_asked, home_before, home_left}
 use Rattle.node_threads.proofs.HomeMarked.{home_after_mark, home_after_waiting}
 
 module _ (M : Machine) {Setup Hosted Store U : Type 0} (tally : U → Tally) where
@@ -34,49 +36,42 @@ module _ (M : Machine) {Setup Hosted Store U : Type 0} (tally : U → Tally) whe
 
   home_after_deed : (e : Deed M.Body M.Line) (c d : CellOf M Setup Hosted Store U) → HasDeed M tally e c d → IsSameHome c d
   home_after_deed (Takes from) c d h = home_after_looking c from d h
-  home_after_deed (Sees to) c d h = home_after_seen c to h.0 d h.1
   home_after_deed (Turns x) c d h = home_after_input M tally c x d h
 
   pub home_after : (es : List (Deed M.Body M.Line)) (c d : CellOf M Setup Hosted Store U) → Does M tally es c d → IsSameHome c d
   home_after [] c d h = same_home c d h
   home_after (e ∷ es) c d h = same_home_still c h.0 d (home_after_deed e c h.0 h.1) (home_after es h.0 d h.2)
 
-  takes_both : (froms more : List ℕ) (c b d : CellOf M Setup Hosted Store U) → Does M tally (takes_of froms) c b → Does M tally (takes_of more) b d → Does M tally (takes_of (froms ++ more)) c d
-  takes_both [] more c b d h k = subst (λ (z : CellOf M Setup Hosted Store U). Does M tally (takes_of more) z d) h k
-  takes_both (x ∷ froms) more c b d h k = (h.0, h.1, takes_both froms more h.0 b d h.2 k)
+  does_both : (es more : List (Deed M.Body M.Line)) (c b d : CellOf M Setup Hosted Store U) → Does M tally es c b → Does M tally more b d → Does M tally (es ++ more) c d
+  does_both [] more c b d h k = subst (λ (z : CellOf M Setup Hosted Store U). Does M tally more z d) h k
+  does_both (e ∷ es) more c b d h k = (h.0, h.1, does_both es more h.0 b d h.2 k)
 
-  -- more mailboxes are taken
-  pub takes_next : (c b d : CellOf M Setup Hosted Store U) → HasTakenAll M tally c b → HasTakenAll M tally b d → HasTakenAll M tally c d
-  takes_next c b d h k = (h.0 ++ k.0, takes_both h.0 k.0 c b d h.1 k.1)
+  -- one mailbox more is taken, or left
+  pub takes_next : (left : Option ℕ) (n m : ℕ) (is_it : Bool) (c b d : CellOf M Setup Hosted Store U) → m ≡ suc n → is_it ≡ is_left left n → Does M tally (takes_but left n) c b
+      → Does M tally (takes_unless is_it n) b d → Does M tally (takes_but left m) c d
+  takes_next left n m is_it c b d next is h k =
+      subst (λ (z : ℕ). Does M tally (takes_but left z) c d) (sym next)
+      (does_both (takes_but left n) (takes_unless (is_left left n) n) c b d h (subst (λ (x : Bool). Does M tally (takes_unless x n) b d) is k))
 
-  pub takes_one : (c d : CellOf M Setup Hosted Store U) (from : ℕ) → HasLookedIn M tally c from d → HasTakenAll M tally c d
-  takes_one c d from h = (from ∷ [], (d, h, refl))
+  pub takes_one : (c d : CellOf M Setup Hosted Store U) (from : ℕ) (is_it : Bool) → is_it ≡ false → HasLookedIn M tally c from d → Does M tally (takes_unless is_it from) c d
+  takes_one c d from is_it is h = subst (λ (x : Bool). Does M tally (takes_unless x from) c d) (sym is) (d, h, refl)
 
-  pub takes_none : (c : CellOf M Setup Hosted Store U) → HasTakenAll M tally c c
-  takes_none c = ([], refl)
+  pub takes_none : (c : CellOf M Setup Hosted Store U) (from : ℕ) (is_it : Bool) → is_it ≡ true → Does M tally (takes_unless is_it from) c c
+  takes_none c from is_it is = subst (λ (x : Bool). Does M tally (takes_unless x from) c c) (sym is) refl
 
-  pub home_after_taking : (c d : CellOf M Setup Hosted Store U) → HasTakenAll M tally c d → IsSameHome c d
-  home_after_taking c d h = home_after (takes_of h.0) c d h.1
+  pub home_after_taking : (left : Option ℕ) (c d : CellOf M Setup Hosted Store U) → HasTakenBut M tally left c d → IsSameHome c d
+  home_after_taking left c d h = home_after (takes_but left c.ether.size) c d h
 
   -- one place more is applied
-  pub applies_next : (c b e : CellOf M Setup Hosted Store U) → HasHadTurn M tally c input.Apply b → HasApplied M tally b e → HasApplied M tally c e
-  applies_next c b e turned rest = (suc rest.0, (b, turned, rest.1))
+  applies_end : (n : ℕ) (c b d : CellOf M Setup Hosted Store U) → Does M tally (applies n) c b → HasHadTurn M tally b input.Apply d → Does M tally (applies (suc n)) c d
+  applies_end zero c b d h turned = (d, subst (λ (z : CellOf M Setup Hosted Store U). HasHadTurn M tally z input.Apply d) h turned, refl)
+  applies_end (suc n) c b d h turned = (h.0, h.1, applies_end n h.0 b d h.2 turned)
 
-  pub applies_none : (c : CellOf M Setup Hosted Store U) → HasApplied M tally c c
-  applies_none c = (0, refl)
-
-  -- one request more is asked, or one look more comes before it
-  pub asks_next : (c b e : CellOf M Setup Hosted Store U) (body : M.Body) → HasHadTurn M tally c (input.Ask body) b → HasAskedOn M tally b e → HasAskedOn M tally c e
-  asks_next c b e body turned rest = (Turns (input.Ask body) ∷ rest.0, ((body, refl), rest.1), (b, turned, rest.2))
-
-  pub asks_none : (c : CellOf M Setup Hosted Store U) → HasAskedOn M tally c c
-  asks_none c = ([], tt, refl)
-
-  pub sees_next : (c b e : CellOf M Setup Hosted Store U) (to : ℕ) (taken : Bool) → HasSeenTo c to taken b → HasAskedOn M tally b e → HasAskedOn M tally c e
-  sees_next c b e to taken seen rest = (Sees to ∷ rest.0, (tt, rest.1), (b, (taken, seen), rest.2))
+  pub applies_next : (n m : ℕ) (c b d : CellOf M Setup Hosted Store U) → m ≡ suc n → Does M tally (applies n) c b → HasHadTurn M tally b input.Apply d → Does M tally (applies m) c d
+  applies_next n m c b d next h turned = subst (λ (z : ℕ). Does M tally (applies z) c d) (sym next) (applies_end n c b d h turned)
 
   home_after_timeout : (few : Bool) (c d : CellOf M Setup Hosted Store U) → HasTimedOut M tally few c d → IsSameHome c d
-  home_after_timeout few c d h = same_home_still c h.between d (home_after_taking c h.between h.taken) (home_after _ h.between d h.turned)
+  home_after_timeout few c d h = same_home_still c h.between d (home_after_taking None c h.between h.taken) (home_after _ h.between d h.turned)
 
   home_after_note : (n : Note M.Body M.Line) (c d : CellOf M Setup Hosted Store U) → HasDoneNote M tally n c d → IsSameHome c d
   home_after_note (note.Timeout contacts) c d h = home_after_timeout h.0 c d h.1
@@ -90,11 +85,13 @@ module _ (M : Machine) {Setup Hosted Store U : Type 0} (tally : U → Tally) whe
   home_after_note note.Restart c d h = home_after_restart M c h.0 d h.1
   home_after_note note.End c d h = same_home c d h
 
-  pub home_after_round : (c d : CellOf M Setup Hosted Store U) → HasGoneRound M tally c d → IsSameHome c d
-  home_after_round c d h =
-      same_home_still c h.heard d (home_after_taking c h.heard h.takes)
-      (same_home_still h.heard h.asked d (home_after _ h.heard h.asked h.asks.2)
-      (same_home_still h.asked h.applied d (home_after _ h.asked h.applied h.applies_on.1) (home_after _ h.applied d h.beats)))
+  pub home_after_round : (forwarded : Option ℕ) (waiting : List (Request M.Body)) (c d : CellOf M Setup Hosted Store U) → HasGoneRound M tally forwarded waiting c d → IsSameHome c d
+  home_after_round forwarded waiting c d h =
+      same_home_still c h.first d (home_before M tally _ waiting c h.first h.asks_before)
+      (same_home_still h.first h.seen d (home_left _ h.first h.left h.seen h.leaves)
+      (same_home_still h.seen h.heard d (home_after_taking h.left h.seen h.heard h.takes)
+      (same_home_still h.heard h.asked d (home_asked M tally h.heard h.asked h.asks)
+      (same_home_still h.asked h.applied d (home_after _ h.asked h.applied h.applies_on.1) (home_after _ h.applied d h.beats)))))
 
   -- a note that is this one was done
   pub note_as : (n m : Note M.Body M.Line) (c d : CellOf M Setup Hosted Store U) → n ≡ m → HasDoneNote M tally m c d → HasDoneNote M tally n c d

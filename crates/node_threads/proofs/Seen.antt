@@ -1,36 +1,87 @@
--- Whether a node may ask, by one look.
-use Rattle.std.proofs.Common.{◌≡◌, ⊎_elim, ℕ, suc, Bool, true, false, Option, None, Some, refl, sym, subst}
+-- That looks whether a message was taken, and requests that are asked, leave a cell its node's.
+use Rattle.std.proofs.Common.{◌≡◌, ⊎_elim, ℕ, zero, suc, Bool, true, false, List, [], ◌∷◌, Option, None, Some, refl, sym, subst}
 use Rattle.raft_node.specs.Machine.{Machine}
 use Rattle.raft_log.specs.declared.position.Position.{Position}
 use Rattle.raft_log.specs.declared.position.Position.TheVariants.{Follower, Candidate, Leader}
+use Rattle.world_views.specs.declared.node_event.NodeInput.TheVariants as input
 use Rattle.node_cells.specs.declared.phase.Phase.{Phase}
 use Rattle.node_cells.specs.declared.phase.Phase.TheVariants.{Up, DownInTurn, DownInRestart}
+use Rattle.node_cells.specs.Cells.{CellParts}
 use Rattle.node_cells.specs.Openings.{HasSeenTo}
 use Rattle.node_cells.specs.Turns.{CellOf}
 use Rattle.node_cells.specs.Upstreams.{Tally}
-use Rattle.node_threads.specs.Asking.{HasSeenIf, MayAsk, MayIn, MayUp}
-use Rattle.node_threads.specs.Work.{HasAskedOn}
-use Rattle.node_threads.proofs.Going.{asks_none, sees_next}
+use Rattle.node_threads.specs.declared.station.requests.Request.{Request}
+use Rattle.node_threads.specs.Asking.{HasLeft, HasSeenIf, MayAsk, MayIn, MayUp}
+use Rattle.node_threads.specs.Homes.{IsSameHome}
+use Rattle.node_threads.specs.Requests.{request}
+use Rattle.node_threads.specs.Work.{AsksBefore, AsksWhere, HasAskedFirstOf, HasAskedOn, HasAskedSome, HasHadTurn, HasTriedAsking}
+use Rattle.node_threads.proofs.Home.{home_after_input, home_after_seen, same_home, same_home_still}
+
+module _ {Setup Hosted Store B L T E P U : Type 0} where
+  pub home_seen_if : (node : ℕ) (c : CellParts Setup Hosted Store B L T E P U) (taken : Bool) (d : CellParts Setup Hosted Store B L T E P U) → HasSeenIf node c taken d → IsSameHome c d
+  home_seen_if node c taken d h =
+      ⊎_elim (λ (s : (to : ℕ) × (node ≡ suc to) × HasSeenTo c to taken d). home_after_seen c s.0 taken d s.2) (λ (s : (taken ≡ false) × (d ≡ c)). same_home c d s.1) h
+
+  in_position : (p : Position) (c : CellParts Setup Hosted Store B L T E P U) (may : Bool) (d : CellParts Setup Hosted Store B L T E P U) → MayIn p c may d → IsSameHome c d
+  in_position (Follower None) c may d h = same_home c d h.1
+  in_position (Follower (Some leader)) c may d h = home_seen_if leader c may d h
+  in_position Candidate c may d h = same_home c d h.1
+  in_position (Leader live) c may d h = same_home c d h.1
+
+  in_phase : (p : Phase B L) (c : CellParts Setup Hosted Store B L T E P U) (may : Bool) (d : CellParts Setup Hosted Store B L T E P U) → MayUp p c may d → IsSameHome c d
+  in_phase Up c may d h = in_position c.node.state.standing.position c may d h
+  in_phase (DownInTurn x done) c may d h = same_home c d h.1
+  in_phase DownInRestart c may d h = same_home c d h.1
+
+  -- after a look whether the node may ask
+  pub home_may : (c : CellParts Setup Hosted Store B L T E P U) (may : Bool) (d : CellParts Setup Hosted Store B L T E P U) → MayAsk c may d → IsSameHome c d
+  home_may c may d h = in_phase c.phase c may d h
+
+  -- after a look whether the leader took a request
+  pub home_left : (request : Option ℕ) (c : CellParts Setup Hosted Store B L T E P U) (left : Option ℕ) (d : CellParts Setup Hosted Store B L T E P U) → HasLeft request c left d → IsSameHome c d
+  home_left None c left d h = same_home c d h.1
+  home_left (Some leader) c left d h = home_seen_if leader c h.0 d h.1
 
 module _ (M : Machine) {Setup Hosted Store U : Type 0} (tally : U → Tally) where
-  same_asked : (c d e : CellOf M Setup Hosted Store U) → d ≡ c → HasAskedOn M tally d e → HasAskedOn M tally c e
-  same_asked c d e is rest = subst (λ (z : CellOf M Setup Hosted Store U). HasAskedOn M tally z e) is rest
+  home_where : (body : M.Body) (may asked : Bool) (c d : CellOf M Setup Hosted Store U) → AsksWhere M tally body may asked c d → IsSameHome c d
+  home_where body true true c d h = home_after_input M tally c (input.Ask body) d h
+  home_where body true false c d h = absurd h
+  home_where body false true c d h = absurd h
+  home_where body false false c d h = same_home c d h
 
-  seen_asked : (node : ℕ) (c : CellOf M Setup Hosted Store U) (taken : Bool) (d e : CellOf M Setup Hosted Store U) → HasSeenIf node c taken d → HasAskedOn M tally d e → HasAskedOn M tally c e
-  seen_asked node c taken d e h rest =
-      ⊎_elim (λ (s : (to : ℕ) × (node ≡ suc to) × HasSeenTo c to taken d). sees_next M tally c d e s.0 taken s.2 rest) (λ (s : (taken ≡ false) × (d ≡ c)). same_asked c d e s.1 rest) h
+  pub home_first_of : (waiting : List (Request M.Body)) (asked : Bool) (c d : CellOf M Setup Hosted Store U) → HasAskedFirstOf M tally waiting asked c d → IsSameHome c d
+  home_first_of [] asked c d h = same_home c d h.1
+  home_first_of (r ∷ waiting) asked c d h = same_home_still c h.seen d (home_may c h.may h.seen h.looked) (home_where r.body h.may asked h.seen d h.asks)
 
-  in_position : (p : Position) (c : CellOf M Setup Hosted Store U) (may : Bool) (d e : CellOf M Setup Hosted Store U) → MayIn p c may d → HasAskedOn M tally d e → HasAskedOn M tally c e
-  in_position (Follower None) c may d e h rest = same_asked c d e h.1 rest
-  in_position (Follower (Some leader)) c may d e h rest = seen_asked leader c may d e h rest
-  in_position Candidate c may d e h rest = same_asked c d e h.1 rest
-  in_position (Leader live) c may d e h rest = same_asked c d e h.1 rest
+  home_some : (n : ℕ) (c d : CellOf M Setup Hosted Store U) → HasAskedSome M tally n c d → IsSameHome c d
+  home_some zero c d h = same_home c d h
+  home_some (suc n) c d h = same_home_still c h.2 d (home_first_of h.0 h.1 c h.2 h.3) (home_some n h.2 d h.4)
 
-  in_phase : (p : Phase M.Body M.Line) (c : CellOf M Setup Hosted Store U) (may : Bool) (d e : CellOf M Setup Hosted Store U) → MayUp p c may d → HasAskedOn M tally d e → HasAskedOn M tally c e
-  in_phase Up c may d e h rest = in_position c.node.state.standing.position c may d e h rest
-  in_phase (DownInTurn x done) c may d e h rest = same_asked c d e h.1 rest
-  in_phase DownInRestart c may d e h rest = same_asked c d e h.1 rest
+  pub home_asked : (c d : CellOf M Setup Hosted Store U) → HasAskedOn M tally c d → IsSameHome c d
+  home_asked c d h = home_some h.0 c d h.1
 
-  -- a look whether the node may ask comes before
-  pub may_next : (c : CellOf M Setup Hosted Store U) (may : Bool) (d e : CellOf M Setup Hosted Store U) → MayAsk c may d → HasAskedOn M tally d e → HasAskedOn M tally c e
-  may_next c may d e h rest = in_phase c.phase c may d e h rest
+  pub home_before : (asks : Bool) (waiting : List (Request M.Body)) (c d : CellOf M Setup Hosted Store U) → AsksBefore M tally asks waiting c d → IsSameHome c d
+  home_before true waiting c d h = home_first_of waiting h.0 c d h.1
+  home_before false waiting c d h = same_home c d h
+
+  -- one request more is asked, or the node may not
+  pub asks_next : (waiting : List (Request M.Body)) (asked : Bool) (c b e : CellOf M Setup Hosted Store U) → HasAskedFirstOf M tally waiting asked c b → HasAskedOn M tally b e → HasAskedOn M tally c e
+  asks_next waiting asked c b e one rest = (suc rest.0, (waiting, asked, b, one, rest.1))
+
+  pub asks_none : (c : CellOf M Setup Hosted Store U) → HasAskedOn M tally c c
+  asks_none c = (zero, refl)
+
+  -- where none waits
+  pub none_waits : (waiting : List (Request M.Body)) (c : CellOf M Setup Hosted Store U) → waiting ≡ [] → HasAskedFirstOf M tally waiting false c c
+  none_waits waiting c none = subst (λ (l : List (Request M.Body)). HasAskedFirstOf M tally l false c c) (sym none) (refl, refl)
+
+  -- where one waits, and the node may not ask
+  pub may_not : (waiting : List (Request M.Body)) (c d : CellOf M Setup Hosted Store U) → (waiting ≡ [] → ⊥) → MayAsk c false d → HasAskedFirstOf M tally waiting false c d
+  may_not [] c d some looked = absurd (some refl)
+  may_not (r ∷ waiting) c d some looked = record { may = false; seen = d; looked = looked; asks = refl }
+
+  -- where it may
+  pub may_ask : (waiting rest : List (Request M.Body)) (note : ℕ) (body : M.Body) (c b d : CellOf M Setup Hosted Store U) → waiting ≡ request note body ∷ rest → MayAsk c true b
+      → HasHadTurn M tally b (input.Ask body) d → HasAskedFirstOf M tally waiting true c d
+  may_ask waiting rest note body c b d is looked turned =
+      subst (λ (l : List (Request M.Body)). HasAskedFirstOf M tally l true c d) (sym is) (record { may = true; seen = b; looked = looked; asks = turned })

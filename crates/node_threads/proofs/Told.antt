@@ -9,15 +9,16 @@ use Rattle.raft_node.specs.Parts.{applied_bodies}
 use Rattle.node_cells.specs.declared.phase.Phase.{Phase}
 use Rattle.node_cells.specs.declared.phase.Phase.TheVariants.{Up, DownInTurn, DownInRestart}
 use Rattle.node_cells.specs.Cells.{CellParts}
+use Rattle.node_cells.specs.Causes.{down_in}
 use Rattle.node_notes.specs.declared.status.Status.{Status}
 use Rattle.node_notes.specs.Notes as notes
 use Rattle.node_notes.specs.Notes.{status_of}
 use Rattle.node_threads.specs.Reports.{IsStatusOf, leads_in, leads_up}
 
 pub status_told : {Setup Hosted Store B L T E P U : Type 0} (next_claim : Setup → List (ℕ × B) → Option ℕ) (c : CellParts Setup Hosted Store B L T E P U) (s : Status) (state : NodeState B) (claim : Option ℕ) (down : Option Cause)
-    → s ≡ status_of state claim down → state ≡ c.node.state → (down ≡ None) ↔ (c.phase ≡ Up) → (c.node.down ≡ None → claim ≡ next_claim c.node.setup (applied_bodies c.node.state)) → IsStatusOf next_claim c s
-status_told next_claim c s state claim down is same up claims =
-    subst (λ (z : Status). IsStatusOf next_claim c z) (sym is) (record { told = ap (λ (x : NodeState _). status_of x claim down) same; up = up; claim = claims })
+    → s ≡ status_of state claim down → state ≡ c.node.state → (down ≡ None) ↔ (c.phase ≡ Up) → down ≡ down_in c → (c.node.down ≡ None → claim ≡ next_claim c.node.setup (applied_bodies c.node.state)) → IsStatusOf next_claim c s
+status_told next_claim c s state claim down is same up cause claims =
+    subst (λ (z : Status). IsStatusOf next_claim c z) (sym is) (record { told = ap (λ (x : NodeState _). status_of x claim down) same; up = up; cause = cause; claim = claims })
 
 module _ {B L : Type 0} where
   by_phase : (p : Phase B L) (role : Role) (down : Option Cause) → (down ≡ None) ↔ (p ≡ Up) → notes.leads_up role down ≡ leads_up p role

@@ -1,7 +1,8 @@
--- When a node may ask a request that waits at its worker.
-use Rattle.std.specs.Prelude.{◌≡◌, ◌⊎◌, ◌↔◌, ℕ, suc, Bool, true, false, Option, Some, None}
+-- When a node may ask a request that waits at its worker, and which mailbox it leaves for one that lies on its way.
+use Rattle.std.specs.Prelude.{◌≡◌, ◌⊎◌, ◌↔◌, ℕ, suc, Bool, true, false, Option, Some, None, if◌then◌else◌}
 use Rattle.raft_log.specs.declared.position.Position.{Position}
 use Rattle.raft_log.specs.declared.position.Position.TheVariants.{Follower, Candidate, Leader}
+use Rattle.raft_log.specs.Positions.{leader_of}
 use Rattle.node_cells.specs.declared.phase.Phase.{Phase}
 use Rattle.node_cells.specs.declared.phase.Phase.TheVariants.{Up, DownInTurn, DownInRestart}
 use Rattle.node_cells.specs.Cells.{CellParts}
@@ -28,3 +29,12 @@ module _ {Setup Hosted Store B L T E P U : Type 0} where
   -- the node may ask, or may not
   abbrev pub MayAsk : CellParts Setup Hosted Store B L T E P U → Bool → CellParts Setup Hosted Store B L T E P U → Type 0
   MayAsk c may d = MayUp c.phase c may d
+
+  -- the leader that the node knows
+  abbrev pub leader_in : CellParts Setup Hosted Store B L T E P U → Option ℕ
+  leader_in c = leader_of c.node.state.standing.position
+
+  -- One look whether this leader took the request that was posted to it last, if one was: where it did not, its mailbox is left.
+  abbrev pub HasLeft : Option ℕ → CellParts Setup Hosted Store B L T E P U → Option ℕ → CellParts Setup Hosted Store B L T E P U → Type 0
+  HasLeft None c left d = (left ≡ None) × (d ≡ c)
+  HasLeft (Some leader) c left d = (taken : Bool) × HasSeenIf leader c taken d × (left ≡ (if taken then None else Some leader))

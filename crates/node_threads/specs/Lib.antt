@@ -1,6 +1,8 @@
 pub mod Asking
 pub mod Faults
+pub mod Forwarding
 pub mod Homes
+pub mod Jobs
 pub mod Joins
 pub mod Reports
 pub mod Requests

@@ -12,6 +12,7 @@ use Rattle.node_cells.specs.declared.cell_fault.CellFault.TheVariants.{Memory, S
 use Rattle.node_cells.specs.declared.phase.Phase.{Phase}
 use Rattle.node_cells.specs.declared.phase.Phase.TheVariants.{Up, DownInTurn, DownInRestart}
 use Rattle.node_cells.specs.Cells.{CellParts}
+use Rattle.node_cells.specs.Causes.{down_in}
 use Rattle.node_notes.specs.declared.note.Note.{Note}
 use Rattle.node_notes.specs.declared.note.Note.TheVariants as note
 use Rattle.node_notes.specs.declared.report.Report.{Report}
@@ -97,10 +98,11 @@ module _ {Setup Hosted Store B L T E P U : Type 0} where
   abbrev pub leads_in : CellParts Setup Hosted Store B L T E P U → Bool
   leads_in c = leads_up c.phase (role_of c.node.state.standing.position)
 
-  -- how the node of a cell stands; while it is up, the line to be claimed next is by what it applied
+  -- how the node of a cell stands, and why it is down, if it is; while it is up, the line to be claimed next is by what it applied
   pub record IsStatusOf (next_claim : Setup → List (ℕ × B) → Option ℕ) (c : CellParts Setup Hosted Store B L T E P U) (s : Status) : Type 0 where
     pub told : s ≡ status_of c.node.state s.next_claim s.down
     pub up : (s.down ≡ None) ↔ (c.phase ≡ Up)
+    pub cause : s.down ≡ down_in c
     pub claim : c.node.down ≡ None → s.next_claim ≡ next_claim c.node.setup (applied_bodies c.node.state)
 
 -- a report of this node that stands so and got so far, of these effects and this fault

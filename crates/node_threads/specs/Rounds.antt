@@ -1,11 +1,16 @@
 -- What a round of a worker gathers.
-use Rattle.std.specs.Prelude.{◌≡◌, ℕ, suc, Bool, true, false, nat_le, nat_lt, not, ◌&&◌, ◌||◌, List, [], ◌∷◌, ◌++◌, Option, Some, None}
+use Rattle.std.specs.Prelude.{◌≡◌, ℕ, suc, Bool, true, false, nat_le, nat_lt, not, ◌&&◌, ◌||◌, List, [], ◌∷◌, ◌++◌, Option, Some, None, Result, Ok, Err}
 use Rattle.raft_log.specs.declared.message.Kind.{Kind}
 use Rattle.raft_log.specs.declared.message.Kind.TheVariants.{RequestVote, Vote, Append, AppendReply, Forward}
 use Rattle.raft_log.specs.declared.message.Message.{Message}
 use Rattle.raft_log.specs.Lists.{with_item}
 use Rattle.raft_node.specs.declared.node_fault.NodeFault.{NodeFault}
+use Rattle.node_cells.specs.declared.cell_fault.CellFault.{CellFault}
+use Rattle.node_cells.specs.declared.record.TurnOutput.{TurnOutput}
+use Rattle.marked_cells.specs.declared.mark_turn.MarkTurn.{MarkTurn}
 use Rattle.node_threads.specs.declared.station.round.Round.{Round}
+use Rattle.node_threads.specs.Forwarding.{forwarded_after}
+use Rattle.node_threads.specs.Reports.{told_fault}
 
 -- all that leaves and was not told yet, in order
 abbrev pub leaving : {E : Type 0} → Round E → List E
@@ -20,6 +25,25 @@ first_fault (Some first) fault = first
 abbrev pub woken_by : List Bool → List ℕ → List Bool
 woken_by woken [] = woken
 woken_by woken (node ∷ nodes) = woken_by (with_item woken node true) nodes
+
+module _ {B E : Type 0} where
+  -- What a turn gave is gathered: what leaves, who is to look into its mailboxes, and whether a request was posted last, which the turn was or not.
+  pub record Gathers (is_request : Bool) (output : TurnOutput B E) (old : Round E) (forwarded : Option ℕ) (new : Round E) (now_forwarded : Option ℕ) : Type 0 where
+    pub leaves : old.further.items ≡ [] → leaving new ≡ leaving old ++ output.effects.items
+    pub wakes : new.woken ≡ woken_by old.woken output.posted_to.items
+    pub posts : now_forwarded ≡ forwarded_after is_request output.posted_to.items forwarded
+    pub fault : new.fault ≡ old.fault
+
+  -- of a turn that gave nothing, the first such fault is kept
+  abbrev pub GathersTurn : Bool → Result (TurnOutput B E) CellFault → Round E → Option ℕ → Round E → Option ℕ → Type 0
+  GathersTurn is_request (Ok output) old forwarded new now_forwarded = Gathers is_request output old forwarded new now_forwarded
+  GathersTurn is_request (Err fault) old forwarded new now_forwarded =
+      (new ≡ record old { fault = Some (first_fault old.fault (told_fault fault)) }) × (now_forwarded ≡ forwarded)
+
+  -- of a mark that was not asked, nothing
+  abbrev pub GathersMark : Result (MarkTurn B E) CellFault → Round E → Option ℕ → Round E → Option ℕ → Type 0
+  GathersMark (Ok asked) old forwarded new now_forwarded = Gathers true asked.output old forwarded new now_forwarded
+  GathersMark (Err fault) old forwarded new now_forwarded = (new ≡ old) × (now_forwarded ≡ forwarded)
 
 module _ {B : Type 0} where
   abbrev pub is_append : Kind B → Bool

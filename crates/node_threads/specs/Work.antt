@@ -1,5 +1,5 @@
 -- What a worker does with its node's cell.
-use Rattle.std.specs.Prelude.{◌≡◌, ◌&&◌, not, ℕ, zero, suc, Bool, true, false, List, [], ◌∷◌, Option, None, Some, Result, Ok, Err, option_map}
+use Rattle.std.specs.Prelude.{◌≡◌, ◌++◌, ◌&&◌, not, ℕ, zero, suc, Bool, true, false, List, [], ◌∷◌, Option, None, Some, Result, Ok, Err, option_map}
 use Rattle.wire_bytes.specs.declared.mark.Mark.{Mark}
 use Rattle.raft_node.specs.declared.input.Looked.{Looked as PlayedAt}
 use Rattle.raft_node.specs.Machine.{Machine}
@@ -9,46 +9,44 @@ use Rattle.world_views.specs.declared.node_event.NodeInput.TheVariants as input
 use Rattle.marked_cells.specs.declared.mark_turn.MarkTurn.{MarkTurn}
 use Rattle.node_cells.specs.declared.cell_fault.CellFault.{CellFault}
 use Rattle.node_cells.specs.declared.record.TurnOutput.{TurnOutput}
-use Rattle.node_cells.specs.Openings.{HasSeenTo, HasTakenIn}
+use Rattle.node_cells.specs.Openings.{HasTakenIn}
 use Rattle.node_cells.specs.Restarts.{HasRestarted}
 use Rattle.node_cells.specs.Turns.{CellOf, HasLooked, HasTurned}
 use Rattle.node_cells.specs.Upstreams.{Tally}
 use Rattle.marked_cells.specs.Marking.{HasLookedAfter, HasMarked}
 use Rattle.node_notes.specs.declared.note.Note.{Note}
 use Rattle.node_notes.specs.declared.note.Note.TheVariants as note
+use Rattle.node_threads.specs.Asking.{HasLeft, MayAsk, leader_in}
+use Rattle.node_threads.specs.Forwarding.{asks_first, is_left, is_request, request_at}
+use Rattle.node_threads.specs.Rounds.{GathersMark, GathersTurn}
+use Rattle.node_threads.specs.declared.station.round.Round.{Round}
 use Rattle.node_threads.specs.Reports.{leads_in}
 use Rattle.node_threads.specs.declared.job.Job.{Job}
 use Rattle.node_threads.specs.declared.job.Job.TheVariants as job
+use Rattle.node_threads.specs.declared.station.requests.Request.{Request}
 
 -- one thing that a worker does with its node beside its jobs
 pub data Deed (B L : Type 0) : Type 0 where
   -- it takes what lies in the mailbox from the node at this place, and turns what lay there
   Takes : ℕ → Deed B L
-  -- it looks whether the node at this place took the last message
-  Sees : ℕ → Deed B L
   -- it turns an input
   Turns : NodeInput B L → Deed B L
 
 module _ {B L : Type 0} where
-  -- the mailboxes from the nodes at these places are taken
-  abbrev pub takes_of : List ℕ → List (Deed B L)
-  takes_of [] = []
-  takes_of (from ∷ more) = Takes from ∷ takes_of more
+  -- the mailbox from the node at this place is taken, where it is not left
+  abbrev pub takes_unless : Bool → ℕ → List (Deed B L)
+  takes_unless true place = []
+  takes_unless false place = Takes place ∷ []
+
+  -- each mailbox from so many nodes is taken once, by rising number of the sender, but for that from this node
+  abbrev pub takes_but : Option ℕ → ℕ → List (Deed B L)
+  takes_but left zero = []
+  takes_but left (suc n) = takes_but left n ++ takes_unless (is_left left n) n
 
   -- so many places are applied
   abbrev pub applies : ℕ → List (Deed B L)
   applies zero = []
   applies (suc n) = Turns input.Apply ∷ applies n
-
-  -- these are looks whether a message was taken, and requests that are asked
-  abbrev pub IsOfAsking : Deed B L → Type 0
-  IsOfAsking (Takes from) = ⊥
-  IsOfAsking (Sees to) = Unit {0}
-  IsOfAsking (Turns x) = (body : B) × (x ≡ input.Ask body)
-
-  abbrev pub AreOfAsking : List (Deed B L) → Type 0
-  AreOfAsking [] = Unit {0}
-  AreOfAsking (e ∷ es) = IsOfAsking e × AreOfAsking es
 
   -- a beat, where there is news
   abbrev pub beats_on : Bool → List (Deed B L)
@@ -82,6 +80,13 @@ module _ (M : Machine) {Setup Hosted Store U : Type 0} where
       pub answer : Result (TurnOutput M.Body M.Effect) CellFault
       pub turned : HasTurned M tally c x answer d
 
+    -- so, and what it gave was gathered
+    pub record HasGathered (c : CellOf M Setup Hosted Store U) (x : NodeInput M.Body M.Line) (old : Round M.Effect) (forwarded : Option ℕ)
+        (d : CellOf M Setup Hosted Store U) (new : Round M.Effect) (now_forwarded : Option ℕ) : Type 0 where
+      pub answer : Result (TurnOutput M.Body M.Effect) CellFault
+      pub turned : HasTurned M tally c x answer d
+      pub gathers : GathersTurn (is_request x) answer old forwarded new now_forwarded
+
     -- a turn of this input, if there is one
     abbrev pub HasTurnedIn : Option (NodeInput M.Body M.Line) → CellOf M Setup Hosted Store U → CellOf M Setup Hosted Store U → Type 0
     HasTurnedIn None c d = d ≡ c
@@ -96,7 +101,6 @@ module _ (M : Machine) {Setup Hosted Store U : Type 0} where
 
     abbrev pub HasDeed : Deed M.Body M.Line → CellOf M Setup Hosted Store U → CellOf M Setup Hosted Store U → Type 0
     HasDeed (Takes from) c d = HasLookedIn c from d
-    HasDeed (Sees to) c d = (taken : Bool) × HasSeenTo c to taken d
     HasDeed (Turns x) c d = HasHadTurn c x d
 
     -- these things were done, in order, and nothing else
@@ -104,22 +108,54 @@ module _ (M : Machine) {Setup Hosted Store U : Type 0} where
     Does [] c d = d ≡ c
     Does (e ∷ es) c d = (b : CellOf M Setup Hosted Store U) × HasDeed e c b × Does es b d
 
-    -- some mailboxes were taken, and nothing else was done
-    abbrev pub HasTakenAll : CellOf M Setup Hosted Store U → CellOf M Setup Hosted Store U → Type 0
-    HasTakenAll c d = (froms : List ℕ) × Does (takes_of froms) c d
+    -- each mailbox of the group was taken once, by rising number of the sender, but for that from this node; and nothing else was done
+    abbrev pub HasTakenBut : Option ℕ → CellOf M Setup Hosted Store U → CellOf M Setup Hosted Store U → Type 0
+    HasTakenBut left c d = Does (takes_but left c.ether.size) c d
 
-    -- requests were asked, each after a look or none
+    -- this request is asked, where the node may ask
+    abbrev pub AsksWhere : M.Body → Bool → Bool → CellOf M Setup Hosted Store U → CellOf M Setup Hosted Store U → Type 0
+    AsksWhere body true true c d = HasHadTurn c (input.Ask body) d
+    AsksWhere body true false c d = ⊥
+    AsksWhere body false true c d = ⊥
+    AsksWhere body false false c d = d ≡ c
+
+    -- one look whether the node may ask, and this request is asked where it may
+    pub record HasTriedAsking (body : M.Body) (asked : Bool) (c d : CellOf M Setup Hosted Store U) : Type 0 where
+      pub may : Bool
+      pub seen : CellOf M Setup Hosted Store U
+      pub looked : MayAsk c may seen
+      pub asks : AsksWhere body may asked seen d
+
+    -- so with the first of the requests that wait, if one does
+    abbrev pub HasAskedFirstOf : List (Request M.Body) → Bool → CellOf M Setup Hosted Store U → CellOf M Setup Hosted Store U → Type 0
+    HasAskedFirstOf [] asked c d = (asked ≡ false) × (d ≡ c)
+    HasAskedFirstOf (r ∷ waiting) asked c d = HasTriedAsking r.body asked c d
+
+    -- requests were asked one by one, so many at most
+    abbrev pub HasAskedSome : ℕ → CellOf M Setup Hosted Store U → CellOf M Setup Hosted Store U → Type 0
+    HasAskedSome zero c d = d ≡ c
+    HasAskedSome (suc n) c d =
+        (waiting : List (Request M.Body)) × (asked : Bool) × (b : CellOf M Setup Hosted Store U) × HasAskedFirstOf waiting asked c b × HasAskedSome n b d
+
     abbrev pub HasAskedOn : CellOf M Setup Hosted Store U → CellOf M Setup Hosted Store U → Type 0
-    HasAskedOn c d = (es : List (Deed M.Body M.Line)) × AreOfAsking es × Does es c d
+    HasAskedOn c d = (n : ℕ) × HasAskedSome n c d
+
+    -- the first request that waits is asked, where it is to be asked before the mailboxes are taken
+    abbrev pub AsksBefore : Bool → List (Request M.Body) → CellOf M Setup Hosted Store U → CellOf M Setup Hosted Store U → Type 0
+    AsksBefore true waiting c d = (asked : Bool) × HasAskedFirstOf waiting asked c d
+    AsksBefore false waiting c d = d ≡ c
 
     -- so many agreed places were applied
     abbrev pub HasApplied : CellOf M Setup Hosted Store U → CellOf M Setup Hosted Store U → Type 0
     HasApplied c d = (n : ℕ) × Does (applies n) c d
 
-    -- Mailboxes were taken. Then the node asked for votes, where it leads not and had heard few enough times of a leader.
+    abbrev pub HasAppliedSo : ℕ → CellOf M Setup Hosted Store U → CellOf M Setup Hosted Store U → Type 0
+    HasAppliedSo many c d = (n : ℕ) × (n ≡ many) × Does (applies n) c d
+
+    -- All mailboxes were taken. Then the node asked for votes, where it leads not and had heard few enough times of a leader.
     pub record HasTimedOut (is_few : Bool) (c d : CellOf M Setup Hosted Store U) : Type 0 where
       pub between : CellOf M Setup Hosted Store U
-      pub taken : HasTakenAll c between
+      pub taken : HasTakenBut None c between
       pub turned : Does (times_out (is_few && not (leads_in between))) between d
 
     -- what a note comes to: a turn of it, a restart, or nothing; a request waits for a leader
@@ -139,14 +175,21 @@ module _ (M : Machine) {Setup Hosted Store U : Type 0} where
     abbrev pub HasBeaten : Bool → CellOf M Setup Hosted Store U → CellOf M Setup Hosted Store U → Type 0
     HasBeaten has_news c d = Does (beats_on has_news) c d
 
-    -- What a round does behind its jobs: mailboxes are taken; requests are asked; agreed places are applied; and where there is
-    -- news, the node beats.
-    pub record HasGoneRound (c d : CellOf M Setup Hosted Store U) : Type 0 where
+    -- What a round does behind its jobs. A node that knows a leader, to which it posted no request last, asks the first that waits. Then the
+    -- mailboxes are taken, but for that of the leader to which a request lies that it did not take. Then requests are asked, agreed places are
+    -- applied, and where there is news, the node beats.
+    pub record HasGoneRound (forwarded : Option ℕ) (waiting : List (Request M.Body)) (c d : CellOf M Setup Hosted Store U) : Type 0 where
+      pub first : CellOf M Setup Hosted Store U
+      pub seen : CellOf M Setup Hosted Store U
       pub heard : CellOf M Setup Hosted Store U
       pub asked : CellOf M Setup Hosted Store U
       pub applied : CellOf M Setup Hosted Store U
+      pub now_forwarded : Option ℕ
+      pub left : Option ℕ
       pub has_news : Bool
-      pub takes : HasTakenAll c heard
+      pub asks_before : AsksBefore (asks_first forwarded (leader_in c)) waiting c first
+      pub leaves : HasLeft (request_at now_forwarded (leader_in first)) first left seen
+      pub takes : HasTakenBut left seen heard
       pub asks : HasAskedOn heard asked
       pub applies_on : HasApplied asked applied
       pub beats : HasBeaten has_news applied d
@@ -157,6 +200,13 @@ module _ (M : Machine) {Setup Hosted Store U : Type 0} where
         pub answer : Result (MarkTurn M.Body M.Effect) CellFault
         pub result_is : result ≡ number_in answer
         pub asked : HasMarked M tally marked mark c answer d
+
+      -- so, and what that gave was gathered
+      pub record HasGatheredMark (c : CellOf M Setup Hosted Store U) (old : Round M.Effect) (forwarded : Option ℕ) (d : CellOf M Setup Hosted Store U)
+          (new : Round M.Effect) (now_forwarded : Option ℕ) : Type 0 where
+        pub answer : Result (MarkTurn M.Body M.Effect) CellFault
+        pub asked : HasMarked M tally marked mark c answer d
+        pub gathers : GathersMark answer old forwarded new now_forwarded
 
     module _ (marked : M.Body → Option Mark) (mark : Mark → M.Body) {Action : Type 0} where
       -- what a job comes to by itself

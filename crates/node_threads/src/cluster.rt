@@ -4,13 +4,14 @@ ghost use Rattle.node_threads.specs.declared.cluster_fault.ClusterFault.TheVaria
 ghost use Rattle.node_threads.specs.Faults.{IsAnswered, IsNotOfCaller, IsTold};
 ghost use Rattle.node_threads.specs.Homes.{AreLeft};
 
+use crate::cluster::jobs::{look_job, restart_job, status_job};
 use crate::cluster_fault::ClusterFault;
 use crate::inlet::Inlet;
 use crate::job::{Job, put};
 use crate::leaver::join_all;
 use crate::worker::Running;
 use body_marks::Marking;
-use crossbeam_channel::{Receiver, Sender, bounded};
+use crossbeam_channel::{Receiver, Sender};
 use machine_laws::{Hosted, Machine};
 use node_cells::{CellFault, Closing, NodeRecord, Upstream};
 use node_notes::{Note, Status};
@@ -24,6 +25,7 @@ use std::thread;
 use std::thread::Threads;
 
 mod confirming;
+mod jobs;
 mod opening;
 mod starting;
 
@@ -100,8 +102,8 @@ impl<M: Marking, S: Stable<M::Command>, U: Upstream> Cluster<M, S, U> {
         ensures { IsAnswered self.now.ether.size node result }
     {
         let inbox = self.inbox(node)?;
-        let (reply, answer) = bounded(self.alloc, 1)?;
-        ask(rt, inbox, Job::Look(from_place, target, reply), &answer)
+        let (job, answer) = look_job(self.alloc, from_place, target)?;
+        ask(rt, inbox, job, &answer)
     }
 
     /// A node is started again over its store.
@@ -109,8 +111,8 @@ impl<M: Marking, S: Stable<M::Command>, U: Upstream> Cluster<M, S, U> {
         ensures { IsAnswered self.now.ether.size node result }
     {
         let inbox = self.inbox(node)?;
-        let (reply, answer) = bounded(self.alloc, 1)?;
-        ask(rt, inbox, Job::Restart(reply), &answer)
+        let (job, answer) = restart_job(self.alloc)?;
+        ask(rt, inbox, job, &answer)
     }
 
     /// How a node stands.
@@ -118,8 +120,8 @@ impl<M: Marking, S: Stable<M::Command>, U: Upstream> Cluster<M, S, U> {
         ensures { IsTold self.now.ether.size node result }
     {
         let inbox = self.inbox(node)?;
-        let (reply, answer) = bounded(self.alloc, 1)?;
-        Job::Status(reply).put(rt, inbox)?;
+        let (job, answer) = status_job(self.alloc)?;
+        put(rt, inbox, job)?;
         match answer.recv(rt) {
             Ok(status) => Ok(status),
             Err(_) => Err(ClusterFault::Stopped),

@@ -1,5 +1,5 @@
 //! What a worker has beside its node's cell, and what it does with it, in rounds.
-ghost use Rattle.std.specs.Prelude.{◌≡◌, ◌&&◌, [], length};
+ghost use Rattle.std.specs.Prelude.{◌≡◌, ◌&&◌, [], false, length, true};
 ghost use Rattle.node_threads.specs.Homes.{IsSameHome};
 ghost use Rattle.node_threads.specs.Reports.{IsReport, IsStatusOf, TellsFirst, has_grown, is_news};
 ghost use Rattle.node_threads.specs.Requests.{in_term, queue_of};
@@ -30,6 +30,7 @@ use wire_bytes::Number;
 use world_views::NodeInput;
 
 mod asking;
+mod forwarding;
 mod jobs;
 mod messages;
 pub mod requests;
@@ -68,6 +69,8 @@ pub struct Station<M: Marking, G: Drop, O: Outlet<M::Effect>> {
     /// How often its node has heard of the leader of its term.
     pub contacts: u64,
     pub requests: Requests<M::Command>,
+    /// The node to which a request was posted last, and nothing since.
+    pub forwarded: Option<u8>,
     pub round: Round<M::Effect>,
     /// What it told last, if that was taken.
     pub told: Option<Told>,
@@ -123,9 +126,11 @@ impl<M: Marking, G: Gate + Drop, O: Outlet<M::Effect>> Station<M, G, O> {
         cell: &mut MarkedCell<M, S, U>,
     ) -> bool
         ensures { HasGoneRound (⟦<M as Described>⟧.machine cell.old.parts.ether.setup) U.tally
-            cell.old.parts cell.new.parts }
+            self.old.forwarded self.old.requests.waiting.items cell.old.parts cell.new.parts }
     {
-        self.take_all(rt, cell);
+        self.ask_before(rt, cell);
+        let left = self.leader_left(cell);
+        self.take_all(rt, cell, left);
         let all_asked = self.ask_all(rt, cell);
         let all_applied = self.apply_all(rt, cell);
         self.beat_on_news(rt, cell);
@@ -194,7 +199,8 @@ impl<M: Marking, G: Gate + Drop, O: Outlet<M::Effect>> Station<M, G, O> {
         rt: &R,
         cell: &MarkedCell<M, S, U>,
     ) -> bool
-        ensures { TellsFirst (leaving self.old.round) (leaving self.new.round) }
+        ensures order { TellsFirst (leaving self.old.round) (leaving self.new.round) }
+        ensures all { result ≡ true → self.new.round.effects.items ≡ [] }
     {
         let now = self.stand(cell);
         if !self.is_news(&now) {
@@ -258,7 +264,9 @@ impl<M: Marking, G: Gate + Drop, O: Outlet<M::Effect>> Station<M, G, O> {
 
     /// Whether this is to be told: something leaves, a turn did nothing, or the node or its worker stands
     /// as was not told last.
-    fn is_news(&self, now: &Told) -> bool {
+    fn is_news(&self, now: &Told) -> bool
+        ensures { result ≡ false → self.now.round.effects.items ≡ [] }
+    {
         if self.round.has_news() {
             return true;
         }

@@ -2,11 +2,10 @@
 ghost use Rattle.std.specs.Prelude.{◌≡◌, false};
 ghost use Rattle.node_threads.specs.Faults.{IsAnswered, comes_early, is_early};
 
+use crate::cluster::jobs::{late_look_job, mark_job};
 use crate::cluster::{Cluster, ask};
 use crate::cluster_fault::ClusterFault;
-use crate::job::Job;
 use body_marks::Marking;
-use crossbeam_channel::bounded;
 use machine_laws::{Hosted, Machine};
 use node_cells::Upstream;
 use node_steps::Refusal;
@@ -73,8 +72,8 @@ impl<M: Marking, S: Stable<M::Command>, U: Upstream> Cluster<M, S, U> {
         ensures { IsAnswered self.now.ether.size node result }
     {
         let inbox = self.inbox(node)?;
-        let (reply, answer) = bounded(self.alloc, 1)?;
-        ask(rt, inbox, Job::Mark(reply), &answer)
+        let (job, answer) = mark_job(self.alloc)?;
+        ask(rt, inbox, job, &answer)
     }
 
     /// A playback of a target at a node that has applied its mark of this number.
@@ -89,8 +88,8 @@ impl<M: Marking, S: Stable<M::Command>, U: Upstream> Cluster<M, S, U> {
     {
         let inbox = self.inbox(node)?;
         let target = target.copy(self.alloc)?;
-        let (reply, answer) = bounded(self.alloc, 1)?;
-        ask(rt, inbox, Job::LookAfter(number, target, reply), &answer)
+        let (job, answer) = late_look_job(self.alloc, number, target)?;
+        ask(rt, inbox, job, &answer)
     }
 }
 

@@ -107,6 +107,9 @@ fn open_worker<M: Marking, S: Stable<M::Command>, U: Upstream, G: Drop, O: Outle
         upstream,
         outlet,
     } = part;
+    let Ok(ether) = Arc::try_clone(ether) else {
+        return Err(ClusterFault::Memory);
+    };
     let cell = MarkedCell::open(alloc, ether, pass, store, upstream, recording)?;
     let station = station(alloc, cell.id(), gate, outlet, ends)?;
     Ok(Worker { cell, station })
@@ -143,6 +146,7 @@ fn station<M: Marking, G: Drop, O: Outlet<M::Effect>>(
         done: 0,
         contacts: 0,
         requests: Requests::new(alloc),
+        forwarded: None,
         round: Round::new(alloc),
         told: None,
         beaten: None,

@@ -1,10 +1,12 @@
 //! How a worker asks the requests that wait.
 ghost use Rattle.std.specs.Prelude.{◌≡◌};
-ghost use Rattle.node_threads.specs.Asking.{HasSeenIf, MayAsk};
-ghost use Rattle.node_threads.specs.Work.{HasAskedOn};
+ghost use Rattle.node_threads.specs.Asking.{HasLeft, HasSeenIf, MayAsk, leader_in};
+ghost use Rattle.node_threads.specs.Forwarding.{asks_first, request_at};
+ghost use Rattle.node_threads.specs.Work.{AsksBefore, HasAskedFirstOf, HasAskedOn};
 
 use crate::gate::Gate;
 use crate::outlet::Outlet;
+use crate::station::forwarding::{asks_first, request_at};
 use crate::station::{MOST_ASKED, Station};
 use body_marks::Marking;
 use machine_laws::{Hosted, Machine};
@@ -17,6 +19,24 @@ use std::sync::Wait;
 use world_views::NodeInput;
 
 impl<M: Marking, G: Gate + Drop, O: Outlet<M::Effect>> Station<M, G, O> {
+    /// A node that knows a leader asks the first request that waits, before it answers its leader: of a
+    /// leader that sends again and again an answer is always on its way, and the mailbox holds one message.
+    /// Where it posted a request last, it answers first: else no answer would come while requests wait.
+    pub fn ask_before<R: Wait, S: Stable<M::Command>, U: Upstream>(
+        &mut self,
+        rt: &R,
+        cell: &mut MarkedCell<M, S, U>,
+    )
+        ensures { AsksBefore (⟦<M as Described>⟧.machine cell.old.parts.ether.setup) U.tally
+            (asks_first self.old.forwarded (leader_in cell.old.parts))
+            self.old.requests.waiting.items cell.old.parts cell.new.parts }
+    {
+        let leader = cell.state().standing.position.leader();
+        if asks_first(self.forwarded, leader) {
+            self.ask_one(rt, cell);
+        }
+    }
+
     /// Asks the requests that wait as long as the node may. False where it may ask more.
     pub fn ask_all<R: Wait, S: Stable<M::Command>, U: Upstream>(
         &mut self,
@@ -27,19 +47,50 @@ impl<M: Marking, G: Gate + Drop, O: Outlet<M::Effect>> Station<M, G, O> {
             cell.old.parts cell.new.parts }
     {
         for _ in 0..MOST_ASKED {
-            if self.requests.waiting.is_empty() {
+            if !self.ask_one(rt, cell) {
                 return true;
             }
-            if !may_ask(cell) {
-                return true;
-            }
-            let term = cell.state().standing.term;
-            let Some(body) = self.requests.ask(term) else {
-                return true;
-            };
-            self.turn(rt, cell, NodeInput::Ask(body));
         }
         false
+    }
+
+    /// Asks the first request that waits, if one does and the node may. Whether it did.
+    fn ask_one<R: Wait, S: Stable<M::Command>, U: Upstream>(
+        &mut self,
+        rt: &R,
+        cell: &mut MarkedCell<M, S, U>,
+    ) -> bool
+        ensures { HasAskedFirstOf (⟦<M as Described>⟧.machine cell.old.parts.ether.setup) U.tally
+            self.old.requests.waiting.items result cell.old.parts cell.new.parts }
+    {
+        if !self.requests.has_waiting() {
+            return false;
+        }
+        if !may_ask(cell) {
+            return false;
+        }
+        let term = cell.state().standing.term;
+        let Some(body) = self.requests.ask(term) else {
+            return false;
+        };
+        self.turn(rt, cell, NodeInput::Ask(body));
+        true
+    }
+
+    /// The leader to which a request lies that it did not take, if one does: its mailbox is left, since the
+    /// answer to what lies there would replace the request. Of an older leader this says nothing.
+    pub fn leader_left<S: Stable<M::Command>, U: Upstream>(
+        &self,
+        cell: &mut MarkedCell<M, S, U>,
+    ) -> Option<u8>
+        ensures { HasLeft (request_at self.now.forwarded (leader_in cell.old.parts))
+            cell.old.parts result cell.new.parts }
+    {
+        let leader = request_at(self.forwarded, cell.state().standing.position.leader())?;
+        if has_taken(cell, leader) {
+            return None;
+        }
+        Some(leader)
     }
 }
 

@@ -149,7 +149,7 @@ impl<M: Marking, G: Gate + Drop, O: Outlet<M::Effect>> Station<M, G, O> {
     }
 
     /// The node waited too long for a leader, unless it leads, or has heard of a leader more often than
-    /// this by now.
+    /// this by now. So it takes the mailbox of its leader, too, whatever lies on its way there.
     fn time_out<R: Wait, S: Stable<M::Command>, U: Upstream>(
         &mut self,
         rt: &R,
@@ -159,7 +159,7 @@ impl<M: Marking, G: Gate + Drop, O: Outlet<M::Effect>> Station<M, G, O> {
         ensures { HasTimedOut (⟦<M as Described>⟧.machine cell.old.parts.ether.setup) U.tally
             (nat_le self.new.contacts contacts) cell.old.parts cell.new.parts }
     {
-        self.take_all(rt, cell);
+        self.take_all(rt, cell, None);
         if self.is_due(cell, contacts) {
             self.turn(rt, cell, NodeInput::Timeout);
         }

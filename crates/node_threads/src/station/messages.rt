@@ -3,12 +3,13 @@ ghost use Rattle.std.specs.Prelude.{◌≡◌, ◌<◌, ◌+◌, ◌^◌, ◌-�
 ghost use Rattle.world_views.specs.Views.{carries};
 ghost use Rattle.node_cells.specs.Cells.{HasHeard, view_in};
 ghost use Rattle.node_threads.specs.Rounds.{is_behind, is_led};
-ghost use Rattle.node_threads.specs.Work.{HasTaken, HasTakenAll};
+ghost use Rattle.node_threads.specs.Work.{Does, HasLookedIn, HasTaken, HasTakenBut, takes_unless};
 
 use crate::gate::Gate;
 use crate::outlet::Outlet;
+use crate::station::Station;
+use crate::station::forwarding::is_left;
 use crate::station::telling::wake;
-use crate::station::{MOST_NODES, Station};
 use body_marks::Marking;
 use machine_laws::{Hosted, Machine};
 use marked_cells::MarkedCell;
@@ -21,17 +22,36 @@ use wire_bytes::Wire;
 use world_views::NodeInput;
 
 impl<M: Marking, G: Gate + Drop, O: Outlet<M::Effect>> Station<M, G, O> {
-    /// Takes each mailbox once, by rising number of the sender.
+    /// Takes each mailbox once, by rising number of the sender, but for that from this node.
     pub fn take_all<R: Wait, S: Stable<M::Command>, U: Upstream>(
         &mut self,
         rt: &R,
         cell: &mut MarkedCell<M, S, U>,
+        left: Option<u8>,
     )
-        ensures { HasTakenAll (⟦<M as Described>⟧.machine cell.old.parts.ether.setup) U.tally
+        ensures { HasTakenBut (⟦<M as Described>⟧.machine cell.old.parts.ether.setup) U.tally left
             cell.old.parts cell.new.parts }
     {
-        for from in 0..MOST_NODES {
-            self.take_from(rt, cell, from as u64);
+        let size = cell.size().value();
+        for from in 0..size {
+            self.take_unless(rt, cell, is_left(left, from), from as u64);
+        }
+    }
+
+    /// Takes the mailbox from the node at this place, if there is one, where it is not left.
+    fn take_unless<R: Wait, S: Stable<M::Command>, U: Upstream>(
+        &mut self,
+        rt: &R,
+        cell: &mut MarkedCell<M, S, U>,
+        is_left: bool,
+        from: u64,
+    )
+        ensures { from < cell.old.parts.ether.size
+            → Does (⟦<M as Described>⟧.machine cell.old.parts.ether.setup) U.tally
+            (takes_unless is_left from) cell.old.parts cell.new.parts }
+    {
+        if !is_left {
+            self.take_from(rt, cell, from);
         }
     }
 
@@ -43,8 +63,9 @@ impl<M: Marking, G: Gate + Drop, O: Outlet<M::Effect>> Station<M, G, O> {
         cell: &mut MarkedCell<M, S, U>,
         from: u64,
     )
-        ensures { HasTakenAll (⟦<M as Described>⟧.machine cell.old.parts.ether.setup) U.tally
-            cell.old.parts cell.new.parts }
+        ensures { from < cell.old.parts.ether.size
+            → HasLookedIn (⟦<M as Described>⟧.machine cell.old.parts.ether.setup) U.tally
+            cell.old.parts from cell.new.parts }
     {
         if cell.size().value() as u64 <= from {
             return;

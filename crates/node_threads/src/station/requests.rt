@@ -1,5 +1,5 @@
 //! The requests that wait at a worker until its node may ask them.
-ghost use Rattle.std.specs.Prelude.{◌≡◌, max, [], None};
+ghost use Rattle.std.specs.Prelude.{◌≡◌, max, [], None, false};
 ghost use Rattle.node_threads.specs.Requests.{HasAsked, WaitsOrIsLost, behind, ended, in_front, in_term, lose, note_in, queue_of, request};
 
 use std::alloc::Global;
@@ -49,6 +49,14 @@ impl<B: Drop> Requests<B> {
         if self.waiting.push_back(Request { note, body }).is_err() {
             self.lose(note);
         }
+    }
+
+    /// Whether one waits.
+    pub fn has_waiting(&self) -> bool
+        ensures none { result ≡ false → self.now.waiting.items ≡ [] }
+        ensures some { self.now.waiting.items ≡ [] → result ≡ false }
+    {
+        !self.waiting.is_empty()
     }
 
     /// The first of those that wait, which is asked in this term.

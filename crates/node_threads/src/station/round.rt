@@ -1,5 +1,5 @@
 //! What a round of a worker gathers.
-ghost use Rattle.std.specs.Prelude.{◌≡◌, ◌++◌, ◌∷◌, [], ◌↔◌, IsFalse, false, None, Some};
+ghost use Rattle.std.specs.Prelude.{◌≡◌, ◌++◌, ◌∷◌, [], ◌↔◌, IsFalse, None, Some};
 ghost use Rattle.node_threads.specs.Reports.{told_fault};
 ghost use Rattle.node_threads.specs.Rounds.{first_fault, leaving, woken_by};
 
@@ -81,7 +81,7 @@ impl<E: Drop> Round<E> {
 
     /// Whether there is more to tell than one report takes.
     pub fn has_further(&self) -> bool
-        ensures { result ≡ false → self.now.further.items ≡ [] }
+        ensures { IsFalse result ↔ (self.now.further.items ≡ []) }
     {
         !self.further.is_empty()
     }

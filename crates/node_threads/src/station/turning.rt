@@ -1,12 +1,13 @@
 //! The turns of a worker's node.
-ghost use Rattle.std.specs.Prelude.{◌≡◌, ◌++◌, []};
+ghost use Rattle.std.specs.Prelude.{◌≡◌, [], false};
 ghost use Rattle.world_views.specs.Views.{carries};
 ghost use Rattle.node_cells.specs.Cells.{HasHeard, view_in};
-ghost use Rattle.node_threads.specs.Rounds.{leaving, woken_by};
-ghost use Rattle.node_threads.specs.Work.{HasApplied, HasHadTurn, HasMarkedOne};
+ghost use Rattle.node_threads.specs.Rounds.{Gathers};
+ghost use Rattle.node_threads.specs.Work.{HasApplied, HasAppliedSo, HasGathered, HasGatheredMark, HasHadTurn, HasMarkedOne};
 
 use crate::gate::{Gate, pass_gate};
 use crate::outlet::Outlet;
+use crate::station::forwarding::{forwarded_after, is_request};
 use crate::station::telling::status;
 use crate::station::{MOST_APPLIED, Station};
 use body_marks::Marking;
@@ -31,6 +32,9 @@ impl<M: Marking, G: Gate + Drop, O: Outlet<M::Effect>> Station<M, G, O> {
         requires { HasHeard (view_in cell.old.parts) (carries input) }
         ensures turn { HasHadTurn (⟦<M as Described>⟧.machine cell.old.parts.ether.setup) U.tally
             cell.old.parts input cell.new.parts }
+        ensures gathered { HasGathered (⟦<M as Described>⟧.machine cell.old.parts.ether.setup) U.tally
+            cell.old.parts input self.old.round self.old.forwarded
+            cell.new.parts self.new.round self.new.forwarded }
         ensures contacts { self.new.contacts ≡ self.old.contacts }
     {
         if self.round.has_further() {
@@ -38,9 +42,10 @@ impl<M: Marking, G: Gate + Drop, O: Outlet<M::Effect>> Station<M, G, O> {
             return false;
         }
         pass_gate(rt, &*self.gate, self.id, &mut self.turns);
+        let is_request = is_request(&input);
         match cell.turn(input) {
             Ok(output) => {
-                self.gather(cell, output);
+                self.gather(cell, output, is_request);
                 true
             }
             Err(fault) => {
@@ -56,8 +61,11 @@ impl<M: Marking, G: Gate + Drop, O: Outlet<M::Effect>> Station<M, G, O> {
         rt: &R,
         cell: &mut MarkedCell<M, S, U>,
     ) -> Result<u64, CellFault>
-        ensures { HasMarkedOne (⟦<M as Described>⟧.machine cell.old.parts.ether.setup) U.tally
+        ensures mark { HasMarkedOne (⟦<M as Described>⟧.machine cell.old.parts.ether.setup) U.tally
             M.marked M.mark cell.old.parts result cell.new.parts }
+        ensures gathered { HasGatheredMark (⟦<M as Described>⟧.machine cell.old.parts.ether.setup)
+            U.tally M.marked M.mark cell.old.parts self.old.round self.old.forwarded
+            cell.new.parts self.new.round self.new.forwarded }
     {
         if self.round.has_further() {
             return Err(CellFault::Memory);
@@ -65,23 +73,22 @@ impl<M: Marking, G: Gate + Drop, O: Outlet<M::Effect>> Station<M, G, O> {
         pass_gate(rt, &*self.gate, self.id, &mut self.turns);
         match cell.mark() {
             Ok(MarkTurn { number, output }) => {
-                self.gather(cell, output);
+                self.gather(cell, output, true);
                 Ok(number)
             }
             Err(fault) => Err(fault),
         }
     }
 
-    /// What came of a turn is kept for the end of the round.
+    /// What came of a turn, which was a request or not, is kept for the end of the round.
     fn gather<S: Stable<M::Command>, U: Upstream>(
         &mut self,
         cell: &MarkedCell<M, S, U>,
         output: TurnOutput<M::Command, M::Effect>,
+        is_request: bool,
     )
-        ensures leaving { self.old.round.further.items ≡ []
-            → leaving self.new.round ≡ leaving self.old.round ++ output.effects.items }
-        ensures woken { self.new.round.woken
-            ≡ woken_by self.old.round.woken output.posted_to.items }
+        ensures gathered { Gathers is_request output self.old.round self.old.forwarded
+            self.new.round self.new.forwarded }
         ensures contacts { self.new.contacts ≡ self.old.contacts }
     {
         let TurnOutput {
@@ -91,6 +98,7 @@ impl<M: Marking, G: Gate + Drop, O: Outlet<M::Effect>> Station<M, G, O> {
             ..
         } = output;
         self.round.wake_each(posted_to.as_slice());
+        self.forwarded = forwarded_after(self.forwarded, is_request, posted_to.as_slice());
         for envelope in replaced {
             self.take_back(cell, &envelope);
         }
@@ -104,6 +112,7 @@ impl<M: Marking, G: Gate + Drop, O: Outlet<M::Effect>> Station<M, G, O> {
         envelope: &Envelope<M::Command>,
     )
         ensures round { self.new.round ≡ self.old.round }
+        ensures forwarded { self.new.forwarded ≡ self.old.forwarded }
         ensures contacts { self.new.contacts ≡ self.old.contacts }
     {
         let standing = cell.state().standing;
@@ -126,16 +135,21 @@ impl<M: Marking, G: Gate + Drop, O: Outlet<M::Effect>> Station<M, G, O> {
         }
     }
 
-    /// Applies until all is applied that is agreed, or a turn does nothing. False where there is more.
+    /// Applies until all is applied that is agreed, or a turn does nothing. False where there is more: behind 1,000
+    /// places, or where what left is to be told first.
     pub fn apply_all<R: Wait, S: Stable<M::Command>, U: Upstream>(
         &mut self,
         rt: &R,
         cell: &mut MarkedCell<M, S, U>,
     ) -> bool
-        ensures { HasApplied (⟦<M as Described>⟧.machine cell.old.parts.ether.setup) U.tally
+        ensures applied { HasApplied (⟦<M as Described>⟧.machine cell.old.parts.ether.setup) U.tally
+            cell.old.parts cell.new.parts }
+        ensures many { result ≡ false → self.new.round.further.items ≡ [] → HasAppliedSo
+            (⟦<M as Described>⟧.machine cell.old.parts.ether.setup) U.tally 1_000
             cell.old.parts cell.new.parts }
     {
-        for _ in 0..MOST_APPLIED {
+        for count in 0..MOST_APPLIED {
+            let _ = count;
             let status = status(cell);
             if status.down.is_some() || status.commit.value() <= status.applied.value() {
                 return true;

@@ -1,10 +1,7 @@
-use Rattle.std.proofs.Common.{◌≡◌, refl, ap, ◌∙◌, subst}
-use Rattle.world_views.specs.declared.node_event.NodeInput.TheVariants.{Ask}
-use Rattle.node_threads.specs.Homes.{IsSameHome}
-use Rattle.node_threads.specs.Work.{HasAskedOn, HasHadTurn}
-use Rattle.node_threads.proofs.Going.{asks_next, asks_none, home_after}
-use Rattle.node_threads.proofs.Home.{home_after_input, same_home, same_home_still}
-use Rattle.node_threads.proofs.Seen.{may_next}
+use Rattle.std.proofs.Common.{◌≡◌, refl, ap, subst}
+use Rattle.node_threads.specs.Work.{HasAskedFirstOf}
+use Rattle.node_threads.proofs.Home.{same_home, same_home_still}
+use Rattle.node_threads.proofs.Seen.{asks_next, asks_none, home_first_of}
 use Rattle.node_threads.proofs.station.Station.ask_all.Goals as goal
 use Rattle.node_threads.proofs.station.Station.ask_all.Invariants.{machine}
 
@@ -15,31 +12,25 @@ pub loop-preserved : goal.loop-preserved
 loop-preserved g c =
     let first = c.args.cell.now.parts in
     let old = c.loop.cell.parts in
-    let seen = c.may_ask.new.cell.parts in
-    let new = c.turn.new.cell.parts in
+    let new = c.ask_one.new.cell.parts in
+    let waiting = c.loop.self.requests.waiting.items in
     let M = machine g first.ether.setup in
     let tally = g.U.Upstream.tally in
-    let looked = may_next M tally old c.may_ask.result seen seen c.may_ask.ensures (asks_none M tally seen) in
-    let home_seen = home_after M tally looked.0 old seen looked.2 in
-    let turned = subst (λ (s : g.row.M-Setup.Denot). HasHadTurn (machine g s) tally seen (Ask c.in-Some.body) new) (ap (λ e. e.setup) (home_seen.ether ∙ c.loop.invariant.0.ether)) c.turn.ensures.turn in (
-      same_home_still first old new c.loop.invariant.0 (same_home_still old seen new home_seen (home_after_input M tally seen (Ask c.in-Some.body) new turned)),
-      λ e h. c.loop.invariant.1 e (may_next M tally old c.may_ask.result seen e c.may_ask.ensures (asks_next M tally seen new e c.in-Some.body turned h)),
+    let one = subst (λ (s : g.row.M-Setup.Denot). HasAskedFirstOf (machine g s) tally waiting c.ask_one.result old new) (ap (λ e. e.setup) c.loop.invariant.0.ether) c.ask_one.ensures in (
+      same_home_still first old new c.loop.invariant.0 (home_first_of M tally waiting c.ask_one.result old new one),
+      λ e h. c.loop.invariant.1 e (asks_next M tally waiting c.ask_one.result old new e one h),
     )
 
 pub returns : goal.returns
 returns g c = c.loop.invariant.1 c.loop.cell.parts (asks_none (machine g c.args.cell.now.parts.ether.setup) g.U.Upstream.tally c.loop.cell.parts)
 
-pub returns-then-is_empty : goal.returns-then-is_empty
-returns-then-is_empty g c = c.loop.invariant.1 c.loop.cell.parts (asks_none (machine g c.args.cell.now.parts.ether.setup) g.U.Upstream.tally c.loop.cell.parts)
-
-pub returns-then-not-may_ask : goal.returns-then-not-may_ask
-returns-then-not-may_ask g c =
-    let M = machine g c.args.cell.now.parts.ether.setup in
-    let seen = c.may_ask.new.cell.parts in
-    c.loop.invariant.1 seen (may_next M g.U.Upstream.tally c.loop.cell.parts c.may_ask.result seen seen c.may_ask.ensures (asks_none M g.U.Upstream.tally seen))
-
-pub returns-in_default : goal.returns-in_default
-returns-in_default g c =
-    let M = machine g c.args.cell.now.parts.ether.setup in
-    let seen = c.may_ask.new.cell.parts in
-    c.loop.invariant.1 seen (may_next M g.U.Upstream.tally c.loop.cell.parts c.may_ask.result seen seen c.may_ask.ensures (asks_none M g.U.Upstream.tally seen))
+pub returns-then-not-ask_one : goal.returns-then-not-ask_one
+returns-then-not-ask_one g c =
+    let first = c.args.cell.now.parts in
+    let old = c.loop.cell.parts in
+    let new = c.ask_one.new.cell.parts in
+    let waiting = c.loop.self.requests.waiting.items in
+    let M = machine g first.ether.setup in
+    let tally = g.U.Upstream.tally in
+    let one = subst (λ (s : g.row.M-Setup.Denot). HasAskedFirstOf (machine g s) tally waiting c.ask_one.result old new) (ap (λ e. e.setup) c.loop.invariant.0.ether) c.ask_one.ensures in
+    c.loop.invariant.1 new (asks_next M tally waiting c.ask_one.result old new new one (asks_none M tally new))

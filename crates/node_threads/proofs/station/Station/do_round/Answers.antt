@@ -16,5 +16,5 @@ returns g c =
     let between = c.do_jobs-is_over.new.cell.parts in
     let new = c.go_round-all_done.new.cell.parts in
     let one = home_after_some (machine g old.ether.setup) g.U.Upstream.tally g.M.Marking.marked g.M.Hosted.mark old between c.do_jobs-is_over.ensures in
-    let two = home_after_round (machine g between.ether.setup) g.U.Upstream.tally between new c.go_round-all_done.ensures in
+    let two = home_after_round (machine g between.ether.setup) g.U.Upstream.tally c.do_jobs-is_over.new.self.forwarded c.do_jobs-is_over.new.self.requests.waiting.items between new c.go_round-all_done.ensures in
     same_home_still old between new one two

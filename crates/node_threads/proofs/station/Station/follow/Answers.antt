@@ -5,4 +5,4 @@ pub returns-in-Timeout : goal.returns-in-Timeout
 returns-in-Timeout g c = note_as _ _ c.args.note _ c.args.cell.now.parts c.time_out.new.cell.parts c.in-Timeout.is (_, c.time_out.ensures)
 
 pub returns-in-Restart : goal.returns-in-Restart
-returns-in-Restart g c = note_as _ _ c.args.note _ c.args.cell.now.parts c.restart.new.self.parts c.in-Restart.is (c.restart.result, c.restart.ensures)
+returns-in-Restart g c = note_as _ _ c.args.note _ c.args.cell.now.parts c.restart.new.self.parts c.in-Restart.is (c.restart.result, c.restart.ensures.restart)

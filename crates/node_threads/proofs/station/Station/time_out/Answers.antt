@@ -1,4 +1,4 @@
-use Rattle.std.proofs.Common.{rules, ◌≡◌, ◌&&◌, not, Bool, true, false, refl, sym, ap, ◌∙◌, subst}
+use Rattle.std.proofs.Common.{None, rules, ◌≡◌, ◌&&◌, not, Bool, true, false, refl, sym, ap, ◌∙◌, subst}
 use Rattle.std.specs.Prelude.{nat_le}
 use Rattle.raft_node.specs.Hosts.{hosted}
 use Rattle.raft_node.specs.Machine.{Machine}
@@ -32,7 +32,7 @@ returns-then-is_due g c =
     let between = c.take_all.new.cell.parts in
     let new = c.turn.new.cell.parts in
     let M = machine g first.ether.setup in
-    let home = home_after_taking M g.U.Upstream.tally first between c.take_all.ensures in
+    let home = home_after_taking M g.U.Upstream.tally None first between c.take_all.ensures in
     let turned = subst (λ (s : g.row.M-Setup.Denot). HasHadTurn (machine g s) g.U.Upstream.tally between Timeout new) (ap (λ e. e.setup) home.ether) c.turn.ensures.turn in
     let due : c.is_due.result ≡ true = search rules in
     let is : (nat_le c.turn.new.self.contacts c.args.contacts && not (leads_in between)) ≡ true =
