@@ -51,7 +51,8 @@ fn open_last(
         return Err(Fail::from("no pass is left"));
     };
     let store = MemoryStore::new(alloc);
-    let cell = NodeCell::open(alloc, ether, pass, store, NoUpstream::new(), recording)?;
+    let twin = Arc::try_clone(ether)?;
+    let cell = NodeCell::open(alloc, twin, pass, store, NoUpstream::new(), recording)?;
     Ok(cell)
 }
 

@@ -53,7 +53,8 @@ fn open_last(
         return Err(Fail::from("no pass is left"));
     };
     let store = MemoryStore::new(alloc);
-    let cell = MarkedCell::open(alloc, ether, pass, store, NoUpstream::new(), Recording::On)?;
+    let twin = Arc::try_clone(ether)?;
+    let cell = MarkedCell::open(alloc, twin, pass, store, NoUpstream::new(), Recording::On)?;
     Ok(cell)
 }
 

@@ -1,6 +1,7 @@
-//! Many requests at once at a node that follows, and a node that waits for a leader that it knows.
+//! Many requests at once at a node that follows, requests while the leader is busy, and a node that waits for a
+//! leader that it knows.
 use crate::running::client::Client;
-use crate::running::clusters::{Crew, MOST_POLLS, lead, rest};
+use crate::running::clusters::{Counter, Crew, MOST_POLLS, lead, rest};
 use crate::running::story::Told;
 use body_marks::Marking;
 use machine_laws::{Hosted, Machine};
@@ -9,7 +10,11 @@ use raft_log::NodeId;
 use std::alloc::Global;
 use std::rt::Clock;
 use std::sync::Wait;
+use std::sync::atomic::Ordering;
 use std::test::Fail;
+
+/// How often a node is told to beat that is to be busy.
+const MANY_BEATS: u64 = 3_000;
 
 /// Node 1 leads, and the client asks at once to attach and to say a line so often. The log has one entry
 /// for each, behind the one of node 1's election.
@@ -30,6 +35,35 @@ pub fn ask_at_once<M: Marking, R: Wait + Clock>(
         }
         if poll % 50 == 0 {
             crew.submit(rt, NodeId::new(1), Note::Beat)?;
+        }
+        rest(rt);
+    }
+    Err(Fail::from("a request did not take effect"))
+}
+
+/// Node 1 leads, and is told to beat so often that it sends again and again. What the client asks meanwhile
+/// takes effect before node 1 has done all that.
+pub fn ask_while_busy<M: Marking, R: Wait + Clock>(
+    rt: &R,
+    alloc: Global,
+    crew: &Crew<M>,
+    client: Client,
+    turns: Counter,
+) -> Result<Told, Fail> {
+    lead(rt, crew)?;
+    let over = turns.load(Ordering::SeqCst).saturating_add(MANY_BEATS);
+    for _ in 0..MANY_BEATS {
+        crew.submit(rt, NodeId::new(1), Note::Beat)?;
+    }
+    for number in 1..4 {
+        client.ask(rt, alloc, crew, number)?;
+    }
+    for _ in 0..MOST_POLLS {
+        if client.has_done(3) {
+            if turns.load(Ordering::SeqCst) >= over {
+                return Err(Fail::from("the requests waited for node 1 to be idle"));
+            }
+            return Ok(Told::Lines(Vec::new(alloc)));
         }
         rest(rt);
     }

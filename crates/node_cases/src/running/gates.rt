@@ -1,7 +1,7 @@
 //! Gates that hold workers.
 ghost use Rattle.std.specs.Prelude.{◌<◌};
 
-use crate::running::clusters::{Flag, MOST_POLLS, flag, rest};
+use crate::running::clusters::{Counter, Flag, MOST_POLLS, flag, rest};
 use node_threads::Gate;
 use std::alloc::{AllocError, Global};
 use std::rt::Clock;
@@ -117,5 +117,30 @@ impl<C: Clock + Drop> Gate for Holding<C> {
             let _ = self.hold.is_let_go.load(Ordering::SeqCst);
         }
         self.hold.has_passed.store(true, Ordering::SeqCst);
+    }
+}
+
+/// Holds the worker of node 1 for a millisecond at each turn, and tells how many it came to.
+#[derive(Drop)]
+pub struct Slow<C: Clock + Drop> {
+    clock: C,
+    turns: Counter,
+}
+
+impl<C: Clock + Drop> Slow<C> {
+    pub fn new(clock: C, turns: &Counter) -> Result<Slow<C>, AllocError> {
+        Ok(Slow {
+            clock,
+            turns: Arc::try_clone(turns)?,
+        })
+    }
+}
+
+impl<C: Clock + Drop> Gate for Slow<C> {
+    fn pass<R: Wait>(&self, _rt: &R, node: u8, turn: u64) {
+        if node == 1 {
+            self.turns.store(turn, Ordering::SeqCst);
+            rest(&self.clock);
+        }
     }
 }

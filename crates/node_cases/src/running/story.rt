@@ -1,7 +1,7 @@
 //! What is done with the nodes of a cluster.
-use crate::running::bursts::{ask_at_once, wait_twice};
+use crate::running::bursts::{ask_at_once, ask_while_busy, wait_twice};
 use crate::running::client::Client;
-use crate::running::clusters::{Crew, parts};
+use crate::running::clusters::{Counter, Crew, parts};
 use crate::running::confirming::confirmed_lines;
 use crate::running::gates::Hold;
 use crate::running::inputs::Inputs;
@@ -33,6 +33,8 @@ pub enum Story {
     Confirm(Client, Hold),
     /// Node 1 leads, and the client of node 2 asks for so many lines at once.
     Burst(Client, u8),
+    /// Node 1 leads and is busy, and the client of node 2 asks; the counter is of node 1's turns.
+    Busy(Client, Counter),
     /// Node 1 leads and node 2 knows it, and is told twice that it waited too long for a leader.
     Wait,
     /// Node 1 leads, two clients ask, and then node 3 is started again and looked at.
@@ -97,6 +99,7 @@ where
         Story::Meet => turn_both(rt, alloc, &crew),
         Story::Confirm(client, hold) => confirmed_lines(rt, alloc, &crew, client, hold),
         Story::Burst(client, count) => ask_at_once(rt, alloc, &crew, client, count),
+        Story::Busy(client, turns) => ask_while_busy(rt, alloc, &crew, client, turns),
         Story::Wait => wait_twice(rt, alloc, &crew),
         Story::Record(clients) => run(rt, alloc, &crew, clients),
     };

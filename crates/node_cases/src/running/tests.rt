@@ -1,6 +1,6 @@
 use crate::running::client::Client;
 use crate::running::clusters::{Counter, counter, counters, flag, watches};
-use crate::running::gates::{Hold, Holding, Meeting};
+use crate::running::gates::{Hold, Holding, Meeting, Slow};
 use crate::running::story::{Story, play};
 use bouncer_tower::Tower;
 use buffer_commands::Setup;
@@ -118,6 +118,21 @@ fn a_burst_at_a_follower_is_one_entry_a_request(rt: HostRuntime) -> Result<(), F
         OpenGate,
         Story::Burst(client, 90),
     )?;
+    Ok(())
+}
+
+#[test]
+fn requests_at_a_follower_go_through_while_the_leader_sends_without_end(
+    rt: HostRuntime,
+) -> Result<(), Fail> {
+    let alloc = rt.alloc();
+    let size = GroupSize::new(3).ok_or("size")?;
+    let counters = counters(alloc, size)?;
+    let client = Client::new(NodeId::new(2), counters.get(1).ok_or("node")?)?;
+    let turns = counter(alloc)?;
+    let gate = Slow::new(rt, &turns)?;
+    let story = Story::Busy(client, turns);
+    told(&rt, alloc, size, counters.as_slice(), gate, story)?;
     Ok(())
 }
 
