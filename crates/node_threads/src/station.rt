@@ -41,8 +41,7 @@ mod turning;
 /// The most nodes that there may be.
 const MOST_NODES: u8 = 7;
 
-/// The most jobs that a round takes: each may be saved on its own, and a leader sends behind them all, so that on a
-/// disk of 8 ms a sync the others would else wait too long for it.
+/// The most jobs that a round takes: each may be saved on its own, and the others wait for what a leader sends behind.
 const MOST_JOBS: u64 = 16;
 
 /// The most requests that a round asks, for the same.

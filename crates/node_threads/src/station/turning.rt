@@ -32,8 +32,8 @@ impl<M: Marking, G: Gate + Drop, O: Outlet<M::Effect>> Station<M, G, O> {
         requires { HasHeard (view_in cell.old.parts) (carries input) }
         ensures turn { HasHadTurn (⟦<M as Described>⟧.machine cell.old.parts.ether.setup) U.tally
             cell.old.parts input cell.new.parts }
-        ensures gathered { HasGathered (⟦<M as Described>⟧.machine cell.old.parts.ether.setup) U.tally
-            cell.old.parts input self.old.round self.old.forwarded
+        ensures gathered { HasGathered (⟦<M as Described>⟧.machine cell.old.parts.ether.setup)
+            U.tally cell.old.parts input self.old.round self.old.forwarded
             cell.new.parts self.new.round self.new.forwarded }
         ensures contacts { self.new.contacts ≡ self.old.contacts }
     {
