@@ -1,14 +1,13 @@
 //! A cell that marks places of the agreed list, and waits for its marks.
-ghost use Rattle.std.specs.Prelude.{true, ◌≡◌, ◌<◌, ◌↔◌, suc, [], None};
+ghost use Rattle.std.specs.Prelude.{◌≡◌, ◌<◌, []};
 ghost use Rattle.std.specs.Arc.{arc_value};
 ghost use Rattle.ether.specs.Passes.{IsPass, IsUnopened, view_of};
 ghost use Rattle.ether.specs.Plays.{IsFrom};
-ghost use Rattle.raft_node.specs.Parts.{applied_bodies, keeper};
-ghost use Rattle.recorder.specs.NodeLines.{fields_of};
+ghost use Rattle.raft_node.specs.Parts.{keeper};
 ghost use Rattle.world_views.specs.Laws.{AreOfOneGroup};
 ghost use Rattle.world_views.specs.Views.{carries};
-ghost use Rattle.node_cells.specs.declared.phase.Phase.TheVariants.{Up};
-ghost use Rattle.node_cells.specs.Cells.{HasHeard, IsIn, view_in};
+ghost use Rattle.node_cells.specs.Causes.{HasCause, MayNotRestart, TellsCause};
+ghost use Rattle.node_cells.specs.Cells.{HasHeard, view_in};
 ghost use Rattle.node_cells.specs.Openings.{HasOpened, HasSeenTo, HasTakenIn, IsClosed, IsSameCell};
 ghost use Rattle.node_cells.specs.Restarts.{HasRestarted};
 ghost use Rattle.node_cells.specs.Turns.{HasDelivered, HasLooked, HasTurned};
@@ -21,15 +20,15 @@ use ether::{Ether, Pass};
 use machine_laws::{Hosted, Machine};
 use node_cells::{CellFault, NodeCell, NodeRecord, Recording, TurnOutput, Upstream};
 use node_steps::Refusal;
-use raft_log::{GroupSize, NodeId, NodeState};
-use raft_node::{Cause, Described, Looked, NodeFault};
-use recorder::NodeFields;
+use raft_node::{Described, Looked, NodeFault};
 use stable_store::Stable;
 use std::alloc::Global;
 use std::marker::Model;
 use std::sync::Arc;
 use wire_bytes::{Mark, Number};
 use world_views::{Envelope, NodeInput};
+
+mod reading;
 
 /// The largest number that a mark may have.
 const MOST_NUMBER: u64 = 1 << 60;
@@ -61,15 +60,15 @@ impl<M: Marking, S: Stable<M::Command>, U: Upstream> MarkedCell<M, S, U> {
     /// The opening, as that of a `NodeCell`.
     pub fn open(
         alloc: Global,
-        ether: &Arc<Ether<M>, Global>,
+        ether: Arc<Ether<M>, Global>,
         pass: Pass<M::Command, M::Line, M::Target>,
         store: S,
         upstream: U,
         recording: Recording,
     ) -> Result<Self, CellFault>
-        requires pass { IsPass (arc_value ether.now) pass × IsUnopened pass
+        requires pass { IsPass (arc_value ether) pass × IsUnopened pass
             × ((view_of pass).turns ≡ []) }
-        ensures { HasOpened (keeper S.saved S.may_stand S.condition) (arc_value ether.now) pass
+        ensures { HasOpened (keeper S.saved S.may_stand S.condition) (arc_value ether) pass
             store upstream recording result }
     {
         match NodeCell::open(alloc, ether, pass, store, upstream, recording) {
@@ -90,6 +89,8 @@ impl<M: Marking, S: Stable<M::Command>, U: Upstream> MarkedCell<M, S, U> {
         requires heard { HasHeard (view_in self.old.parts) (carries input) }
         ensures turn { HasTurned (⟦<M as Described>⟧.machine self.old.parts.ether.setup) U.tally
             self.old.parts input result self.new.parts }
+        ensures cause { HasCause (keeper S.saved S.may_stand S.condition) self.old.parts result
+            self.new.parts }
     {
         let number = asks::<M>(&input);
         let before = self.cell.state().standing.applied;
@@ -113,8 +114,10 @@ impl<M: Marking, S: Stable<M::Command>, U: Upstream> MarkedCell<M, S, U> {
     /// that the node refuses to ask for, as where it knows no leader, was asked all the same: its number is used up.
     /// `Spent` where the number would pass 2^60, too. A mark that was asked for may still be lost on its way.
     pub fn mark(&mut self) -> Result<MarkTurn<M::Command, M::Effect>, CellFault>
-        ensures { HasMarked (⟦<M as Described>⟧.machine self.old.parts.ether.setup) U.tally
+        ensures mark { HasMarked (⟦<M as Described>⟧.machine self.old.parts.ether.setup) U.tally
             M.marked M.mark self.old.parts result self.new.parts }
+        ensures cause { HasCause (keeper S.saved S.may_stand S.condition) self.old.parts result
+            self.new.parts }
     {
         let asked = self.asked.value();
         if asked >= MOST_NUMBER {
@@ -139,8 +142,9 @@ impl<M: Marking, S: Stable<M::Command>, U: Upstream> MarkedCell<M, S, U> {
         number: u64,
         target: M::Target,
     ) -> Result<Looked<M::Played>, CellFault>
-        ensures { HasLookedAfter (⟦<M as Described>⟧.machine self.old.parts.ether.setup) U.tally
+        ensures look { HasLookedAfter (⟦<M as Described>⟧.machine self.old.parts.ether.setup) U.tally
             M.marked self.old.parts number target result self.new.parts }
+        ensures cause { TellsCause result self.new.parts }
     {
         if !is_reached(self.reached, number) {
             let applied = self.cell.fields().applied;
@@ -156,8 +160,9 @@ impl<M: Marking, S: Stable<M::Command>, U: Upstream> MarkedCell<M, S, U> {
         from_place: u64,
         target: M::Target,
     ) -> Result<Looked<M::Played>, CellFault>
-        ensures { HasLooked (⟦<M as Described>⟧.machine self.old.parts.ether.setup) U.tally
+        ensures look { HasLooked (⟦<M as Described>⟧.machine self.old.parts.ether.setup) U.tally
             self.old.parts from_place target result self.new.parts }
+        ensures cause { TellsCause result self.new.parts }
     {
         self.cell.look(from_place, target)
     }
@@ -204,8 +209,10 @@ impl<M: Marking, S: Stable<M::Command>, U: Upstream> MarkedCell<M, S, U> {
     /// The node stops, and is started again over its store, as that of a `NodeCell`. Its next run has asked for no
     /// mark, and applied none.
     pub fn restart(&mut self) -> Result<(), CellFault>
-        ensures { HasRestarted (⟦<M as Described>⟧.machine self.old.parts.ether.setup)
+        ensures restart { HasRestarted (⟦<M as Described>⟧.machine self.old.parts.ether.setup)
             self.old.parts result self.new.parts }
+        ensures cause { MayNotRestart (keeper S.saved S.may_stand S.condition) self.old.parts result
+            self.new.parts }
     {
         match self.cell.restart() {
             Ok(()) => {
@@ -241,60 +248,5 @@ impl<M: Marking, S: Stable<M::Command>, U: Upstream> MarkedCell<M, S, U> {
         ensures { result ≡ self }
     {
         self.cell
-    }
-
-    /// Why the node is down, if it is.
-    pub fn down(&self) -> Option<Cause>
-        ensures { (result ≡ None) ↔ (self.now.parts.phase ≡ Up) }
-    {
-        self.cell.down()
-    }
-
-    pub fn id(&self) -> NodeId
-        ensures pass { result ≡ suc self.now.parts.pass.node }
-        ensures view { result ≡ suc (view_in self.now.parts).node }
-    {
-        self.cell.id()
-    }
-
-    /// How many nodes the ether is for.
-    pub fn size(&self) -> GroupSize
-        ensures { result ≡ self.now.parts.ether.size }
-    {
-        self.cell.size()
-    }
-
-    /// The line of the state that the cell shows.
-    pub fn fields(&self) -> NodeFields
-        ensures shown { result ≡ self.now.parts.shown }
-        ensures view { (view_in self.now.parts).honest ≡ true
-            → result ≡ fields_of (view_in self.now.parts).state }
-    {
-        self.cell.fields()
-    }
-
-    /// The node's state, or where it is down the one from before what took it down.
-    pub fn state(&self) -> &NodeState<M::Command>
-        ensures state { result.now ≡ self.now.parts.node.state }
-        ensures view { ((view_in self.now.parts).honest ≡ true)
-            → (self.now.parts.phase ≡ Up) → IsIn result.now (view_in self.now.parts).state }
-    {
-        self.cell.state()
-    }
-
-    /// The number of the line that is to be claimed next, by what the node applied, while it is up.
-    pub fn next_claim(&self) -> Option<Number>
-        ensures { self.now.parts.node.down ≡ None
-            → result ≡ M.next_claim self.now.parts.node.setup
-            (applied_bodies self.now.parts.node.state) }
-    {
-        self.cell.next_claim()
-    }
-
-    /// Where its lines go.
-    pub fn upstream(&self) -> &U
-        ensures { result.now ≡ self.now.parts.upstream }
-    {
-        self.cell.upstream()
     }
 }

@@ -4,6 +4,7 @@ pub mod Upstreams
 pub mod Posts
 pub mod Books
 pub mod Cells
+pub mod Causes
 pub mod Turns
 pub mod Restarts
 pub mod Openings

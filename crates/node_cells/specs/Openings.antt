@@ -31,10 +31,10 @@ module _ {Setup Hosted Store B L T E P U : Type 0} (k : Keeper Store B) where
     pub turns : c.turns ≡ []
     pub is_up : c.phase ≡ Up
 
-  -- by what an opening answers: no cell where there is no memory, or the node did not start
+  -- by what an opening answers: a cell, or why the node did not start
   abbrev pub HasOpened : EtherParts Setup → Pass B L T → Store → U → Recording → Result (CellRoom Setup Hosted Store B L T E P U) CellFault → Type 0
   HasOpened ether pass store upstream recording (Ok c) = IsFresh ether pass store upstream recording c.parts
-  HasOpened ether pass store upstream recording (Err Memory) = Unit {0}
+  HasOpened ether pass store upstream recording (Err Memory) = ⊥
   HasOpened ether pass store upstream recording (Err Spent) = ⊥
   HasOpened ether pass store upstream recording (Err (OfNode fault)) = IsStarted {Hosted = Hosted} k (suc pass.node) ether.size ether.setup store (Err fault)
 

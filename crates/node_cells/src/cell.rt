@@ -5,6 +5,8 @@ ghost use Rattle.world_views.specs.Laws.{AreOfOneGroup};
 ghost use Rattle.world_views.specs.Views.{carries};
 ghost use Rattle.node_cells.specs.declared.phase.Phase.TheVariants.{Up};
 ghost use Rattle.node_cells.specs.Books.{room_for};
+ghost use Rattle.raft_node.specs.Parts.{keeper};
+ghost use Rattle.node_cells.specs.Causes.{HasCause};
 ghost use Rattle.node_cells.specs.Cells.{HasHeard, HasMadeRoom, view_in};
 ghost use Rattle.node_cells.specs.Openings.{HasSeenTo, HasTakenIn, IsSameCell};
 ghost use Rattle.node_cells.specs.Sending.{to_of};
@@ -84,6 +86,8 @@ impl<M: Hosted, S: Stable<M::Command>, U: Upstream> NodeCell<M, S, U> {
         requires heard { HasHeard (view_in self.old.parts) (carries input) }
         ensures turn { HasTurned (⟦<M as Described>⟧.machine self.old.parts.ether.setup) U.tally
             self.old.parts input result self.new.parts }
+        ensures cause { HasCause (keeper S.saved S.may_stand S.condition) self.old.parts result
+            self.new.parts }
     {
         if let Some(cause) = self.down() {
             return Err(CellFault::Node(NodeFault::Down(cause)));
@@ -121,6 +125,8 @@ impl<M: Hosted, S: Stable<M::Command>, U: Upstream> NodeCell<M, S, U> {
         requires replaced { (replaced.items ≡ []) × (vec_len replaced + 7 ≤ vec_capacity replaced) }
         ensures turn { HasTurned (⟦<M as Described>⟧.machine self.old.parts.ether.setup) U.tally
             self.old.parts input result self.new.parts }
+        ensures cause { HasCause (keeper S.saved S.may_stand S.condition) self.old.parts result
+            self.new.parts }
     {
         match self.node.step(input_of(input)) {
             Ok(output) => {

@@ -2,6 +2,7 @@
 ghost use Rattle.std.specs.Prelude.{◌≡◌, ◌<◌, ◌≤◌, ◌^◌, length};
 ghost use Rattle.node_cells.specs.declared.phase.Phase.TheVariants.{Up};
 ghost use Rattle.node_cells.specs.Books.{room_for};
+ghost use Rattle.node_cells.specs.Causes.{TellsCause};
 ghost use Rattle.node_cells.specs.Cells.{view_in};
 ghost use Rattle.node_cells.specs.Turns.{HasLooked};
 
@@ -23,8 +24,9 @@ impl<M: Hosted, S: Stable<M::Command>, U: Upstream> NodeCell<M, S, U> {
         from_place: u64,
         target: M::Target,
     ) -> Result<Looked<M::Played>, CellFault>
-        ensures { HasLooked (⟦<M as Described>⟧.machine self.old.parts.ether.setup) U.tally
+        ensures look { HasLooked (⟦<M as Described>⟧.machine self.old.parts.ether.setup) U.tally
             self.old.parts from_place target result self.new.parts }
+        ensures cause { TellsCause result self.new.parts }
     {
         if let Some(cause) = self.down() {
             return Err(CellFault::Node(NodeFault::Down(cause)));
@@ -38,8 +40,9 @@ impl<M: Hosted, S: Stable<M::Command>, U: Upstream> NodeCell<M, S, U> {
         requires up { self.old.parts.phase ≡ Up }
         requires room { (room_for self.old.parts.recording 1 ≤ self.old.room)
             × (length (view_in self.old.parts).turns < 2 ^ 60) }
-        ensures { HasLooked (⟦<M as Described>⟧.machine self.old.parts.ether.setup) U.tally
+        ensures look { HasLooked (⟦<M as Described>⟧.machine self.old.parts.ether.setup) U.tally
             self.old.parts from_place target result self.new.parts }
+        ensures cause { TellsCause result self.new.parts }
     {
         match self.node.look(&target, from_place) {
             Ok(looked) => {

@@ -3,6 +3,7 @@ ghost use Rattle.std.specs.Prelude.{true, ◌≡◌, ◌↔◌, suc, None};
 ghost use Rattle.raft_node.specs.Parts.{applied_bodies};
 ghost use Rattle.recorder.specs.NodeLines.{fields_of};
 ghost use Rattle.node_cells.specs.declared.phase.Phase.TheVariants.{Up};
+ghost use Rattle.node_cells.specs.Causes.{down_in};
 ghost use Rattle.node_cells.specs.Cells.{IsIn, view_in};
 
 use crate::cell::NodeCell;
@@ -18,7 +19,8 @@ use wire_bytes::Number;
 impl<M: Hosted, S: Stable<M::Command>, U: Upstream> NodeCell<M, S, U> {
     /// Why the node is down, if it is.
     pub fn down(&self) -> Option<Cause>
-        ensures { (result ≡ None) ↔ (self.now.parts.phase ≡ Up) }
+        ensures up { (result ≡ None) ↔ (self.now.parts.phase ≡ Up) }
+        ensures cause { result ≡ down_in self.now.parts }
     {
         match (&self.phase, self.node.down()) {
             (Phase::Up, _) => None,

@@ -1,6 +1,8 @@
 //! How a cell's node is started again.
 ghost use Rattle.std.specs.Prelude.{◌+◌, ◌≤◌, ◌^◌, length};
 ghost use Rattle.node_cells.specs.Books.{room_for};
+ghost use Rattle.raft_node.specs.Parts.{keeper};
+ghost use Rattle.node_cells.specs.Causes.{MayNotRestart};
 ghost use Rattle.node_cells.specs.Cells.{view_in};
 ghost use Rattle.node_cells.specs.Remembering.{Remembers};
 ghost use Rattle.node_cells.specs.Restarts.{HasRestarted};
@@ -22,8 +24,10 @@ impl<M: Hosted, S: Stable<M::Command>, U: Upstream> NodeCell<M, S, U> {
     /// start that failed after it saved its run. What it had in memory tells whether the store kept
     /// the turn in which it went down.
     pub fn restart(&mut self) -> Result<(), CellFault>
-        ensures { HasRestarted (⟦<M as Described>⟧.machine self.old.parts.ether.setup)
+        ensures restart { HasRestarted (⟦<M as Described>⟧.machine self.old.parts.ether.setup)
             self.old.parts result self.new.parts }
+        ensures cause { MayNotRestart (keeper S.saved S.may_stand S.condition) self.old.parts result
+            self.new.parts }
     {
         self.make_room(self.refused)?;
         let Ok(before) = Remembered::of(self.alloc, self.node.state()) else {
@@ -38,8 +42,10 @@ impl<M: Hosted, S: Stable<M::Command>, U: Upstream> NodeCell<M, S, U> {
         requires room { (room_for self.old.parts.recording (self.old.parts.refused + 1)
             ≤ self.old.room)
             × (length (view_in self.old.parts).turns + (self.old.parts.refused + 1) ≤ 2 ^ 60) }
-        ensures { HasRestarted (⟦<M as Described>⟧.machine self.old.parts.ether.setup)
+        ensures restart { HasRestarted (⟦<M as Described>⟧.machine self.old.parts.ether.setup)
             self.old.parts result self.new.parts }
+        ensures cause { MayNotRestart (keeper S.saved S.may_stand S.condition) self.old.parts result
+            self.new.parts }
     {
         self.node.is_whole();
         if let Err(fault) = self.node.restart() {

@@ -25,20 +25,17 @@ impl<M: Hosted, S: Stable<M::Command>, U: Upstream> NodeCell<M, S, U> {
     /// its turns are recorded stays so until the cell is closed.
     pub fn open(
         alloc: Global,
-        ether: &Arc<Ether<M>, Global>,
+        ether: Arc<Ether<M>, Global>,
         mut pass: Pass<M::Command, M::Line, M::Target>,
         store: S,
         upstream: U,
         recording: Recording,
     ) -> Result<Self, CellFault>
-        requires pass { IsPass (arc_value ether.now) pass × IsUnopened pass
+        requires pass { IsPass (arc_value ether) pass × IsUnopened pass
             × ((view_of pass).turns ≡ []) }
-        ensures { HasOpened (keeper S.saved S.may_stand S.condition) (arc_value ether.now) pass
+        ensures { HasOpened (keeper S.saved S.may_stand S.condition) (arc_value ether) pass
             store upstream recording result }
     {
-        let Ok(ether) = Arc::try_clone(ether) else {
-            return Err(CellFault::Memory);
-        };
         let size = ether.size();
         size.value();
         let id = NodeId::new(pass.node() as u8 + 1);

@@ -12,4 +12,4 @@ machine g s =
 pub invariant_of-self : goal.invariant_of-self
 invariant_of-self g c =
     let i = c.self.inside in
-    Kept.look_keeps (machine g i.cell.parts.ether.setup) g.M.Marking.marked i.cell.parts c.look.new.self.parts i.asked i.reached c.self.invariant g.U.Upstream.tally c.args.from_place c.args.target c.look.result c.look.ensures
+    Kept.look_keeps (machine g i.cell.parts.ether.setup) g.M.Marking.marked i.cell.parts c.look.new.self.parts i.asked i.reached c.self.invariant g.U.Upstream.tally c.args.from_place c.args.target c.look.result c.look.ensures.look

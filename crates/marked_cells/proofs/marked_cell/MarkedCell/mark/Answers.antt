@@ -14,8 +14,8 @@ machine g s =
     hosted g.M.Hosted.blank g.M.Hosted.opened g.M.Hosted.shut g.M.Hosted.heard g.M.Hosted.claim g.M.Hosted.source (g.M.Machine.effects s)
     (g.M.Hosted.next_claim s) (g.M.Hosted.playback s) g.M.Hosted.class
 
-pub returns-in-Ok : goal.returns-in-Ok
-returns-in-Ok g c =
+pub returns-in-Ok-clause-mark : goal.returns-in-Ok-clause-mark
+returns-in-Ok-clause-mark g c =
     let cell = c.args.self.now.parts in
     let is : c.self.inside.cell ≡ c.args.self.now = c.self.view_is in
     let node : c.value.result ≡ suc (view_in cell).node = c.value.ensures.value ∙ c.id.ensures.view ∙ (λ d. suc (view_in (is d).parts).node) in

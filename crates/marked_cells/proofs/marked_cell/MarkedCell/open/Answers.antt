@@ -19,4 +19,4 @@ kept g = keeper g.S.Stable.saved g.S.Stable.may_stand g.S.Stable.condition
 pub invariant_of-result : goal.invariant_of-result
 invariant_of-result g c =
     subst (λ (a : ℕ). Keeps g.M.Marking.marked (view_in c.in-Ok.cell.parts) a None) (sym c.new.ensures)
-    (Kept.fresh_keeps g.M.Marking.marked (kept g) c.args.ether.now.value c.args.pass c.args.store c.args.upstream c.args.recording c.in-Ok.cell.parts c.in-Ok.ensures c.requires.pass.0.many c.requires.pass.2)
+    (Kept.fresh_keeps g.M.Marking.marked (kept g) c.args.ether.value c.args.pass c.args.store c.args.upstream c.args.recording c.in-Ok.cell.parts c.in-Ok.ensures c.requires.pass.0.many c.requires.pass.2)

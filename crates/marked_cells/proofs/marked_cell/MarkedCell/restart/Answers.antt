@@ -16,9 +16,9 @@ pub invariant_of-self : goal.invariant_of-self
 invariant_of-self g c =
     let i = c.self.inside in
     subst (λ (a : ℕ). Keeps g.M.Marking.marked (view_in c.restart.new.self.parts) a None) (sym c.new-self-inside.ensures)
-    (Kept.restart_keeps (machine g i.cell.parts.ether.setup) g.M.Marking.marked i.cell.parts c.restart.new.self.parts i.asked i.reached c.self.invariant c.in-Ok.ensures)
+    (Kept.restart_keeps (machine g i.cell.parts.ether.setup) g.M.Marking.marked i.cell.parts c.restart.new.self.parts i.asked i.reached c.self.invariant c.in-Ok.ensures.restart)
 
 pub invariant_of-self-in-Err : goal.invariant_of-self-in-Err
 invariant_of-self-in-Err g c =
     let i = c.self.inside in
-    Kept.no_restart_keeps (machine g i.cell.parts.ether.setup) g.M.Marking.marked i.cell.parts c.restart.new.self.parts i.asked i.reached c.self.invariant c.in-Err.fault c.in-Err.ensures
+    Kept.no_restart_keeps (machine g i.cell.parts.ether.setup) g.M.Marking.marked i.cell.parts c.restart.new.self.parts i.asked i.reached c.self.invariant c.in-Err.fault c.in-Err.ensures.restart

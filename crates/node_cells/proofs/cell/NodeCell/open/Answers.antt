@@ -28,29 +28,28 @@ opening-requires-clause-node g c =
     let id : c.new-id.result ≡ suc c.args.pass.node = search rules in
     let size : c.size-size.result ≡ c.deref-3.result.now.size = search rules in
     let setup : c.setup.result.now ≡ c.deref-3.result.now.setup = search rules in
-    (c.args.store, subst (λ (z : (ℕ × ℕ) × g.row.M-Setup.Denot). IsFirst (kept g) z.0.0 z.0.1 z.1 c.args.store c.in-Ok-start.node) (λ d. ((id d, size d), setup d)) c.in-Ok-start.ensures)
+    (c.args.store, subst (λ (z : (ℕ × ℕ) × g.row.M-Setup.Denot). IsFirst (kept g) z.0.0 z.0.1 z.1 c.args.store c.in-Ok.node) (λ d. ((id d, size d), setup d)) c.in-Ok.ensures)
 
 pub invariant_of-result : goal.invariant_of-result
 invariant_of-result g c =
     let id : c.new-id.result ≡ suc c.args.pass.node = search rules in
-    let size : c.size-size.result ≡ c.in-Ok.ether.value.size = search rules in
-    let setup : c.setup.result.now ≡ c.in-Ok.ether.value.setup = search rules in
+    let size : c.size-size.result ≡ c.args.ether.value.size = search rules in
+    let setup : c.setup.result.now ≡ c.args.ether.value.setup = search rules in
     let small : c.size-size.result ≤ 7 = search rules in
-    let first = subst (λ (z : (ℕ × ℕ) × g.row.M-Setup.Denot). IsFirst (kept g) z.0.0 z.0.1 z.1 c.args.store c.in-Ok-start.node) (λ d. ((id d, size d), setup d)) c.in-Ok-start.ensures in
-    let b : BookParts g.row.M-Setup.Denot g.row.M-Command.Denot g.row.M-Line.Denot g.row.M-Target.Denot g.row.M-Effect.Denot g.row.M-Played.Denot = record { ether = c.in-Ok.ether.value; pass = c.opening.new.pass; recording = c.args.recording; turns = c.new.result.items; sent = 0; room = 0 } in
+    let first = subst (λ (z : (ℕ × ℕ) × g.row.M-Setup.Denot). IsFirst (kept g) z.0.0 z.0.1 z.1 c.args.store c.in-Ok.node) (λ d. ((id d, size d), setup d)) c.in-Ok.ensures in
+    let b : BookParts g.row.M-Setup.Denot g.row.M-Command.Denot g.row.M-Line.Denot g.row.M-Target.Denot g.row.M-Effect.Denot g.row.M-Played.Denot = record { ether = c.args.ether.value; pass = c.opening.new.pass; recording = c.args.recording; turns = c.new.result.items; sent = 0; room = 0 } in
     let opened = subst (λ (e : EtherParts g.row.M-Setup.Denot). IsOpenPass e c.opening.new.pass) c.deref-3.ensures c.opening.ensures.open.0 in
-    fresh_cell (machine g c.in-Ok.ether.value.setup) (kept g) b c.args.pass c.in-Ok-start.node c.opening.result c.args.store first c.new.ensures.items opened c.opening.ensures.open.1 c.opening.ensures.view c.requires.pass.2
+    fresh_cell (machine g c.args.ether.value.setup) (kept g) b c.args.pass c.in-Ok.node c.opening.result c.args.store first c.new.ensures.items opened c.opening.ensures.open.1 c.opening.ensures.view c.requires.pass.2
     refl (subst (λ (m : ℕ). m ≤ 7) size small) c.args.upstream c.of-shown.result
     (c.of-shown.ensures ∙ ap (λ (s : NodeState g.row.M-Command.Denot). fields_of (seen s [])) c.state.ensures)
 
 pub returns : goal.returns
 returns g c =
     let id : c.new-id.result ≡ suc c.args.pass.node = search rules in
-    let size : c.size-size.result ≡ c.in-Ok.ether.value.size = search rules in
-    let setup : c.setup.result.now ≡ c.in-Ok.ether.value.setup = search rules in
-    let first = subst (λ (z : (ℕ × ℕ) × g.row.M-Setup.Denot). IsFirst (kept g) z.0.0 z.0.1 z.1 c.args.store c.in-Ok-start.node) (λ d. ((id d, size d), setup d)) c.in-Ok-start.ensures in
-    let b : BookParts g.row.M-Setup.Denot g.row.M-Command.Denot g.row.M-Line.Denot g.row.M-Target.Denot g.row.M-Effect.Denot g.row.M-Played.Denot = record { ether = c.in-Ok.ether.value; pass = c.opening.new.pass; recording = c.args.recording; turns = c.new.result.items; sent = 0; room = 0 } in
+    let size : c.size-size.result ≡ c.args.ether.value.size = search rules in
+    let setup : c.setup.result.now ≡ c.args.ether.value.setup = search rules in
+    let first = subst (λ (z : (ℕ × ℕ) × g.row.M-Setup.Denot). IsFirst (kept g) z.0.0 z.0.1 z.1 c.args.store c.in-Ok.node) (λ d. ((id d, size d), setup d)) c.in-Ok.ensures in
+    let b : BookParts g.row.M-Setup.Denot g.row.M-Command.Denot g.row.M-Line.Denot g.row.M-Target.Denot g.row.M-Effect.Denot g.row.M-Played.Denot = record { ether = c.args.ether.value; pass = c.opening.new.pass; recording = c.args.recording; turns = c.new.result.items; sent = 0; room = 0 } in
     let opened = subst (λ (e : EtherParts g.row.M-Setup.Denot). IsOpenPass e c.opening.new.pass) c.deref-3.ensures c.opening.ensures.open.0 in
-    subst (λ (e : EtherParts g.row.M-Setup.Denot). IsFresh (kept g) e c.args.pass c.args.store c.args.upstream c.args.recording (cell_of b c.in-Ok-start.node c.args.upstream Up 0 c.of-shown.result)) c.in-Ok.ensures
-    (fresh (machine g c.in-Ok.ether.value.setup) (kept g) b c.args.pass c.in-Ok-start.node c.opening.result c.args.store first c.new.ensures.items opened c.opening.ensures.open.1 c.opening.ensures.view c.requires.pass.2
-    c.args.upstream c.of-shown.result)
+    fresh (machine g c.args.ether.value.setup) (kept g) b c.args.pass c.in-Ok.node c.opening.result c.args.store first c.new.ensures.items opened c.opening.ensures.open.1 c.opening.ensures.view c.requires.pass.2
+    c.args.upstream c.of-shown.result

@@ -72,8 +72,8 @@ invariant_of-self g c =
     (still_cell (machine g i.book.ether.setup) (kept g) g.U.Upstream.tally i.book i.node i.upstream i.phase i.refused i.shown c.self.invariant up (Look c.args.from_place c.args.target) (Looked c.in-Ok.looked.place copy) c.note.new.self
     (looked_still (machine g i.book.ether.setup) (kept g) _ c.self.invariant up c.args.from_place c.args.target _ comes) c.note.ensures.noted c.note.ensures.book)
 
-pub returns-in-Ok-copied_all : goal.returns-in-Ok-copied_all
-returns-in-Ok-copied_all g c =
+pub returns-in-Ok-copied_all-clause-look : goal.returns-in-Ok-copied_all-clause-look
+returns-in-Ok-copied_all-clause-look g c =
     let i = c.self.inside in
     let up : i.phase ≡ Up = search rules in
     let copy = c.in-Ok-copied_all.copy in
@@ -100,8 +100,8 @@ invariant_of-self-in-Refused g c =
     (still_cell (machine g i.book.ether.setup) (kept g) g.U.Upstream.tally i.book i.node i.upstream i.phase i.refused i.shown c.self.invariant up (Look c.args.from_place c.args.target) (Refused c.in-Refused.refusal) c.note-in-Refused.new.self
     (looked_still (machine g i.book.ether.setup) (kept g) _ c.self.invariant up c.args.from_place c.args.target _ comes) c.note-in-Refused.ensures.noted c.note-in-Refused.ensures.book)
 
-pub returns-in-Refused : goal.returns-in-Refused
-returns-in-Refused g c =
+pub returns-in-Refused-clause-look : goal.returns-in-Refused-clause-look
+returns-in-Refused-clause-look g c =
     let i = c.self.inside in
     let up : i.phase ≡ Up = search rules in
     let comes = behind g _ _ i.node c.args.from_place c.args.target c.in-Err.fault c.in-Refused.refusal c.self.invariant.setup c.in-Refused.is c.in-Err.ensures in

@@ -66,8 +66,8 @@ invariant_of-self-2 g c =
     ok.0 ok.1 c.is_in-same.result told b1 b2 first c.runs_until-more.result many rest.1 rest.0 c.of-self-inside.result
     (c.of-self-inside.ensures ∙ ap (λ (s : NodeState g.row.M-Command.Denot). fields_of (seen s [])) c.state-3.ensures))
 
-pub returns : goal.returns
-returns g c =
+pub returns-clause-restart : goal.returns-clause-restart
+returns-clause-restart g c =
     let i = c.self.inside in
     let m = machine g i.book.ether.setup in
     let b1 = c.note.new.self in
