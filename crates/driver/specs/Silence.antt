@@ -19,9 +19,9 @@ is_too_slow c now =
     then false
     else if c.is_attached then c.is_pinged && is_over c.heard 240_000 now else is_over c.since 10_000 now
 
--- a client that is not read: its time to register, and to be silent, begins anew
+-- A client that is not read: its time to be silent begins anew. One that did not register is read in any case.
 abbrev pub held_back : ℕ → Client → Client
-held_back now c = record c { since = at now; heard = at now }
+held_back now c = record c { heard = if c.is_attached then at now else c.heard }
 
 -- A client behind time in which it was read or was not: what it says is heard only where it is read.
 abbrev pub waited : Bool → ℕ → Client → Client

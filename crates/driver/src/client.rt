@@ -49,9 +49,9 @@ pub struct Client {
     gate: ClientGate,
     /// The nick that its gate greets it by.
     nick: Name,
-    /// When it connected, or was last not read.
+    /// When it connected.
     since: Timer,
-    /// When it was last heard of, or not read.
+    /// When it was last heard of, or, once it registered, not read.
     heard: Timer,
     /// Of what waits; where nothing waits it says nothing.
     asked: Asked,

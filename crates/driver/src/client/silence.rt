@@ -28,8 +28,8 @@ const TOO_SLOW: &[u8] = b"ERROR :you did not register in time\r\n";
 const TOO_SILENT: &[u8] = b"ERROR :no word from you for too long\r\n";
 
 impl Client {
-    /// Time passed, in which it was read or was not: it may be too slow to register, or too silent, where it
-    /// was read; and where it is held up, what waits is asked for again, once each timeout.
+    /// Time passed, in which it was read or was not: it may be too slow to register, or, where it was read,
+    /// too silent; and where it is held up, what waits is asked for again, once each timeout.
     pub fn tick(
         &mut self,
         now: &Now,
@@ -52,12 +52,13 @@ impl Client {
         self.tick_read(now, timeout_ms, orders)
     }
 
-    /// It is not read: what it says meanwhile is not heard.
+    /// It is not read: what it says meanwhile is not heard. One that did not register is read in any case.
     fn hold_back(&mut self, now: &Now)
         ensures { self.new ≡ held_back now.now.ms self.old }
     {
-        self.since = Timer::from(now.ms);
-        self.heard = Timer::from(now.ms);
+        if self.is_attached {
+            self.heard = Timer::from(now.ms);
+        }
     }
 
     /// Time passed.
