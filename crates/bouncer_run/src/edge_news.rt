@@ -56,10 +56,7 @@ impl fmt::Display for EdgeNews {
             EdgeNews::Came(_, number, from) => write!(f, "client {number} came from {from}"),
             EdgeNews::Closed(_, number, from) => write!(f, "client {number} of {from} is closed"),
             EdgeNews::WrongPassword(_, number, from) => {
-                write!(
-                    f,
-                    "wrong password: client {number} of {from} is turned away"
-                )
+                write!(f, "wrong password: client {number} of {from} is refused")
             }
             EdgeNews::Unregistered(_, number, from) => {
                 write!(f, "client {number} of {from} did not register")
