@@ -140,11 +140,11 @@ returns-in-Ok-copies-clause-turn g c =
     let out : TurnOutput g.row.M-Command.Denot g.row.M-Effect.Denot = record { posted_to = c.in-Ok-copies.posted_to; replaced = c.post_all.new.replaced; place = c.in-Ok.output.place; effects = c.in-Ok.output.effects } in
     let now = cell_of b2 c.step.new.self c.hand_all.new.upstream i.phase i.refused c.of-self-inside.result in
     subst (λ (z : CellRoom g.row.M-Setup.Denot g.row.M.Denot g.row.S.Denot g.row.M-Command.Denot g.row.M-Line.Denot g.row.M-Target.Denot g.row.M-Effect.Denot g.row.M-Played.Denot g.row.U.Denot × NodeInput g.row.M-Command.Denot g.row.M-Line.Denot).
-          IsTurn (machine g z.0.parts.ether.setup) g.U.Upstream.tally z.0.parts z.1 out now) (λ d. (c.self.view_is d, c.requires.copy d))
-          (turn_is (machine g i.book.ether.setup) (kept g) g.U.Upstream.tally i.book i.node i.upstream i.phase i.refused i.shown c.self.invariant up c.args.copy c.in-Ok.output c.step.new.self a.0 a.1
-          c.in-Ok-copies.outcome c.note.new.self noted b2 moved.1 c.hand_all.new.upstream c.of-self-inside.result moved.0
-          (c.of-self-inside.ensures ∙ ap (λ (s : NodeState g.row.M-Command.Denot). fields_of (seen s [])) c.state.ensures)
-          given handed out refl refl (c.in-Ok-copies.ensures.0 ∙ ap (map to_of) c.deref.ensures.value) c.post_all.ensures.replaced)
+    IsTurn (machine g z.0.parts.ether.setup) g.U.Upstream.tally z.0.parts z.1 out now) (λ d. (c.self.view_is d, c.requires.copy d))
+    (turn_is (machine g i.book.ether.setup) (kept g) g.U.Upstream.tally i.book i.node i.upstream i.phase i.refused i.shown c.self.invariant up c.args.copy c.in-Ok.output c.step.new.self a.0 a.1
+    c.in-Ok-copies.outcome c.note.new.self noted b2 moved.1 c.hand_all.new.upstream c.of-self-inside.result moved.0
+    (c.of-self-inside.ensures ∙ ap (λ (s : NodeState g.row.M-Command.Denot). fields_of (seen s [])) c.state.ensures)
+    given handed out refl refl (c.in-Ok-copies.ensures.0 ∙ ap (map to_of) c.deref.ensures.value) c.post_all.ensures.replaced)
 
 pub note-requires-in-Refused-clause-out : goal.note-requires-in-Refused-clause-out
 note-requires-in-Refused-clause-out g c =
@@ -177,8 +177,8 @@ returns-in-Refused-clause-turn g c =
     let event = still_event (machine g i.book.ether.setup) (kept g) g.U.Upstream.tally i.book i.node i.upstream i.phase i.refused i.shown c.self.invariant up (Does c.args.copy) (Refused c.in-Refused.refusal) b1
     (declined (machine g i.book.ether.setup) (kept g) _ c.self.invariant up c.args.copy c.in-Refused.refusal c.step.new.self d) noted refl in
     subst (λ (f : NodeFault). IsNoTurn (machine g c.args.self.now.parts.ether.setup) g.U.Upstream.tally c.args.self.now.parts c.args.input (OfNode f) (cell_of b1 c.step.new.self i.upstream i.phase i.refused i.shown)) (sym c.in-Refused.is)
-          (subst (λ (z : (CellRoom g.row.M-Setup.Denot g.row.M.Denot g.row.S.Denot g.row.M-Command.Denot g.row.M-Line.Denot g.row.M-Target.Denot g.row.M-Effect.Denot g.row.M-Played.Denot g.row.U.Denot × NodeInput g.row.M-Command.Denot g.row.M-Line.Denot) × Inner g).
-          IsEvent (machine g z.0.0.parts.ether.setup) g.U.Upstream.tally z.0.0.parts (Does z.0.1) (Refused c.in-Refused.refusal) (cell_of b1 z.1 i.upstream i.phase i.refused i.shown)) (λ t. ((c.self.view_is t, c.requires.copy t), sym d.same t)) event)
+    (subst (λ (z : (CellRoom g.row.M-Setup.Denot g.row.M.Denot g.row.S.Denot g.row.M-Command.Denot g.row.M-Line.Denot g.row.M-Target.Denot g.row.M-Effect.Denot g.row.M-Played.Denot g.row.U.Denot × NodeInput g.row.M-Command.Denot g.row.M-Line.Denot) × Inner g).
+    IsEvent (machine g z.0.0.parts.ether.setup) g.U.Upstream.tally z.0.0.parts (Does z.0.1) (Refused c.in-Refused.refusal) (cell_of b1 z.1 i.upstream i.phase i.refused i.shown)) (λ t. ((c.self.view_is t, c.requires.copy t), sym d.same t)) event)
 
 pub invariant_of-self-in-Err-step : goal.invariant_of-self-in-Err-step
 invariant_of-self-in-Err-step g c =
@@ -195,4 +195,4 @@ returns-in_default-clause-turn g c =
     let up : i.phase ≡ Up = search rules in
     let falls = falls_in (machine g i.book.ether.setup) (kept g) g.U.Upstream.tally i.book i.node i.upstream i.phase i.refused i.shown c.self.invariant up c.args.copy true c.step.new.self in
     inl (subst (λ (z : CellRoom g.row.M-Setup.Denot g.row.M.Denot g.row.S.Denot g.row.M-Command.Denot g.row.M-Line.Denot g.row.M-Target.Denot g.row.M-Effect.Denot g.row.M-Played.Denot g.row.U.Denot × NodeInput g.row.M-Command.Denot g.row.M-Line.Denot).
-          FallsInTurn (machine g z.0.parts.ether.setup) z.0.parts z.1 (cell_of i.book c.step.new.self i.upstream (DownInTurn c.args.copy true) i.refused i.shown)) (λ d. (c.self.view_is d, c.requires.copy d)) falls)
+    FallsInTurn (machine g z.0.parts.ether.setup) z.0.parts z.1 (cell_of i.book c.step.new.self i.upstream (DownInTurn c.args.copy true) i.refused i.shown)) (λ d. (c.self.view_is d, c.requires.copy d)) falls)
