@@ -1,6 +1,6 @@
 //! What a driver orders, by stories.
 use crate::drive::story::{Step, follow};
-use crate::drive::telling::{applied, claiming, standing};
+use crate::drive::telling::{applied, claiming, settled, standing};
 use driver::Ending;
 use raft_log::{NodeId, Role};
 use std::test::Fail;
@@ -88,7 +88,9 @@ fn a_client_registers_within_10_seconds_and_leaves_once(rt: HostRuntime) -> Resu
         Step::IsAttached(2, true),
         Step::Ticks(10_000),
         // what the second client asked is not asked again
-        Step::Orders("close@1 news@2 [client 1 left] "),
+        Step::Orders(
+            "write@1 ERROR :you did not register in time\r\nclose@1 news@2 [client 1 left] ",
+        ),
         Step::Leaves(10_001, 2),
         Step::Orders("close@2 news@2 [client 2 left] ask@2 "),
         Step::Leaves(10_002, 2),
@@ -180,6 +182,44 @@ fn a_leader_sends_word_of_a_node_that_is_silent_for_ten_timeouts(
         Step::Orders("ask@1 "),
         Step::Ticks(10_001),
         Step::Orders(""),
+    ];
+    follow(&rt, rt.alloc(), &[], &story)
+}
+
+#[test]
+fn a_client_that_registers_is_told_of_a_nick_that_changed(rt: HostRuntime) -> Result<(), Fail> {
+    let node = NodeId::new(1);
+    let story = [
+        Step::Stands(0, node, standing(Role::Leader, 0), 0),
+        Step::Connects(1, node, Some(1)),
+        Step::Connected(5),
+        Step::Server(6, b":s 001 me2 :hi\r\n", 1),
+        Step::Ordered,
+        Step::Sends(7, 1, b"PASS pw\r\nNICK n\r\nUSER u 0 * :r\r\n"),
+        Step::Orders(
+            "write@1 :bouncer.local 001 me :Welcome to the bouncer\r\n\
+                news@1 [client 1 attached] ask@1 write@1 :me NICK me2\r\n",
+        ),
+    ];
+    follow(&rt, rt.alloc(), &[], &story)
+}
+
+#[test]
+fn a_claim_is_told_again_only_where_it_is_not_in_the_log(rt: HostRuntime) -> Result<(), Fail> {
+    let node = NodeId::new(1);
+    let story = [
+        Step::Stands(0, node, standing(Role::Follower, 0), 0),
+        Step::Ordered,
+        Step::Stands(10, node, claiming(1), 0),
+        Step::Orders("news@1 [leads in term 1] claim@1 connect "),
+        Step::Passes(10, 8),
+        Step::Orders("beat@1 "),
+        Step::Stands(5_000, node, settled(1), 1),
+        Step::Orders(""),
+        Step::Stands(5_010, node, claiming(1), 9),
+        Step::Orders("beat@1 "),
+        Step::Stands(5_020, node, settled(1), 9),
+        Step::Orders("claim@1 "),
     ];
     follow(&rt, rt.alloc(), &[], &story)
 }

@@ -78,6 +78,13 @@ pub fn claiming(number: u64) -> Status {
     status
 }
 
+/// The same, where all of its log is applied.
+pub fn settled(number: u64) -> Status {
+    let mut status = claiming(number);
+    status.applied = Number::new(1);
+    status
+}
+
 /// A follower in this run, with an empty log.
 pub fn in_run(boot: u64) -> Status {
     let mut status = standing(Role::Follower, 0);
