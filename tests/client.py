@@ -91,7 +91,7 @@ class Client:
         return [parts[1] for parts in marked if len(parts) == 2]
 
     def wait_texts(self, target, test, what):
-        until(lambda: test(self.texts(target)), lambda: f"{what}, of which came {self.texts(target)}")
+        until(lambda: test(self.texts(target)), lambda: f"{what}; {len(self.texts(target))} came, the last ones {self.texts(target)[-5:]}")
 
     def close(self):
         self.socket.close()
