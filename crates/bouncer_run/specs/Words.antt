@@ -1,10 +1,9 @@
 -- What the driver is told by a word of another thread.
-use Rattle.std.specs.Prelude.{◌≡◌, Bool, true, false, Option, Some, None, is_some}
+use Rattle.std.specs.Prelude.{◌≡◌, Bool, true, false, is_some}
 use Rattle.driver.specs.declared.driver.Driver.{Driver}
 use Rattle.driver.specs.declared.order.Now.{Now}
 use Rattle.driver.specs.Links.{Sends}
 use Rattle.driver.specs.Reports.{Hears}
-use Rattle.bouncer_run.specs.declared.inlet.Told.{Told}
 use Rattle.bouncer_run.specs.declared.inlet.Word.{Word}
 use Rattle.bouncer_run.specs.declared.inlet.Word.TheVariants.{Report, Hand, End}
 
@@ -19,8 +18,3 @@ abbrev pub IsHeard : Now → Word → Driver → Driver → Type 0
 IsHeard now (Report r) old new = Hears now.ms now.at r.node r.status r.effects.items r.progress (is_some r.fault) old new
 IsHeard now (Hand node line) old new = Sends old.link.stage node line old.orders new.orders
 IsHeard now End old new = new ≡ old
-
--- the last that the loop was told is this word
-abbrev pub IsTold : Word → Option Told → Type 0
-IsTold word None = ⊥
-IsTold word (Some told) = told.word.value ≡ word

@@ -1,8 +1,7 @@
 //! What leaves a node, told to the loop.
-ghost use Rattle.std.specs.Prelude.{◌≡◌, IfErr, OnOk};
-ghost use Rattle.bouncer_run.specs.Words.{IsTold};
+ghost use Rattle.std.specs.Prelude.{◌≡◌, IfErr};
 
-use crate::inlet::{Inlet, Told, Word};
+use crate::inlet::{Inlet, Word};
 use bouncer_tower::TowerEffect;
 use node_notes::Report;
 use node_threads::Outlet;
@@ -12,14 +11,6 @@ use std::sync::Wait;
 #[derive(Drop)]
 pub struct LoopOutlet {
     pub inlet: Inlet,
-    /// The last that the loop was told.
-    pub told: Option<Told>,
-}
-
-impl LoopOutlet {
-    pub fn new(inlet: Inlet) -> LoopOutlet {
-        LoopOutlet { inlet, told: None }
-    }
 }
 
 impl Outlet<TowerEffect> for LoopOutlet {
@@ -28,14 +19,10 @@ impl Outlet<TowerEffect> for LoopOutlet {
         rt: &R,
         report: Report<TowerEffect>,
     ) -> Result<(), Report<TowerEffect>>
-        ensures back { IfErr result (λ back. back ≡ report) }
-        ensures told { OnOk result (IsTold (Word.Report report) self.new.told) }
+        ensures { IfErr result (λ back. back ≡ report) }
     {
         match self.inlet.tell(rt, Word::Report(report)) {
-            Ok(told) => {
-                self.told = Some(told);
-                Ok(())
-            }
+            Ok(_) => Ok(()),
             Err(Word::Report(report)) => Err(report),
             Err(_) => unreachable!(),
         }

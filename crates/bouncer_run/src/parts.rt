@@ -31,7 +31,9 @@ pub fn parts<R: System, U: Upstream, F: Fn(R, Global, NodeId, Inlet) -> U>(
     for journal in journals {
         let node = NodeId::new(parts.len() as u8 + 1);
         let upstream = hands(*rt, rt.alloc(), node, inlets.one()?);
-        let outlet = LoopOutlet::new(inlets.one()?);
+        let outlet = LoopOutlet {
+            inlet: inlets.one()?,
+        };
         let part = Part {
             store: journal,
             upstream,
