@@ -1,0 +1,14 @@
+# Completion of bouncer(1) for bash.
+_bouncer() {
+    local word=${COMP_WORDS[COMP_CWORD]}
+    COMPREPLY=()
+    if [ "$COMP_CWORD" = 1 ]; then
+        mapfile -t COMPREPLY < <(compgen -W 'run check fold world replay help --help --version' -- "$word")
+    elif [ "$COMP_CWORD" = 2 ]; then
+        case ${COMP_WORDS[1]} in
+            run | check | replay) compopt -o filenames && mapfile -t COMPREPLY < <(compgen -f -- "$word") ;;
+            world) mapfile -t COMPREPLY < <(compgen -W '3 5 7' -- "$word") ;;
+        esac
+    fi
+}
+complete -F _bouncer bouncer
