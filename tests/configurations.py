@@ -6,12 +6,17 @@ LISTENING = b'nick = "me"\npassword = "pass"\nupstream = "127.0.0.1:6667"\nstore
 # the least configuration, in five lines
 LEAST = LISTENING + b'["127.0.0.1:1", "127.0.0.1:2", "127.0.0.1:3"]\n'
 
+UPSTREAM = "3: upstream: needs an address 127.0.0.1:PORT: of a server elsewhere, or with TLS, that of a tunnel to it"
+
 # texts that are no TOML
 NO_TOML = [
-    (b'nick = "me"\npassword = \n', "2: is no TOML"),
-    (b"nick\n", "1: is no TOML"),
-    (b'nick = "me"\nnick = "you"\n', "2: is no TOML"),
-    (b'nick = "me"\n\xff\n', "2: is no TOML"),
+    (
+        b'nick = "me"\npassword = \n',
+        "2: is no TOML: invalid value, expected a string, number, boolean, date-time, array or inline table",
+    ),
+    (b"nick\n", "1: is no TOML: key with no value, expected `=`"),
+    (b'nick = "me"\nnick = "you"\n', "2: is no TOML: duplicate key"),
+    (b'nick = "me"\n\xff\n', "2: is no TOML: invalid UTF-8"),
 ]
 
 # texts without a key that is needed or with a bad one
@@ -23,11 +28,11 @@ NEEDED = [
     (b'nick = "me"\npassword = ""', "2: password: needs 1 to 64 bytes without space"),
     (
         b'nick = "me"\npassword = "pass"\nupstream = "127.0.0.1:0"',
-        "3: upstream: needs an address 127.0.0.1:PORT",
+        UPSTREAM,
     ),
     (
         b'nick = "me"\npassword = "pass"\nupstream = "127.0.0.1:65536"',
-        "3: upstream: needs an address 127.0.0.1:PORT",
+        UPSTREAM,
     ),
     (b'colour = "red"', "1: colour: is no key of a configuration"),
 ]
@@ -37,6 +42,10 @@ LISTEN = [
     (b'["127.0.0.1:1", "127.0.0.1:2"]\n', "5: listen: needs three, five or seven addresses"),
     (b'"127.0.0.1:1"\n', "5: listen: needs a list of texts"),
     (b'["127.0.0.1:1", "127.0.0.1:2", "localhost:3"]\n', "5: listen: needs addresses 127.0.0.1:PORT"),
+    (
+        b'[\n  "127.0.0.1:1",\n  "127.0.0.1:2",\n  "localhost:3",\n]\n',
+        "8: listen: needs addresses 127.0.0.1:PORT",
+    ),
     (
         b'["127.0.0.1:1", "127.0.0.1:2", "127.0.0.1:1"]\n',
         "5: listen: needs addresses that differ, and none of upstream's",
@@ -70,6 +79,7 @@ OPTIONAL = [
     (b'input = "close"', "6: input: needs stop or ignore"),
     (b"input = false", "6: input: needs a text"),
     (b'channels = ["#x", "y"]', "6: channels: needs names of channels"),
+    (b'channels = [\n  "#x",\n  "y",\n]', "8: channels: needs names of channels"),
     (b'channels = ["#x", "#y", "#X"]', "6: channels: names a channel twice"),
 ]
 

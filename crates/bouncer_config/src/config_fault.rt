@@ -9,6 +9,8 @@ pub struct ConfigFault {
     /// From 1.
     pub line: Option<usize>,
     pub problem: Problem,
+    /// Of a text that is no TOML, what was expected there, where there was memory to say it.
+    pub detail: Option<String>,
 }
 
 /// As `7: listen: needs three, five or seven addresses`, to which the caller puts the file's name
@@ -17,7 +19,8 @@ impl fmt::Display for ConfigFault {
     fn fmt<W: fmt::Write>(&self, f: &mut fmt::Formatter<W>) -> fmt::Result {
         write_line(f, self.line)?;
         write_key(f, self.problem.key_text())?;
-        f.write_str(reason(&self.problem))
+        f.write_str(reason(&self.problem))?;
+        write_detail(f, &self.detail)
     }
 }
 
@@ -31,6 +34,13 @@ fn write_line<W: fmt::Write>(f: &mut fmt::Formatter<W>, line: Option<usize>) -> 
 fn write_key<W: fmt::Write>(f: &mut fmt::Formatter<W>, key: Option<&str>) -> fmt::Result {
     match key {
         Some(key) => write!(f, "{key}: "),
+        None => Ok(()),
+    }
+}
+
+fn write_detail<W: fmt::Write>(f: &mut fmt::Formatter<W>, detail: &Option<String>) -> fmt::Result {
+    match detail {
+        Some(detail) => write!(f, ": {detail}"),
         None => Ok(()),
     }
 }
@@ -66,7 +76,9 @@ fn rule_text(key: Key) -> &'static str {
     match key {
         Key::Nick => "needs a name: 1 to 64 bytes without space or comma, the first no colon",
         Key::Password | Key::UpstreamPassword => "needs 1 to 64 bytes without space",
-        Key::Upstream => "needs an address 127.0.0.1:PORT",
+        Key::Upstream => {
+            "needs an address 127.0.0.1:PORT: of a server elsewhere, or with TLS, that of a tunnel to it"
+        }
         Key::Listen => "needs addresses 127.0.0.1:PORT",
         Key::Store | Key::Record => "needs a path",
         Key::Channels => "needs names of channels",

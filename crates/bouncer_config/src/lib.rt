@@ -6,6 +6,7 @@ mod config;
 mod config_fault;
 mod input_end;
 mod key;
+mod lines;
 mod lists;
 mod log_level;
 mod parse;
