@@ -11,7 +11,7 @@ import time
 from client import Client, Late, until, LONGEST
 
 TOP = os.path.dirname(os.path.dirname(os.path.realpath(__file__)))
-PROGRAM = os.environ.get("BOUNCER", os.path.join(TOP, "crates/bouncer_app/out/bouncer_app"))
+PROGRAM = os.environ.get("BOUNCER", "")  # else found by program_is_there
 STAYS = 0.5  # seconds after which a leader is taken to stay
 passed = failed = 0
 
@@ -178,9 +178,12 @@ def said(*words, folder=None):
 
 
 def program_is_there():
-    """Builds the program where it is not built, unless another one is named."""
-    script = PROGRAM if "BOUNCER" in os.environ else os.path.join(TOP, "bouncer")
-    return subprocess.run([script, "--version"], stdout=subprocess.DEVNULL).returncode == 0
+    """Finds the program, and builds it where there is none of these sources, unless another one is named."""
+    global PROGRAM
+    if "BOUNCER" not in os.environ:
+        which = subprocess.run([os.path.join(TOP, "bouncer"), "--which"], stdout=subprocess.PIPE, text=True)
+        PROGRAM = which.stdout.strip()
+    return PROGRAM != "" and subprocess.run([PROGRAM, "--version"], stdout=subprocess.DEVNULL).returncode == 0
 
 
 def run_case(case, room):
