@@ -21,6 +21,7 @@ use Rattle.driver.specs.declared.level.Level.{Level}
 use Rattle.driver.specs.declared.link.Stage.{Stage}
 use Rattle.driver.specs.declared.link.Stage.TheVariants.{Connecting, Idle, Open}
 use Rattle.driver.specs.declared.news.News.TheVariants.{LogFills, TurnedAway}
+use Rattle.driver.specs.declared.order.Order.{Order}
 use Rattle.driver.specs.declared.order.Order.TheVariants as order
 use Rattle.driver.specs.declared.settings.Settings.{Settings}
 use Rattle.driver.specs.Arriving.{ArrivesBy, boot_at, next_number, turned_away_by, visited}
@@ -105,9 +106,9 @@ connect_keeps n now node old new sound c =
 
 -- A client's bytes come.
 
-pub greeted_adds : (n : ℕ) (was : Bool) (clients : Clients) (number : ℕ) (nick : List ℕ) (before after : Ordered) → AllGood (NoClaim n) clients → IsGreeted was (client_at clients number) nick before after → Adds (NoClaim n) before after
-greeted_adds n true clients number nick before after good none = nothing_adds (NoClaim n) before after none
-greeted_adds n false clients number nick before after good named = named_adds (NoClaim n) clients number (client_at clients number) nick before after refl good named
+pub greeted_adds : (P : Order → Type 0) (was : Bool) (clients : Clients) (number : ℕ) (nick : List ℕ) (before after : Ordered) → AllGood P clients → IsGreeted was (client_at clients number) nick before after → Adds P before after
+greeted_adds P true clients number nick before after good none = nothing_adds P before after none
+greeted_adds P false clients number nick before after good named = named_adds P clients number (client_at clients number) nick before after refl good named
 
 pub speaks_by : (n : ℕ) (bytes : List ℕ) (now : ℕ) (at : Moment) (number : ℕ) (found : Option Client) (old new : Driver) → client_at old.clients number ≡ found → Sound n old → Speaks bytes now at number old new → Keeps n old new
 speaks_by n bytes now at number None old new is sound s =
@@ -119,7 +120,7 @@ speaks_by n bytes now at number (Some c) old new is sound s =
     one_grows (NoClaim n) number _ _ (told_of old) behind c is is sound.good s.others s.comes.served
     (λ gs calls client stands h. reads_own c.is_gone bytes now at gs calls c client old.orders s.comes.told refl stands h)
     in
-    let greeted = greeted_adds n (is_attached_in (client_at old.clients number)) new.clients number (nick_in old) s.comes.told new.orders g.good s.comes.greeted in
+    let greeted = greeted_adds (NoClaim n) (is_attached_in (client_at old.clients number)) new.clients number (nick_in old) s.comes.told new.orders g.good s.comes.greeted in
     let all = adds_both (NoClaim n) old.orders s.comes.told new.orders (record { told = g.told; orders = g.orders; all = g.all }) greeted in
     grows_keep n old new sound (ap (λ (driver : Driver). driver.desks) s.rest) (record { told = all.told; orders = all.orders; all = all.all; good = g.good })
 
@@ -138,10 +139,10 @@ orders_of_call n gives old new sound o adds =
     orders_keep n old new sound (ap (λ (driver : Driver). driver.desks) o.rest) (ap (λ (driver : Driver). driver.clients) o.rest) adds
 
 -- The server is connected to.
-pub stands_add : (n : ℕ) (stage : Stage) (settings : Settings) (now : ℕ) (before after : Ordered) (new : Stage) → Connects stage settings now before new after → Adds (NoClaim n) before after
-stands_add n (Idle since wait) settings now before after new (same, none) = nothing_adds (NoClaim n) before after none
-stands_add n (Connecting node) settings now before after new (session, begun, is) = one_adds (NoClaim n) (order.Send begun.first) before after begun.orders refl
-stands_add n (Open session) settings now before after new (same, none) = nothing_adds (NoClaim n) before after none
+pub stands_add : (P : Order → Type 0) (stage : Stage) (settings : Settings) (now : ℕ) (before after : Ordered) (new : Stage) → ((bytes : Vec ℕ) → P (order.Send bytes)) → Connects stage settings now before new after → Adds P before after
+stands_add P (Idle since wait) settings now before after new fits (same, none) = nothing_adds P before after none
+stands_add P (Connecting node) settings now before after new fits (session, begun, is) = one_adds P (order.Send begun.first) before after begun.orders (fits begun.first)
+stands_add P (Open session) settings now before after new fits (same, none) = nothing_adds P before after none
 
 -- Bytes of the server come.
 
@@ -161,21 +162,21 @@ quiet_notes at (input.Opened ∷ inputs) = (refl, quiet_notes at inputs)
 quiet_notes at (input.Heard line ∷ inputs) = quiet_cut (nat_lt 511 (length (spelling line))) at line (notes_of at inputs) (quiet_notes at inputs)
 quiet_notes at (input.Closed ∷ inputs) = (refl, quiet_notes at inputs)
 
-pub renames_if : (n : ℕ) (is : Bool) (clients : Clients) (text : List ℕ) (before after : Ordered) → AllGood (NoClaim n) clients → RenamesIf is clients text before after → Adds (NoClaim n) before after
-renames_if n false clients text before after good none = nothing_adds (NoClaim n) before after none
-renames_if n true clients text before after good w = all_written_add (NoClaim n) (keys clients.all) clients text before after good w
+pub renames_if : (P : Order → Type 0) (is : Bool) (clients : Clients) (text : List ℕ) (before after : Ordered) → AllGood P clients → RenamesIf is clients text before after → Adds P before after
+renames_if P false clients text before after good none = nothing_adds P before after none
+renames_if P true clients text before after good w = all_written_add P (keys clients.all) clients text before after good w
 
-pub renames_by : (n : ℕ) (came : Note TowerBody WireLine) (old : Driver) (after : Ordered) → AllGood (NoClaim n) old.clients → RenamesBy came old after → Adds (NoClaim n) old.orders after
-renames_by n (note.Heard at line) old after good r = renames_if n (is_renamed (nick_in old) line) old.clients _ old.orders after good r
-renames_by n (note.Timeout contacts) old after good r = nothing_adds (NoClaim n) old.orders after r
-renames_by n note.Beat old after good r = nothing_adds (NoClaim n) old.orders after r
-renames_by n (note.Ask body) old after good r = nothing_adds (NoClaim n) old.orders after r
-renames_by n note.Opened old after good r = nothing_adds (NoClaim n) old.orders after r
-renames_by n note.Closed old after good r = nothing_adds (NoClaim n) old.orders after r
-renames_by n note.Claim old after good r = nothing_adds (NoClaim n) old.orders after r
-renames_by n note.Wake old after good r = nothing_adds (NoClaim n) old.orders after r
-renames_by n note.Restart old after good r = nothing_adds (NoClaim n) old.orders after r
-renames_by n note.End old after good r = nothing_adds (NoClaim n) old.orders after r
+pub renames_by : (P : Order → Type 0) (came : Note TowerBody WireLine) (old : Driver) (after : Ordered) → AllGood P old.clients → RenamesBy came old after → Adds P old.orders after
+renames_by P (note.Heard at line) old after good r = renames_if P (is_renamed (nick_in old) line) old.clients _ old.orders after good r
+renames_by P (note.Timeout contacts) old after good r = nothing_adds P old.orders after r
+renames_by P note.Beat old after good r = nothing_adds P old.orders after r
+renames_by P (note.Ask body) old after good r = nothing_adds P old.orders after r
+renames_by P note.Opened old after good r = nothing_adds P old.orders after r
+renames_by P note.Closed old after good r = nothing_adds P old.orders after r
+renames_by P note.Claim old after good r = nothing_adds P old.orders after r
+renames_by P note.Wake old after good r = nothing_adds P old.orders after r
+renames_by P note.Restart old after good r = nothing_adds P old.orders after r
+renames_by P note.End old after good r = nothing_adds P old.orders after r
 
 pub opened_quiet : (n node : ℕ) (came : Note TowerBody WireLine) → AllAre (NoClaim n) (opened_of node came)
 unfolding AllAre
@@ -195,7 +196,7 @@ tells_keep n true node came old new sound is same = same_keeps n old new sound s
 tells_keep n false node came old new sound is t =
     let named =
     orders_keep n old t.named sound (ap (λ (driver : Driver). driver.desks) t.nick.rest) (ap (λ (driver : Driver). driver.clients) t.nick.rest)
-    (renames_by n came old t.named.orders sound.good t.nick.renames)
+    (renames_by (NoClaim n) came old t.named.orders sound.good t.nick.renames)
     in
     let opened =
     orders_keep n t.named t.opened named.sound (ap (λ (driver : Driver). driver.desks) t.opens.rest) (ap (λ (driver : Driver). driver.clients) t.opens.rest)

@@ -39,13 +39,13 @@ look_at desks i = look_in (slice_get desks i)
 abbrev pub Ids : List Desk → Type 0
 Ids desks = (i : ℕ) (x : Look) → look_at desks i ≡ Some x → x.id ≡ i + 1
 
-get_same : (desks : List Desk) (i : ℕ) (d v : Desk) → slice_get desks i ≡ Some d → slice_get (set desks i v) i ≡ Some v
+pub get_same : (desks : List Desk) (i : ℕ) (d v : Desk) → slice_get desks i ≡ Some d → slice_get (set desks i v) i ≡ Some v
 get_same desks i d v is =
     let within : i < length desks = slice_get_within desks i d is in
     let inside : i < length (set desks i v) = subst (λ n. i < n) (sym (length-set desks i v)) within in
     slice_get-get_or (set desks i v) i d inside ∙ ap Some (get_or-set_same desks i v d within)
 
-get_other : (desks : List Desk) (i j : ℕ) (d v : Desk) → (j ≡ i → ⊥) → slice_get (set desks i v) j ≡ slice_get desks j
+pub get_other : (desks : List Desk) (i j : ℕ) (d v : Desk) → (j ≡ i → ⊥) → slice_get (set desks i v) j ≡ slice_get desks j
 get_other desks i j d v apart =
     ⊎_elim
     (λ h.
@@ -111,7 +111,7 @@ ids_changed change same desks node ids = λ i x is.
     (λ apart. ids i x (sym (changed_other change desks node i apart) ∙ is))
 
 -- what the clock tells a node changes nothing of this
-clocked_by : (orders : Ordered) (now : ℕ) (told : Option (Note TowerBody WireLine)) (d : Desk) → look (desk_behind orders d now told) ≡ look d
+pub clocked_by : (orders : Ordered) (now : ℕ) (told : Option (Note TowerBody WireLine)) (d : Desk) → look (desk_behind orders d now told) ≡ look d
 unfolding desk_behind
 clocked_by orders now None d = refl
 clocked_by orders now (Some note.Beat) d = refl

@@ -210,7 +210,7 @@ cut_told P true c old new g good none = record {
 cut_told P false c old new g good (line, says, orders) = record {
   told = Write c.origin.2 line ∷ Close c.origin.2 ∷ Tells (News.Left c.origin) ∷ [];
   orders = orders;
-  all = (g.fits (Write c.origin.2 line) refl, (g.fits (Close c.origin.2) refl, (g.fits (Tells (News.Left c.origin)) tt, tt)));
+  all = (g.fits (Write c.origin.2 line) refl, (g.fits (Close c.origin.2) refl, (g.fits (Tells (News.Left c.origin)) refl, tt)));
   good = good;
 }
 

@@ -72,13 +72,13 @@ claimed_stands orders now true (Some line) desk = refl
 claimed_stands orders now false (Some line) desk = refl
 
 -- a connection that is gone is of no node
-idle_of_none : (stage : Stage) (backoff : Backoff) (now : ℕ) → node_of (idle_behind stage backoff now) ≡ None
+pub idle_of_none : (stage : Stage) (backoff : Backoff) (now : ℕ) → node_of (idle_behind stage backoff now) ≡ None
 idle_of_none (Idle since wait) backoff now = refl
 idle_of_none (Connecting node) backoff now = refl
 idle_of_none (Open session) backoff now = refl
 
 -- the node that leads is that one
-that_is : (leader : Option ℕ) (node : ℕ) → is_that leader node ≡ true → leader ≡ Some node
+pub that_is : (leader : Option ℕ) (node : ℕ) → is_that leader node ≡ true → leader ≡ Some node
 that_is None node is = absurd (cc is)
 that_is (Some other) node is = ap Some (eqb-true other node is)
 

@@ -4,9 +4,14 @@ mod Calling
 mod Claiming
 mod Counting
 mod Crowds
+mod Cutting
 mod Desks
+mod Dialing
+mod Downtime
 mod Driving
+mod Falling
 mod Growing
+mod Heard
 mod Keeping
 mod Kicks
 mod Leading
@@ -18,8 +23,11 @@ mod Passing
 mod Quiet
 mod Reaching
 mod Reporting
+mod Restarts
+mod Resting
 mod Rounds
 mod Serving
 mod Sessions
+mod Staying
 mod Telling
 mod Waiting

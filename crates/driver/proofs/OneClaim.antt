@@ -35,7 +35,7 @@ outcome n (Hear now at node status effects progress refused) told old new low so
 outcome n (Tick now at) told old new low sound t is = tick_outcome n now at old new told low sound t is
 outcome n (Connected now) told old new low sound s is =
     outcome_keeps n false old new told
-    (orders_keep n old new sound (ap (λ (driver : Driver). driver.desks) s.rest) (ap (λ (driver : Driver). driver.clients) s.rest) (stands_add n old.link.stage old.settings now old.orders new.orders new.link.stage s.stands))
+    (orders_keep n old new sound (ap (λ (driver : Driver). driver.desks) s.rest) (ap (λ (driver : Driver). driver.clients) s.rest) (stands_add (NoClaim n) old.link.stage old.settings now old.orders new.orders new.link.stage (λ bytes. refl) s.stands))
     is
 outcome n (ReceiveLine now at bytes) told old new low sound t is = outcome_keeps n false old new told (takes_keep n (node_of old.link.stage) now at bytes old new sound t) is
 outcome n (End now why) told old new low sound e is = outcome_keeps n false old new told (ends_keep n now why old new sound e) is

@@ -37,7 +37,7 @@ only_all : (attached : Bool) (origin : Origin) (at : Moment) (requests : List Re
 unfolding TellsOnly asked_all
 only_all attached origin at [] = tt
 only_all true origin at (request ∷ requests) = only_asks origin at (request ∷ requests)
-only_all false origin at (request ∷ requests) = (tt, only_asks origin at (request ∷ requests))
+only_all false origin at (request ∷ requests) = (refl, only_asks origin at (request ∷ requests))
 
 only_some : (origin : Origin) (bytes : Vec ℕ) (items : List ℕ) → TellsOnly origin (write_some origin.2 bytes items)
 unfolding TellsOnly
@@ -52,8 +52,8 @@ only_written origin false bytes = only_some origin bytes bytes.items
 pub only_parting : (gone : Bool) (origin : Origin) (at : Moment) (last : Option Request) → TellsOnly origin (parting_unless gone origin at last)
 unfolding TellsOnly parting_unless
 only_parting true origin at last = tt
-only_parting false origin at None = (refl, (tt, tt))
-only_parting false origin at (Some request) = (refl, (tt, ((refl, refl), tt)))
+only_parting false origin at None = (refl, (refl, tt))
+only_parting false origin at (Some request) = (refl, (refl, ((refl, refl), tt)))
 
 only_end : (close gone : Bool) (origin : Origin) (at : Moment) (last : Option Request) → TellsOnly origin (if close then parting_unless gone origin at last else [])
 unfolding TellsOnly

@@ -87,5 +87,4 @@ effects_reach steps now at node status effects progress refused before new led r
     let low : 1 ≤ 1 = omega (arith) in
     let sound = led_sound 1 steps led.first before low (new_sound 1 led.settings led.now led.first led.is_new) led.calls in
     let h = report.hears in
-    let good = subst (λ (clients : Clients). AllGood (NoClaim 1) clients) (sym (ap (λ (driver : Driver). driver.clients) h.stands.rest)) sound.good in
-    reach_each 1 now at h.stood.link.stage _ node effects (told_of h.stood) (told_of h.passed) good h.passes
+    reach_each 1 now at before.link.stage _ node effects (told_of before) (told_of h.passed) sound.good h.passes

@@ -202,20 +202,21 @@ pub report_outcome : (n now : ℕ) (at : Moment) (node : ℕ) (status : Status) 
 report_outcome n now at node status effects progress refused old new told low low_node sound h is =
     let woken = awake now old in
     let first = awake_keeps n now old sound in
-    let stood = stood_sound n now node status progress refused woken h.stood first.sound h.stands in
-    let passed =
-    grows_keep n h.stood h.passed stood (ap (λ (driver : Driver). driver.desks) h.is_passed)
-    (passes_grow (NoClaim n) now at h.stood.link.stage (nick_in h.stood) node effects (told_of h.stood) (told_of h.passed) (λ bytes. refl) stood.good h.passes)
+    let passes =
+    grows_keep n woken h.passed first.sound (ap (λ (driver : Driver). driver.desks) h.is_passed)
+    (passes_grow (NoClaim n) now at old.link.stage (nick_in old) node effects (told_of old) (told_of h.passed) (λ bytes. refl) sound.good h.passes)
     in
+    let passed = keeps_both n old woken h.passed first passes in
+    let stood = stood_sound n now node status progress refused h.passed h.stood passed.sound h.stands in
     let worded =
-    grows_keep n h.passed h.worded passed.sound (ap (λ (driver : Driver). driver.desks) h.is_worded)
-    (words_by n status.down refused (heard_at woken node status progress).has_lost now at node h.passed (told_of h.passed) (told_of h.worded) passed.sound.good h.words)
+    grows_keep n h.stood h.worded stood (ap (λ (driver : Driver). driver.desks) h.is_worded)
+    (words_by n status.down refused (heard_at h.passed node status progress).has_lost now at node h.stood (told_of h.stood) (told_of h.worded) stood.good h.words)
     in
-    let begun = begins_keep n (heard_at woken node status progress).is_new now at node status.boot h.worded h.begun worded.sound h.begins in
-    let behind = keeps_both n h.stood h.worded h.begun (keeps_both n h.stood h.passed h.worded passed worded) begun in
+    let begun = begins_keep n (heard_at h.passed node status progress).is_new now at node status.boot h.worded h.begun worded.sound h.begins in
+    let behind = keeps_both n h.stood h.worded h.begun worded begun in
     outcome_of n (nat_eq node n && nat_eq status.applied status.last) old h.stood new told
-    (stood_adds n now node status progress refused woken h.stood h.stands)
-    (λ apart line w. stood_waits n now node status progress refused line woken h.stood low low_node apart h.stands (waits_kept n line old woken first.same w))
+    (adds_both (NoClaim n) old.orders h.passed.orders h.stood.orders passed.adds (stood_adds n now node status progress refused h.passed h.stood h.stands))
+    (λ apart line w. stood_waits n now node status progress refused line h.passed h.stood low low_node apart h.stands (waits_kept n line old h.passed passed.same w))
     (keeps_result n h.stood h.begun new behind (node_result n now node h.begun new low low_node begun.sound h.ticks))
     is
 

@@ -7,6 +7,7 @@ pub mod Coming
 pub mod Counting
 pub mod Crowds
 pub mod Desks
+pub mod Downtime
 pub mod Driving
 pub mod Filling
 pub mod Gone

@@ -13,6 +13,8 @@ use Rattle.node_notes.specs.declared.note.Note.TheVariants.{Ask}
 use Rattle.wire_bytes.specs.declared.moment.Moment.{Moment}
 use Rattle.wire_bytes.specs.declared.origin.Origin.{Origin}
 use Rattle.driver.specs.declared.client.Client.{Client}
+use Rattle.driver.specs.declared.news.News.{News}
+use Rattle.driver.specs.declared.news.News.TheVariants.{Attached, Left}
 use Rattle.driver.specs.declared.order.Order.{Order}
 use Rattle.driver.specs.declared.order.Order.TheVariants.{Close, Tell, Tells, Write}
 use Rattle.driver.specs.Asking.{HearsNode, is_stuck, may_be_lost}
@@ -106,12 +108,18 @@ abbrev pub IsAskOf : Origin → Note TowerBody WireLine → Type 0
 IsAskOf origin (Ask (Asked other number at action)) = other ≡ origin
 IsAskOf origin note = ⊥
 
--- an order is of this client: its node is told a request of it, it is written to or closed, or an operator is told something
+-- an operator is told that this client registered, or that it left
+abbrev pub IsNewsOf : Origin → News → Type 0
+IsNewsOf origin (Attached other) = other ≡ origin
+IsNewsOf origin (Left other) = other ≡ origin
+IsNewsOf origin news = ⊥
+
+-- an order is of this client: its node is told a request of it, it is written to or closed, or an operator is told of it
 abbrev pub IsFor : Origin → Order → Type 0
 IsFor origin (Tell node note) = (node ≡ origin.0) × IsAskOf origin note
 IsFor origin (Write client bytes) = client ≡ origin.2
 IsFor origin (Close client) = client ≡ origin.2
-IsFor origin (Tells news) = Unit {0}
+IsFor origin (Tells news) = IsNewsOf origin news
 IsFor origin order = ⊥
 
 -- all orders are of this client

@@ -44,4 +44,4 @@ EffectsReach =
     (steps : List Step) (now : ℕ) (at : Moment) (node : ℕ) (status : Status) (effects : List GateEffect) (progress : Progress)
     (refused : Bool) (before new : Driver) → Led steps before
     → (report : Reports now at node status effects progress refused before new)
-    → ReachEach effects (told_of report.hears.stood) (told_of report.hears.passed)
+    → ReachEach effects (told_of before) (told_of report.hears.passed)

@@ -74,17 +74,17 @@ abbrev pub BeginsIf : Bool → ℕ → Moment → ℕ → ℕ → Driver → Dri
 BeginsIf false now at node boot old new = new ≡ old
 BeginsIf true now at node boot old new = Begins now at node boot old new
 
--- A node's worker told how the node stands, and gave effects, which pass in turn. The driver is awake; the node's clients hear what it
+-- A node's worker gave effects, which pass in turn, and told how the node stands. The driver is awake; the node's clients hear what it
 -- told of them; where a run of the node began, its earlier ones are left; and the node ticks.
 pub record Hears (now : ℕ) (at : Moment) (node : ℕ) (status : Status) (effects : List GateEffect) (progress : Progress) (refused : Bool) (old new : Driver) : Type 0 where
-  pub stood : Driver
-  pub stands : Stands now node status progress refused (awake now old) stood
   pub passed : Driver
-  pub passes : PassEach now at stood.link.stage (nick_in stood) node effects (told_of stood) (told_of passed)
-  pub is_passed : passed ≡ record stood { clients = passed.clients; orders = passed.orders }
+  pub passes : PassEach now at old.link.stage (nick_in old) node effects (told_of old) (told_of passed)
+  pub is_passed : passed ≡ record (awake now old) { clients = passed.clients; orders = passed.orders }
+  pub stood : Driver
+  pub stands : Stands now node status progress refused passed stood
   pub worded : Driver
-  pub words : WordsBy status.down refused (heard_at (awake now old) node status progress).has_lost now at node passed (told_of passed) (told_of worded)
-  pub is_worded : worded ≡ record passed { clients = worded.clients; orders = worded.orders }
+  pub words : WordsBy status.down refused (heard_at passed node status progress).has_lost now at node stood (told_of stood) (told_of worded)
+  pub is_worded : worded ≡ record stood { clients = worded.clients; orders = worded.orders }
   pub begun : Driver
-  pub begins : BeginsIf (heard_at (awake now old) node status progress).is_new now at node status.boot worded begun
+  pub begins : BeginsIf (heard_at passed node status progress).is_new now at node status.boot worded begun
   pub ticks : TicksNode now node begun new

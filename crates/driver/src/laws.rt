@@ -1,6 +1,7 @@
 //! What holds of every driver, as contracts of functions that do nothing.
 ghost use Rattle.driver.specs.Claiming.{OneClaimWaits};
 ghost use Rattle.driver.specs.Counting.{NotesAreCounted};
+ghost use Rattle.driver.specs.Downtime.{DownIsOnlyRestarted};
 ghost use Rattle.driver.specs.Led.{IsOfLeaderHeard, IsOfLeaderTicked};
 ghost use Rattle.driver.specs.Once.{AsksOnce, AsksOwn};
 ghost use Rattle.driver.specs.Reaching.{EffectsReach};
@@ -39,4 +40,10 @@ pub fn effects_reach_their_clients()
 /// many its orders told it.
 pub fn notes_are_counted()
     ensures { NotesAreCounted }
+{}
+
+/// Over every list of calls of a driver: from where an operator was told that a node is down, until it is told
+/// that the node is up, the node is told nothing but to start again.
+pub fn a_node_that_is_down_is_only_restarted()
+    ensures { DownIsOnlyRestarted }
 {}

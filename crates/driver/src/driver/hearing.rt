@@ -34,8 +34,9 @@ impl Driver {
             fault,
         } = report;
         self.wake(now);
-        let heard = self.hear_node(now, node, &status, &progress, fault.is_some())?;
+        // before the node may be known to be down: by an effect a client may ask it for a Leave
         self.pass_all(now, node, effects.as_slice())?;
+        let heard = self.hear_node(now, node, &status, &progress, fault.is_some())?;
         self.hear_word(now, node, &status, fault.is_some(), heard)?;
         self.begin_if(heard.is_new, now, node, status.boot)?;
         self.tick_node(now, node)?;

@@ -4,11 +4,11 @@ use Rattle.driver.proofs.driver.Driver.hear.Goals as goal
 pub returns : goal.returns
 returns c =
     record {
-      stood = c.hear_node.new.self;
-      stands = search rules;
       passed = c.pass_all.new.self;
       passes = search rules;
       is_passed = search rules;
+      stood = c.hear_node.new.self;
+      stands = search rules;
       worded = c.hear_word.new.self;
       words = search rules;
       is_worded = search rules;

@@ -1,0 +1,229 @@
+-- What leaves a node as it stands, up or down, and what it is told by time.
+use Rattle.std.proofs.Common.{◌≡◌, ◌∙◌, ◌++◌, ℕ, zero, suc, ◌+◌, ◌-◌, ◌≤◌, Bool, true, false, List, [], ◌∷◌, Option, Some, None, refl, sym, ap, subst, slice_get, arith}
+use Rattle.std.specs.Prelude.{◌&&◌, if◌then◌else◌, is_some, nat_eq, option_map}
+use Rattle.std.proofs.lemmas.Bool.{eqb-true}
+use Rattle.bouncer_tower.specs.Bodies.{TowerBody}
+use Rattle.buffer_commands.specs.declared.wire_line.WireLine.{WireLine}
+use Rattle.node_notes.specs.declared.note.Note.{Note}
+use Rattle.node_notes.specs.declared.note.Note.TheVariants as note
+use Rattle.node_notes.specs.declared.status.Status.{Status}
+use Rattle.node_notes.specs.Notes.{leads, leads_up}
+use Rattle.raft_log.specs.declared.role.Role.{Role}
+use Rattle.raft_log.specs.declared.role.Role.TheVariants.{Follower, Candidate, Leader}
+use Rattle.raft_node.specs.declared.node_fault.Cause.{Cause}
+use Rattle.pacing.specs.declared.timer.Timer.{Timer}
+use Rattle.pacing.specs.Pacing.{may_go}
+use Rattle.driver.specs.declared.clients.Clients.{Clients}
+use Rattle.driver.specs.declared.desk.Desk.{Desk}
+use Rattle.driver.specs.declared.driver.Driver.{Driver}
+use Rattle.driver.specs.declared.gone.Notice.{Notice}
+use Rattle.driver.specs.declared.link.Stage.{Stage}
+use Rattle.driver.specs.declared.link.Stage.TheVariants.{Connecting, Idle, Open}
+use Rattle.driver.specs.declared.news.Ending.{Ending}
+use Rattle.driver.specs.declared.news.Ending.TheVariants.{LedNoMore}
+use Rattle.driver.specs.declared.order.Order.{Order}
+use Rattle.driver.specs.declared.order.Order.TheVariants as order
+use Rattle.driver.specs.declared.settings.Settings.{Settings}
+use Rattle.driver.specs.Crowds.{Told}
+use Rattle.driver.specs.Desks.{claim_due, claim_if, desk_behind, desk_claimed, is_over, is_to_beat, note_at, note_for, note_up, patience, told}
+use Rattle.driver.specs.Driving.{Claims, Connects, Ends, LeavesIf, ServesIf, TickNodes, TicksDesk, TicksNode, changed_at, changed_if, clock_told, clocked, closed_of, closed_orders, orders_of, tick_orders, ticked, told_of}
+use Rattle.driver.specs.Gone.{restart_at, restart_behind, restart_if}
+use Rattle.driver.specs.Hearing.{boot_if, boot_up}
+use Rattle.driver.specs.Leading.{IsLeader, is_older, is_that, term_at, term_of}
+use Rattle.driver.specs.Links.{end_of, ending, may_connect, node_of, status_at, status_in}
+use Rattle.driver.specs.Telling.{Ordered, ordered}
+use Rattle.driver.proofs.Adding.{Adds, adds_both, nothing_adds, one_adds}
+use Rattle.driver.proofs.Claiming.{claim_change, claim_orders, may_claim}
+use Rattle.driver.proofs.Desks.{Ids, Look, clocked_by, get_other, get_same, ids_changed, ids_kept, look, look_at, look_in, ticked_look, changed_same}
+use Rattle.driver.proofs.Growing.{AllAre, AllGood, Grows, all_append, by_number}
+use Rattle.driver.proofs.Led.{that_is}
+use Rattle.driver.proofs.Restarts.{Plain, both_false, told_apart, told_only}
+
+-- a node that stood so when it was last heard of is down
+abbrev pub is_down_so : Option Status → Bool
+is_down_so None = false
+is_down_so (Some status) = is_some status.down
+
+-- a desk knows that its node is down, or up
+abbrev pub StandsAs : Bool → Option Desk → Type 0
+StandsAs down None = down ≡ false
+StandsAs down (Some d) = (is_some d.down ≡ down) × (is_down_so d.status ≡ down)
+
+-- Of a node that is down, or up, the driver knows it, and what each client orders fits.
+pub record Steady (n : ℕ) (down : Bool) (driver : Driver) : Type 0 where
+  pub good : AllGood (Plain n down) driver.clients
+  pub ids : Ids driver.desks
+  pub at : StandsAs down (slice_get driver.desks (n - 1))
+
+-- What was ordered fits, and the node stands as before.
+pub record Stays (n : ℕ) (down : Bool) (old new : Driver) : Type 0 where
+  pub adds : Adds (Plain n down) old.orders new.orders
+  pub steady : Steady n down new
+
+pub same_stays : (n : ℕ) (down : Bool) (old new : Driver) → Steady n down old → new ≡ old → Stays n down old new
+same_stays n down old new steady same = record {
+  adds = nothing_adds (Plain n down) old.orders new.orders (ap (λ (driver : Driver). driver.orders) same);
+  steady = subst (λ (driver : Driver). Steady n down driver) (sym same) steady;
+}
+
+pub stays_both : (n : ℕ) (down : Bool) (old behind new : Driver) → Stays n down old behind → Stays n down behind new → Stays n down old new
+stays_both n down old behind new first last = record {
+  adds = adds_both (Plain n down) old.orders behind.orders new.orders first.adds last.adds;
+  steady = last.steady;
+}
+
+-- where the desks and the clients stay
+pub orders_stay : (n : ℕ) (down : Bool) (old new : Driver) → Steady n down old → new.desks ≡ old.desks → new.clients ≡ old.clients → Adds (Plain n down) old.orders new.orders → Stays n down old new
+orders_stay n down old new steady desks clients adds = record {
+  adds = adds;
+  steady = record {
+    good = subst (λ (clients : Clients). AllGood (Plain n down) clients) (sym clients) steady.good;
+    ids = subst (λ (desks : List Desk). Ids desks) (sym desks) steady.ids;
+    at = subst (λ (desks : List Desk). StandsAs down (slice_get desks (n - 1))) (sym desks) steady.at;
+  };
+}
+
+-- where the desks stay
+pub grows_stay : (n : ℕ) (down : Bool) (old new : Driver) → Steady n down old → new.desks ≡ old.desks → Grows (Plain n down) (told_of old) (told_of new) → Stays n down old new
+grows_stay n down old new steady desks g = record {
+  adds = record { told = g.told; orders = g.orders; all = g.all };
+  steady = record {
+    good = g.good;
+    ids = subst (λ (desks : List Desk). Ids desks) (sym desks) steady.ids;
+    at = subst (λ (desks : List Desk). StandsAs down (slice_get desks (n - 1))) (sym desks) steady.at;
+  };
+}
+
+-- A change of one desk.
+
+pub own_changed : (change : Desk → Desk) (desks : List Desk) (i : ℕ) (found : Option Desk) → slice_get desks i ≡ found → slice_get (changed_if change desks i found) i ≡ option_map change found
+own_changed change desks i None is = is
+own_changed change desks i (Some d) is = get_same desks i d (change d) is
+
+pub other_changed : (change : Desk → Desk) (desks : List Desk) (i j : ℕ) (found : Option Desk) → (j ≡ i → ⊥) → slice_get (changed_if change desks i found) j ≡ slice_get desks j
+other_changed change desks i j None apart = refl
+other_changed change desks i j (Some d) apart = get_other desks i j d (change d) apart
+
+-- a change that leaves whether the node is down
+abbrev pub KeepsStanding : (Desk → Desk) → Type 0
+KeepsStanding change = (d : Desk) → (is_some (change d).down ≡ is_some d.down) × (is_down_so (change d).status ≡ is_down_so d.status)
+
+pub as_kept : (down : Bool) (change : Desk → Desk) (found : Option Desk) → KeepsStanding change → StandsAs down found → StandsAs down (option_map change found)
+as_kept down change None keeps at = at
+as_kept down change (Some d) keeps (is, so) = let (same, also) = keeps d in (same ∙ is, also ∙ so)
+
+pub changed_as : (n node : ℕ) (down : Bool) (change : Desk → Desk) (desks : List Desk) → KeepsStanding change → StandsAs down (slice_get desks (n - 1)) → StandsAs down (slice_get (changed_at change desks node) (n - 1))
+changed_as n node down change desks keeps at =
+    by_number (n - 1) (node - 1) (StandsAs down (slice_get (changed_at change desks node) (n - 1)))
+    (λ same.
+    subst (λ (k : ℕ). StandsAs down (slice_get (changed_at change desks node) k)) (sym same)
+    (subst (λ (found : Option Desk). StandsAs down found) (sym (own_changed change desks (node - 1) (slice_get desks (node - 1)) refl))
+    (as_kept down change (slice_get desks (node - 1)) keeps (subst (λ (k : ℕ). StandsAs down (slice_get desks k)) same at))))
+    (λ apart.
+    subst (λ (found : Option Desk). StandsAs down found)
+    (sym (other_changed change desks (node - 1) (n - 1) (slice_get desks (node - 1)) apart)) at)
+
+-- the desk of the node itself is known to stand so
+pub own_stands : (n node : ℕ) (down : Bool) (desks : List Desk) (d : Desk) → 1 ≤ n → Ids desks → StandsAs down (slice_get desks (n - 1)) → slice_get desks (node - 1) ≡ Some d → nat_eq d.id n ≡ true → StandsAs down (Some d)
+own_stands n node down desks d low ids at is own =
+    let id : d.id ≡ node - 1 + 1 = ids (node - 1) (look d) (ap look_in is) in
+    let same : d.id ≡ n = eqb-true d.id n own in
+    let place : node - 1 ≡ n - 1 = omega (arith, id, same) in
+    subst (λ (found : Option Desk). StandsAs down found) (subst (λ (k : ℕ). slice_get desks k ≡ Some d) place is) at
+
+-- What the clock and word of its runs tell a node.
+
+-- nothing, or to start again
+abbrev pub IsRestart : Option (Note TowerBody WireLine) → Type 0
+IsRestart None = Unit {0}
+IsRestart (Some came) = came ≡ note.Restart
+
+pub note_plain : (n : ℕ) (down : Bool) (id : ℕ) (came : Option (Note TowerBody WireLine)) → ((down && nat_eq id n) ≡ true → IsRestart came) → AllAre (Plain n down) (told id came)
+unfolding AllAre
+note_plain n down id None is = tt
+note_plain n down id (Some came) is = ((told_only down (nat_eq id n) came is, refl), tt)
+
+restart_or : (b : Bool) → IsRestart (if b then Some note.Restart else None)
+restart_or true = refl
+restart_or false = tt
+
+outlived_only : (d : Desk) (floor : Option ℕ) → IsRestart (restart_if d floor)
+outlived_only d None = tt
+outlived_only d (Some floor) = restart_or _
+
+clock_only : (d : Desk) (settings : Settings) (now : ℕ) (status : Option Status) (down : Option Timer) → is_some down ≡ true → IsRestart (note_for d settings now status down)
+unfolding note_for
+clock_only d settings now None down is = tt
+clock_only d settings now (Some status) (Some since) is = restart_or (is_over since d.wait_ms now)
+clock_only d settings now (Some status) None is = absurd (cc is)
+
+-- where two things are so, each is
+both_first : (a b : Bool) → (a && b) ≡ true → a ≡ true
+both_first true b is = refl
+both_first false b is = absurd (cc is)
+
+pub both_last : (a b : Bool) → (a && b) ≡ true → b ≡ true
+both_last true b is = is
+both_last false b is = absurd (cc is)
+
+tick_plain : (n : ℕ) (down : Bool) (node : ℕ) (orders : Ordered) (notices : List (Option Notice)) (settings : Settings) (now : ℕ) (desks : List Desk) (found : Option Desk) → 1 ≤ n → Ids desks → StandsAs down (slice_get desks (n - 1)) → slice_get desks (node - 1) ≡ found → AllAre (Plain n down) (orders_of (tick_orders orders notices settings now) found)
+unfolding AllAre
+tick_plain n down node orders notices settings now desks None low ids at is = tt
+tick_plain n down node orders notices settings now desks (Some d) low ids at is =
+    let behind = clocked orders settings now d in
+    all_append (Plain n down) (told d.id (note_at d settings now)) (told behind.id (restart_at notices behind))
+    (note_plain n down d.id (note_at d settings now) (λ both.
+    let (here, so) = own_stands n node down desks d low ids at is (both_last down (nat_eq d.id n) both) in
+    clock_only d settings now d.status d.down (here ∙ both_first down (nat_eq d.id n) both)))
+    (note_plain n down behind.id (restart_at notices behind) (λ both. outlived_only behind _))
+
+-- what the clock changes of a desk leaves whether its node is down
+restarted_down : (b : Bool) (orders : Ordered) (d : Desk) (now : ℕ) (since : Timer) → d.down ≡ Some since → is_some (desk_behind orders d now (if b then Some note.Restart else None)).down ≡ is_some d.down
+unfolding desk_behind
+restarted_down true orders d now since is = sym (ap (λ (down : Option Timer). is_some down) is)
+restarted_down false orders d now since is = refl
+
+up_down : (leads beats waited : Bool) (orders : Ordered) (d : Desk) (now contacts : ℕ) → is_some (desk_behind orders d now (if leads then (if beats then Some note.Beat else None) else (if waited then Some (note.Timeout contacts) else None))).down ≡ is_some d.down
+unfolding desk_behind
+up_down true true waited orders d now contacts = refl
+up_down true false waited orders d now contacts = refl
+up_down false beats true orders d now contacts = refl
+up_down false beats false orders d now contacts = refl
+
+clocked_down : (orders : Ordered) (settings : Settings) (now : ℕ) (d : Desk) (status : Option Status) (down : Option Timer) → d.down ≡ down → is_some (desk_behind orders d now (note_for d settings now status down)).down ≡ is_some d.down
+unfolding note_for note_up desk_behind
+clocked_down orders settings now d None down is = refl
+clocked_down orders settings now d (Some status) (Some since) is = restarted_down (is_over since d.wait_ms now) orders d now since is
+clocked_down orders settings now d (Some status) None is =
+    up_down (leads status) (is_to_beat d settings now) (is_over d.led (patience settings d.id) now) orders d now d.progress.contacts
+
+outlived_down : (orders : Ordered) (came : Option (Note TowerBody WireLine)) (d : Desk) → is_some (restart_behind orders d came).down ≡ is_some d.down
+outlived_down orders None d = refl
+outlived_down orders (Some came) d = refl
+
+ticked_keeps : (orders : Ordered) (notices : List (Option Notice)) (settings : Settings) (now : ℕ) → KeepsStanding (ticked orders notices settings now)
+ticked_keeps orders notices settings now d =
+    let behind = clocked orders settings now d in (
+      outlived_down (clock_told orders settings now d) (restart_at notices behind) behind ∙ clocked_down orders settings now d d.status d.down refl,
+      ap (λ (x : Look). is_down_so x.status) (ticked_look orders notices settings now d),
+    )
+
+pub desk_stays : (n now node : ℕ) (down : Bool) (old new : Driver) → 1 ≤ n → Steady n down old → TicksDesk now node old new → Stays n down old new
+desk_stays n now node down old new low steady t =
+    let change : Desk → Desk = ticked old.orders old.notices.all old.settings now in
+    record {
+      adds = record {
+        told = orders_of (tick_orders old.orders old.notices.all old.settings now) (slice_get old.desks (node - 1));
+        orders = t.orders;
+        all = tick_plain n down node old.orders old.notices.all old.settings now old.desks (slice_get old.desks (node - 1)) low steady.ids steady.at refl;
+      };
+      steady = record {
+        good = subst (λ (clients : Clients). AllGood (Plain n down) clients) (sym (ap (λ (driver : Driver). driver.clients) t.rest)) steady.good;
+        ids =
+            subst (λ (desks : List Desk). Ids desks) (sym t.desks)
+            (ids_changed change (λ d. ap (λ (x : Look). x.id) (ticked_look old.orders old.notices.all old.settings now d)) old.desks node steady.ids);
+        at =
+            subst (λ (desks : List Desk). StandsAs down (slice_get desks (n - 1))) (sym t.desks)
+            (changed_as n node down change old.desks (ticked_keeps old.orders old.notices.all old.settings now) steady.at);
+      };
+    }
