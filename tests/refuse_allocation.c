@@ -1,15 +1,41 @@
-/* Loaded before the C library: refuses the allocation whose number, from 1, is in REFUSE. */
+/* Loaded before the C library: refuses the allocation whose number, from 1, is in REFUSE, and writes a file of the name in TOLD
+ * once it has. Where MARK is set, only those are counted that are asked for between an allocation of so many bytes and the next
+ * one of as many. */
 #define _GNU_SOURCE
 #include <dlfcn.h>
 #include <errno.h>
+#include <fcntl.h>
 #include <stdlib.h>
+#include <unistd.h>
 
 static long seen;
+static int is_within;
 
-static int refused(void)
+/* Whether an allocation of so many bytes is one that counts. */
+static int counts(size_t size)
+{
+    const char *mark = getenv("MARK");
+    if (mark == NULL) {
+        return 1;
+    }
+    if (size == (size_t)atol(mark)) {
+        is_within = !is_within;
+        return 0;
+    }
+    return is_within;
+}
+
+static int refused(size_t size)
 {
     const char *number = getenv("REFUSE");
-    return number != NULL && ++seen == atol(number);
+    const char *told = getenv("TOLD");
+    if (number == NULL || !counts(size) || ++seen != atol(number)) {
+        return 0;
+    }
+    if (told != NULL) {
+        close(open(told, O_CREAT | O_WRONLY, 0600));
+    }
+    return 1;
 }
 
 void *malloc(size_t size)
@@ -18,7 +44,7 @@ void *malloc(size_t size)
     if (real == NULL) {
         real = dlsym(RTLD_NEXT, "malloc");
     }
-    if (refused()) {
+    if (refused(size)) {
         errno = ENOMEM;
         return NULL;
     }
@@ -31,7 +57,7 @@ void *realloc(void *old, size_t size)
     if (real == NULL) {
         real = dlsym(RTLD_NEXT, "realloc");
     }
-    if (refused()) {
+    if (refused(size)) {
         errno = ENOMEM;
         return NULL;
     }
