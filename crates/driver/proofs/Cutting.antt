@@ -1,6 +1,6 @@
 -- The clients of a node that is down: none is left.
 use Rattle.std.proofs.Common.{◌≡◌, ◌∙◌, ◌++◌, ℕ, Bool, true, false, List, [], ◌∷◌, Option, Some, None, refl, sym, ap, subst}
-use Rattle.std.specs.Prelude.{◌&&◌, is_some, nat_eq}
+use Rattle.std.specs.Prelude.{is_some}
 use Rattle.std.specs.List.{All}
 use Rattle.std.specs.BTreeMap.{keys}
 use Rattle.std.proofs.lemmas.Cmp.{nat_cmp_total}
@@ -17,7 +17,7 @@ use Rattle.driver.specs.Crowds.{CutEach, CutsClient, IsSame, Told, is_of}
 use Rattle.driver.specs.Outages.{IsToldIf}
 use Rattle.driver.specs.Rosters.{AreOthersSame, client_at}
 use Rattle.driver.specs.Telling.{Ordered, ordered}
-use Rattle.driver.proofs.Growing.{AllAre, AllGood, Good, Grows, all_append, by_number, none_some}
+use Rattle.driver.proofs.Growing.{AllAre, AllGood, Grows, all_append, by_number, none_some}
 use Rattle.driver.proofs.Restarts.{Plain, apart_good}
 
 -- a client of this number is one of another node, if there is one

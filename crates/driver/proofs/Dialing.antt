@@ -1,9 +1,8 @@
 -- What each call of a driver but a report and time orders of a node that is down, or up.
-use Rattle.std.proofs.Common.{◌≡◌, ◌∙◌, ◌++◌, ℕ, zero, suc, ◌+◌, ◌-◌, ◌≤◌, Bool, true, false, List, [], ◌∷◌, Option, Some, None, refl, sym, ap, subst, slice_get, arith}
+use Rattle.std.proofs.Common.{◌≡◌, ◌∙◌, ℕ, ◌-◌, Bool, true, false, List, [], ◌∷◌, Option, Some, None, refl, sym, ap, subst, slice_get}
 use Rattle.std.specs.Prelude.{◌&&◌, ◌^◌, IfSome, if◌then◌else◌, is_some, nat_eq, nat_lt}
 use Rattle.std.specs.BTreeMap.{keys}
 use Rattle.std.specs.Global.{Vec}
-use Rattle.std.specs.List.{list_any}
 use Rattle.std.proofs.lemmas.Bool.{eqb-true}
 use Rattle.wire_bytes.specs.declared.moment.Moment.{Moment}
 use Rattle.wire_bytes.specs.declared.origin.Origin.{Origin}
@@ -18,42 +17,30 @@ use Rattle.driver.specs.declared.clients.Clients.{Clients}
 use Rattle.driver.specs.declared.desk.Desk.{Desk}
 use Rattle.driver.specs.declared.driver.Driver.{Driver}
 use Rattle.driver.specs.declared.level.Level.{Level}
-use Rattle.driver.specs.declared.link.Link.{Link}
 use Rattle.driver.specs.declared.link.Stage.{Stage}
 use Rattle.driver.specs.declared.link.Stage.TheVariants.{Connecting, Idle, Open}
-use Rattle.driver.specs.declared.news.News.TheVariants.{Down, LogFills, TurnedAway}
-use Rattle.driver.specs.declared.order.Order.{Order}
+use Rattle.driver.specs.declared.news.News.TheVariants.{LogFills, TurnedAway}
 use Rattle.driver.specs.declared.order.Order.TheVariants as order
-use Rattle.driver.specs.declared.settings.Settings.{Settings}
-use Rattle.driver.specs.Arriving.{ArrivesBy, IsNewDriver, boot_at, new_desks, next_number, turned_away_by, visited}
-use Rattle.driver.specs.Calls.{Call, ConnectsTo, Does, DoesAll, Goes, IsTold, Led, Orders, Speaks, Step}
-use Rattle.driver.specs.Calls.{Connect, Connected, End, Hand, Hear, Lose, Notice, Receive, ReceiveLine, Refuse, Take, Tick, Watch}
-use Rattle.driver.specs.Counting.{all_told}
+use Rattle.driver.specs.Arriving.{ArrivesBy, boot_at, next_number, turned_away_by, visited}
+use Rattle.driver.specs.Calls.{ConnectsTo, Goes, Orders, Speaks}
 use Rattle.driver.specs.Crowds.{told as crowd}
-use Rattle.driver.specs.Downtime.{DownIsOnlyRestarted, tells_up}
 use Rattle.driver.specs.Driving.{orders_of, told_of}
 use Rattle.driver.specs.Filling.{TellsLevelIf, WatchesFor, is_left_out}
 use Rattle.driver.specs.Gone.{with_seen}
 use Rattle.driver.specs.Hearing.{turned_away, turned_away_news}
-use Rattle.driver.specs.Led.{IsOf, IsOfLeader}
-use Rattle.driver.specs.Links.{Connects, Receives, idle_behind, is_session_of, node_of, opened as opened_stage, send_some}
+use Rattle.driver.specs.Links.{Receives, send_some}
 use Rattle.driver.specs.Nicks.{nick_in}
 use Rattle.driver.specs.Rosters.{AreOthersSame, client_at, is_attached_in}
-use Rattle.driver.specs.Sessions.{TakesIf, TellsAllOf, TellsIf, link_behind, opened_of}
+use Rattle.driver.specs.Sessions.{TakesIf, TellsAllOf, TellsIf, opened_of}
 use Rattle.driver.specs.Telling.{Ordered, ordered}
-use Rattle.driver.proofs.Adding.{Adds, adds_both, all_written_add, nothing_adds, one_adds, sends_add, written_adds}
+use Rattle.driver.proofs.Adding.{Adds, adds_both, all_written_add, nothing_adds, one_adds}
 use Rattle.driver.proofs.Calling.{greeted_adds, or_client, renames_by, visited_look}
-use Rattle.driver.proofs.Desks.{Ids, ids_kept, look_at}
-use Rattle.driver.proofs.Falling.{Turns, stays_turns}
-use Rattle.driver.proofs.Growing.{AllAre, AllGood, Good, by_number, none_some, one_grows}
-use Rattle.driver.proofs.Heard.{report_turns, ticks_stay}
-use Rattle.driver.proofs.Led.{heard_of_leader, idle_of_none, ticked_of_leader}
-use Rattle.driver.proofs.OneClaim.{new_ids}
+use Rattle.driver.proofs.Desks.{ids_kept, look_at}
+use Rattle.driver.proofs.Growing.{AllAre, AllGood, Good, by_number, one_grows}
 use Rattle.driver.proofs.Owning.{lost_own, reads_own}
-use Rattle.driver.proofs.Restarts.{Follows, Plain, both_false, client_plain, follows_all, follows_both, restarts_between, told_apart}
-use Rattle.driver.proofs.Resting.{ends_stay, lead_own, up_own}
-use Rattle.driver.proofs.Staying.{KeepsStanding, StandsAs, Stays, Steady, changed_as, grows_stay, orders_stay, same_stays, stays_both}
-use Rattle.driver.proofs.Waiting.{items_same}
+use Rattle.driver.proofs.Restarts.{Plain, both_false, client_plain, told_apart}
+use Rattle.driver.proofs.Resting.{up_own}
+use Rattle.driver.proofs.Staying.{StandsAs, Stays, Steady, changed_as, grows_stay, orders_stay, same_stays, stays_both}
 
 -- A client connects to a node that is up.
 

@@ -1,33 +1,28 @@
 -- A node that is down is told nothing but to start again, whatever is called.
-use Rattle.std.proofs.Common.{◌≡◌, ◌∙◌, ◌++◌, ℕ, zero, suc, ◌+◌, ◌-◌, ◌≤◌, Bool, true, false, List, [], ◌∷◌, Option, Some, None, refl, sym, ap, subst, slice_get, arith}
+use Rattle.std.proofs.Common.{◌≡◌, ◌∙◌, ℕ, zero, suc, ◌-◌, ◌≤◌, Bool, true, false, List, [], ◌∷◌, Option, Some, None, refl, sym, ap, subst, slice_get}
 use Rattle.std.specs.BTreeMap.{keys}
-use Rattle.std.specs.List.{list_any}
 use Rattle.wire_bytes.specs.declared.moment.Moment.{Moment}
 use Rattle.buffer_commands.specs.declared.wire_line.WireLine.{WireLine}
 use Rattle.bouncer_tower.specs.Bodies.{TowerBody}
 use Rattle.node_notes.specs.declared.note.Note.{Note}
 use Rattle.node_notes.specs.declared.note.Note.TheVariants as note
-use Rattle.driver.specs.declared.client.Client.{Client}
 use Rattle.driver.specs.declared.clients.Clients.{Clients}
 use Rattle.driver.specs.declared.desk.Desk.{Desk}
 use Rattle.driver.specs.declared.driver.Driver.{Driver}
 use Rattle.driver.specs.declared.link.Link.{Link}
-use Rattle.driver.specs.declared.link.Session.{Session}
 use Rattle.driver.specs.declared.link.Stage.{Stage}
 use Rattle.driver.specs.declared.link.Stage.TheVariants.{Connecting, Idle, Open}
-use Rattle.driver.specs.declared.news.News.TheVariants.{Down}
 use Rattle.driver.specs.declared.order.Order.{Order}
-use Rattle.driver.specs.declared.order.Order.TheVariants as order
 use Rattle.driver.specs.declared.settings.Settings.{Settings}
 use Rattle.driver.specs.Arriving.{IsNewDriver, new_desks}
-use Rattle.driver.specs.Calls.{Call, Does, DoesAll, IsTold, Led, Step}
+use Rattle.driver.specs.Calls.{Call, Does, DoesAll, IsTold, Step}
 use Rattle.driver.specs.Calls.{Connect, Connected, End, Hand, Hear, Lose, Notice, Receive, ReceiveLine, Refuse, Take, Tick, Watch}
 use Rattle.driver.specs.Counting.{all_told}
-use Rattle.driver.specs.Downtime.{DownIsOnlyRestarted, tells_up}
+use Rattle.driver.specs.Downtime.{DownIsOnlyRestarted}
 use Rattle.driver.specs.Filling.{TellsLevelIf, WatchesFor, is_left_out}
 use Rattle.driver.specs.Leading.{IsLeader}
 use Rattle.driver.specs.Led.{IsOf, IsOfLeader}
-use Rattle.driver.specs.Links.{Connects, Receives, idle_behind, is_session_of, node_of, opened as opened_stage}
+use Rattle.driver.specs.Links.{Connects, Receives, is_session_of, node_of, opened as opened_stage}
 use Rattle.driver.specs.Rosters.{client_at}
 use Rattle.driver.specs.Sessions.{TakesIf, TellsAllOf, TellsIf, link_behind}
 use Rattle.driver.specs.Telling.{Ordered, ordered}
@@ -35,8 +30,8 @@ use Rattle.driver.proofs.Adding.{all_written_add, sends_add, written_adds}
 use Rattle.driver.proofs.Calling.{stands_add}
 use Rattle.driver.proofs.Desks.{Ids}
 use Rattle.driver.proofs.Dialing.{connect_stays, given_stay, goes_stay, speaks_stay, takes_stay, watch_stays}
-use Rattle.driver.proofs.Falling.{Turns, stays_turns}
-use Rattle.driver.proofs.Growing.{AllAre, AllGood, Good, none_some}
+use Rattle.driver.proofs.Falling.{Turns}
+use Rattle.driver.proofs.Growing.{AllGood, Good, none_some}
 use Rattle.driver.proofs.Heard.{report_turns, ticks_stay}
 use Rattle.driver.proofs.Led.{heard_of_leader, idle_of_none, ticked_of_leader}
 use Rattle.driver.proofs.OneClaim.{new_ids}
@@ -138,7 +133,14 @@ turned n down old new told t up is = record {
 }
 
 stayed : (n : ℕ) (down : Bool) (old new : Driver) (told : List Order) → Stays n down old new → IsUp n down new.link.stage → new.orders ≡ ordered old.orders told → Result n down old new told
-stayed n down old new told s up is = turned n down old new told (stays_turns n down old new s) up is
+stayed n down old new told s up is = record {
+  last = down;
+  follows =
+      subst (λ (items : List Order). Follows n down items down) (items_same old.orders new.orders s.adds.told told s.adds.orders is)
+      (follows_all n down s.adds.told s.adds.all);
+  steady = s.steady;
+  up = up;
+}
 
 -- where the connection is as it was
 kept : (n : ℕ) (down : Bool) (old new : Driver) (told : List Order) → Stays n down old new → new.link ≡ old.link → IsUp n down old.link.stage → new.orders ≡ ordered old.orders told → Result n down old new told

@@ -1,12 +1,9 @@
 -- A node's worker reports: the node is down behind it, or up, and what was ordered fits.
-use Rattle.std.proofs.Common.{◌≡◌, ◌∙◌, ◌++◌, ℕ, ◌+◌, ◌-◌, ◌≤◌, Bool, true, false, not, List, [], ◌∷◌, Option, Some, None, refl, sym, ap, subst, slice_get, arith}
-use Rattle.std.specs.Prelude.{◌&&◌, ◌||◌, if◌then◌else◌, is_some, nat_eq, map, option_map}
-use Rattle.std.specs.BTreeMap.{keys}
-use Rattle.std.proofs.lemmas.List.{append_assoc}
+use Rattle.std.proofs.Common.{◌≡◌, ◌∙◌, ℕ, ◌-◌, Bool, true, false, not, List, [], ◌∷◌, Option, Some, None, refl, sym, ap, subst, slice_get}
+use Rattle.std.specs.Prelude.{◌&&◌, ◌||◌, if◌then◌else◌, is_some, nat_eq, map}
 use Rattle.std.proofs.lemmas.Option.{slice_get-map}
 use Rattle.wire_bytes.specs.declared.moment.Moment.{Moment}
 use Rattle.client_gate.specs.Gates.{GateEffect}
-use Rattle.node_notes.specs.declared.note.Note.TheVariants as note
 use Rattle.node_notes.specs.declared.progress.Progress.{Progress}
 use Rattle.node_notes.specs.declared.status.Status.{Status}
 use Rattle.raft_node.specs.declared.node_fault.Cause.{Cause}
@@ -14,28 +11,21 @@ use Rattle.pacing.specs.declared.timer.Timer.{Timer}
 use Rattle.driver.specs.declared.clients.Clients.{Clients}
 use Rattle.driver.specs.declared.desk.Desk.{Desk}
 use Rattle.driver.specs.declared.driver.Driver.{Driver}
-use Rattle.driver.specs.declared.news.News.{News}
 use Rattle.driver.specs.declared.news.News.TheVariants as news
 use Rattle.driver.specs.declared.order.Order.{Order}
 use Rattle.driver.specs.declared.order.Order.TheVariants as order
-use Rattle.driver.specs.Crowds.{Told}
 use Rattle.driver.specs.Driving.{changed_at, orders_of, told_of}
-use Rattle.driver.specs.Gone.{fresh}
-use Rattle.driver.specs.Hearing.{begins_run, down_behind, down_news, elected_news, heard_behind, heard_news, is_elected, is_none, stood_behind, stood_news, told_behind, up_behind, up_news, was_up}
+use Rattle.driver.specs.Hearing.{down_behind, down_news, elected_news, heard_behind, heard_news, is_elected, is_none, stood_behind, stood_news, told_behind, up_behind, up_news, was_up}
 use Rattle.driver.specs.Nicks.{nick_in}
-use Rattle.driver.specs.Reports.{BeginsIf, Hears, Stands, WordsBy, WordsIf, heard_at, heard_if, lost_at}
-use Rattle.driver.specs.Rounds.{word_told}
-use Rattle.driver.specs.Telling.{Ordered, ordered, told_to}
+use Rattle.driver.specs.Reports.{Hears, Stands}
+use Rattle.driver.specs.Telling.{ordered, told_to}
 use Rattle.driver.specs.Waking.{awake, slept, waited_longer}
-use Rattle.driver.proofs.Adding.{Adds, adds_both, nothing_adds, passes_grow}
-use Rattle.driver.proofs.Claiming.{apart_eq, same_eq}
-use Rattle.driver.proofs.Cutting.{cuts_all}
-use Rattle.driver.proofs.Desks.{Ids, Look, ids_changed, ids_kept, look, look_in, mapped_same}
-use Rattle.driver.proofs.Growing.{AllAre, AllGood, Grows, all_append, by_number, cuts_grow, leaves_grow, same_grows, words_grow}
+use Rattle.driver.proofs.Adding.{nothing_adds, passes_grow}
+use Rattle.driver.proofs.Desks.{Ids, Look, ids_changed, ids_kept, mapped_same}
+use Rattle.driver.proofs.Growing.{AllAre, AllGood, all_append}
 use Rattle.driver.proofs.Reporting.{heard_look}
-use Rattle.driver.proofs.Restarts.{Follows, Plain, apart_good, follows_all, follows_both, told_apart}
-use Rattle.driver.proofs.Resting.{node_stays}
-use Rattle.driver.proofs.Staying.{StandsAs, Stays, Steady, as_kept, grows_stay, is_down_so, orders_stay, other_changed, own_changed, same_stays, stays_both}
+use Rattle.driver.proofs.Restarts.{Follows, Plain, follows_all}
+use Rattle.driver.proofs.Staying.{StandsAs, Stays, Steady, as_kept, grows_stay, is_down_so, stays_both}
 
 -- What was ordered leads to how the node stands now.
 pub record Turns (n : ℕ) (down : Bool) (old new : Driver) : Type 0 where
@@ -70,7 +60,7 @@ awake_stays n now down old steady =
       };
     }
 
-passed_stays : (n now : ℕ) (at : Moment) (node : ℕ) (status : Status) (effects : List GateEffect) (progress : Progress) (refused down : Bool) (old new : Driver) → Steady n down old → (h : Hears now at node status effects progress refused old new) → Stays n down old h.passed
+pub passed_stays : (n now : ℕ) (at : Moment) (node : ℕ) (status : Status) (effects : List GateEffect) (progress : Progress) (refused down : Bool) (old new : Driver) → Steady n down old → (h : Hears now at node status effects progress refused old new) → Stays n down old h.passed
 passed_stays n now at node status effects progress refused down old new steady h =
     let woken = awake now old in
     let first = awake_stays n now down old steady in
@@ -80,7 +70,7 @@ passed_stays n now at node status effects progress refused down old new steady h
 
 -- How the node stands is told.
 
-elected_plain : (n : ℕ) (down b : Bool) (node term : ℕ) → AllAre (Plain n down) (if b then order.Tells (news.Elected node term) ∷ [] else [])
+pub elected_plain : (n : ℕ) (down b : Bool) (node term : ℕ) → AllAre (Plain n down) (if b then order.Tells (news.Elected node term) ∷ [] else [])
 unfolding AllAre
 elected_plain n down true node term = ((tt, refl), tt)
 elected_plain n down false node term = tt
@@ -127,16 +117,16 @@ news_other n down status (Some d) other =
 abbrev pub stood_change : Driver → ℕ → Status → Progress → Desk → Desk
 stood_change old now status progress = λ d. heard_behind d now (told_to old.orders d.id) status progress
 
-stood_ids : (n now node : ℕ) (status : Status) (progress : Progress) (refused : Bool) (old new : Driver) → Ids old.desks → Stands now node status progress refused old new → Ids new.desks
+pub stood_ids : (n now node : ℕ) (status : Status) (progress : Progress) (refused : Bool) (old new : Driver) → Ids old.desks → Stands now node status progress refused old new → Ids new.desks
 stood_ids n now node status progress refused old new ids s =
     subst (λ (desks : List Desk). Ids desks) (sym s.desks)
     (ids_changed (stood_change old now status progress) (λ d. ap (λ (x : Look). x.id) (heard_look d now (told_to old.orders d.id) status progress)) old.desks node ids)
 
-stood_good : (now node : ℕ) (status : Status) (progress : Progress) (refused : Bool) (P : Order → Type 0) (old new : Driver) → AllGood P old.clients → Stands now node status progress refused old new → AllGood P new.clients
+pub stood_good : (now node : ℕ) (status : Status) (progress : Progress) (refused : Bool) (P : Order → Type 0) (old new : Driver) → AllGood P old.clients → Stands now node status progress refused old new → AllGood P new.clients
 stood_good now node status progress refused P old new good s =
     subst (λ (clients : Clients). AllGood P clients) (sym (ap (λ (driver : Driver). driver.clients) s.rest)) good
 
-other_stands : (n now node : ℕ) (down : Bool) (status : Status) (progress : Progress) (refused : Bool) (old new : Driver) → Steady n down old → IsOther n (slice_get old.desks (node - 1)) → slice_get (changed_at (stood_change old now status progress) old.desks node) (n - 1) ≡ slice_get old.desks (n - 1) → Stands now node status progress refused old new → Stays n down old new
+pub other_stands : (n now node : ℕ) (down : Bool) (status : Status) (progress : Progress) (refused : Bool) (old new : Driver) → Steady n down old → IsOther n (slice_get old.desks (node - 1)) → slice_get (changed_at (stood_change old now status progress) old.desks node) (n - 1) ≡ slice_get old.desks (n - 1) → Stands now node status progress refused old new → Stays n down old new
 other_stands n now node down status progress refused old new steady other same s = record {
   adds = record {
     told = orders_of (λ d. heard_news d status) (slice_get old.desks (node - 1));
@@ -181,7 +171,7 @@ unfolding Follows
 down_own n down id cause None own is = (tt, begun_down down (nat_eq id n) own)
 down_own n down id cause (Some since) own is = sym is
 
-stood_own : (n : ℕ) (down : Bool) (d : Desk) (status : Status) (cause : Option Cause) → nat_eq d.id n ≡ true → StandsAs down (Some d) → Follows n down (stood_news d status cause) (is_some cause)
+pub stood_own : (n : ℕ) (down : Bool) (d : Desk) (status : Status) (cause : Option Cause) → nat_eq d.id n ≡ true → StandsAs down (Some d) → Follows n down (stood_news d status cause) (is_some cause)
 stood_own n down d status None own (is, so) = up_own n down d.id status.boot (was_up d.status) own (λ up. sym so ∙ was_up_so d.status up)
 stood_own n down d status (Some cause) own (is, so) = down_own n down d.id cause d.down own is
 
@@ -198,7 +188,7 @@ stood_stands d now up None = up_stands d now up
 stood_stands d now up (Some cause) = down_stands d now d.down refl
 
 -- the desk behind a report knows what it told
-heard_stands : (d : Desk) (now told : ℕ) (status : Status) (progress : Progress) → StandsAs (is_some status.down) (Some (heard_behind d now told status progress))
+pub heard_stands : (d : Desk) (now told : ℕ) (status : Status) (progress : Progress) → StandsAs (is_some status.down) (Some (heard_behind d now told status progress))
 heard_stands d now told status progress = (
   stood_stands (told_behind d now told status progress) now (was_up d.status) status.down,
   ap (λ (x : Look). is_down_so x.status) (heard_look d now told status progress),

@@ -1,11 +1,10 @@
 -- What a report, and time, order of a node that is down, or up.
-use Rattle.std.proofs.Common.{◌≡◌, ◌∙◌, ◌++◌, ℕ, zero, suc, ◌+◌, ◌-◌, ◌≤◌, Bool, true, false, List, [], ◌∷◌, Option, Some, None, refl, sym, ap, subst, slice_get, arith}
+use Rattle.std.proofs.Common.{◌≡◌, ◌∙◌, ◌++◌, ℕ, zero, suc, ◌+◌, ◌-◌, ◌≤◌, Bool, true, false, List, Option, Some, None, refl, sym, ap, subst, slice_get, arith}
 use Rattle.std.specs.Prelude.{◌&&◌, ◌||◌, not, is_some, nat_eq, option_map}
 use Rattle.std.specs.BTreeMap.{keys}
 use Rattle.std.proofs.lemmas.List.{append_assoc}
 use Rattle.wire_bytes.specs.declared.moment.Moment.{Moment}
 use Rattle.client_gate.specs.Gates.{GateEffect}
-use Rattle.node_notes.specs.declared.note.Note.TheVariants as note
 use Rattle.node_notes.specs.declared.progress.Progress.{Progress}
 use Rattle.node_notes.specs.declared.status.Status.{Status}
 use Rattle.raft_node.specs.declared.node_fault.Cause.{Cause}
@@ -15,7 +14,6 @@ use Rattle.driver.specs.declared.driver.Driver.{Driver}
 use Rattle.driver.specs.declared.gone.Notice.{Notice}
 use Rattle.driver.specs.declared.news.Ending.TheVariants.{Silent}
 use Rattle.driver.specs.declared.order.Order.{Order}
-use Rattle.driver.specs.declared.order.Order.TheVariants as order
 use Rattle.driver.specs.declared.settings.Settings.{Settings}
 use Rattle.driver.specs.Crowds.{Told}
 use Rattle.driver.specs.Driving.{Ticks, changed_at, orders_of, round_of, told_of}
@@ -23,7 +21,7 @@ use Rattle.driver.specs.Gone.{fresh, notice_at}
 use Rattle.driver.specs.Hearing.{begins_run, elected_news, heard_news, is_elected, is_none, stood_news, was_up, is_new_run}
 use Rattle.driver.specs.Leading.{IsLeader, term_in}
 use Rattle.driver.specs.Links.{is_silent}
-use Rattle.driver.specs.Reports.{BeginsIf, Hears, Stands, WordsBy, WordsIf, heard_at, heard_if, lost_at}
+use Rattle.driver.specs.Reports.{BeginsIf, Hears, WordsBy, WordsIf, heard_at, heard_if, lost_at}
 use Rattle.driver.specs.Rounds.{Round, SpreadsAll, SpreadsBy, ask_orders, buried, word_due, word_told}
 use Rattle.driver.specs.Telling.{Ordered, ordered, told_to}
 use Rattle.driver.specs.Waking.{awake}
@@ -33,7 +31,7 @@ use Rattle.driver.proofs.Cutting.{cuts_all}
 use Rattle.driver.proofs.Desks.{Ids, look, look_in}
 use Rattle.driver.proofs.Falling.{IsOther, Turns, awake_stays, elected_plain, heard_stands, other_stands, passed_stays, stays_turns, stood_change, stood_good, stood_ids, stood_own}
 use Rattle.driver.proofs.Growing.{AllAre, AllGood, Grows, by_number, cuts_grow, leaves_grow, same_grows, ticks_grow, words_grow}
-use Rattle.driver.proofs.Restarts.{Follows, Plain, apart_good, both_false, follows_all, follows_both, told_apart}
+use Rattle.driver.proofs.Restarts.{Plain, apart_good, both_false, follows_all, follows_both, told_apart}
 use Rattle.driver.proofs.Resting.{lead_by, leaves_stay, node_stays, nodes_stay}
 use Rattle.driver.proofs.Staying.{StandsAs, Stays, Steady, grows_stay, orders_stay, other_changed, own_changed, own_stands, same_stays, stays_both}
 
@@ -161,13 +159,13 @@ own_report n now at status effects progress refused down d old new low steady h 
     let heard = heard_news d status in
     record {
       last = last;
-      told = first.told ++ heard ++ words.told ++ rest.adds.told;
+      told = first.told ++ (heard ++ (words.told ++ rest.adds.told));
       orders =
-          then_orders old.orders h.passed.orders new.orders first.told (heard ++ words.told ++ rest.adds.told) first.orders
+          then_orders old.orders h.passed.orders new.orders first.told (heard ++ (words.told ++ rest.adds.told)) first.orders
           (then_orders h.passed.orders h.stood.orders new.orders heard (words.told ++ rest.adds.told) orders
           (then_orders h.stood.orders h.worded.orders new.orders words.told rest.adds.told words.orders rest.adds.orders));
       follows =
-          follows_both n down down last first.told (heard ++ words.told ++ rest.adds.told) (follows_all n down first.told first.all)
+          follows_both n down down last first.told (heard ++ (words.told ++ rest.adds.told)) (follows_all n down first.told first.all)
           (follows_both n down last last heard (words.told ++ rest.adds.told) news
           (follows_both n last last last words.told rest.adds.told (follows_all n last words.told words.all) (follows_all n last rest.adds.told rest.adds.all)));
       steady = rest.steady;

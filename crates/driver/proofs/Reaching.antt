@@ -12,7 +12,6 @@ use Rattle.wire_bytes.specs.declared.moment.Moment.{Moment}
 use Rattle.wire_bytes.specs.declared.origin.Origin.{Origin}
 use Rattle.driver.specs.declared.client.Client.{Client}
 use Rattle.driver.specs.declared.clients.Clients.{Clients}
-use Rattle.driver.specs.declared.driver.Driver.{Driver}
 use Rattle.driver.specs.declared.link.Stage.{Stage}
 use Rattle.driver.specs.declared.order.Order.{Order}
 use Rattle.driver.specs.Crowds.{IsSame, Told}

@@ -1,5 +1,5 @@
 -- What a node may be told that is down, or up, and how orders lead from the one to the other.
-use Rattle.std.proofs.Common.{◌≡◌, ◌∙◌, ◌++◌, ℕ, Bool, true, false, not, List, [], ◌∷◌, refl, sym, ap, subst}
+use Rattle.std.proofs.Common.{◌≡◌, ◌++◌, ℕ, Bool, true, false, not, List, [], ◌∷◌, refl, sym, ap, subst}
 use Rattle.std.specs.Prelude.{◌&&◌, ◌||◌, nat_eq}
 use Rattle.std.specs.List.{list_any}
 use Rattle.bouncer_tower.specs.Bodies.{TowerBody}
@@ -111,10 +111,10 @@ or_true true b is = refl
 or_true false b is = is
 
 -- Between the news that a node is down and the next one that it is up, what it is told is to start again.
-pub restarts_between : (n : ℕ) (cause : Cause) (came : Note TowerBody WireLine) (last : Bool) (before between behind : List Order) → Follows n false (before ++ order.Tells (news.Down n cause) ∷ between ++ order.Tell n came ∷ behind) last → list_any (tells_up n) between ≡ false → came ≡ note.Restart
+pub restarts_between : (n : ℕ) (cause : Cause) (came : Note TowerBody WireLine) (last : Bool) (before between behind : List Order) → Follows n false (before ++ (order.Tells (news.Down n cause) ∷ (between ++ (order.Tell n came ∷ behind)))) last → list_any (tells_up n) between ≡ false → came ≡ note.Restart
 unfolding Follows
 restarts_between n cause came last before between behind follows none =
-    let rest = between ++ order.Tell n came ∷ behind in
+    let rest = between ++ (order.Tell n came ∷ behind) in
     let b = follows_behind n false last before (order.Tells (news.Down n cause) ∷ rest) follows in
     let (fits, more) = b.follows in
     let down : Follows n true rest last = subst (λ (d : Bool). Follows n d rest last) (or_true b.down (nat_eq n n) (same_eq n)) more in

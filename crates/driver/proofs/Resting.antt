@@ -1,5 +1,5 @@
 -- What leaves a node as it stands, up or down: the end of a session, claims, and the turns of all nodes.
-use Rattle.std.proofs.Common.{◌≡◌, ◌∙◌, ◌++◌, ℕ, zero, suc, ◌+◌, ◌-◌, ◌≤◌, Bool, true, false, List, [], ◌∷◌, Option, Some, None, refl, sym, ap, subst, slice_get, arith}
+use Rattle.std.proofs.Common.{◌≡◌, ◌∙◌, ◌++◌, ℕ, zero, suc, ◌+◌, ◌-◌, ◌≤◌, Bool, true, false, List, [], ◌∷◌, Option, Some, None, refl, sym, ap, subst, slice_get}
 use Rattle.std.specs.Prelude.{◌&&◌, if◌then◌else◌, is_some, nat_eq}
 use Rattle.std.proofs.lemmas.Bool.{eqb-true}
 use Rattle.node_notes.specs.declared.note.Note.TheVariants as note
@@ -15,7 +15,6 @@ use Rattle.driver.specs.declared.link.Stage.{Stage}
 use Rattle.driver.specs.declared.link.Stage.TheVariants.{Connecting, Idle, Open}
 use Rattle.driver.specs.declared.news.Ending.{Ending}
 use Rattle.driver.specs.declared.news.Ending.TheVariants.{LedNoMore}
-use Rattle.driver.specs.declared.order.Order.{Order}
 use Rattle.driver.specs.declared.order.Order.TheVariants as order
 use Rattle.driver.specs.Desks.{claim_due, claim_if, desk_claimed, told}
 use Rattle.driver.specs.Driving.{Claims, Connects, Ends, LeavesIf, ServesIf, TickNodes, TicksNode, closed_of, closed_orders, orders_of}
@@ -30,7 +29,7 @@ use Rattle.driver.proofs.Growing.{AllAre, AllGood, all_append}
 use Rattle.driver.proofs.Keeping.{Line}
 use Rattle.driver.proofs.Led.{that_is}
 use Rattle.driver.proofs.Restarts.{Plain, both_false, told_apart}
-use Rattle.driver.proofs.Staying.{KeepsStanding, StandsAs, Stays, Steady, both_last, changed_as, desk_stays, is_down_so, note_plain, orders_stay, own_stands, same_stays, stays_both}
+use Rattle.driver.proofs.Staying.{KeepsStanding, StandsAs, Stays, Steady, both_last, changed_as, desk_stays, is_down_so, orders_stay, own_stands, same_stays, stays_both}
 
 -- a node that is up in some run is not down
 boot_none : (boot : ℕ) (down : Option Cause) → is_some (boot_if boot down) ≡ true → is_some down ≡ false

@@ -1,5 +1,5 @@
 -- What leaves a node as it stands, up or down, and what it is told by time.
-use Rattle.std.proofs.Common.{◌≡◌, ◌∙◌, ◌++◌, ℕ, zero, suc, ◌+◌, ◌-◌, ◌≤◌, Bool, true, false, List, [], ◌∷◌, Option, Some, None, refl, sym, ap, subst, slice_get, arith}
+use Rattle.std.proofs.Common.{◌≡◌, ◌∙◌, ℕ, ◌+◌, ◌-◌, ◌≤◌, Bool, true, false, List, Option, Some, None, refl, sym, ap, subst, slice_get, arith}
 use Rattle.std.specs.Prelude.{◌&&◌, if◌then◌else◌, is_some, nat_eq, option_map}
 use Rattle.std.proofs.lemmas.Bool.{eqb-true}
 use Rattle.bouncer_tower.specs.Bodies.{TowerBody}
@@ -7,37 +7,21 @@ use Rattle.buffer_commands.specs.declared.wire_line.WireLine.{WireLine}
 use Rattle.node_notes.specs.declared.note.Note.{Note}
 use Rattle.node_notes.specs.declared.note.Note.TheVariants as note
 use Rattle.node_notes.specs.declared.status.Status.{Status}
-use Rattle.node_notes.specs.Notes.{leads, leads_up}
-use Rattle.raft_log.specs.declared.role.Role.{Role}
-use Rattle.raft_log.specs.declared.role.Role.TheVariants.{Follower, Candidate, Leader}
-use Rattle.raft_node.specs.declared.node_fault.Cause.{Cause}
+use Rattle.node_notes.specs.Notes.{leads}
 use Rattle.pacing.specs.declared.timer.Timer.{Timer}
-use Rattle.pacing.specs.Pacing.{may_go}
 use Rattle.driver.specs.declared.clients.Clients.{Clients}
 use Rattle.driver.specs.declared.desk.Desk.{Desk}
 use Rattle.driver.specs.declared.driver.Driver.{Driver}
 use Rattle.driver.specs.declared.gone.Notice.{Notice}
-use Rattle.driver.specs.declared.link.Stage.{Stage}
-use Rattle.driver.specs.declared.link.Stage.TheVariants.{Connecting, Idle, Open}
-use Rattle.driver.specs.declared.news.Ending.{Ending}
-use Rattle.driver.specs.declared.news.Ending.TheVariants.{LedNoMore}
-use Rattle.driver.specs.declared.order.Order.{Order}
-use Rattle.driver.specs.declared.order.Order.TheVariants as order
 use Rattle.driver.specs.declared.settings.Settings.{Settings}
-use Rattle.driver.specs.Crowds.{Told}
-use Rattle.driver.specs.Desks.{claim_due, claim_if, desk_behind, desk_claimed, is_over, is_to_beat, note_at, note_for, note_up, patience, told}
-use Rattle.driver.specs.Driving.{Claims, Connects, Ends, LeavesIf, ServesIf, TickNodes, TicksDesk, TicksNode, changed_at, changed_if, clock_told, clocked, closed_of, closed_orders, orders_of, tick_orders, ticked, told_of}
+use Rattle.driver.specs.Desks.{desk_behind, is_over, is_to_beat, note_at, note_for, note_up, patience, told}
+use Rattle.driver.specs.Driving.{TicksDesk, changed_at, changed_if, clock_told, clocked, orders_of, tick_orders, ticked, told_of}
 use Rattle.driver.specs.Gone.{restart_at, restart_behind, restart_if}
-use Rattle.driver.specs.Hearing.{boot_if, boot_up}
-use Rattle.driver.specs.Leading.{IsLeader, is_older, is_that, term_at, term_of}
-use Rattle.driver.specs.Links.{end_of, ending, may_connect, node_of, status_at, status_in}
-use Rattle.driver.specs.Telling.{Ordered, ordered}
-use Rattle.driver.proofs.Adding.{Adds, adds_both, nothing_adds, one_adds}
-use Rattle.driver.proofs.Claiming.{claim_change, claim_orders, may_claim}
-use Rattle.driver.proofs.Desks.{Ids, Look, clocked_by, get_other, get_same, ids_changed, ids_kept, look, look_at, look_in, ticked_look, changed_same}
+use Rattle.driver.specs.Telling.{Ordered}
+use Rattle.driver.proofs.Adding.{Adds, adds_both, nothing_adds}
+use Rattle.driver.proofs.Desks.{Ids, Look, get_other, get_same, ids_changed, look, look_in, ticked_look}
 use Rattle.driver.proofs.Growing.{AllAre, AllGood, Grows, all_append, by_number}
-use Rattle.driver.proofs.Led.{that_is}
-use Rattle.driver.proofs.Restarts.{Plain, both_false, told_apart, told_only}
+use Rattle.driver.proofs.Restarts.{Plain, told_only}
 
 -- a node that stood so when it was last heard of is down
 abbrev pub is_down_so : Option Status → Bool

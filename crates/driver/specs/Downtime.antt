@@ -24,6 +24,6 @@ abbrev pub DownIsOnlyRestarted : Type 0
 DownIsOnlyRestarted =
     (node : ℕ) (cause : Cause) (came : Note TowerBody WireLine) (steps : List Step) (driver : Driver) (before between behind : List Order)
     → 1 ≤ node → Led steps driver
-    → all_told steps ≡ before ++ Tells (Down node cause) ∷ between ++ Tell node came ∷ behind
+    → all_told steps ≡ before ++ (Tells (Down node cause) ∷ (between ++ (Tell node came ∷ behind)))
     → list_any (tells_up node) between ≡ false
     → came ≡ Restart
