@@ -75,6 +75,9 @@ impl<U: Upstream> Nodes for Running<U> {
     fn tell<R: Wait>(&self, rt: &R, node: NodeId, note: TowerNote) -> bool
         ensures { IsTrue result → node ≤ self.now.nodes.ether.size }
     {
-        self.nodes.submit(rt, node, note).is_ok()
+        match self.nodes.node(node) {
+            Ok(told) => told.submit(rt, note).is_ok(),
+            Err(_) => false,
+        }
     }
 }

@@ -6,5 +6,4 @@ pub mod Started
 mod Going
 mod Seen
 mod Told
-mod Answering
 mod Exits

@@ -12,24 +12,23 @@ from_cell of_cell.Memory = Memory
 from_cell of_cell.Spent = Spent
 from_cell (of_cell.Node fault) = Node fault
 
--- The answer of a call that goes to the worker of the node of this number, in a group of this size: there is no such node exactly where the answer
--- says so, and no fault of the node's own comes.
+-- there is no node of this number, in a group of this size, exactly where the answer says so
+abbrev pub IsFound : {A : Type 0} → ℕ → ℕ → Result A ClusterFault → Type 0
+IsFound size node (Ok x) = node ≤ size
+IsFound size node (Err Memory) = ⊥
+IsFound size node (Err (NoNode n)) = (size < node) × (n ≡ node)
+IsFound size node (Err Stopped) = ⊥
+IsFound size node (Err (Node fault)) = ⊥
+IsFound size node (Err Spent) = ⊥
+
+-- the same, where there may be no memory for the answer
 abbrev pub IsTold : {A : Type 0} → ℕ → ℕ → Result A ClusterFault → Type 0
 IsTold size node (Ok x) = node ≤ size
 IsTold size node (Err Memory) = node ≤ size
 IsTold size node (Err (NoNode n)) = (size < node) × (n ≡ node)
-IsTold size node (Err Stopped) = node ≤ size
+IsTold size node (Err Stopped) = ⊥
 IsTold size node (Err (Node fault)) = ⊥
 IsTold size node (Err Spent) = ⊥
-
--- the same, where the worker's answer may be a fault of the node's own
-abbrev pub IsAnswered : {A : Type 0} → ℕ → ℕ → Result A ClusterFault → Type 0
-IsAnswered size node (Ok x) = node ≤ size
-IsAnswered size node (Err Memory) = node ≤ size
-IsAnswered size node (Err (NoNode n)) = (size < node) × (n ≡ node)
-IsAnswered size node (Err Stopped) = node ≤ size
-IsAnswered size node (Err (Node fault)) = node ≤ size
-IsAnswered size node (Err Spent) = node ≤ size
 
 -- why something did not come to a worker
 abbrev pub IsUndelivered : ClusterFault → Type 0
@@ -38,6 +37,15 @@ IsUndelivered (NoNode n) = ⊥
 IsUndelivered Stopped = Unit {0}
 IsUndelivered (Node fault) = ⊥
 IsUndelivered Spent = ⊥
+
+-- where the worker answered, this holds; want of memory may come before, too
+abbrev pub IfAnswered : {A : Type 0} → Result A ClusterFault → Type 0 → Type 0
+IfAnswered (Ok x) P = P
+IfAnswered (Err Memory) P = Unit {0}
+IfAnswered (Err (NoNode n)) P = Unit {0}
+IfAnswered (Err Stopped) P = Unit {0}
+IfAnswered (Err (Node fault)) P = P
+IfAnswered (Err Spent) P = P
 
 -- what a worker may answer
 abbrev pub IsNotOfCaller : {A : Type 0} → Result A ClusterFault → Type 0

@@ -1,7 +1,17 @@
--- The jobs that calls of a cluster make.
-use Rattle.std.specs.Prelude.{◌≡◌, ℕ}
+-- The jobs that calls of a node make, and that they were put into its worker's inbox.
+use Rattle.std.specs.Prelude.{◌≡◌, ℕ, Result}
+use Rattle.node_threads.specs.Faults.{IfAnswered}
+use Rattle.node_threads.specs.declared.cluster_fault.ClusterFault.{ClusterFault}
 use Rattle.node_threads.specs.declared.job.Job.{Job}
 use Rattle.node_threads.specs.declared.job.Job.TheVariants.{Note, Look, Mark, LookAfter, Restart, Status}
+
+-- something of this kind was put into an inbox, whose rule says what was
+abbrev pub IsPut : {J : Type 0} → (J → Type 0) → (J → Type 0) → Type 0
+IsPut {J} wanted put = (job : J) × wanted job × put job
+
+-- where the worker answered, such a job was put into its inbox
+abbrev pub IsAsked : {A J : Type 0} → (J → Type 0) → (J → Type 0) → Result A ClusterFault → Type 0
+IsAsked wanted put result = IfAnswered result (IsPut wanted put)
 
 module _ {M A L T P S C E : Type 0} where
   -- a look at this place at this target
@@ -30,6 +40,10 @@ module _ {M A L T P S C E : Type 0} where
   IsLookBehind number target (LookAfter n t reply) = (n ≡ number) × (t ≡ target)
   IsLookBehind number target (Restart reply) = ⊥
   IsLookBehind number target (Status reply) = ⊥
+
+  -- a look at this target behind some mark
+  abbrev pub IsLookBehindSome : T → Job M A L T P S C E → Type 0
+  IsLookBehindSome target job = (number : ℕ) × IsLookBehind number target job
 
   -- a restart
   abbrev pub IsRestartJob : Job M A L T P S C E → Type 0

@@ -1,31 +1,25 @@
 //! Where other threads put what a node is told.
-ghost use Rattle.std.specs.Prelude.{IfErr};
-ghost use Rattle.node_threads.specs.Faults.{IsUndelivered};
+ghost use Rattle.std.specs.Prelude.{◌≡◌};
 
-use crate::cluster_fault::ClusterFault;
 use crate::job::Job;
+use crate::node_handle::NodeHandle;
 use crossbeam_channel::Sender;
 use machine_laws::{Hosted, Machine};
-use node_notes::Note;
-use std::sync::Wait;
+use std::alloc::Global;
 
 /// Where a thread of its own puts what a node is told, while the cluster's own thread waits. It may
 /// outlive the cluster.
 #[derive(Drop)]
 pub struct Inlet<M: Hosted> {
+    pub(crate) alloc: Global,
     pub(crate) inbox: Sender<Job<M>>,
 }
 
 impl<M: Hosted> Inlet<M> {
-    /// The node is told something; the call does not wait for what comes of it. `Stopped` where its
-    /// worker is gone.
-    pub fn submit(
-        &self,
-        rt: &impl Wait,
-        note: Note<M::Command, M::Line>,
-    ) -> Result<(), ClusterFault>
-        ensures { IfErr result IsUndelivered }
+    /// The node that is told.
+    pub fn node(&self) -> NodeHandle<'_, M, Sender<Job<M>>>
+        ensures { result.inbox.now ≡ self.now.inbox }
     {
-        Job::Note(note).put(rt, &self.inbox)
+        NodeHandle::new(self.alloc, &self.inbox)
     }
 }

@@ -30,13 +30,6 @@ pub enum Job<M: Hosted> {
 }
 
 impl<M: Hosted> Job<M> {
-    /// Puts the job into an inbox. `Stopped` where the worker is gone whose inbox it is.
-    pub fn put(self, rt: &impl Wait, inbox: &Sender<Job<M>>) -> Result<(), ClusterFault>
-        ensures { IfErr result IsUndelivered }
-    {
-        put(rt, inbox, self)
-    }
-
     /// Whether the node was told this, so that it counts as done. What another worker tells, or a
     /// caller that waits for its answer, does not.
     pub fn is_told(&self) -> bool

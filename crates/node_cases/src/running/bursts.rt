@@ -34,7 +34,7 @@ pub fn ask_at_once<M: Marking, R: Wait + Clock>(
             return Ok(Told::Log(count as u64 + 1));
         }
         if poll % 50 == 0 {
-            crew.submit(rt, NodeId::new(1), Note::Beat)?;
+            crew.node(NodeId::new(1))?.submit(rt, Note::Beat)?;
         }
         rest(rt);
     }
@@ -53,7 +53,7 @@ pub fn ask_while_busy<M: Marking, R: Wait + Clock>(
     lead(rt, crew)?;
     let over = turns.load(Ordering::SeqCst).saturating_add(MANY_BEATS);
     for _ in 0..MANY_BEATS {
-        crew.submit(rt, NodeId::new(1), Note::Beat)?;
+        crew.node(NodeId::new(1))?.submit(rt, Note::Beat)?;
     }
     for number in 1..4 {
         client.ask(rt, alloc, crew, number)?;
@@ -81,17 +81,17 @@ pub fn wait_twice<M: Marking, R: Wait + Clock>(
     let second = NodeId::new(2);
     for poll in 0..MOST_POLLS {
         if poll % 50 == 0 {
-            crew.submit(rt, NodeId::new(1), Note::Beat)?;
+            crew.node(NodeId::new(1))?.submit(rt, Note::Beat)?;
         }
-        let status = crew.status(rt, second)?;
+        let status = crew.node(second)?.status(rt)?;
         if status.last.value() > 0 {
             let term = status.term;
-            crew.submit(rt, second, Note::Timeout(0))?;
-            if crew.status(rt, second)?.term != term {
+            crew.node(second)?.submit(rt, Note::Timeout(0))?;
+            if crew.node(second)?.status(rt)?.term != term {
                 return Err(Fail::from("node 2 asked for votes"));
             }
-            crew.submit(rt, second, Note::Timeout(u64::MAX))?;
-            if crew.status(rt, second)?.term == term {
+            crew.node(second)?.submit(rt, Note::Timeout(u64::MAX))?;
+            if crew.node(second)?.status(rt)?.term == term {
                 return Err(Fail::from("node 2 did not ask for votes"));
             }
             return Ok(Told::Lines(Vec::new(alloc)));

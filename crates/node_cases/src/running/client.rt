@@ -60,7 +60,7 @@ impl Client {
     ) -> Result<(), Fail> {
         let bytes = numbered(alloc, self.node, number)?;
         let (body, _) = M::Command::take(alloc, bytes.as_slice()).map_err(|_| "spelling")?;
-        crew.submit(rt, self.node, Note::Ask(body))?;
+        crew.node(self.node)?.submit(rt, Note::Ask(body))?;
         Ok(())
     }
 
@@ -74,7 +74,7 @@ impl Client {
     ) -> Result<(), Fail> {
         let bytes = request.spelled(alloc, self.node)?;
         let (body, _) = M::Command::take(alloc, bytes.as_slice()).map_err(|_| "spelling")?;
-        crew.submit(rt, self.node, Note::Ask(body))?;
+        crew.node(self.node)?.submit(rt, Note::Ask(body))?;
         self.submitted.count_request(request);
         Ok(())
     }
@@ -135,7 +135,7 @@ fn ask_each<M: Marking, R: Wait + Clock>(
             submit_again(rt, alloc, crew, clients, request)?;
         }
         if poll % pace.polls() == POLLS_BEHIND {
-            crew.submit(rt, NodeId::new(1), Note::Beat)?;
+            crew.node(NodeId::new(1))?.submit(rt, Note::Beat)?;
             beats = beats.saturating_add(1);
         }
         rest(rt);

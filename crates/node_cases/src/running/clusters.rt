@@ -94,9 +94,9 @@ pub fn lead<M: Marking, R: Wait + Clock>(rt: &R, crew: &Crew<M>) -> Result<u64, 
     let first = NodeId::new(1);
     for poll in 0..MOST_POLLS {
         if poll % POLLS_A_TIMEOUT == 0 {
-            crew.submit(rt, first, Note::Timeout(u64::MAX))?;
+            crew.node(first)?.submit(rt, Note::Timeout(u64::MAX))?;
         }
-        if crew.status(rt, first)?.leads() {
+        if crew.node(first)?.status(rt)?.leads() {
             return Ok(poll / POLLS_A_TIMEOUT + 1);
         }
         rest(rt);

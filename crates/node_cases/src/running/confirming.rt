@@ -69,7 +69,7 @@ where
     M::Played: Spelled,
 {
     let target = Name::from_bytes(Vec::from_slice(alloc, b"#x")?).ok_or("name")?;
-    let looked = crew.confirmed(rt, NodeId::new(3), target)?;
+    let looked = crew.node(NodeId::new(3))?.confirmed(rt, target)?;
     let mut lines = Vec::new(alloc);
     for line in &looked.lines {
         lines.extend_from_slice(line.spelling())?;
@@ -101,11 +101,11 @@ impl<M: Hosted> Beats<M> {
             }
             if self.has_passed.load(Ordering::SeqCst) {
                 rests = rests.saturating_add(1);
-                if rests % RESTS_A_BEAT == 0 && self.first.submit(rt, Note::Beat).is_err() {
+                if rests % RESTS_A_BEAT == 0 && self.first.node().submit(rt, Note::Beat).is_err() {
                     break;
                 }
             }
         }
-        let _ = self.last.submit(rt, Note::End);
+        let _ = self.last.node().submit(rt, Note::End);
     }
 }

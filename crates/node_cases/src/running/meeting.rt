@@ -13,9 +13,9 @@ use std::test::Fail;
 /// they turned it.
 pub fn turn_both<M: Marking>(rt: &impl Wait, alloc: Global, crew: &Crew<M>) -> Result<Told, Fail> {
     let (first, second) = (NodeId::new(1), NodeId::new(2));
-    crew.submit(rt, first, Note::Timeout(u64::MAX))?;
-    crew.submit(rt, second, Note::Timeout(u64::MAX))?;
-    crew.status(rt, first)?;
-    crew.status(rt, second)?;
+    crew.node(first)?.submit(rt, Note::Timeout(u64::MAX))?;
+    crew.node(second)?.submit(rt, Note::Timeout(u64::MAX))?;
+    crew.node(first)?.status(rt)?;
+    crew.node(second)?.status(rt)?;
     Ok(Told::Lines(Vec::new(alloc)))
 }

@@ -40,8 +40,8 @@ where
 {
     let last = NodeId::new(3);
     let target = Name::from_bytes(Vec::from_slice(alloc, b"#x")?).ok_or("name")?;
-    crew.restart(rt, last)?;
-    crew.look(rt, last, 0, target)?;
+    crew.node(last)?.restart(rt)?;
+    crew.node(last)?.look(rt, 0, target)?;
     Ok(Inputs {
         restarts: 1,
         looks: 1,

@@ -2,7 +2,7 @@
 ghost use Rattle.std.specs.Prelude.{◌≡◌, ◌↔◌, IsTrue};
 ghost use Rattle.node_threads.specs.Reports.{IsStatusOf, leads_in, told_fault};
 
-use crate::job::Job;
+use crate::job::{Job, put};
 use body_marks::Marking;
 use crossbeam_channel::Sender;
 use machine_laws::{Hosted, Machine};
@@ -19,7 +19,7 @@ pub fn wake<M: Hosted>(rt: &impl Wait, inboxes: &[Sender<Job<M>>], node: u8) {
         return;
     }
     if let Some(inbox) = inboxes.get(node as usize - 1) {
-        let _ = Job::Note(Note::Wake).put(rt, inbox);
+        let _ = put(rt, inbox, Job::Note(Note::Wake));
     }
 }
 

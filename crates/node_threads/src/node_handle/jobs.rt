@@ -1,4 +1,4 @@
-//! The jobs that calls of a cluster make, each with where its answer comes.
+//! The jobs that calls of a node make, each with where its answer comes.
 ghost use Rattle.std.specs.Prelude.{◌≡◌, IfErr, IfOk};
 ghost use Rattle.node_threads.specs.declared.cluster_fault.ClusterFault.TheVariants.{Memory};
 ghost use Rattle.node_threads.specs.Jobs.{IsLookAt, IsLookBehind, IsMarkJob, IsRestartJob, IsStatusJob};

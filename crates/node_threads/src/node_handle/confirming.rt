@@ -1,17 +1,16 @@
 //! Looks that show all that was committed before.
-ghost use Rattle.std.specs.Prelude.{◌≡◌, false};
-ghost use Rattle.node_threads.specs.Faults.{IsAnswered, comes_early, is_early};
+ghost use Rattle.std.specs.Prelude.{◌≡◌, false, IfOk};
+ghost use Rattle.node_threads.specs.Faults.{IsNotOfCaller, comes_early, is_early};
+ghost use Rattle.node_threads.specs.Jobs.{IsAsked, IsLookBehind, IsLookBehindSome, IsMarkJob, IsPut};
 
-use crate::cluster::jobs::{late_look_job, mark_job};
-use crate::cluster::{Cluster, ask};
 use crate::cluster_fault::ClusterFault;
-use body_marks::Marking;
+use crate::inbox::Inbox;
+use crate::job::Job;
+use crate::node_handle::jobs::{late_look_job, mark_job};
+use crate::node_handle::{NodeHandle, ask};
 use machine_laws::{Hosted, Machine};
-use node_cells::Upstream;
 use node_steps::Refusal;
-use raft_log::NodeId;
 use raft_node::{Looked, NodeFault};
-use stable_store::Stable;
 use std::sync::Wait;
 use std::thread;
 use wire_bytes::Copied;
@@ -19,9 +18,9 @@ use wire_bytes::Copied;
 /// How many looks come too early before a new mark is asked for.
 const MOST_LOOKS: u64 = 100_000;
 
-impl<M: Marking, S: Stable<M::Command>, U: Upstream> Cluster<M, S, U> {
-    /// A playback of a target at a node, which shows all that any node had committed when this was
-    /// called: the node marks a place, and is looked at once it has applied its mark.
+impl<M: Hosted, I: Inbox<Job<M>>> NodeHandle<'_, M, I> {
+    /// A playback of a target, which shows all that any node had committed when this was called: the
+    /// node marks a place, and is looked at once it has applied its mark.
     ///
     /// A new mark is asked for where the node knows no leader, and after each 100,000 looks that
     /// come too early, since a mark may be lost on its way to the leader. It does not return
@@ -30,15 +29,15 @@ impl<M: Marking, S: Stable<M::Command>, U: Upstream> Cluster<M, S, U> {
     pub fn confirmed(
         &self,
         rt: &impl Wait,
-        node: NodeId,
         target: M::Target,
     ) -> Result<Looked<M::Played>, ClusterFault>
-        ensures answered { IsAnswered self.now.ether.size node result }
+        ensures asked { IfOk result (λ _.
+            IsPut (IsLookBehindSome target) (I.has_put self.now.inbox.now)) }
+        ensures fault { IsNotOfCaller result }
         ensures waited { is_early result ≡ false }
     {
-        self.inbox(node)?;
         for _ in rt.forever() {
-            let outcome = self.look_at_mark(rt, node, &target);
+            let outcome = self.look_at_mark(rt, &target);
             if !is_early(&outcome) {
                 return outcome;
             }
@@ -51,45 +50,46 @@ impl<M: Marking, S: Stable<M::Command>, U: Upstream> Cluster<M, S, U> {
     fn look_at_mark(
         &self,
         rt: &impl Wait,
-        node: NodeId,
         target: &M::Target,
     ) -> Result<Looked<M::Played>, ClusterFault>
-        ensures { IsAnswered self.now.ether.size node result }
+        ensures asked { IfOk result (λ _.
+            IsPut (IsLookBehindSome target.now) (I.has_put self.now.inbox.now)) }
+        ensures fault { IsNotOfCaller result }
     {
-        let number = self.mark(rt, node)?;
+        let number = self.mark(rt)?;
         for _ in 1..MOST_LOOKS {
-            let outcome = self.look_after(rt, node, number, target);
+            let outcome = self.look_after(rt, number, target);
             if !is_early(&outcome) {
                 return outcome;
             }
             thread::yield_now();
         }
-        self.look_after(rt, node, number, target)
+        self.look_after(rt, number, target)
     }
 
     /// The node asks for its next mark: the mark's number.
-    fn mark(&self, rt: &impl Wait, node: NodeId) -> Result<u64, ClusterFault>
-        ensures { IsAnswered self.now.ether.size node result }
+    fn mark(&self, rt: &impl Wait) -> Result<u64, ClusterFault>
+        ensures asked { IsAsked IsMarkJob (I.has_put self.now.inbox.now) result }
+        ensures fault { IsNotOfCaller result }
     {
-        let inbox = self.inbox(node)?;
         let (job, answer) = mark_job(self.alloc)?;
-        ask(rt, inbox, job, &answer)
+        ask(rt, self.inbox, job, &answer)
     }
 
     /// A playback of a target at a node that has applied its mark of this number.
     fn look_after(
         &self,
         rt: &impl Wait,
-        node: NodeId,
         number: u64,
         target: &M::Target,
     ) -> Result<Looked<M::Played>, ClusterFault>
-        ensures { IsAnswered self.now.ether.size node result }
+        ensures asked { IsAsked (IsLookBehind number target.now) (I.has_put self.now.inbox.now)
+            result }
+        ensures fault { IsNotOfCaller result }
     {
-        let inbox = self.inbox(node)?;
         let target = target.copy(self.alloc)?;
         let (job, answer) = late_look_job(self.alloc, number, target)?;
-        ask(rt, inbox, job, &answer)
+        ask(rt, self.inbox, job, &answer)
     }
 }
 

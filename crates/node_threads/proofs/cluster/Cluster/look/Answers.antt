@@ -1,5 +1,0 @@
-use Rattle.node_threads.proofs.Answering.{answered}
-use Rattle.node_threads.proofs.cluster.Cluster.look.Goals as goal
-
-pub returns : goal.returns
-returns g c = answered _ _ c.ask.result c.in_ok-inbox.ensures c.ask.ensures
