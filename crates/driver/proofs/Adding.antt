@@ -13,14 +13,17 @@ use Rattle.wire_bytes.specs.declared.moment.Moment.{Moment}
 use Rattle.wire_bytes.specs.declared.origin.Origin.{Origin}
 use Rattle.driver.specs.declared.client.Client.{Client}
 use Rattle.driver.specs.declared.clients.Clients.{Clients}
+use Rattle.driver.specs.declared.driver.Driver.{Driver}
 use Rattle.driver.specs.declared.link.Stage.{Stage}
 use Rattle.driver.specs.declared.order.Order.{Order}
 use Rattle.driver.specs.declared.order.Order.TheVariants.{Send, Write}
 use Rattle.driver.specs.Crowds.{Told}
-use Rattle.driver.specs.Kicks.{AreKicked, IsKickedIf, RejoinsIf, has_joined_in}
+use Rattle.driver.specs.Driving.{told_of}
+use Rattle.driver.specs.Kicks.{AreKicked, IsKickedIf, RejoinsIf, has_joined_in, joined_as}
+use Rattle.driver.specs.Learning.{LearnsIf, LearnsNick, nick_learnt}
 use Rattle.driver.specs.Links.{SendsIf, is_session_of}
-use Rattle.driver.specs.Nicks.{AreWritten, IsNamedIn, IsWritten, IsWrittenIf, is_misnamed, is_reached}
-use Rattle.driver.specs.Passing.{HearsOne, PassEach, PassesBy}
+use Rattle.driver.specs.Nicks.{AreWritten, IsNamedIn, IsWritten, IsWrittenIf, is_misnamed, is_reached, nick_in}
+use Rattle.driver.specs.Passing.{HearsOne, PassEach, Passes, PassesBy}
 use Rattle.driver.specs.Rosters.{client_at}
 use Rattle.driver.specs.Telling.{Ordered, ordered}
 use Rattle.driver.proofs.Growing.{AllAre, AllGood, Grows, all_append, grows_both, one_grows, same_grows}
@@ -129,10 +132,43 @@ pass_by P (Hand session number line) now at stage nick node effect old new fits 
 pass_by P Nowhere now at stage nick node effect old new fits good same =
     same_grows P old new good (ap (λ (told : Told). told.clients) same, ap (λ (told : Told). told.orders) same)
 
-pub passes_grow : (P : Order → Type 0) (now : ℕ) (at : Moment) (stage : Stage) (nick : List ℕ) (node : ℕ) (effects : List GateEffect) (old new : Told) → ((bytes : Vec ℕ) → P (Send bytes)) → AllGood P old.clients → PassEach now at stage nick node effects old new → Grows P old new
+-- A nick is learnt: what is ordered is written to clients, and all else that matters here stays.
+pub record Learnt (P : Order → Type 0) (old new : Driver) : Type 0 where
+  pub adds : Adds P old.orders new.orders
+  pub desks : new.desks ≡ old.desks
+  pub clients : new.clients ≡ old.clients
+
+learns_if : (P : Order → Type 0) (nick : Option (List ℕ)) (old new : Driver) → AllGood P old.clients → LearnsIf nick old new → Learnt P old new
+learns_if P None old new good same = record {
+  adds = nothing_adds P old.orders new.orders (ap (λ (driver : Driver). driver.orders) same);
+  desks = ap (λ (driver : Driver). driver.desks) same;
+  clients = ap (λ (driver : Driver). driver.clients) same;
+}
+learns_if P (Some nick) old new good l = record {
+  adds = all_written_add P (keys old.clients.all) old.clients _ old.orders new.orders good l.written;
+  desks = ap (λ (driver : Driver). driver.desks) l.rest;
+  clients = ap (λ (driver : Driver). driver.clients) l.rest;
+}
+
+pub learnt_good : (P : Order → Type 0) (effect : GateEffect) (old new : Driver) → AllGood P old.clients → LearnsNick effect old new → AllGood P new.clients
+learnt_good P effect old new good l =
+    subst (λ (clients : Clients). AllGood P clients) (sym (learns_if P (nick_learnt old.given old.settings.nick (joined_as effect)) old new good l).clients) good
+
+-- an effect passes, and the desks stay
+pub passes_one : (P : Order → Type 0) (now : ℕ) (at : Moment) (node : ℕ) (effect : GateEffect) (old new : Driver) → ((bytes : Vec ℕ) → P (Send bytes)) → AllGood P old.clients → Passes now at node effect old new → Grows P (told_of old) (told_of new) × (new.desks ≡ old.desks)
+passes_one P now at node effect old new fits good p =
+    let l = learns_if P (nick_learnt old.given old.settings.nick (joined_as effect)) old p.learnt good p.learns in
+    let first = adds_grow P (told_of old) (told_of p.learnt) good l.clients l.adds in
+    let last = pass_by P (class_of effect) now at p.learnt.link.stage (nick_in p.learnt) node effect (told_of p.learnt) (told_of new) fits first.good p.passes in
+    (grows_both P (told_of old) (told_of p.learnt) (told_of new) first last, ap (λ (driver : Driver). driver.desks) p.rest ∙ l.desks)
+
+pub passes_grow : (P : Order → Type 0) (now : ℕ) (at : Moment) (node : ℕ) (effects : List GateEffect) (old new : Driver) → ((bytes : Vec ℕ) → P (Send bytes)) → AllGood P old.clients → PassEach now at node effects old new → Grows P (told_of old) (told_of new) × (new.desks ≡ old.desks)
 unfolding PassEach
-passes_grow P now at stage nick node [] old new fits good same =
-    same_grows P old new good (ap (λ (told : Told). told.clients) same, ap (λ (told : Told). told.orders) same)
-passes_grow P now at stage nick node (effect ∷ effects) old new fits good (behind, passes, more) =
-    let first = pass_by P (class_of effect) now at stage nick node effect old behind fits good passes in
-    grows_both P old behind new first (passes_grow P now at stage nick node effects behind new fits first.good more)
+passes_grow P now at node [] old new fits good same = (
+  same_grows P (told_of old) (told_of new) good (ap (λ (driver : Driver). driver.clients) same, ap (λ (driver : Driver). driver.orders) same),
+  ap (λ (driver : Driver). driver.desks) same,
+)
+passes_grow P now at node (effect ∷ effects) old new fits good (behind, passes, more) =
+    let (first, desks) = passes_one P now at node effect old behind fits good passes in
+    let (last, rest) = passes_grow P now at node effects behind new fits first.good more in
+    (grows_both P (told_of old) (told_of behind) (told_of new) first last, rest ∙ desks)

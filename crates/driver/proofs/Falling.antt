@@ -14,9 +14,8 @@ use Rattle.driver.specs.declared.driver.Driver.{Driver}
 use Rattle.driver.specs.declared.news.News.TheVariants as news
 use Rattle.driver.specs.declared.order.Order.{Order}
 use Rattle.driver.specs.declared.order.Order.TheVariants as order
-use Rattle.driver.specs.Driving.{changed_at, orders_of, told_of}
+use Rattle.driver.specs.Driving.{changed_at, orders_of}
 use Rattle.driver.specs.Hearing.{down_behind, down_news, elected_news, heard_behind, heard_news, is_elected, is_none, stood_behind, stood_news, told_behind, up_behind, up_news, was_up}
-use Rattle.driver.specs.Nicks.{nick_in}
 use Rattle.driver.specs.Reports.{Hears, Stands}
 use Rattle.driver.specs.Telling.{ordered, told_to}
 use Rattle.driver.specs.Waking.{awake, slept, waited_longer}
@@ -64,9 +63,8 @@ pub passed_stays : (n now : ℕ) (at : Moment) (node : ℕ) (status : Status) (e
 passed_stays n now at node status effects progress refused down old new steady h =
     let woken = awake now old in
     let first = awake_stays n now down old steady in
-    stays_both n down old woken h.passed first
-    (grows_stay n down woken h.passed first.steady (ap (λ (driver : Driver). driver.desks) h.is_passed)
-    (passes_grow (Plain n down) now at old.link.stage (nick_in old) node effects (told_of old) (told_of h.passed) (λ bytes. (tt, refl)) steady.good h.passes))
+    let (grows, same) = passes_grow (Plain n down) now at node effects woken h.passed (λ bytes. (tt, refl)) steady.good h.passes in
+    stays_both n down old woken h.passed first (grows_stay n down woken h.passed first.steady same grows)
 
 -- How the node stands is told.
 

@@ -15,7 +15,9 @@ mod Heard
 mod Keeping
 mod Kicks
 mod Leading
+mod Learning
 mod Led
+mod Marks
 mod Nicks
 mod OneClaim
 mod Owning

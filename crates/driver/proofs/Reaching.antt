@@ -12,15 +12,18 @@ use Rattle.wire_bytes.specs.declared.moment.Moment.{Moment}
 use Rattle.wire_bytes.specs.declared.origin.Origin.{Origin}
 use Rattle.driver.specs.declared.client.Client.{Client}
 use Rattle.driver.specs.declared.clients.Clients.{Clients}
+use Rattle.driver.specs.declared.driver.Driver.{Driver}
 use Rattle.driver.specs.declared.link.Stage.{Stage}
 use Rattle.driver.specs.declared.order.Order.{Order}
 use Rattle.driver.specs.Crowds.{IsSame, Told}
 use Rattle.driver.specs.Driving.{told_of}
+use Rattle.driver.specs.Nicks.{nick_in}
 use Rattle.driver.specs.Once.{TellsOnly}
 use Rattle.driver.specs.Passing.{HearsOne, PassEach, PassesBy}
 use Rattle.driver.specs.Reaching.{EffectsReach, ReachEach, Reaches, ReachesBy}
 use Rattle.driver.specs.Rosters.{client_at}
-use Rattle.driver.proofs.Adding.{pass_by}
+use Rattle.driver.specs.Waking.{awake}
+use Rattle.driver.proofs.Adding.{learnt_good, passes_one}
 use Rattle.driver.proofs.Growing.{AllGood, by_number}
 use Rattle.driver.proofs.OneClaim.{led_sound, new_sound}
 use Rattle.driver.proofs.Calling.{or_client}
@@ -74,16 +77,23 @@ reaches_by n (Rejoin session line) now at stage nick node effect old new good (s
 reaches_by n (Hand session number line) now at stage nick node effect old new good same = ap (λ (told : Told). told.clients) same
 reaches_by n Nowhere now at stage nick node effect old new good same = ap (λ (told : Told). told.clients) same
 
-reach_each : (n now : ℕ) (at : Moment) (stage : Stage) (nick : List ℕ) (node : ℕ) (effects : List GateEffect) (old new : Told) → AllGood (NoClaim n) old.clients → PassEach now at stage nick node effects old new → ReachEach effects old new
+reach_each : (n now : ℕ) (at : Moment) (node : ℕ) (effects : List GateEffect) (old new : Driver) → AllGood (NoClaim n) old.clients → PassEach now at node effects old new → ReachEach effects old new
 unfolding PassEach ReachEach
-reach_each n now at stage nick node [] old new good same = same
-reach_each n now at stage nick node (effect ∷ effects) old new good (behind, passes, more) =
-    let first = pass_by (NoClaim n) (class_of effect) now at stage nick node effect old behind (λ bytes. refl) good passes in
-    (behind, reaches_by n (class_of effect) now at stage nick node effect old behind good passes, reach_each n now at stage nick node effects behind new first.good more)
+reach_each n now at node [] old new good same = same
+reach_each n now at node (effect ∷ effects) old new good (behind, passes, more) =
+    let (first, desks) = passes_one (NoClaim n) now at node effect old behind (λ bytes. refl) good passes in
+    let learnt = learnt_good (NoClaim n) effect old passes.learnt good passes.learns in
+    let nick = nick_in passes.learnt in (
+      passes.learnt,
+      behind,
+      passes.learns,
+      reaches_by n (class_of effect) now at passes.learnt.link.stage nick node effect (told_of passes.learnt) (told_of behind) learnt passes.passes,
+      reach_each n now at node effects behind new first.good more,
+    )
 
 pub effects_reach : EffectsReach
 effects_reach steps now at node status effects progress refused before new led report =
     let low : 1 ≤ 1 = omega (arith) in
     let sound = led_sound 1 steps led.first before low (new_sound 1 led.settings led.now led.first led.is_new) led.calls in
     let h = report.hears in
-    reach_each 1 now at before.link.stage _ node effects (told_of before) (told_of h.passed) sound.good h.passes
+    reach_each 1 now at node effects (awake now before) h.passed sound.good h.passes

@@ -24,7 +24,6 @@ use Rattle.driver.specs.Driving.{Ticks, orders_of, round_of, told_of}
 use Rattle.driver.specs.Gone.{fresh, notice_at}
 use Rattle.driver.specs.Hearing.{down_behind, down_news, elected_news, heard_behind, heard_news, is_elected, progressed, settled, settles, stood_behind, stood_news, told_behind, up_behind, up_news, was_up}
 use Rattle.driver.specs.Links.{is_silent}
-use Rattle.driver.specs.Nicks.{nick_in}
 use Rattle.driver.specs.Reports.{BeginsIf, Hears, Stands, WordsBy, WordsIf, heard_at, lost_at}
 use Rattle.driver.specs.Rounds.{Round, SpreadsAll, SpreadsBy, ask_orders, buried, word_due, word_told}
 use Rattle.driver.specs.Telling.{ordered, told_to}
@@ -202,10 +201,8 @@ pub report_outcome : (n now : ℕ) (at : Moment) (node : ℕ) (status : Status) 
 report_outcome n now at node status effects progress refused old new told low low_node sound h is =
     let woken = awake now old in
     let first = awake_keeps n now old sound in
-    let passes =
-    grows_keep n woken h.passed first.sound (ap (λ (driver : Driver). driver.desks) h.is_passed)
-    (passes_grow (NoClaim n) now at old.link.stage (nick_in old) node effects (told_of old) (told_of h.passed) (λ bytes. refl) sound.good h.passes)
-    in
+    let (grows, same) = passes_grow (NoClaim n) now at node effects woken h.passed (λ bytes. refl) sound.good h.passes in
+    let passes = grows_keep n woken h.passed first.sound same grows in
     let passed = keeps_both n old woken h.passed first passes in
     let stood = stood_sound n now node status progress refused h.passed h.stood passed.sound h.stands in
     let worded =

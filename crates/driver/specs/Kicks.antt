@@ -1,6 +1,6 @@
 -- Clients that have a channel open are put out of it before it is joined again, so that their programs take the JOIN for a new one.
-use Rattle.std.specs.Prelude.{◌≡◌, ◌==◌, ◌&&◌, ℕ, Bool, true, false, codes, nat_eq, if◌then◌else◌, List, [], ◌∷◌, ◌++◌, Option, Some, None}
-use Rattle.std.specs.List.{starts_with}
+use Rattle.std.specs.Prelude.{◌≡◌, ◌==◌, ◌&&◌, ℕ, Bool, true, false, not, codes, nat_eq, if◌then◌else◌, List, [], ◌∷◌, ◌++◌, Option, Some, None}
+use Rattle.std.specs.List.{starts_with, take_while}
 use Rattle.std.specs.BTreeMap.{keys}
 use Rattle.buffer_commands.specs.declared.effect.Effect.TheVariants as effect
 use Rattle.session_fence.specs.declared.effect.FenceEffect.TheVariants as fence
@@ -30,6 +30,20 @@ is_join (byte ∷ line) = byte == 58 && starts_with nat_eq (behind_space line) (
 abbrev pub shows_join : GateEffect → Bool
 shows_join (answer.Effect (claims.Inner (fence.Inner (effect.Show origin shown)))) = is_join shown
 shows_join other = false
+
+-- what stands before the first such byte
+abbrev pub upto : ℕ → List ℕ → List ℕ
+upto mark bytes = take_while (λ b. not (b == mark)) bytes
+
+-- the nick in the prefix of such a line
+abbrev pub nick_joining : List ℕ → Option (List ℕ)
+nick_joining [] = None
+nick_joining (byte ∷ line) = if is_join (byte ∷ line) then Some (upto 33 (upto 32 line)) else None
+
+-- by which nick an effect shows its client that someone joins a channel, if it does
+abbrev pub joined_as : GateEffect → Option (List ℕ)
+joined_as (answer.Effect (claims.Inner (fence.Inner (effect.Show origin shown)))) = nick_joining shown
+joined_as other = None
 
 -- the line that puts who has this nick out of a channel, since the server was gone
 abbrev pub kick_line : List ℕ → List ℕ → List ℕ

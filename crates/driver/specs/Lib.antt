@@ -14,6 +14,7 @@ pub mod Gone
 pub mod Hearing
 pub mod Kicks
 pub mod Leading
+pub mod Learning
 pub mod Led
 pub mod Links
 pub mod Nicks

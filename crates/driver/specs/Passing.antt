@@ -9,9 +9,13 @@ use Rattle.machine_laws.specs.declared.class.Class.TheVariants.{To, Hand, Rejoin
 use Rattle.wire_bytes.specs.declared.moment.Moment.{Moment}
 use Rattle.wire_bytes.specs.declared.origin.Origin.{Origin}
 use Rattle.driver.specs.declared.client.Client.{Client}
+use Rattle.driver.specs.declared.driver.Driver.{Driver}
 use Rattle.driver.specs.declared.link.Stage.{Stage}
 use Rattle.driver.specs.Crowds.{Told}
+use Rattle.driver.specs.Driving.{told_of}
 use Rattle.driver.specs.Kicks.{Rejoins}
+use Rattle.driver.specs.Learning.{LearnsNick}
+use Rattle.driver.specs.Nicks.{nick_in}
 use Rattle.driver.specs.Rosters.{AreOthersSame, Serves, client_at}
 use Rattle.driver.specs.Serving.{Hears}
 
@@ -37,8 +41,15 @@ PassesBy (Rejoin session line) now at stage nick node effect old new =
 PassesBy (Hand session number line) now at stage nick node effect old new = new ≡ old
 PassesBy Nowhere now at stage nick node effect old new = new ≡ old
 
--- effects pass in turn, under the nick in force
-unfoldable pub PassEach : ℕ → Moment → Stage → List ℕ → ℕ → List GateEffect → Told → Told → Type 0
-PassEach now at stage nick node [] old new = new ≡ old
-PassEach now at stage nick node (effect ∷ effects) old new =
-    (behind : Told) × PassesBy (class_of effect) now at stage nick node effect old behind × PassEach now at stage nick node effects behind new
+-- An effect passes: the nick that it shows is learnt, and then it goes where it is for.
+pub record Passes (now : ℕ) (at : Moment) (node : ℕ) (effect : GateEffect) (old new : Driver) : Type 0 where
+  pub learnt : Driver
+  pub learns : LearnsNick effect old learnt
+  pub passes : PassesBy (class_of effect) now at learnt.link.stage (nick_in learnt) node effect (told_of learnt) (told_of new)
+  pub rest : new ≡ record learnt { clients = new.clients; orders = new.orders }
+
+-- effects pass in turn
+unfoldable pub PassEach : ℕ → Moment → ℕ → List GateEffect → Driver → Driver → Type 0
+PassEach now at node [] old new = new ≡ old
+PassEach now at node (effect ∷ effects) old new =
+    (behind : Driver) × Passes now at node effect old behind × PassEach now at node effects behind new

@@ -15,8 +15,10 @@ use Rattle.driver.specs.declared.driver.Driver.{Driver}
 use Rattle.driver.specs.Calls.{Led, Reports, Step}
 use Rattle.driver.specs.Crowds.{Told}
 use Rattle.driver.specs.Driving.{told_of}
+use Rattle.driver.specs.Learning.{LearnsNick}
 use Rattle.driver.specs.Once.{TellsOwn}
 use Rattle.driver.specs.Rosters.{client_at}
+use Rattle.driver.specs.Waking.{awake}
 
 -- What is for the client of this origin reaches no other: each client of another origin is as it was, also one that has the same number,
 -- and what is ordered is of this client alone.
@@ -33,10 +35,12 @@ ReachesBy (Rejoin session line) old new = new.clients ≡ old.clients
 ReachesBy (Hand session number line) old new = new.clients ≡ old.clients
 ReachesBy Nowhere old new = new.clients ≡ old.clients
 
--- effects in turn
-unfoldable pub ReachEach : List GateEffect → Told → Told → Type 0
+-- effects in turn; before each its nick is learnt, where it shows one that was not known
+unfoldable pub ReachEach : List GateEffect → Driver → Driver → Type 0
 ReachEach [] old new = new ≡ old
-ReachEach (effect ∷ effects) old new = (behind : Told) × ReachesBy (class_of effect) old behind × ReachEach effects behind new
+ReachEach (effect ∷ effects) old new =
+    (learnt : Driver) × (behind : Driver)
+    × LearnsNick effect old learnt × ReachesBy (class_of effect) (told_of learnt) (told_of behind) × ReachEach effects behind new
 
 -- Over every list of calls of a driver: the effects of a report reach, one after another, the clients that they are for, and no others.
 abbrev pub EffectsReach : Type 0
@@ -44,4 +48,4 @@ EffectsReach =
     (steps : List Step) (now : ℕ) (at : Moment) (node : ℕ) (status : Status) (effects : List GateEffect) (progress : Progress)
     (refused : Bool) (before new : Driver) → Led steps before
     → (report : Reports now at node status effects progress refused before new)
-    → ReachEach effects (told_of before) (told_of report.hears.passed)
+    → ReachEach effects (awake now before) report.hears.passed

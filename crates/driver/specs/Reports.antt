@@ -13,7 +13,6 @@ use Rattle.driver.specs.Crowds.{CutEach, LeaveEach, Told, WordEach}
 use Rattle.driver.specs.Driving.{TicksNode, changed_at, orders_at, told_of}
 use Rattle.driver.specs.Gone.{fresh, heard_in}
 use Rattle.driver.specs.Hearing.{heard_behind, heard_news, heard_of}
-use Rattle.driver.specs.Nicks.{nick_in}
 use Rattle.driver.specs.Passing.{PassEach}
 use Rattle.driver.specs.Rounds.{word_begun, word_told}
 use Rattle.driver.specs.Telling.{Ordered, ordered, told_to}
@@ -78,8 +77,7 @@ BeginsIf true now at node boot old new = Begins now at node boot old new
 -- told of them; where a run of the node began, its earlier ones are left; and the node ticks.
 pub record Hears (now : ℕ) (at : Moment) (node : ℕ) (status : Status) (effects : List GateEffect) (progress : Progress) (refused : Bool) (old new : Driver) : Type 0 where
   pub passed : Driver
-  pub passes : PassEach now at old.link.stage (nick_in old) node effects (told_of old) (told_of passed)
-  pub is_passed : passed ≡ record (awake now old) { clients = passed.clients; orders = passed.orders }
+  pub passes : PassEach now at node effects (awake now old) passed
   pub stood : Driver
   pub stands : Stands now node status progress refused passed stood
   pub worded : Driver

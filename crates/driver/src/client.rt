@@ -24,6 +24,7 @@ use crate::orders::Orders;
 use bouncer_tower::TowerEffect;
 use client_gate::{ClientGate, Fed};
 use irc_line::Name;
+pub use joining::joined_as;
 use pacing::Timer;
 use raft_log::NodeId;
 use request_once::Answer;

@@ -2,6 +2,7 @@
 ghost use Rattle.driver.specs.Claiming.{OneClaimWaits};
 ghost use Rattle.driver.specs.Counting.{NotesAreCounted};
 ghost use Rattle.driver.specs.Downtime.{DownIsOnlyRestarted};
+ghost use Rattle.driver.specs.Learning.{JoinsShowTheNick};
 ghost use Rattle.driver.specs.Led.{IsOfLeaderHeard, IsOfLeaderTicked};
 ghost use Rattle.driver.specs.Once.{AsksOnce, AsksOwn};
 ghost use Rattle.driver.specs.Reaching.{EffectsReach};
@@ -46,4 +47,10 @@ pub fn notes_are_counted()
 /// that the node is up, the node is told nothing but to start again.
 pub fn a_node_that_is_down_is_only_restarted()
     ensures { DownIsOnlyRestarted }
+{}
+
+/// As long as no session of a process gave a nick, the nick in force is the one by which a client is shown a
+/// JOIN, from before it is shown that on.
+pub fn joins_show_the_nick_in_force()
+    ensures { JoinsShowTheNick }
 {}

@@ -1,7 +1,7 @@
 //! What a node's worker tells, and what comes of it.
 ghost use Rattle.std.specs.Prelude.{◌≡◌, ◌-◌, is_some, slice_get, IfOk, OnOk};
 ghost use Rattle.bouncer_tower.specs.Hosting.{class_of};
-ghost use Rattle.driver.specs.Passing.{PassEach, PassesBy};
+ghost use Rattle.driver.specs.Passing.{PassEach, Passes, PassesBy};
 ghost use Rattle.driver.specs.Driving.{changed_at, orders_at, told_of};
 ghost use Rattle.driver.specs.Gone.{fresh};
 ghost use Rattle.driver.specs.Rounds.{word_begun, word_told};
@@ -98,10 +98,8 @@ impl Driver {
         node: NodeId,
         effects: &[TowerEffect],
     ) -> Result<(), AllocError>
-        ensures passes { OnOk result (PassEach now.now.ms now.now.at self.old.link.stage
-            (nick_in self.old) node effects.now (told_of self.old) (told_of self.new)) }
-        ensures rest { self.new ≡ record self.old
-            { clients = self.new.clients; orders = self.new.orders } }
+        ensures { OnOk result
+            (PassEach now.now.ms now.now.at node effects.now self.old self.new) }
     {
         for effect in effects {
             self.pass(now, node, effect)?;
@@ -109,8 +107,19 @@ impl Driver {
         Ok(())
     }
 
-    /// An effect that left a node goes to its client, or to the server.
+    /// An effect that left a node goes to its client, or to the server; before it clients are told of the
+    /// nick that it shows, where that was not known.
     fn pass(&mut self, now: &Now, node: NodeId, effect: &TowerEffect) -> Result<(), AllocError>
+        ensures { OnOk result
+            (Passes now.now.ms now.now.at node effect.now self.old self.new) }
+    {
+        self.learn_nick(effect)?;
+        self.hand_on(now, node, effect)?;
+        Ok(())
+    }
+
+    /// An effect goes where it is for.
+    fn hand_on(&mut self, now: &Now, node: NodeId, effect: &TowerEffect) -> Result<(), AllocError>
         ensures passes { OnOk result (PassesBy (class_of effect.now) now.now.ms
             now.now.at self.old.link.stage (nick_in self.old) node effect.now (told_of self.old) (told_of self.new)) }
         ensures rest { self.new ≡ record self.old

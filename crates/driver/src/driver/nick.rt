@@ -1,12 +1,16 @@
 //! The nick in force, and what clients are told of it.
 ghost use Rattle.std.specs.Prelude.{◌≡◌, IfOk, None, OnOk};
+ghost use Rattle.driver.specs.Kicks.{joined_as};
+ghost use Rattle.driver.specs.Learning.{LearnsNick, nick_learnt};
 ghost use Rattle.driver.specs.Nicks.{AllAreWritten, HearsNick, IsGreeted, RenamesIf, TakesNick, is_renamed, nick_by, nick_in, notice, renaming};
 ghost use Rattle.driver.specs.Rosters.{client_at};
 ghost use Rattle.irc_line.specs.Lines.{parameter};
 
+use crate::client::joined_as;
 use crate::driver::Driver;
 use crate::lines::renaming;
 use crate::order::TowerNote;
+use bouncer_tower::TowerEffect;
 use buffer_machine::is_new_nick;
 use irc_line::{Line, Name, is_same};
 use node_notes::Note;
@@ -66,6 +70,39 @@ impl Driver {
         let nick = Vec::from_slice(self.alloc, line.parameter(0))?;
         self.given = Name::from_bytes(nick);
         Ok(())
+    }
+
+    /// Where no session of this process gave a nick yet, a client is shown no JOIN but its own, by the nick
+    /// that the machine kept: where that is another than the one that is asked for, clients are told of it,
+    /// and it is the nick in force.
+    pub(crate) fn learn_nick(&mut self, effect: &TowerEffect) -> Result<(), AllocError>
+        ensures { OnOk result (LearnsNick effect.now self.old self.new) }
+    {
+        let Some(nick) = self.nick_learnt(effect)? else {
+            return Ok(());
+        };
+        let text = renaming(self.alloc, self.nick().as_bytes(), nick.as_bytes())?;
+        self.clients.write_all(text.as_slice(), &mut self.orders)?;
+        self.given = Some(nick);
+        Ok(())
+    }
+
+    /// The nick that an effect shows to be in force, where that was not known.
+    fn nick_learnt(&self, effect: &TowerEffect) -> Result<Option<Name>, AllocError>
+        ensures { IfOk result (λ nick. nick
+            ≡ nick_learnt self.now.given self.now.settings.nick (joined_as effect.now)) }
+    {
+        if self.given.is_some() {
+            return Ok(None);
+        }
+        let Some(nick) = joined_as(effect) else {
+            return Ok(None);
+        };
+        if is_same(self.settings.nick.as_bytes(), nick) {
+            return Ok(None);
+        }
+        let bytes = Vec::from_slice(self.alloc, nick)?;
+        Ok(Name::from_bytes(bytes))
     }
 
     /// Clients are told of another nick by the line that begins a session, since the buffers don't show it.

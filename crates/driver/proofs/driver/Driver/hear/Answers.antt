@@ -6,7 +6,6 @@ returns c =
     record {
       passed = c.pass_all.new.self;
       passes = search rules;
-      is_passed = search rules;
       stood = c.hear_node.new.self;
       stands = search rules;
       worded = c.hear_word.new.self;
