@@ -2,21 +2,19 @@
 //! its nodes, again too where they were recorded.
 #![tactic(auto)]
 
-use bouncer_run::{Hands, run};
+mod help;
+
+use crate::help::{HELP, USAGE, VERSION};
+use bouncer_run::{Hands, check, run};
 use fold_app::{FoldFault, fold};
 use records::Verdict;
 use std::env::{Args, args};
 use std::fmt::Display;
-use std::io::ErrorKind;
+use std::io::{ErrorKind, Write};
 use std::process::ExitCode;
 use std::rt::Runtime;
 use std::{fs, io};
 use world_app::{RecordFault, replay_record, size_of, world};
-
-const USAGE: &str = "usage: bouncer [fold | world N | replay FILE | run CONFIG]";
-
-/// The program's name, and its version.
-const VERSION: &str = "bouncer 0.1.0";
 
 /// The exit code where a record differs from a run of its events.
 const DIFFERS: u8 = 3;
@@ -31,13 +29,15 @@ enum Task {
     Replay(String),
     /// To run the bouncer that the configuration in the file of this path says.
     Run(String),
+    /// To say what that run would do.
+    Check(String),
     Help,
     Version,
 }
 
 /// What the words, the program's name first, ask for: a fold where none follows, or `fold` alone; the
 /// events of a world where `world` and a number follow; a record's where `replay` and a path do; a bouncer's
-/// run where `run` and a path do.
+/// run, or a check of its configuration, where `run` or `check` and a path do.
 fn asked(words: Args) -> Option<Task> {
     let mut words = words.skip(1);
     let Some(word) = words.next() else {
@@ -48,7 +48,8 @@ fn asked(words: Args) -> Option<Task> {
         "world" => Task::World(size_of(words.next()?.as_str())?),
         "replay" => Task::Replay(words.next()?),
         "run" => Task::Run(words.next()?),
-        "help" => Task::Help,
+        "check" => Task::Check(words.next()?),
+        "help" | "--help" | "-h" => Task::Help,
         "--version" => Task::Version,
         _ => return None,
     };
@@ -93,7 +94,21 @@ fn run_replay(rt: &HostRuntime, path: &str) -> ExitCode {
     }
 }
 
-/// Writes a line to standard output.
+/// Says what a run over the configuration in a file would do. The exit code is 0, or 1 with the fault on
+/// standard error.
+fn run_check(rt: &HostRuntime, path: &str) -> ExitCode {
+    let plan = match check(rt, path) {
+        Ok(plan) => plan,
+        Err(fault) => return failed(rt, fault),
+    };
+    let mut output = io::writer(rt);
+    if output.write_all(&plan).is_err() || output.flush().is_err() {
+        return failed(rt, FoldFault::Write);
+    }
+    ExitCode::SUCCESS
+}
+
+/// Writes a text to standard output, as a line.
 fn told(rt: &HostRuntime, line: &str) -> ExitCode {
     match println!(rt; "{line}") {
         Ok(()) => ExitCode::SUCCESS,
@@ -123,7 +138,8 @@ fn main(rt: HostRuntime) -> ExitCode {
                 Ok(()) => ExitCode::SUCCESS,
                 Err(fault) => failed(&rt, fault),
             },
-            Some(Task::Help) => told(&rt, USAGE),
+            Some(Task::Check(path)) => run_check(&rt, path.as_str()),
+            Some(Task::Help) => told(&rt, HELP),
             Some(Task::Version) => told(&rt, VERSION),
             None => usage(&rt),
         },

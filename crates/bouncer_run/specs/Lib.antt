@@ -1,3 +1,4 @@
+pub mod Checks
 pub mod ClusterFaults
 pub mod Configs
 pub mod Connections
@@ -9,7 +10,6 @@ pub mod Levels
 pub mod Moved
 pub mod Moving
 pub mod Pasts
-pub mod Paths
 pub mod Runs
 pub mod Settings
 pub mod Turns

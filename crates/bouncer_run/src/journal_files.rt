@@ -1,8 +1,7 @@
 //! The journals of a bouncer's nodes.
-ghost use Rattle.std.specs.Prelude.{◌≡◌, false, length, IfErr, IfOk, string_bytes};
+ghost use Rattle.std.specs.Prelude.{◌≡◌, false, length, IfErr, IfOk};
 ghost use Rattle.std.specs.List.{All};
 ghost use Rattle.bouncer_run.specs.Faults.{IsFaultOfOpening, IsOrMemory};
-ghost use Rattle.bouncer_run.specs.Paths.{journal_path};
 
 use crate::run_fault::RunFault;
 use crate::system::System;
@@ -10,8 +9,8 @@ use bouncer_config::Config;
 use bouncer_tower::TowerBody;
 use file_disk::{FileJournal, OpenFault, open_journal};
 use raft_log::{GroupSize, NodeId};
+use run_plan::journal_path;
 use stable_store::StoreFault;
-use std::alloc::{AllocError, Global};
 use std::fs::DirBuilder;
 use std::io::ErrorKind;
 use std::os::unix::fs::DirBuilderExt;
@@ -38,21 +37,13 @@ pub fn journals<R: System>(
     make_folder(rt, folder)?;
     let mut journals = Vec::new(alloc);
     for index in 0..size.value() {
-        let path = path_of(alloc, folder, NodeId::new(index + 1))?;
+        let path = journal_path(alloc, folder, NodeId::new(index + 1))?;
         let journal = open(rt, path.as_str())?;
         if journals.push(journal).is_err() {
             return Err(RunFault::Memory);
         }
     }
     Ok(journals)
-}
-
-/// The path of a node's journal in the folder of all.
-fn path_of(alloc: Global, folder: &str, node: NodeId) -> Result<String, AllocError>
-    ensures { IfOk result (λ path. string_bytes path ≡ journal_path folder.now node) }
-{
-    let number = node.value();
-    format!(in alloc; "{folder}/node-{number}")
 }
 
 /// The journal in the file of a path. Where there is none, the line was written.

@@ -3,6 +3,7 @@
 #![tactic(auto)]
 
 mod accepting;
+mod checking;
 mod clients;
 mod clock;
 mod connection;
@@ -45,6 +46,7 @@ mod telling;
 mod turns;
 mod warnings;
 
+pub use checking::check;
 pub use fault::fault_of_cluster;
 pub use hands::Hands;
 pub use program::run;

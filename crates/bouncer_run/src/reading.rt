@@ -3,11 +3,12 @@ ghost use Rattle.std.specs.Prelude.{◌≡◌, IfErr, IfOk};
 ghost use Rattle.bouncer_run.specs.Configs.{IsConfigOf, IsSaid, IsUnread, IsUnreadFault, fault_of_unread};
 
 use crate::run_fault::RunFault;
-use crate::system::System;
 use bouncer_config::{Config, ConfigFault, Problem, parse_config};
 use std::alloc::Global;
 use std::fs;
+use std::fs::File;
 use std::io::Read;
+use std::rt::Runtime;
 use whole_input::{ReadFault, read_whole};
 
 /// Why no configuration was read.
@@ -37,7 +38,7 @@ impl Unread {
 
 /// The configuration in the file of this path. Where there is none, and it is not for want of
 /// memory, a line was written to standard error that names the file and says why.
-pub fn read<R: System>(rt: &R, path: &str) -> Result<Config, RunFault>
+pub fn read<R: Runtime<File = File> + AllocGlobal>(rt: &R, path: &str) -> Result<Config, RunFault>
     ensures said { IfOk result IsSaid }
     ensures fault { IfErr result IsUnreadFault }
 {
@@ -74,7 +75,7 @@ pub fn read_config<F: Read>(alloc: Global, file: &mut F) -> Result<Config, Unrea
 }
 
 /// Says on standard error why there is no configuration in a file.
-fn tell<R: System>(rt: &R, path: &str, unread: &Unread) {
+fn tell<R: Runtime>(rt: &R, path: &str, unread: &Unread) {
     let _ = match unread {
         Unread::Unreadable(ReadFault::InputTooLong) => eprintln!(rt; "{path}: is too long"),
         Unread::Unreadable(ReadFault::Read) => eprintln!(rt; "{path}: can't be read"),

@@ -1,0 +1,27 @@
+//! What the program says of itself.
+
+/// How it is called, where it is called otherwise.
+pub const USAGE: &str = "usage: bouncer [fold | world N | replay FILE | run CONFIG]";
+
+/// The program's name, and its version.
+pub const VERSION: &str = "bouncer 0.1.0";
+
+/// The page of `bouncer help`, which fits a screen.
+pub const HELP: &str = "\
+bouncer keeps you on IRC while you are away. Words, each with an example:
+
+  run CONFIG    runs the bouncer of a configuration, until standard input ends
+                  bouncer run examples/hukbarg.toml
+  check CONFIG  says what run would do, and warns as it would; changes nothing
+                  bouncer check examples/hukbarg.toml
+  fold          shows what clients see of the commands on standard input
+                  bouncer fold < examples/playback.hex
+  world N       runs the events on standard input over 3, 5 or 7 nodes
+                  bouncer world 3 < examples/election.events
+  replay FILE   runs a record again: is it the same?
+                  bouncer replay examples/candidate.record
+  help          prints this page
+  --version     prints the version
+
+With no word it folds. It exits with 0, with 1 for a fault, which it names, with
+2 for other words, and with 3 where a record differs. docs/MANUAL.md says more.";

@@ -1,0 +1,9 @@
+-- What a check of a configuration tells.
+use Rattle.std.specs.Prelude.{◌≡◌, ℕ, List}
+use Rattle.bouncer_config.specs.declared.config.Config.{Config}
+use Rattle.run_plan.specs.Plans.{plan, planned_of}
+use Rattle.bouncer_run.specs.Configs.{IsSaid}
+
+-- the plan of a configuration that some text says
+abbrev pub IsSomePlan : List ℕ → Type 0
+IsSomePlan text = (config : Config) × IsSaid config × (text ≡ plan (planned_of config))
