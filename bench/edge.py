@@ -80,7 +80,7 @@ def bursts(room):
 
 def slow_syncs(room):
     control = os.path.join(room, "slow")
-    server, bouncer = running(room, "slow", environment={"LD_PRELOAD": built(room, "slow_sync"), "SLOW": control})
+    server, bouncer = running(room, "slow-syncs", environment={"LD_PRELOAD": built(room, "slow_sync"), "SLOW": control})
     end = time.monotonic() + SLOW_SECONDS
     count = 0
     while time.monotonic() < end:
