@@ -5,6 +5,7 @@ use Rattle.request_once.specs.declared.body.Body.{Body}
 use Rattle.request_once.specs.declared.body.Body.TheVariants.{Inner, Asked, Blank, Mark as MarkOf}
 use Rattle.body_marks.specs.Marks.{IsBodyOf, mark_in}
 
+-- a mark of this number, of run 1 of node 1
 abbrev of_number : ℕ → Mark
 of_number n = record { node = 1; boot = 1; number = n }
 

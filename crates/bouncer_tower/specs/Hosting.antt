@@ -30,26 +30,32 @@ use Rattle.bouncer_tower.specs.Bodies.{Sessioned, Claimed, TowerBody, TowerEffec
 abbrev pub of_buffers : Command → TowerBody
 of_buffers c = body.Inner (claims.Inner (fence.Inner c))
 
+-- a command of the sessions as a body
 abbrev pub of_sessions : Sessioned → TowerBody
 of_sessions c = body.Inner (claims.Inner c)
 
+-- a command of the claims as a body
 abbrev pub of_claims : Claimed → TowerBody
 of_claims c = body.Inner c
 
 -- Who may bring a body: the client of a request; a run of a node, its marks; a node, that another is gone; else the leader alone
 
+-- who may bring a command of the buffers: a node, that another is gone; else the leader alone
 abbrev pub command_source : Command → Source
 command_source (command.NodeGone node floor) = source.Node
 command_source _ = source.Leader
 
+-- who may bring a command of the sessions: for one of the buffers, who may bring that; else the leader alone
 abbrev pub session_source : Sessioned → Source
 session_source (fence.Inner c) = command_source c
 session_source _ = source.Leader
 
+-- who may bring a command of the claims: for one of the sessions, who may bring that; for a claim, the leader alone
 abbrev pub claim_source : Claimed → Source
 claim_source (claims.Inner c) = session_source c
 claim_source (claims.Claim id n) = source.Leader
 
+-- who may bring a body: the request's client, the mark's run, for a blank the leader, else who may bring the command
 abbrev pub source_of : TowerBody → Source
 source_of (body.Inner c) = claim_source c
 source_of (body.Asked o n at a) = source.Client o
@@ -65,10 +71,12 @@ buffer_class (effect.Show o shown) = To o
 buffer_class (effect.Send o line) = Nowhere
 buffer_class (effect.Rejoin line) = Nowhere
 
+-- where an effect of the sessions goes: a line that joins a channel again, upstream; else as of the buffers
 abbrev pub session_class : FenceEffect Effect → Class Parts
 session_class (fence_effect.Inner e) = buffer_class e
 session_class (fence_effect.Rejoin id line) = Rejoin id line
 
+-- where an effect of the claims goes: a claimed line upstream, Busy to its client; else as of the sessions
 abbrev pub claim_class : ClaimsEffect (FenceEffect Effect) → Class Parts
 claim_class (claims_effect.Inner e) = session_class e
 claim_class (claims_effect.Busy o) = To o
@@ -82,6 +90,7 @@ is_node n = nat_le 1 n && nat_le n 7
 abbrev pub mark_class : mark.Mark → Class Parts
 mark_class m = if is_node m.node then To (m.node, m.boot, 0) else Nowhere
 
+-- where an effect of the tower goes: an answer to its client, word of a mark to its run; else as of the claims
 abbrev pub class_of : TowerEffect → Class Parts
 class_of (answer.Effect e) = claim_class e
 class_of (answer.Done o n) = To o

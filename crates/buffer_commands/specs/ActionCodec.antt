@@ -66,9 +66,11 @@ IfKind false A B = B
 abbrev pub IsMade : {X : Type 0} → (X → Type 0) → (X → Action) → Action → Type 0
 IsMade {X} fits make a = (x : X) × fits x × (make x ≡ a)
 
+-- verb, name and text that a Say may have: the name and the text are within their limits
 abbrev SaidFits : (Verb × List ℕ) × List ℕ → Type 0
 SaidFits p = (Unit {0} × IsTrue (is_name p.0.1)) × IsTrue (is_text p.1)
 
+-- name and size that a SetBuffer may have, each within its limits
 abbrev SetFits : List ℕ × ℕ → Type 0
 SetFits p = IsTrue (is_name p.0) × FitsSize p.1
 
@@ -145,6 +147,7 @@ action_listed ClearAll h = refl
 action_listed (SetBuffer n k) h = refl
 action_listed (Pass p) h = refl
 
+-- an action within its limits that has this kind byte
 abbrev OfKind : ℕ → Action → Type 0
 OfKind k a = FitsAction a × (action_kind a ≡ k)
 

@@ -23,12 +23,15 @@ use Rattle.buffer_commands.specs.declared.command.Command.TheVariants.{Client, U
 abbrev IsMade : {X : Type 0} → (X → Type 0) → (X → Command) → Command → Type 0
 IsMade {X} fits make c = (x : X) × fits x × (make x ≡ c)
 
+-- origin, moment and action that a Client command may have, each within its limits
 abbrev ClientFits : (Origin × ℕ) × Action → Type 0
 ClientFits p = (FitsOrigin p.0.0 × FitsMoment p.0.1) × FitsAction p.1
 
+-- moment and line that an Upstream command may have, each within its limits
 abbrev UpstreamFits : ℕ × Parts → Type 0
 UpstreamFits p = FitsMoment p.0 × FitsLine p.1
 
+-- node and floor that a NodeGone may have, each within its limits
 abbrev GoneFits : ℕ × ℕ → Type 0
 GoneFits p = FitsNode p.0 × FitsNumber p.1
 
@@ -71,6 +74,7 @@ command_listed (NodeGone n floor) h = refl
 command_listed Up h = refl
 command_listed Down h = refl
 
+-- a command within its limits that has this kind byte
 abbrev OfKind : ℕ → Command → Type 0
 OfKind k c = FitsCommand c × (command_kind c ≡ k)
 

@@ -17,40 +17,50 @@ use Rattle.buffer_commands.specs.declared.command.Command.TheVariants.{Client, U
 
 -- A verb: one byte, 0 or 1
 
+-- the byte of a verb: PRIVMSG is 0, NOTICE is 1
 abbrev pub verb_byte : Verb → ℕ
 verb_byte Privmsg = 0
 verb_byte Notice = 1
 
+-- the verb of a byte: 0 is PRIVMSG, all else NOTICE
 abbrev pub verb_of : ℕ → Verb
 verb_of byte = if byte == 0 then Privmsg else Notice
 
+-- a verb as bytes: its one byte
 abbrev pub spelled_verb : Verb → List ℕ
 spelled_verb verb = verb_byte verb ∷ []
 
+-- the verb at the front of an input; a byte past 1 is refused
 unfoldable pub verb : Reading Verb
 verb = through verb_of (byte_within 0 1)
 
 -- A channel's name: a name; one that is no channel's is refused as that field
 
+-- what may stand as a channel: a name that begins with #, &, + or !
 abbrev pub FitsChannel : List ℕ → Type 0
 FitsChannel c = IsTrue (is_channel c)
 
+-- the channel's name at the front of an input; any other name is refused at its first byte, that of its length
 unfoldable pub channel_name : Reading (List ℕ)
 channel_name = only is_channel name
 
 -- A size of a buffer: two bytes
 
+-- a size that two bytes hold; whether it is past 500 is for the buffers to say
 abbrev pub FitsSize : ℕ → Type 0
 FitsSize n = n ≤ 65535
 
+-- a size as bytes, the high byte first
 unfoldable pub spelled_size : ℕ → List ℕ
 spelled_size n = to_be_bytes w16 n
 
+-- the size at the front of an input: any two bytes are one
 unfoldable pub buffer_size : Reading ℕ
 buffer_size = number_to w16 65535
 
 -- Actions
 
+-- the kind byte of an action, 1 to 14
 abbrev pub action_kind : Action → ℕ
 action_kind Attach = 1
 action_kind Leave = 2
@@ -88,9 +98,11 @@ action_body ClearAll = []
 action_body (SetBuffer n k) = sized n ++ spelled_size k
 action_body (Pass p) = spelled_line p
 
+-- an action as bytes: its kind byte, and behind it what is of that kind
 unfoldable pub spelled_action : Action → List ℕ
 spelled_action a = action_kind a ∷ action_body a
 
+-- the names, the text, the size or the line of an action are within their limits
 abbrev pub FitsAction : Action → Type 0
 FitsAction Attach = Unit {0}
 FitsAction Leave = Unit {0}
@@ -107,18 +119,23 @@ FitsAction ClearAll = Unit {0}
 FitsAction (SetBuffer n k) = IsTrue (is_name n) × FitsSize k
 FitsAction (Pass p) = FitsLine p
 
+-- a Say, by its parts as they are read: verb, name, text
 abbrev pub say_of : (Verb × List ℕ) × List ℕ → Action
 say_of p = Say p.0.0 p.0.1 p.1
 
+-- a Say, behind the kind byte
 abbrev pub say_taken : Reading Action
 say_taken = through say_of (both (both verb name) text)
 
+-- a SetBuffer, by its parts as they are read: name, size
 abbrev pub set_of : List ℕ × ℕ → Action
 set_of p = SetBuffer p.0 p.1
 
+-- a SetBuffer, behind the kind byte
 abbrev pub set_buffer_taken : Reading Action
 set_buffer_taken = through set_of (both name buffer_size)
 
+-- a Pass, behind the kind byte: the line that goes upstream as it is
 abbrev pub pass_taken : Reading Action
 pass_taken = through Pass line
 
@@ -145,9 +162,11 @@ action_cases =
 abbrev pub say_wants : Wants
 say_wants = wants_both (wants_behind verb (once_whole name)) (both verb name) (once_whole text)
 
+-- a SetBuffer wants memory for its name, once that stands whole
 abbrev pub set_buffer_wants : Wants
 set_buffer_wants = once_whole name
 
+-- which inputs may want memory for an action: those of a kind that has a name, a text or a line, once one stands whole
 abbrev pub action_wants : Wants
 action_wants =
     wants_choice (
@@ -168,17 +187,21 @@ action = choice action_cases
 
 -- The number of a node, which need not be one of the nodes: one byte
 
+-- a node's number that one byte holds
 abbrev pub FitsNode : ℕ → Type 0
 FitsNode n = (0 ≤ n) × (n ≤ 255)
 
+-- a node's number as bytes: one byte
 abbrev pub spelled_node : ℕ → List ℕ
 spelled_node n = n ∷ []
 
+-- the node's number at the front of an input: any byte is one
 abbrev pub node : Reading ℕ
 node = byte_within 0 255
 
 -- Commands
 
+-- the kind byte of a command, 1 to 5
 abbrev pub command_kind : Command → ℕ
 command_kind (Client o at a) = 1
 command_kind (Upstream at p) = 2
@@ -194,9 +217,11 @@ command_body (NodeGone n floor) = spelled_node n ++ spelled_number floor
 command_body Up = []
 command_body Down = []
 
+-- a command as bytes: its kind byte, and behind it what is of that kind
 unfoldable pub spelled_command : Command → List ℕ
 spelled_command c = command_kind c ∷ command_body c
 
+-- the origin, the moment, the action, the line, the node and the floor of a command are within their limits
 abbrev pub FitsCommand : Command → Type 0
 FitsCommand (Client o at a) = (FitsOrigin o × FitsMoment at) × FitsAction a
 FitsCommand (Upstream at p) = FitsMoment at × FitsLine p
@@ -204,21 +229,27 @@ FitsCommand (NodeGone n floor) = FitsNode n × FitsNumber floor
 FitsCommand Up = Unit {0}
 FitsCommand Down = Unit {0}
 
+-- a Client command, by its parts as they are read: origin, moment, action
 abbrev pub client_of : (Origin × ℕ) × Action → Command
 client_of p = Client p.0.0 p.0.1 p.1
 
+-- an Upstream command, by its parts as they are read: moment, line
 abbrev pub upstream_of : ℕ × Parts → Command
 upstream_of p = Upstream p.0 p.1
 
+-- a Client command, behind the kind byte
 abbrev pub client_taken : Reading Command
 client_taken = through client_of (both (both origin moment) action)
 
+-- an Upstream command, behind the kind byte
 abbrev pub upstream_taken : Reading Command
 upstream_taken = through upstream_of (both moment line)
 
+-- a NodeGone, by its parts as they are read: node, floor
 abbrev pub gone_of : ℕ × ℕ → Command
 gone_of p = NodeGone p.0 p.1
 
+-- a NodeGone, behind the kind byte
 abbrev pub gone_taken : Reading Command
 gone_taken = through gone_of (both node number)
 
@@ -230,9 +261,11 @@ command_cases = (1, client_taken) ∷ (2, upstream_taken) ∷ (3, gone_taken) �
 abbrev pub client_wants : Wants
 client_wants = wants_behind (both origin moment) action_wants
 
+-- an Upstream command wants memory for its line, behind the moment
 abbrev pub upstream_wants : Wants
 upstream_wants = wants_behind moment (once_whole line)
 
+-- which inputs may want memory for a command: those of a client's or of upstream's; other commands are held in place
 abbrev pub command_wants : Wants
 command_wants = wants_choice ((1, client_wants) ∷ (2, upstream_wants) ∷ [])
 

@@ -7,6 +7,7 @@ if_kept b None = []
 if_kept true (Some k) = k ∷ []
 if_kept false (Some k) = []
 
+-- 1 where this is so, else 0: how much a command adds to a count of lines
 abbrev pub one_if : Bool → ℕ
 one_if true = 1
 one_if false = 0

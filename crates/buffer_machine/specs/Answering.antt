@@ -29,6 +29,7 @@ abbrev pub first_some : Option ChannelLines → Option TargetLines → Option Ta
 first_some None t = t
 first_some (Some c) t = Some c.target
 
+-- the target that a key finds: the channel of this key, else the query of it
 abbrev pub target_of_key : List ℕ → Held → Option TargetLines
 target_of_key key h = first_some (channel_of_key key h.channels) (query_of_key key h.queries)
 
@@ -126,18 +127,23 @@ answers_sizing h o t n = if is_past n then status h.nick o (codes "Size is past 
 abbrev pub joining : Settings → Held → Origin → List ℕ → List Effect
 joining s h o name = answers_joining s h o name (found name h)
 
+-- what is answered to a Part by an asker that is attached, by the name that it asks for
 abbrev pub parting : Held → Origin → List ℕ → List Effect
 parting h o name = answers_parting o name (found name h)
 
+-- what is answered to a Detach by an asker that is attached, by the name that it asks for
 abbrev pub detaching : Held → Origin → List ℕ → List Effect
 detaching h o name = answers_detaching h o (found name h)
 
+-- what is answered to a Reattach by an asker that is attached, by the name that it asks for
 abbrev pub reattaching : Settings → Held → Origin → List ℕ → List Effect
 reattaching s h o name = answers_reattaching s h o (found name h)
 
+-- what is answered to a Play by an asker that is attached, by the name of the target
 abbrev pub playing : Settings → Held → Origin → List ℕ → List Effect
 playing s h o name = played_or_status s h o (target_of_key (fold_name name) h)
 
+-- what is answered to a Clear by an asker that is attached, by the name of the target
 abbrev pub clearing : Held → Origin → List ℕ → List Effect
 clearing h o name = done_or_status h o (target_of_key (fold_name name) h)
 

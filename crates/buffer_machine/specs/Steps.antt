@@ -58,6 +58,7 @@ found name h = channel_of_key (fold_name name) h.channels
 abbrev pub IsKnownAt : List ChannelLines → Option ℕ → Bool → Type 0
 IsKnownAt cs place b = (key : List ℕ) → StandsAt key cs place → b ≡ is_some (channel_of_key key cs)
 
+-- the place of a key tells whether there is a channel that is detached
 abbrev pub IsDetachedAt : List ChannelLines → Option ℕ → Bool → Type 0
 IsDetachedAt cs place b = (key : List ℕ) → StandsAt key cs place → b ≡ is_detached (channel_of_key key cs)
 
@@ -69,6 +70,7 @@ HasPlace line h place = StandsAt (fold_name (channel_of line)) h.channels place
 abbrev pub with_channels : Held → List ChannelLines → Held
 with_channels h cs = holding h.nick h.clients cs h.queries
 
+-- other queries are held, and all else as it was
 abbrev pub with_queries : Held → List TargetLines → Held
 with_queries h ts = holding h.nick h.clients h.channels ts
 
@@ -119,9 +121,11 @@ let_go key cs found = if is_some found && not (is_joined found) then without_cha
 abbrev pub reattached : Settings → List ℕ → Held → Held
 reattached s name h = with_channels h (attached_again s.clears_channels (fold_name name) h.channels (found name h))
 
+-- what is held after a Part: the channel of the name is let go where the own nick is not in it
 abbrev pub parted : List ℕ → Held → Held
 parted name h = with_channels h (let_go (fold_name name) h.channels (found name h))
 
+-- what is held after a Detach: the channel of the name, if there is one, is detached
 abbrev pub detached_now : List ℕ → Held → Held
 detached_now name h = with_channels h (at_channel (fold_name name) (with_detached true) h.channels)
 

@@ -5,6 +5,7 @@ use Rattle.std.specs.List.{list_all}
 use Rattle.irc_line.specs.Names.{is_content_byte}
 use Rattle.irc_line.specs.Lines.{Parts, is_digit}
 
+-- SP, the byte 32, which separates the words of a content
 abbrev pub is_space : ℕ → Bool
 is_space b = b == 32
 

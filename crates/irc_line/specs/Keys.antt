@@ -17,6 +17,7 @@ is_below xs [] = false
 is_below [] (y ∷ ys) = true
 is_below (x ∷ xs) (y ∷ ys) = nat_lt x y || (x == y && is_below xs ys)
 
+-- this name's key comes before that of the first of these names, if there is one; where they rise, before all
 abbrev pub is_below_all : List ℕ → List (List ℕ) → Bool
 is_below_all name [] = true
 is_below_all name (d ∷ ds) = is_below (fold_name name) (fold_name d)

@@ -60,9 +60,11 @@ is_word w = nat_lt 0 (length w) && list_all is_word_byte w
 abbrev pub is_middle : List ℕ → Bool
 is_middle w = is_word w && not (first_is 58 w)
 
+-- the byte of a letter, A to Z
 abbrev pub is_upper_letter : ℕ → Bool
 is_upper_letter b = nat_le 65 b && nat_le b 90
 
+-- the byte of a digit, 0 to 9
 abbrev pub is_digit : ℕ → Bool
 is_digit b = nat_le 48 b && nat_le b 57
 

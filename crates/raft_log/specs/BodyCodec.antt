@@ -14,9 +14,11 @@ use Rattle.raft_log.specs.Spellings.{body_length, ending_at, measured, spelled_m
 pub length_codec : IsCodec (to_be_bytes w32) (λ n. n ≤ 65536) body_length
 length_codec = number-codec w32 (2 ^ 32) 65536 wide32 (omega arith)
 
+-- the outcome of a reading that gives this value, of so many bytes
 abbrev read : {X : Type 0} → X → ℕ → Result (X × ℕ) WireFault
 read x n = Ok (x, n)
 
+-- the outcome of a reading that is refused at this place
 abbrev refused : {X : Type 0} → ℕ → Result (X × ℕ) WireFault
 refused p = Err (Bad p)
 

@@ -70,6 +70,7 @@ split : (before : Option (List ℕ)) (n : ℕ) (cs : List (List ℕ)) → AreAft
 split before n [] h = absurd (omega (arith, h.counted))
 split before n (c ∷ cs) h = (c, (and_left (is_channel c) (list_all is_channel cs) h.named, (first_rises before c cs h.rise).0), (cs, refl))
 
+-- this is the first of these channels
 abbrev FirstIs : List ℕ → List (List ℕ) → Type 0
 FirstIs c cs = (others : List (List ℕ)) × (cs ≡ c ∷ others)
 
@@ -163,9 +164,12 @@ options_is_codec =
 
 -- ---- setups
 
+-- the fields of a setup as bytes: nick, channels, options
 abbrev spelled_fields : SetupFields → List ℕ
 spelled_fields p = (sized p.0.0 ++ spelled_channels p.0.1) ++ spelled_options p.1
 
+-- the fields of a setup are within their limits: the nick is a name, and channels and options are such as a setup
+-- may have
 abbrev FitFields : SetupFields → Type 0
 FitFields p = (IsTrue (is_name p.0.0) × IsTrue (are_channels p.0.1)) × FitOptions p.1
 

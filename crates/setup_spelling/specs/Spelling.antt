@@ -29,13 +29,16 @@ abbrev pub channels_after : ℕ → Option (List ℕ) → Reading (List (List �
 channels_after zero before = done []
 channels_after (suc n) before = channel_after before >>= λ c. through (λ cs. c ∷ cs) (channels_after n (Some c))
 
+-- the channels at the front of an input: how many, and as many names, in rising order of folded name
 unfoldable pub channels : Reading (List (List ℕ))
 channels = byte_within 0 100 >>= λ n. channels_after n None
 
+-- names as bytes, one behind the other, each behind its length
 abbrev pub spelled_names : List (List ℕ) → List ℕ
 spelled_names [] = []
 spelled_names (n ∷ names) = sized n ++ spelled_names names
 
+-- channels as bytes: how many there are, and their names
 unfoldable pub spelled_channels : List (List ℕ) → List ℕ
 spelled_channels names = length names ∷ spelled_names names
 
@@ -45,12 +48,15 @@ spelled_channels names = length names ∷ spelled_names names
 unfoldable pub spelled_short : ℕ → List ℕ
 spelled_short n = to_be_bytes w16 n
 
+-- how many lines a target keeps, in two bytes: at most 500
 unfoldable pub line_count : Reading ℕ
 line_count = number_to w16 500
 
+-- how many queries are kept at most, in one byte: 1 to 50
 abbrev pub query_count : Reading ℕ
 query_count = byte_within 1 50
 
+-- how far the times of played lines are ahead of UTC, in two bytes: the minutes and 1,439, at most 2,878
 unfoldable pub offset_minutes : Reading ℕ
 offset_minutes = number_to w16 2878
 
@@ -58,12 +64,15 @@ offset_minutes = number_to w16 2878
 abbrev pub OptionFields : Type 0
 OptionFields = (((((ℕ × ℕ) × ℕ) × Bool) × Bool) × Bool) × ℕ
 
+-- the options at the front of an input, field by field
 abbrev pub options_taken : Reading OptionFields
 options_taken = both (both (both (both (both (both line_count line_count) query_count) truth) truth) truth) offset_minutes
 
+-- options as bytes: two bytes for each number of lines and for the offset, one for each other field
 abbrev pub spelled_options : OptionFields → List ℕ
 spelled_options o = (((((spelled_short o.0.0.0.0.0.0 ++ spelled_short o.0.0.0.0.0.1) ++ o.0.0.0.0.1 ∷ []) ++ truth_byte o.0.0.0.1 ∷ []) ++ truth_byte o.0.0.1 ∷ []) ++ truth_byte o.0.1 ∷ []) ++ spelled_short o.1
 
+-- options within their limits: at most 500 lines, 1 to 50 queries, an offset of at most 2,878
 abbrev pub FitOptions : OptionFields → Type 0
 FitOptions o = ((((((o.0.0.0.0.0.0 ≤ 500) × (o.0.0.0.0.0.1 ≤ 500)) × ((1 ≤ o.0.0.0.0.1) × (o.0.0.0.0.1 ≤ 50))) × Unit {0}) × Unit {0}) × Unit {0}) × (o.1 ≤ 2878)
 
@@ -73,6 +82,7 @@ FitOptions o = ((((((o.0.0.0.0.0.0 ≤ 500) × (o.0.0.0.0.0.1 ≤ 500)) × ((1 �
 abbrev pub SetupFields : Type 0
 SetupFields = (List ℕ × List (List ℕ)) × OptionFields
 
+-- the settings that have these fields
 abbrev pub settings : SetupFields → Settings
 settings p =
     record {
@@ -87,6 +97,7 @@ settings p =
       offset = p.1.1;
     }
 
+-- the options of these settings, in the order of their bytes
 abbrev pub options_in : Settings → OptionFields
 options_in s = ((((((s.channel_size, s.query_size), s.most_queries), s.clears_channels), s.clears_queries), s.many_clients), s.offset)
 

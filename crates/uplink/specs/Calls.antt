@@ -19,11 +19,13 @@ pub data Call : Type 0 where
   -- the connection's end was told
   Ended : Call
 
+-- by this call the connection's end is told
 abbrev pub is_end : Call → Bool
 is_end (Fed bytes) = false
 is_end Failed = false
 is_end Ended = true
 
+-- at this call memory was missing
 abbrev pub is_failure : Call → Bool
 is_failure (Fed bytes) = false
 is_failure Failed = true

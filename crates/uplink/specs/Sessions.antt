@@ -73,25 +73,31 @@ written_for Open Welcome line = []
 written_for Open NickInUse line = []
 written_for Open Other line = []
 
+-- how the session stands after a line from the server
 unfoldable pub after_line : Session → Parts → Session
 after_line session line = after_meaning session (meaning_of line)
 
+-- what a line from the server gives to the node
 unfoldable pub inputs_for : Session → Parts → List UplinkInput
 inputs_for session line = given_by session (meaning_of line) line
 
+-- the bytes that are written to the server for a line from it
 unfoldable pub reply_to : Session → Parts → List ℕ
 reply_to session line = written_for session (meaning_of line) line
 
 -- One item of the stream: what is no line changes nothing and gives nothing
 
+-- how the session stands after an item: as before where that is no line
 abbrev pub after_item : Session → Item → Session
 after_item session (Got line) = after_line session line
 after_item session (Refused fault) = session
 
+-- what an item gives to the node: nothing where it is no line
 abbrev pub inputs_at : Session → Item → List UplinkInput
 inputs_at session (Got line) = inputs_for session line
 inputs_at session (Refused fault) = []
 
+-- the bytes that are written to the server for an item: none where it is no line
 abbrev pub reply_at : Session → Item → List ℕ
 reply_at session (Got line) = reply_to session line
 reply_at session (Refused fault) = []

@@ -21,9 +21,11 @@ AreBytes-drop n bytes h i = rw get_or-drop (h (n + i))
 abbrev pub read : {X : Type 0} → X → ℕ → Result (X × ℕ) WireFault
 read x n = Ok (x, n)
 
+-- two values as one, by a function that a lemma can name
 abbrev pair : {X Y : Type 0} → X → Y → X × Y
 pair x y = (x, y)
 
+-- the outcome of a reading that gives this fault and no value
 abbrev refused : {X : Type 0} → WireFault → Result (X × ℕ) WireFault
 refused e = Err e
 

@@ -17,12 +17,15 @@ AreBytes-take n bytes h i =
       | inr le ↦ rw (get_or_past (take n bytes) i 0 (omega (arith, length-take n bytes))) (omega arith)
     ]
 
+-- a result that is this value
 abbrev pub answer : {A : Type 0} → A → Result A WireFault
 answer x = Ok x
 
+-- a result that is this fault
 abbrev refused : {A : Type 0} → WireFault → Result A WireFault
 refused e = Err e
 
+-- an option that is this value
 abbrev pub chosen_one : {A : Type 0} → A → Option A
 chosen_one x = Some x
 

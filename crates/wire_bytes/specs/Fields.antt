@@ -40,8 +40,8 @@ abbrev pub goes_on : {X Y : Type 0} → Result (X × ℕ) WireFault → (X → �
 goes_on (Ok r) next = next r.0 r.1
 goes_on (Err e) next = Err e
 
--- one reading behind another, which may look at what the first one read
 infixl 10 ◌>>=◌
+-- one reading behind another, which may look at what the first one read
 unfoldable pub ◌>>=◌ : {X Y : Type 0} → Reading X → (X → Reading Y) → Reading Y
 (first >>= next) input = goes_on (first input) (λ x n. behind n (next x) input)
 

@@ -11,6 +11,7 @@ use Rattle.wire_bytes.specs.Codecs.{IsCodec}
 use Rattle.wire_bytes.specs.ContentCodecs.{content-codec, sized_some}
 use Rattle.irc_line.proofs.SameBytes.{same_bytes-refl, same_bytes-eq}
 
+-- the result of a content that is read as these parts of a line
 abbrev read_as : Parts → Result Parts LineFault
 read_as p = Ok p
 
