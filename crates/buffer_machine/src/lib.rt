@@ -1,4 +1,7 @@
-//! The buffers of a bouncer: who is attached, what is kept for clients that are away, and what each command brings about.
+//! The buffers of a bouncer: who is attached, what is kept for clients that are away, and what each command
+//! brings about.
+//! Stands under bouncer_tower, driver, headline and fold_app, among others.
+//! Promises that for every setup and list of commands the effects, the playback and the nick are the definitions'.
 #![tactic(auto)]
 
 mod actions;

@@ -1,4 +1,6 @@
 //! The channels and the queries of a bouncer, each with its last lines, found by folded name.
+//! Stands under buffer_machine and buffer_cases.
+//! Promises that what is done to one target is done to no other, and that past the most queries the oldest goes.
 #![tactic(auto)]
 
 mod channel;

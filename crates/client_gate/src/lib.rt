@@ -1,5 +1,7 @@
 //! What speaks IRC to one client of a bouncer: it reads the client's bytes, numbers its requests,
 //! and writes what comes of them.
+//! Stands under driver, and under the tests of buffer_cases and node_cases.
+//! Promises that the requests, bytes and closes of all calls are the definition's, however a client's bytes are cut.
 #![tactic(auto)]
 
 mod arriving;

@@ -1,5 +1,7 @@
 //! How often something may be done: lines claimed for a server that takes few at a time, and tries
 //! that failed begun again.
+//! Stands under driver, and under the tests of node_cases.
+//! Promises that in any stretch of time no more lines go than may go at once, and one for each time that a line takes.
 #![tactic(auto)]
 
 mod backoff;

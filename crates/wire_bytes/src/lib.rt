@@ -1,4 +1,6 @@
 //! Values as bytes: each value has one spelling, and small types that keep their limits.
+//! Stands under nearly all other crates, buffer_commands, raft_log and recorder among them.
+//! Promises that a value within its limits has one spelling, read back whatever follows it; none begins another.
 //!
 //! A value of several fields is read as `both`, `through`, `only` and `choice` of `specs/Fields` say, and has the
 //! laws of [`Wire`] by the lemmas of `specs/Codecs`. Its `take` asks
