@@ -1,5 +1,7 @@
 //! `bouncer`: runs a bouncer; folds numbered commands into what its clients are shown, and runs events over
 //! its nodes, again too where they were recorded.
+//! No crate stands on it. Its arguments, exit codes and standard error are tested; what its tasks do is promised by
+//! bouncer_run, fold_app and world_app.
 #![tactic(auto)]
 
 mod help;

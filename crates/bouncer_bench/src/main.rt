@@ -1,7 +1,7 @@
-//! `bouncer_bench ether ROUNDS` and `bouncer_bench queue ROUNDS`: two threads trade messages, over an ether or over a queue
-//! under a lock, and nothing is written. `bouncer_bench save PATH COUNT` opens the journal of a path and saves so many
-//! entries, one at a time; `bouncer_bench read PATH` opens it; either prints how many entries stand then. `bench/ether` and
-//! `bench/save` time them.
+//! `bouncer_bench ether ROUNDS` and `bouncer_bench queue ROUNDS`: two threads trade messages, over an ether or over a
+//! queue under a lock, and nothing is written. `bouncer_bench save PATH COUNT` opens the journal of a path and saves so
+//! many entries, one at a time; `bouncer_bench read PATH` opens it; either prints how many entries stand then.
+//! `bench/ether` and `bench/save` time them. No crate stands on it. It measures, and promises nothing.
 #![tactic(auto)]
 
 mod fault;

@@ -1,4 +1,6 @@
 //! The configuration of a running bouncer: what a TOML text says of it, and why one is refused.
+//! Stands under run_plan, bouncer_run and buffer_cases.
+//! A configuration that is taken says what its table says, or the defaults, within all limits.
 #![tactic(auto)]
 
 mod address;

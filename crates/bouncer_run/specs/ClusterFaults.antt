@@ -13,6 +13,7 @@ fault_of_node (Down cause.Memory) = Memory
 fault_of_node (Down cause.Store) = Store
 fault_of_node (Refused refusal) = Store
 
+-- nodes that do not start: for want of memory, or else for their stores
 abbrev pub fault_by : ClusterFault → RunFault
 fault_by cluster.Memory = Memory
 fault_by (cluster.NoNode n) = Store

@@ -40,6 +40,7 @@ abbrev pub fault_of_problem : Problem → RunFault
 fault_of_problem problem.Memory = fault.Memory
 fault_of_problem _ = fault.Config
 
+-- why no configuration was read, as the program tells it
 abbrev pub fault_of_unread : Unread → RunFault
 fault_of_unread (Unreadable f) = fault_of_reading f
 fault_of_unread (Refused f) = fault_of_problem f.problem

@@ -23,11 +23,13 @@ pub record IsFaultOfError (kind : ErrorKind) (otherwise fault : RunFault) : Type
   pub memory : kind ≡ OutOfMemory → fault ≡ Memory
   pub other : kind ≢ OutOfMemory → fault ≡ otherwise
 
+-- an input that is not read: it is too long, it fails, or memory is wanting
 abbrev pub fault_of_reading : ReadFault → RunFault
 fault_of_reading input.InputTooLong = InputTooLong
 fault_of_reading input.Read = Read
 fault_of_reading input.Memory = Memory
 
+-- a loop that ends by a fault: of a socket, or for want of memory
 abbrev pub fault_of_loop : LoopFault → RunFault
 fault_of_loop ended.Socket = Socket
 fault_of_loop ended.Memory = Memory

@@ -19,10 +19,12 @@ run_in_command node (Client o at action) = run_of node o
 run_in_command node (NodeGone gone floor) = if gone == node then floor else 0
 run_in_command node _ = 0
 
+-- the run that a command for the buffers tells of; an opening, an end or a line of a session tells of none
 abbrev pub run_in_session : ℕ → Sessioned → ℕ
 run_in_session node (fence.Inner c) = run_in_command node c
 run_in_session node _ = 0
 
+-- the run that a command for the fence tells of; a claim of a line tells of none
 abbrev pub run_in_claims : ℕ → Claimed → ℕ
 run_in_claims node (claims.Inner c) = run_in_session node c
 run_in_claims node (claims.Claim id number) = 0

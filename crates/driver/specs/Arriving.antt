@@ -55,6 +55,7 @@ abbrev pub number_if : Option ℕ → ℕ → Option ℕ
 number_if None last = None
 number_if (Some boot) last = if nat_lt last (2 ^ 60) then Some (last + 1) else None
 
+-- the number of a client that connects to this node: none where the node is not up, or where no number is left
 abbrev pub next_number : List Desk → ℕ → ℕ → Option ℕ
 next_number desks node last = number_if (boot_at desks node) last
 
@@ -77,6 +78,7 @@ ArrivesBy None number node password nick now old new = new ≡ old
 ArrivesBy (Some boot) None node password nick now old new = new ≡ old
 ArrivesBy (Some boot) (Some number) node password nick now old new = Arrives (node, boot, number) password nick now new
 
+-- a client has connected to this node, if it was given a number; where the node is not up nobody has
 abbrev pub ArrivesIf : List Desk → Option ℕ → ℕ → List ℕ → List ℕ → ℕ → Clients → Clients → Type 0
 ArrivesIf desks number node password nick now old new = ArrivesBy (boot_at desks node) number node password nick now old new
 
@@ -86,6 +88,7 @@ abbrev pub visited : Option ℕ → Bool → List Desk → ℕ → List Desk
 visited None taken desks node = changed_at turned_away desks node
 visited (Some boot) taken desks node = if taken then changed_at (with_seen boot) desks node else desks
 
+-- the desks where a client connected to this node, and so many clients had been numbered before it
 abbrev pub desks_behind : List Desk → ℕ → ℕ → List Desk
 desks_behind desks node numbered = visited (boot_at desks node) (nat_lt numbered (2 ^ 60)) desks node
 
@@ -94,5 +97,6 @@ abbrev pub turned_away_by : Option ℕ → List Desk → ℕ → List Order
 turned_away_by None desks node = orders_at turned_away_news desks node
 turned_away_by (Some boot) desks node = []
 
+-- what an operator is told where a client connects to this node: that it was turned away, if it is the first that was
 abbrev pub turned_away_at : List Desk → ℕ → List Order
 turned_away_at desks node = turned_away_by (boot_at desks node) desks node

@@ -12,6 +12,7 @@ use Rattle.driver.specs.Calls.{Call, DoesAll, DoesStep, Hear, Led, Step}
 use Rattle.driver.specs.Desks.{line_to_claim}
 use Rattle.driver.specs.Links.{status_at}
 
+-- a note tells its node to claim a line
 abbrev pub is_claim : Note TowerBody WireLine → Bool
 is_claim Claim = true
 is_claim note = false

@@ -20,6 +20,7 @@ pub record Told : Type 0 where
   pub clients : Clients
   pub orders : Ordered
 
+-- these clients and these orders, as one
 abbrev pub told : Clients → Ordered → Told
 told clients orders = record { clients = clients; orders = orders }
 
@@ -58,6 +59,7 @@ TickEach at timeout now desks (number ∷ numbers) old new =
 abbrev pub is_below : Origin → ℕ → ℕ → Bool
 is_below origin node boot = nat_eq origin.0 node && nat_lt origin.1 boot
 
+-- there is a client, and it is of a run of this node below this boot
 abbrev pub is_one_below : Option Client → ℕ → ℕ → Bool
 is_one_below None node boot = false
 is_one_below (Some client) node boot = is_below client.origin node boot
@@ -83,6 +85,7 @@ LeaveEach at node boot (number ∷ numbers) old new =
 abbrev pub is_of : Origin → ℕ → Bool
 is_of origin node = nat_eq origin.0 node
 
+-- there is a client, and it is of this node
 abbrev pub is_one_of : Option Client → ℕ → Bool
 is_one_of None node = false
 is_one_of (Some client) node = is_of client.origin node

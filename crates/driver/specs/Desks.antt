@@ -108,6 +108,7 @@ line_in (Some session) (Some number) = Some (session, number)
 line_in (Some session) None = None
 line_in None number = None
 
+-- the line that a node would claim next, by how it stood when it was last heard of
 abbrev pub line_to_claim : Option Status → Option ((ℕ × ℕ) × ℕ)
 line_to_claim (Some status) = line_in status.session status.next_claim
 line_to_claim None = None
@@ -123,6 +124,7 @@ abbrev pub unless_claimed : Desk → ℕ → ℕ → Option ((ℕ × ℕ) × ℕ
 unless_claimed desk wait now None = None
 unless_claimed desk wait now (Some line) = if is_claimed desk.claimed wait now line.0 line.1 then None else Some line
 
+-- the line that a node is to claim now, if there is one: none while the last claim of the same line may still stand
 unfoldable pub claim_due : Desk → Settings → ℕ → Option ((ℕ × ℕ) × ℕ)
 claim_due desk settings now = unless_claimed desk settings.timeout_ms now (line_to_claim desk.status)
 
@@ -131,6 +133,7 @@ abbrev pub claim_if : Bool → Option ((ℕ × ℕ) × ℕ) → Option (Note Tow
 claim_if may None = None
 claim_if may (Some line) = if may then Some Claim else None
 
+-- the note that tells a node to claim, where a line is due and the pace allows it
 abbrev pub claim_at : Desk → Settings → ℕ → Pace → Option (Note TowerBody WireLine)
 claim_at desk settings now pace =
     claim_if (may_go pace.burst pace.line_ms pace.free_at now) (claim_due desk settings now)

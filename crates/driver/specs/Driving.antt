@@ -29,6 +29,7 @@ abbrev pub changed_if : (Desk → Desk) → List Desk → ℕ → Option Desk �
 changed_if change desks index None = desks
 changed_if change desks index (Some desk) = slice_set desks index (change desk)
 
+-- the desks, that of this node changed, if there is one; nodes count from 1
 abbrev pub changed_at : (Desk → Desk) → List Desk → ℕ → List Desk
 changed_at change desks node = changed_if change desks (node - 1) (slice_get desks (node - 1))
 
@@ -37,6 +38,7 @@ abbrev pub orders_of : (Desk → List Order) → Option Desk → List Order
 orders_of orders None = []
 orders_of orders (Some desk) = orders desk
 
+-- what is ordered of this node's desk, if there is one; nodes count from 1
 abbrev pub orders_at : (Desk → List Order) → List Desk → ℕ → List Order
 orders_at orders desks node = orders_of orders (slice_get desks (node - 1))
 
@@ -72,6 +74,7 @@ abbrev pub closed_of : List Desk → Option ℕ → Bool → Option ℕ
 closed_of desks None lost = None
 closed_of desks (Some node) lost = if lost && is_some (boot_up (status_at desks node)) then Some node else None
 
+-- the node that is to be told, if one is, is told that the session closed
 abbrev pub closed_orders : Option ℕ → List Order
 closed_orders None = []
 closed_orders (Some node) = Tell node note.Closed ∷ []

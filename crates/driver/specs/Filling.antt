@@ -21,6 +21,7 @@ abbrev pub level_of : ℕ → Level
 level_of last =
     if nat_le 999000 last then Full else (if nat_le 950000 last then NearlyFull else (if nat_le 800000 last then Filling else Roomy))
 
+-- levels in order: the fuller the log, the greater
 abbrev pub rank : Level → ℕ
 rank Roomy = 0
 rank Filling = 1
@@ -39,6 +40,7 @@ abbrev pub last_of : Option Status → ℕ
 last_of None = 0
 last_of (Some status) = status.last
 
+-- how many entries this desk's node has, as far as is known; 0 where there is no desk
 abbrev pub last_in : Option Desk → ℕ
 last_in None = 0
 last_in (Some desk) = last_of desk.status
@@ -48,6 +50,7 @@ pub record TellsLevel (node : ℕ) (level : Level) (old new : Driver) : Type 0 w
   pub written : AllAreWritten old.clients (notice (nick_in old) (words_of level)) (ordered old.orders (Tells (LogFills node level) ∷ [])) new.orders
   pub rest : new ≡ record old { orders = new.orders; level = level }
 
+-- people are told of a level where this is so, and else nothing changes
 abbrev pub TellsLevelIf : Bool → ℕ → Level → Driver → Driver → Type 0
 TellsLevelIf false node level old new = new ≡ old
 TellsLevelIf true node level old new = TellsLevel node level old new
@@ -59,6 +62,7 @@ WatchesFor (Some node) old new =
     let level = level_of (last_in (slice_get old.desks (node - 1))) in
     TellsLevelIf (nat_lt (rank old.level) (rank level)) node level old new
 
+-- The log of the leader is looked at, if one leads, and people are told where its level rose above what they know.
 pub record Watches (old new : Driver) : Type 0 where
   pub leader : Option ℕ
   pub is_leader : IsLeader old.desks leader
@@ -71,6 +75,7 @@ is_full Filling = false
 is_full NearlyFull = false
 is_full Full = true
 
+-- what the client of this number sends is not taken: it registered, and the log is full
 abbrev pub is_refused : Driver → ℕ → Bool
 is_refused driver number = is_full driver.level && is_attached_in (client_at driver.clients number)
 

@@ -26,6 +26,7 @@ gone_body node floor = of_buffers (NodeGone node floor)
 abbrev pub lead_of : Status → Option Lead
 lead_of status = if leads status then Some (record { boot = status.boot; term = status.term }) else None
 
+-- the run and the term in which a node led when it was last heard of, if it did
 abbrev pub lead_in : Option Status → Option Lead
 lead_in None = None
 lead_in (Some status) = lead_of status
@@ -59,6 +60,7 @@ is_lost (Appended lead place) = false
 is_lost Lost = true
 is_lost Applied = false
 
+-- word is to be asked for: it may be lost, and its last ask is so long ago
 abbrev pub is_due : Notice → ℕ → ℕ → Bool
 is_due notice wait now = is_lost notice.progress && is_over notice.asked wait now
 
@@ -81,6 +83,7 @@ heard_of node status done refused notice =
     then record notice { progress = progress_after notice.progress status done refused }
     else notice
 
+-- the same of the word at a place, if there is some
 abbrev pub heard_in : ℕ → Status → ℕ → Bool → Option Notice → Option Notice
 heard_in node status done refused None = None
 heard_in node status done refused (Some notice) = Some (heard_of node status done refused notice)
@@ -106,9 +109,11 @@ boot_over (Some since) (Some status) seen silent = Some (greatest seen status.bo
 boot_over (Some since) None seen silent = if silent then seen else None
 boot_over None status seen silent = if silent then seen else None
 
+-- the last run of a node that is over now, if one is: the node is down, or answered nothing for ten waits
 abbrev pub dead_boot : Desk → ℕ → ℕ → Option ℕ
 dead_boot desk wait now = boot_over desk.down desk.status desk.seen (is_over desk.heard (10 * wait) now)
 
+-- the boot below which the runs of a node are over now, if some are
 abbrev pub dead_below : Desk → ℕ → ℕ → Option ℕ
 dead_below desk wait now = gone_below (dead_boot desk wait now)
 
@@ -124,6 +129,7 @@ floor_by (Appended lead place) floor = None
 floor_by Lost floor = None
 floor_by Applied floor = Some floor
 
+-- the boot below which runs are gone for all nodes, if there is word of that and it is known to be applied
 abbrev pub applied_floor : Option Notice → Option ℕ
 applied_floor None = None
 applied_floor (Some notice) = floor_by notice.progress notice.floor
@@ -156,6 +162,7 @@ notice_in (Some place) = place
 abbrev pub no_notices : List (Option Notice)
 no_notices = None ∷ None ∷ None ∷ None ∷ None ∷ None ∷ None ∷ []
 
+-- the word that goes round of this node, if there is some; nodes count from 1
 abbrev pub notice_at : List (Option Notice) → ℕ → Option Notice
 notice_at all node = notice_in (slice_get all (node - 1))
 

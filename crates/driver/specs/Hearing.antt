@@ -26,6 +26,7 @@ abbrev pub led_in : Option Status → ℕ → Bool
 led_in None term = false
 led_in (Some before) term = leads before && nat_eq before.term term
 
+-- there is no cause for which a node is down: it is up
 abbrev pub is_none : Option Cause → Bool
 is_none None = true
 is_none (Some cause) = false
@@ -39,6 +40,7 @@ was_up (Some before) = is_none before.down
 abbrev pub is_elected : Desk → Status → Bool
 is_elected desk status = leads status && not (led_in desk.status status.term)
 
+-- an operator is told that a node was elected in its term, where it was
 abbrev pub elected_news : Desk → Status → List Order
 elected_news desk status = if is_elected desk status then Tells (Elected desk.id status.term) ∷ [] else []
 
@@ -60,6 +62,7 @@ down_behind desk now None = record desk {
 }
 down_behind desk now (Some since) = desk
 
+-- an operator is told that a node is up in this run, unless it was up before
 abbrev pub up_news : ℕ → ℕ → Bool → List Order
 up_news id boot true = []
 up_news id boot false = Tells (Up id boot) ∷ []
@@ -69,6 +72,7 @@ abbrev pub up_behind : Desk → ℕ → Bool → Desk
 up_behind desk now true = record desk { down = None; heard = at now; has_turned_away = false }
 up_behind desk now false = record desk { down = None; heard = at now; has_turned_away = false; led = at now; up = at now }
 
+-- a node of this role follows: it neither leads nor asks for votes
 abbrev pub is_follower : Role → Bool
 is_follower Follower = true
 is_follower Candidate = false
@@ -119,6 +123,7 @@ told_behind desk now told status progress =
       claimed = settled desk.claimed status (progressed desk.progress told progress).done;
     }
 
+-- the desk of a node that is up, or is down for this cause, where it was up before or was not
 abbrev pub stood_behind : Desk → ℕ → Bool → Option Cause → Desk
 stood_behind desk now up None = up_behind desk now up
 stood_behind desk now up (Some cause) = down_behind desk now desk.down
@@ -139,6 +144,7 @@ heard_of desk told status progress = record {
   has_lost = nat_lt desk.progress.lost (progressed desk.progress told progress).lost;
 }
 
+-- an operator is told that a node is up, or is down, where that is new
 abbrev pub stood_news : Desk → Status → Option Cause → List Order
 stood_news desk status None = up_news desk.id status.boot (was_up desk.status)
 stood_news desk status (Some cause) = down_news desk.id cause desk.down
@@ -152,6 +158,7 @@ abbrev pub boot_if : ℕ → Option Cause → Option ℕ
 boot_if boot None = Some boot
 boot_if boot (Some cause) = None
 
+-- the run in which a node was up when it was last heard of, if it was
 abbrev pub boot_up : Option Status → Option ℕ
 boot_up None = None
 boot_up (Some status) = boot_if status.boot status.down
@@ -160,5 +167,6 @@ boot_up (Some status) = boot_if status.boot status.down
 abbrev pub turned_away_news : Desk → List Order
 turned_away_news desk = if desk.has_turned_away then [] else Tells (TurnedAway desk.id) ∷ []
 
+-- the desk of a node from which a client was turned away
 abbrev pub turned_away : Desk → Desk
 turned_away desk = record desk { has_turned_away = true }

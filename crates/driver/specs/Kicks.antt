@@ -54,10 +54,12 @@ abbrev pub IsKickedIf : Bool → Option Client → List ℕ → Ordered → Orde
 IsKickedIf false found text before after = after ≡ before
 IsKickedIf true found text before after = IsWritten found text before after
 
+-- there is a client, and it was shown a JOIN
 abbrev pub has_joined_in : Option Client → Bool
 has_joined_in None = false
 has_joined_in (Some client) = client.has_joined
 
+-- the client that was found is written this, where it was shown a JOIN, is attached, and its connection stands
 abbrev pub IsKicked : Option Client → List ℕ → Ordered → Ordered → Type 0
 IsKicked found text before after = IsKickedIf (has_joined_in found) found text before after
 
@@ -77,6 +79,7 @@ pub record IsRejoined (line : Parts) (nick : List ℕ) (clients : Clients) (befo
   pub kicks : AllAreKicked clients (kick_line (parameter 0 line) nick) before kicked
   pub sent : IsSent line kicked after
 
+-- the line goes to the server behind its kicks where this is so, and else nothing is ordered
 abbrev pub RejoinsIf : Bool → Parts → List ℕ → Clients → Ordered → Ordered → Type 0
 RejoinsIf false line nick clients before after = after ≡ before
 RejoinsIf true line nick clients before after = IsRejoined line nick clients before after

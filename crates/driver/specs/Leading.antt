@@ -10,6 +10,7 @@ abbrev pub term_of : Option Status → Option ℕ
 term_of None = None
 term_of (Some status) = if leads status then Some status.term else None
 
+-- the term in which this desk's node leads, if there is a desk and its node leads
 abbrev pub term_in : Option Desk → Option ℕ
 term_in None = None
 term_in (Some desk) = term_of desk.status

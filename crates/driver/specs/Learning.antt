@@ -21,6 +21,7 @@ pub record Learns (nick : List ℕ) (old new : Driver) : Type 0 where
   pub written : AllAreWritten old.clients (renaming (nick_in old) nick) old.orders new.orders
   pub rest : new ≡ record old { orders = new.orders; given = Some nick }
 
+-- a nick is learnt, if there is one to learn, and else nothing changes
 abbrev pub LearnsIf : Option (List ℕ) → Driver → Driver → Type 0
 LearnsIf None old new = new ≡ old
 LearnsIf (Some nick) old new = Learns nick old new

@@ -124,6 +124,7 @@ note_of at input.Opened = note.Opened ∷ []
 note_of at (input.Heard line) = if nat_lt 511 (length (spelling line)) then [] else note.Heard at line ∷ []
 note_of at input.Closed = note.Closed ∷ []
 
+-- the notes to its node of all that an uplink gives, in order
 unfoldable pub notes_of : Moment → List UplinkInput → List (Note TowerBody WireLine)
 notes_of at [] = []
 notes_of at (input ∷ inputs) = note_of at input ++ notes_of at inputs
@@ -166,6 +167,7 @@ pub record IsSent (line : Parts) (before after : Ordered) : Type 0 where
   pub are : bytes.items ≡ cut_spelling line
   pub orders : after ≡ ordered before (Send bytes ∷ [])
 
+-- a line goes to the server where this is so, and else nothing is ordered
 abbrev pub SendsIf : Bool → Parts → Ordered → Ordered → Type 0
 SendsIf true line before after = IsSent line before after
 SendsIf false line before after = after ≡ before

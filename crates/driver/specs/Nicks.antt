@@ -21,6 +21,7 @@ abbrev pub nick_by : Option (List ℕ) → List ℕ → List ℕ
 nick_by None asked = asked
 nick_by (Some given) asked = given
 
+-- the nick in force, as a driver knows it
 abbrev pub nick_in : Driver → List ℕ
 nick_in driver = nick_by driver.given driver.settings.nick
 
@@ -28,6 +29,7 @@ nick_in driver = nick_by driver.given driver.settings.nick
 abbrev pub given_by : List ℕ → Parts → Option (List ℕ) → Option (List ℕ)
 given_by was line given = if is_new_nick was line then Some (parameter 0 line) else given
 
+-- the nick that the server gave behind what came in a session: a line may give another, nothing else does
 abbrev pub given_behind : Note TowerBody WireLine → Driver → Option (List ℕ)
 given_behind (note.Heard at line) driver = given_by (nick_in driver) line driver.given
 given_behind other driver = driver.given
@@ -36,6 +38,7 @@ given_behind other driver = driver.given
 abbrev pub is_renamed : List ℕ → Parts → Bool
 is_renamed was line = is_new_nick was line && has_command (codes "001") line && not (same_bytes was (parameter 0 line))
 
+-- the line that tells a client of this nick that it has another now
 abbrev pub renaming : List ℕ → List ℕ → List ℕ
 renaming was new = 58 ∷ was ++ codes " NICK " ++ new ++ 13 ∷ 10 ∷ []
 
@@ -48,9 +51,11 @@ abbrev pub IsWrittenIf : Bool → ℕ → List ℕ → Ordered → Ordered → T
 IsWrittenIf false number text before after = after ≡ before
 IsWrittenIf true number text before after = (line : Vec ℕ) × (line.items ≡ text) × (after ≡ ordered before (Write number line ∷ []))
 
+-- a client is attached, and its connection stands
 abbrev pub is_reached : Client → Bool
 is_reached client = client.is_attached && not client.is_gone
 
+-- the client that was found is written this, where it is attached and its connection stands
 abbrev pub IsWritten : Option Client → List ℕ → Ordered → Ordered → Type 0
 IsWritten None text before after = after ≡ before
 IsWritten (Some client) text before after = IsWrittenIf (is_reached client) client.origin.2 text before after
@@ -73,6 +78,7 @@ is_misnamed client nick = is_reached client && not (same_bytes client.nick nick)
 abbrev pub IsNamed : Client → List ℕ → Ordered → Ordered → Type 0
 IsNamed client nick before after = IsWrittenIf (is_misnamed client nick) client.origin.2 (renaming client.nick nick) before after
 
+-- the same of the client that was found, if there is one
 abbrev pub IsNamedIn : Option Client → List ℕ → Ordered → Ordered → Type 0
 IsNamedIn None nick before after = after ≡ before
 IsNamedIn (Some client) nick before after = IsNamed client nick before after
@@ -87,6 +93,7 @@ abbrev pub RenamesIf : Bool → Clients → List ℕ → Ordered → Ordered →
 RenamesIf false clients text before after = after ≡ before
 RenamesIf true clients text before after = AllAreWritten clients text before after
 
+-- clients are told of another nick where what came is the line that begins a session with it, and else of nothing
 abbrev pub RenamesBy : Note TowerBody WireLine → Driver → Ordered → Type 0
 RenamesBy (note.Heard at line) old after =
     RenamesIf (is_renamed (nick_in old) line) old.clients (renaming (nick_in old) (parameter 0 line)) old.orders after

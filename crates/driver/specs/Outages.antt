@@ -17,5 +17,6 @@ IsToldIf false c before after =
     (line : Vec ℕ) × (line.items ≡ down_line c.origin.0)
     × (after ≡ ordered before (Write c.origin.2 line ∷ Close c.origin.2 ∷ Tells (Left c.origin) ∷ []))
 
+-- a client is told that its node is down, and is closed, unless its connection is gone already
 abbrev pub IsToldDown : Client → Ordered → Ordered → Type 0
 IsToldDown c before after = IsToldIf c.is_gone c before after

@@ -23,21 +23,25 @@ abbrev pub heard_if : Ordered → Option Desk → Status → Progress → Heard
 heard_if orders None status progress = record { is_new = false; has_lost = false }
 heard_if orders (Some desk) status progress = heard_of desk (told_to orders desk.id) status progress
 
+-- what is new of this node by this word, as a driver knows it
 abbrev pub heard_at : Driver → ℕ → Status → Progress → Heard
 heard_at driver node status progress = heard_if driver.orders (slice_get driver.desks (node - 1)) status progress
 
--- how many notes of this node are done, and which may be lost
+-- how many notes of this desk's node are done, as far as is known; 0 where there is no desk
 abbrev pub done_in : Option Desk → ℕ
 done_in None = 0
 done_in (Some desk) = desk.progress.done
 
+-- how many notes of this node are done, as far as is known; nodes count from 1
 abbrev pub done_at : List Desk → ℕ → ℕ
 done_at desks node = done_in (slice_get desks (node - 1))
 
+-- the last note of this desk's node whose request may be lost, as far as is known; 0 where there is no desk
 abbrev pub lost_in : Option Desk → ℕ
 lost_in None = 0
 lost_in (Some desk) = desk.progress.lost
 
+-- the last note of this node whose request may be lost, as far as is known; nodes count from 1
 abbrev pub lost_at : List Desk → ℕ → ℕ
 lost_at desks node = lost_in (slice_get desks (node - 1))
 

@@ -28,6 +28,7 @@ abbrev pub buried_by : Option ℕ → ℕ → Option Notice → Option Notice
 buried_by None node place = place
 buried_by (Some floor) node place = if is_news place floor then Some (fresh node floor) else place
 
+-- the word at a node's place now: that runs of it are over, where that says more than what stood there
 abbrev pub buried : Settings → ℕ → Desk → Option Notice → Option Notice
 buried settings now desk place = buried_by (dead_below desk settings.timeout_ms now) desk.id place
 
@@ -51,6 +52,7 @@ pub record Round : Type 0 where
   pub notices : List (Option Notice)
   pub orders : Ordered
 
+-- this word of all nodes and these orders, as one
 abbrev pub round : List (Option Notice) → Ordered → Round
 round notices orders = record { notices = notices; orders = orders }
 

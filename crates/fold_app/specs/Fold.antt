@@ -18,6 +18,7 @@ use Rattle.fold_app.specs.Lines.{lines_of, hex_bytes}
 use Rattle.fold_app.specs.declared.fault.FoldFault.{FoldFault}
 use Rattle.fold_app.specs.declared.fault.FoldFault.TheVariants.{BadHex, BadBody}
 
+-- the body of a line: a command of the buffers, a request of a client, a mark, or nothing
 abbrev pub Request : Type 0
 Request = Body Command Action
 
@@ -35,10 +36,12 @@ if_whole n (Err e) = None
 unfoldable pub body_of : List ℕ → Option Request
 body_of bytes = if_whole (length bytes) (body_taken command action bytes)
 
+-- the body of line k, or that its bytes spell none
 abbrev pub or_bad_body : ℕ → Option Request → Result Request FoldFault
 or_bad_body k (Some body) = Ok body
 or_bad_body k None = Err (BadBody k)
 
+-- the body that the bytes of line k spell, or what is wrong: the line is no hex, or its bytes spell no body
 abbrev pub judged_bytes : ℕ → Option (List ℕ) → Result Request FoldFault
 judged_bytes k (Some bytes) = or_bad_body k (body_of bytes)
 judged_bytes k None = Err (BadHex k)
@@ -47,6 +50,7 @@ judged_bytes k None = Err (BadHex k)
 unfoldable pub judged_line : ℕ → List ℕ → Result Request FoldFault
 judged_line k line = judged_bytes k (hex_bytes line)
 
+-- a body before those of the lines behind it, or the fault of the first bad one of them all
 abbrev pub put_before : Result Request FoldFault → Result (List Request) FoldFault → Result (List Request) FoldFault
 put_before (Err e) rest = Err e
 put_before (Ok body) (Ok bodies) = Ok (body ∷ bodies)

@@ -17,6 +17,7 @@ lines_of (b ∷ rest) = if b == 10 then [] ∷ lines_of rest else add_byte b (li
 abbrev pub is_lower : ℕ → Bool
 is_lower b = not (nat_le 65 b && nat_le b 70)
 
+-- the value of what went well, and nothing of a fault
 abbrev pub of_result : {A E : Type 0} → Result A E → Option A
 of_result (Ok a) = Some a
 of_result (Err e) = None

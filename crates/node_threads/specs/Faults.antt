@@ -7,6 +7,7 @@ use Rattle.node_cells.specs.declared.cell_fault.CellFault.TheVariants as of_cell
 use Rattle.node_threads.specs.declared.cluster_fault.ClusterFault.{ClusterFault}
 use Rattle.node_threads.specs.declared.cluster_fault.ClusterFault.TheVariants.{Memory, NoNode, Stopped, Node, Spent}
 
+-- a fault of a cell, as a fault of the cluster that has it
 abbrev pub from_cell : CellFault → ClusterFault
 from_cell of_cell.Memory = Memory
 from_cell of_cell.Spent = Spent

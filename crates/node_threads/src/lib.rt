@@ -1,4 +1,7 @@
 //! The nodes of one process, each in a thread of its own, which alone has the node's cell.
+//! Stands under bouncer_run, and under node_cases.
+//! A cluster starts with each node over the store of its part, or says why not; what it leaves are the records of one
+//! group, which replay over honest stores.
 #![tactic(auto)]
 
 mod beats;

@@ -72,6 +72,7 @@ pub record Planned : Type 0 where
   pub record_file : Option (List ℕ)
   pub input_end : InputEnd
 
+-- what of this configuration stands in a plan: of the server's password only whether one is sent
 abbrev pub planned_of : Config → Planned
 planned_of c =
     record {
