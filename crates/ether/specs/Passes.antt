@@ -20,6 +20,7 @@ pub record EtherParts (Setup : Type 0) : Type 0 where
   pub setup : Setup
 
 module _ {B L T : Type 0} where
+  -- the first of these views, or this one where there is none
   abbrev pub first_or : View B L T → List (View B L T) → View B L T
   first_or v [] = v
   first_or v (w ∷ ws) = w
@@ -75,6 +76,7 @@ module _ {Setup B L T : Type 0} where
   abbrev pub IsPass : EtherParts Setup → Pass B L T → Type 0
   IsPass e p = IsPassAt e.table e.size p
 
+  -- passes of this ether, in order, to which nothing happened yet
   abbrev pub AreNew : EtherParts Setup → List (Pass B L T) → Type 0
   AreNew e ps = AreNewAt e.table e.size ps
 

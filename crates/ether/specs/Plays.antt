@@ -32,6 +32,7 @@ module _ {B L T : Type 0} where
       (old.message.from ≡ suc v.node) × (old.message.to ≡ e.message.to)
       × (v.honest ≡ true → item v.state.sent old.number ≡ Some old.message)
 
+  -- the list with its first view changed
   abbrev pub on_first : (View B L T → View B L T) → List (View B L T) → List (View B L T)
   on_first f [] = []
   on_first f (v ∷ vs) = f v ∷ vs
@@ -49,22 +50,26 @@ module _ {B L T : Type 0} where
   abbrev pub on_view : (View B L T → View B L T) → Known B L T → Known B L T
   on_view f s = record s { views = on_first f s.views }
 
+-- a seat's spare once it is taken out of its home; one that is out already, a bank and none stay as they are
 abbrev pub out_of : Spare → Spare
 out_of (Bank k) = Bank k
 out_of (Home k) = Out k
 out_of (Out k) = Out k
 out_of Gone = Gone
 
+-- the slots that a seat carries once its spare is out: one from home comes first, and is empty
 abbrev pub carried_out : {B : Type 0} → Spare → List (ℕ × Option (Envelope B)) → List (ℕ × Option (Envelope B))
 carried_out (Bank k) c = c
 carried_out (Home k) c = (k, None) ∷ c
 carried_out (Out k) c = c
 carried_out Gone c = c
 
+-- the number of the message in a slot, 0 where the slot is empty
 abbrev pub number_in_slot : {B : Type 0} → Option (Envelope B) → ℕ
 number_in_slot None = 0
 number_in_slot (Some e) = e.number
 
+-- the number of the message in the first slot that a seat carries, 0 where there is none
 abbrev pub number_in : {B : Type 0} → List (ℕ × Option (Envelope B)) → ℕ
 number_in [] = 0
 number_in (c ∷ cs) = number_in_slot c.1
@@ -139,18 +144,22 @@ module _ {B L T : Type 0} where
   abbrev pub first_part : ℕ → Spare → Known B L T → Known B L T
   first_part c x s = known x s.looks (take c s.views)
 
+  -- the seat that is cut off gets the views behind the first c, and no looks
   abbrev pub rest_part : ℕ → Spare → Known B L T → Known B L T
   rest_part c x s = known x [] (drop c s.views)
 
+  -- one seat takes in the views of another, behind its own
   abbrev pub both : Known B L T → Known B L T → Known B L T
   both s t = known s.spare s.looks (s.views ++ t.views)
 
+-- the spare that the dealing seat keeps for its node: the bank's first slot, at home, or none where it has no bank
 abbrev pub dealt : Spare → Spare
 dealt (Bank k) = Home k
 dealt (Home k) = Gone
 dealt (Out k) = Gone
 dealt Gone = Gone
 
+-- the spare of the new seat, which deals on: the bank without its first slot, or none
 abbrev pub bank_after : Spare → Spare
 bank_after (Bank k) = Bank (k + 1)
 bank_after (Home k) = Gone

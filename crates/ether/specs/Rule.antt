@@ -51,6 +51,7 @@ slot_of w = w % full
 abbrev pub IsMarked : {B : Type 0} → ℕ → Option (Envelope B) → Type 0
 IsMarked w y = w < full → y ≡ None
 
+-- a look into the mailbox of this word, where this lay
 abbrev pub look_at : {B : Type 0} → ℕ → Option (Envelope B) → Look B
 look_at word found = record { word = word; found = found }
 
@@ -60,6 +61,7 @@ look_if true word = look_at word None ∷ []
 look_if false word = []
 
 module _ {B L T : Type 0} where
+  -- a seat with this spare, these looks and these views
   abbrev pub known : Spare → List (Look B) → List (View B L T) → Known B L T
   known x looks vs = record { spare = x; looks = looks; views = vs }
 

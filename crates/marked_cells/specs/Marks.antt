@@ -14,6 +14,7 @@ use Rattle.world_views.specs.Views.{Ticketed, View}
 use Rattle.node_cells.specs.declared.cell_fault.CellFault.{CellFault}
 use Rattle.node_cells.specs.declared.cell_fault.CellFault.TheVariants.{Memory, Spent, Node as OfNode}
 
+-- the larger of two numbers
 abbrev pub larger : ℕ → ℕ → ℕ
 larger a b = if nat_lt a b then b else a
 
@@ -92,6 +93,7 @@ module _ {B : Type 0} (marked : B → Option Mark) where
     asked_after most Restart = 0
     asked_after most (StopIn x after) = 0
 
+    -- the greatest number of a mark that was asked in a run, after these turns, where it was `most` before them
     abbrev pub asked_from : ℕ → List (Ticketed B L T) → ℕ
     asked_from most [] = most
     asked_from most (t ∷ turns) = asked_from (asked_after most t.1) turns

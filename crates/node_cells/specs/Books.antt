@@ -44,9 +44,11 @@ module _ (M : Machine) where
   abbrev pub NotedOf : Type 0
   NotedOf = NodeTurn M.Body M.Line M.Target M.Effect M.Played
 
+  -- what comes out of a turn of such a node
   abbrev pub OutcomeOf : Type 0
   OutcomeOf = Outcome M.Effect M.Played
 
+  -- the turn of this event at this ticket, with what came out of it
   abbrev pub noted : ℕ → EventOf M → OutcomeOf → NotedOf
   noted t e o = record { ticket = t; event = e; outcome = o }
 

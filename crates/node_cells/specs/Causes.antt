@@ -24,6 +24,7 @@ told_down (DownInTurn x done) own = Some (own_cause own)
 told_down DownInRestart own = Some (own_cause own)
 
 module _ {Setup Hosted Store B L T E P U : Type 0} where
+  -- why the cell's node is down, if it is
   abbrev pub down_in : CellParts Setup Hosted Store B L T E P U → Option Cause
   down_in c = told_down c.phase c.node.down
 

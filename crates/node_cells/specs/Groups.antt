@@ -16,6 +16,7 @@ use Rattle.node_cells.specs.Books.{IsRecordBy}
 use Rattle.node_cells.specs.Cells.{CellParts, view_in}
 
 module _ (M : Machine) where
+  -- the record of a node that hosts this machine
   abbrev pub RecordOf : Type 0
   RecordOf = NodeRecord M.Body M.Line M.Target M.Effect M.Played
 

@@ -18,6 +18,7 @@ use Rattle.node_steps.specs.declared.unprepared.Unprepared.{Unprepared}
 use Rattle.node_steps.specs.declared.unprepared.Unprepared.TheVariants.{Memory, Refused}
 use Rattle.node_steps.specs.Asking.{may_ask, finds_leader, is_full, new_session}
 
+-- what a node would become, or why it does nothing
 pub data Plan (B : Type 0) : Type 0 where
   Goes : Node B → Plan B
   Declines : Refusal → Plan B
@@ -54,6 +55,7 @@ module _ {B : Type 0} where
       else own_plan (Some (new_session s)) (suc s.attempts) (opened (new_session s).id) s
   opening opened s (Some live) = Goes s
 
+  -- a leader opens a session where none is live; another node does nothing
   abbrev pub open_plan : (SessionId → B) → Node B → Plan B
   open_plan opened s = if_leading s (opening opened s s.live)
 
@@ -62,6 +64,7 @@ module _ {B : Type 0} where
   closing shut s None = Goes s
   closing shut s (Some live) = own_plan None s.attempts (shut live.id) s
 
+  -- a leader shuts its live session, if there is one; another node does nothing
   abbrev pub close_plan : (SessionId → B) → Node B → Plan B
   close_plan shut s = if_leading s (closing shut s s.live)
 
@@ -70,6 +73,7 @@ module _ {B : Type 0} where
   hearing heard s None = Goes s
   hearing heard s (Some live) = own_plan (Some (record live { next = suc live.next })) s.attempts (heard live.id live.next) s
 
+  -- a leader takes a line of its live session, if there is one; another node does nothing
   abbrev pub hear_plan : (SessionId → ℕ → B) → Node B → Plan B
   hear_plan heard s = if_leading s (hearing heard s s.live)
 
@@ -79,6 +83,7 @@ module _ {B : Type 0} where
   claiming claim None s (Some live) = Goes s
   claiming claim (Some number) s (Some live) = own_plan s.live s.attempts (claim live.id number) s
 
+  -- a leader's live session claims the line of this number, if there are both; another node does nothing
   abbrev pub claim_plan : (SessionId → ℕ → B) → Option ℕ → Node B → Plan B
   claim_plan claim number s = if_leading s (claiming claim number s s.live)
 

@@ -24,6 +24,7 @@ printed_line spelled = take 510 spelled
 abbrev pub rejoin_words : Parts → List ℕ
 rejoin_words line = codes "rejoin " ++ printed_line (spelling line)
 
+-- an effect of the buffers: `close`, `show` or `send` with the client's origin and its line, if any, or a rejoin
 abbrev pub effect_words : Effect → List ℕ
 effect_words (Close o) = to_origin (codes "close") o
 effect_words (Show o shown) = to_origin (codes "show") o ++ 32 ∷ printed_line shown
@@ -32,15 +33,18 @@ effect_words (Rejoin line) = rejoin_words line
 
 -- Over the words of the effects below
 module _ {E : Type 0} (inner : E → List ℕ) where
+  -- an effect below, or a channel that is joined again; the session that joins it is not told
   abbrev pub fence_words : FenceEffect E → List ℕ
   fence_words (Fenced e) = inner e
   fence_words (RejoinOf id line) = rejoin_words line
 
+  -- an effect below, `busy` with the origin of a line that got no number, or `hand` with a line's number and the line
   abbrev pub claims_words : ClaimsEffect E → List ℕ
   claims_words (Claimed e) = inner e
   claims_words (Busy o) = to_origin (codes "busy") o
   claims_words (Hand id number line) = codes "hand " ++ decimal number ++ 32 ∷ printed_line (spelling line)
 
+  -- an effect below, `done`, `repeat` or `gap` with a request's origin and a number, or `marked` with the mark's number
   abbrev pub answer_words : Answer E → List ℕ
   answer_words (Passed e) = inner e
   answer_words (Done o number) = to_origin (codes "done") o ++ 32 ∷ decimal number
@@ -52,5 +56,6 @@ module _ {E : Type 0} (inner : E → List ℕ) where
   abbrev pub answer_line : ℕ → Answer E → List ℕ
   answer_line place a = decimal place ++ 32 ∷ answer_words a ++ 10 ∷ []
 
+  -- the answers to the body at this place, a line each
   abbrev pub answer_lines : ℕ → List (Answer E) → List ℕ
   answer_lines place answers = flat_map (answer_line place) answers

@@ -15,6 +15,7 @@ module _ {B : Type 0} (spelled : B → List ℕ) (fits : B → Type 0) where
   abbrev pub line_and : Event B Parts (List ℕ) × List ℕ → List ℕ
   line_and p = event_line spelled spelling p.0 ++ p.1
 
+  -- the event is within its limits, whatever follows it
   abbrev pub FitsFirst : Event B Parts (List ℕ) × List ℕ → Type 0
   FitsFirst p = FitsEvent spelled fits p.0
 

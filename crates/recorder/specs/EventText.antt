@@ -56,6 +56,7 @@ module _ {B L : Type 0} (body : B → List ℕ) (line : L → List ℕ) where
   fields (input.Apply n) = decimal n
   fields (input.Look n place target) = node_and n (number_and place target)
 
+  -- the word of its kind and its fields
   abbrev pub input_text : Input B L (List ℕ) → List ℕ
   input_text x = word (kind_of x) ++ 32 ∷ fields x
 
@@ -76,6 +77,7 @@ module _ {B L : Type 0} (body : B → List ℕ) (line : L → List ℕ) where
   -- The limits of what is written
 
   module _ (fits_body : B → Type 0) (fits_line : L → Type 0) where
+    -- its node is one of a group, and each other field is within its limits
     abbrev pub IsInput : Input B L (List ℕ) → Type 0
     IsInput (input.Timeout n) = IsNode n
     IsInput (input.Beat n) = IsNode n
@@ -88,6 +90,7 @@ module _ {B L : Type 0} (body : B → List ℕ) (line : L → List ℕ) where
     IsInput (input.Apply n) = IsNode n
     IsInput (input.Look n place target) = IsNode n × ((place < 2 ^ 64) × IsTrue (is_name target))
 
+    -- the node of an event is one of a group, and what happens to it is within the limits
     abbrev pub IsEvent : Event B L (List ℕ) → Type 0
     IsEvent (Does x) = IsInput x
     IsEvent (Restart n) = IsNode n

@@ -15,6 +15,7 @@ module _ {B : Type 0} (spelled : B → List ℕ) (fits : B → Type 0) where
   abbrev pub FitsInput : Input B Parts (List ℕ) → Type 0
   FitsInput x = IsInput spelled spelling (FitsDigits fits spelled) FitsLine x
 
+  -- the limits of an event that is read
   abbrev pub FitsEvent : Event B Parts (List ℕ) → Type 0
   FitsEvent e = IsEvent spelled spelling (FitsDigits fits spelled) FitsLine e
 
@@ -22,6 +23,7 @@ module _ {B : Type 0} (spelled : B → List ℕ) (fits : B → Type 0) where
   abbrev pub IsWritableInput : Input B Parts (List ℕ) → Type 0
   IsWritableInput x = IsInput spelled spelling fits FitsLine x
 
+  -- the limits of an event that is written
   abbrev pub IsWritable : Event B Parts (List ℕ) → Type 0
   IsWritable e = IsEvent spelled spelling fits FitsLine e
 
@@ -29,6 +31,7 @@ module _ {B : Type 0} (spelled : B → List ℕ) (fits : B → Type 0) where
   abbrev pub text_of_input : Input B Parts (List ℕ) → List ℕ
   text_of_input x = input_text spelled spelling x
 
+  -- the line of an event, without its end
   abbrev pub text_of_event : Event B Parts (List ℕ) → List ℕ
   text_of_event e = event_text spelled spelling e
 

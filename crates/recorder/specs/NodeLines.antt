@@ -6,6 +6,7 @@ use Rattle.raft_log.specs.Logs.{last_term}
 use Rattle.raft_log.specs.Node.{Node}
 use Rattle.recorder.specs.declared.node_line.NodeFields.{NodeFields}
 
+-- what a node is in its term, as a word
 abbrev pub role_word : Role → List ℕ
 role_word Follower = codes "follower"
 role_word Candidate = codes "candidate"

@@ -14,16 +14,19 @@ ReadsAs {A} text fits bytes None = (a : A) → fits a → text a ≡ bytes → �
 abbrev pub IsWord : ℕ → Type 0
 IsWord n = n < 2 ^ 64
 
--- a node and what follows it, a number and what follows it
+-- a node and what follows it
 abbrev pub node_text : ℕ × List ℕ → List ℕ
 node_text p = node_and p.0 p.1
 
+-- the node is one of a group, from 1 to 7
 abbrev pub NodeFits : ℕ × List ℕ → Type 0
 NodeFits p = IsNode p.0
 
+-- a number and what follows it
 abbrev pub number_text : ℕ × List ℕ → List ℕ
 number_text p = number_and p.0 p.1
 
+-- eight bytes hold the number
 abbrev pub NumberFits : ℕ × List ℕ → Type 0
 NumberFits p = IsWord p.0
 
@@ -39,5 +42,6 @@ FitsDigits fits spelled body = fits body × IsBytes (spelled body)
 abbrev pub own_text : List ℕ → List ℕ
 own_text bytes = bytes
 
+-- the text is a name, such as a nick or a channel's
 abbrev pub IsNameText : List ℕ → Type 0
 IsNameText bytes = IsTrue (is_name bytes)

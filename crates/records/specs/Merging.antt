@@ -14,9 +14,11 @@ pub record IsRanked {X : Type 0} (key : X → ℕ) (items ranked : List X) : Typ
   pub stable : IsStableByKey key nat_cmp items ranked
 
 module _ {E O : Type 0} where
+  -- the ticket that a turn drew
   abbrev pub ticket_of : Turn E O → ℕ
   ticket_of turn = turn.ticket
 
+  -- the number of the node that left the record
   abbrev pub node_of : Record E O → ℕ
   node_of record' = record'.node
 

@@ -27,6 +27,7 @@ module _ {B : Type 0} (spelled : B → List ℕ) (fits : B → Type 0) where
   abbrev pub item_text : Option (Event B Parts (List ℕ)) × List ℕ → List ℕ
   item_text p = item_word p.0 ++ 10 ∷ p.1
 
+  -- the line's event is within its limits, whatever follows
   abbrev pub FitsFirst : Option (Event B Parts (List ℕ)) × List ℕ → Type 0
   FitsFirst p = ItemFits p.0
 

@@ -21,6 +21,7 @@ version_mark = codes "RBREC01 "
 abbrev pub size_text : ℕ × List ℕ → List ℕ
 size_text p = decimal p.0 ++ 10 ∷ p.1
 
+-- a group may have the size: 3, 5 or 7
 abbrev pub SizeFits : ℕ × List ℕ → Type 0
 SizeFits p = IsGroupSize p.0
 
@@ -34,6 +35,7 @@ module _ {S : Type 0} (spelled : S → List ℕ) (fits : S → Type 0) where
   abbrev pub setup_text : S × List ℕ → List ℕ
   setup_text p = digits_of spelled p.0 ++ 10 ∷ p.1
 
+  -- the setup is within its limits and spelled by bytes, whatever follows
   abbrev pub SetupFits : S × List ℕ → Type 0
   SetupFits p = FitsDigits fits spelled p.0
 
@@ -51,6 +53,7 @@ module _ {S B : Type 0} (setup_spelled : S → List ℕ) (setup_fits : S → Typ
 abbrev pub node_text : ℕ × NodeFields → List ℕ
 node_text n = fields_line n.0 n.1
 
+-- the lines of nodes, one behind the other
 abbrev pub nodes_text : List (ℕ × NodeFields) → List ℕ
 nodes_text nodes = flat_map node_text nodes
 
@@ -59,6 +62,7 @@ module _ {V O : Type 0} where
   abbrev pub events_of : List (Turn V O) → List V
   events_of turns = map (λ t. t.event) turns
 
+  -- what came out of each turn
   abbrev pub outcomes_of : List (Turn V O) → List O
   outcomes_of turns = map (λ t. t.outcome) turns
 

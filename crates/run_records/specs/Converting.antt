@@ -41,12 +41,14 @@ module _ {B L T : Type 0} where
   input_of node Claim = input.Claim node
   input_of node Apply = input.Apply node
 
+  -- an event of a node as one of its group, in which the node is named
   abbrev pub event_of : ℕ → NodeEvent B L T → Event B L T
   event_of node (Does x) = group.Does (input_of node x)
   event_of node (Look place target) = group.Does (input.Look node place target)
   event_of node Restart = group.Restart node
   event_of node (StopIn x after) = group.StopIn (input_of node x) after
 
+  -- in this event a message came that no node sent
   abbrev pub IsOfAStranger : NodeEvent B L T → Type 0
   IsOfAStranger (Does x) = IsInputOfAStranger x
   IsOfAStranger (Look place target) = ⊥
@@ -59,6 +61,7 @@ module _ {B L T E P : Type 0} where
   AreOfMembers [] = Unit {0}
   AreOfMembers (t ∷ ts) = (¬ IsOfAStranger t.event) × AreOfMembers ts
 
+  -- a node's record has a message that no node sent
   abbrev pub IsRefused : NodeRecord B L T E P → Type 0
   IsRefused r = ¬ AreOfMembers r.turns.items
 

@@ -25,6 +25,7 @@ module _ {B L T E P : Type 0} where
   AreAllOfMembers [] = Unit {0}
   AreAllOfMembers (r ∷ rs) = AreOfMembers r.turns.items × AreAllOfMembers rs
 
+  -- some record has a message that no node sent
   abbrev pub HasAStranger : List (NodeRecord B L T E P) → Type 0
   HasAStranger rs = ¬ AreAllOfMembers rs
 

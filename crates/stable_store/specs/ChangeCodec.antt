@@ -30,12 +30,15 @@ byte_fits None h = (omega arith, omega arith)
 byte_fits (Some n) h = (omega arith, h.1)
 
 module _ {B : Type 0} (spelled : B → List ℕ) (fits : B → Type 0) (taken : Reading B) (codec : IsCodec spelled fits taken) where
+  -- a change as it is read: boot, term, the byte of the vote, how many entries are kept, and the entries
   abbrev Parts : Type 0
   Parts = (((ℕ × ℕ) × ℕ) × ℕ) × List (Entry B)
 
+  -- what is spelled before the entries
   abbrev front : ((ℕ × ℕ) × ℕ) × ℕ → List ℕ
   front p = ((spelled_number p.0.0.0 ++ spelled_number p.0.0.1) ++ p.0.1 ∷ []) ++ spelled_number p.1
 
+  -- boot, term and the count are numbers, and the vote is a byte
   abbrev front_fits : ((ℕ × ℕ) × ℕ) × ℕ → Type 0
   front_fits p = ((FitsNumber p.0.0.0 × FitsNumber p.0.0.1) × ((0 ≤ p.0.1) × (p.0.1 ≤ 255))) × FitsNumber p.1
 

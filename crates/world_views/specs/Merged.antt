@@ -36,6 +36,7 @@ module _ {B L T : Type 0} where
   abbrev pub start_in : (ℕ → Node B) → View B L T → Node B
   start_in idle v = start_from (idle v.node) v.opened
 
+  -- the node as it stands, or what `idle` says where it was not opened
   abbrev pub end_in : (ℕ → Node B) → View B L T → Node B
   end_in idle v = end_from (idle v.node) v.state v.opened
 

@@ -39,6 +39,7 @@ module _ {B : Type 0} where
   idle_as None size = newborn size
   idle_as (Some s) size = unsent s
 
+  -- the same for the node at this place, from 0, of the world w
   abbrev pub idle_in : List (Node B) → ℕ → Node B
   idle_in w i = idle_as (item w (suc i)) (length w)
 

@@ -36,9 +36,11 @@ module _ (M : Machine) where
   abbrev pub moment_of : List (Event M) → List (ViewOf M) → List (PlacedOf M) → ℕ → List (Node M.Body)
   moment_of before views es k = moment M (length views) (whole M before views es) k
 
+  -- what comes out of each event of the whole list
   abbrev pub outputs_of : List (Event M) → List (ViewOf M) → List (PlacedOf M) → List (Out M)
   outputs_of before views es = outputs M (length views) (whole M before views es)
 
+  -- what the nodes agree on over the whole list
   abbrev pub agreed_over : List (Event M) → List (ViewOf M) → List (PlacedOf M) → List (Entry M.Body)
   agreed_over before views es = agreed M (length views) (whole M before views es)
 

@@ -33,6 +33,7 @@ module _ {B : Type 0} where
   abbrev pub sender : Envelope B → ℕ
   sender e = pred e.message.from
 
+  -- the place of the node that a message is to
   abbrev pub addressee : Envelope B → ℕ
   addressee e = pred e.message.to
 
