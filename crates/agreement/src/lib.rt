@@ -1,4 +1,6 @@
 //! That the nodes of a group agree, by Raft, whatever stands above their logs.
+//! Stands under world_run and headline.
+//! Over every list of events, of any two committed lists one begins the other, and nothing is taken back.
 #![tactic(auto)]
 
 mod laws;

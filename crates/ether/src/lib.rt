@@ -1,5 +1,7 @@
-//! What carries messages between the nodes of one process, and numbers their events: words that change
-//! in single steps, and no lock.
+//! What carries messages between the nodes of one process, and numbers their events: words that change in single
+//! steps, and no lock.
+//! Stands under node_cells and node_threads.
+//! Between any two steps of any threads the views of all nodes keep the rule of world_views.
 #![tactic(auto)]
 
 mod calls;

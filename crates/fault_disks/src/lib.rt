@@ -1,4 +1,6 @@
 //! Disks for tests, of which some calls fail and whose files a crash may tear.
+//! Stands under world_cases.
+//! Calls fail as was told, and no others; what such a disk says that a crash leaves is a file that a crash may leave.
 #![tactic(auto)]
 
 mod call;

@@ -1,4 +1,5 @@
 //! A disk over a file of the system, and the journal in it.
+//! Stands under bouncer_run and bouncer_bench.
 //!
 //! No contract can say what a file of the system holds. So the laws of a disk are proved of a `FileDisk`
 //! over any file whose calls are honest, as `DiskFile` states that, and a file of the system makes each

@@ -1,4 +1,7 @@
 //! What a node is about to do, before it is saved, whatever machine it hosts.
+//! Stands under raft_node and agreement.
+//! Each step is exactly the definition's case, or is refused exactly where the definition declines, for the reason
+//! that it gives first; what it saves fits a store.
 #![tactic(auto)]
 
 mod asks;

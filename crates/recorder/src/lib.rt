@@ -1,4 +1,7 @@
 //! Events, what leaves by them, and what nodes are after them, as lines of text.
+//! Stands under world_lines, records and fold_app.
+//! What is parsed of a text are the events whose lines it is, or the first line that is no event is named; no two lists
+//! of events have one text.
 #![tactic(auto)]
 
 mod effects;

@@ -1,5 +1,7 @@
-//! What the nodes of a run did: their records as one list, the text of a record file, and what is read of
-//! one.
+//! What the nodes of a run did: their records as one list, the text of a record file, and what is read of one.
+//! Stands under run_records, world_app and bouncer_run.
+//! What is read of a text is the record whose file it is, and no text is the file of two; recorded lines are those
+//! of a run exactly where they are one text, else the first other line is told.
 #![tactic(auto)]
 
 mod items;

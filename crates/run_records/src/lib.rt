@@ -1,4 +1,7 @@
 //! What the nodes of a run recorded, as the text of a record file.
+//! Stands under bouncer_run.
+//! The text is the file of the merge of the records: what happened to each node, by rising ticket, and what came
+//! out of it.
 #![tactic(auto)]
 
 mod converting;

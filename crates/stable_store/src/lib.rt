@@ -1,4 +1,7 @@
 //! What a node keeps over a restart, and the laws of a store that keeps it.
+//! Stands under raft_node and journal_store.
+//! After Ok a change stands; after an error what stood before may stand, or the change, until `again` or a save answers
+//! Ok, which settles on one of them.
 #![tactic(auto)]
 
 mod change;

@@ -1,4 +1,7 @@
 //! Lists of events, as text, over the nodes of a bouncer.
+//! Stands under bouncer_app.
+//! What `bouncer world` writes is the text of what comes out of the events of its input, and of what the nodes are
+//! then; a record is the same exactly where its lines are those of a run of its events.
 #![tactic(auto)]
 
 mod record_fault;

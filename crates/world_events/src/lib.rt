@@ -1,4 +1,6 @@
 //! What may happen to a group of nodes, as one list of events tells.
+//! Stands under recorder, world_run and headline.
+//! It has no function, and promises nothing: events are an enum, with a node of a group in each case.
 #![tactic(auto)]
 
 mod event;

@@ -1,4 +1,6 @@
 //! What comes out of a list of events, and what the nodes are then, as lines of text.
+//! Stands under records and world_app.
+//! The text is exactly the one that the definitions give of these events.
 #![tactic(auto)]
 
 mod named;

@@ -1,4 +1,7 @@
 //! What running nodes did, each by its own view, and what all views come to together.
+//! Stands under ether, node_cells and running_bouncers.
+//! Where the views of all nodes keep the rule over honest stores, the events of all records by rising ticket are
+//! one list, which leads to the states of all views; so what holds of every list of events holds of running nodes.
 #![tactic(auto)]
 
 mod envelope;
