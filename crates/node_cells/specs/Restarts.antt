@@ -76,7 +76,7 @@ module _ (M : Machine) where
       pub refused : d.refused ≡ suc c.refused
       pub same : IsDownAs M c d
 
-    -- a restart that fails: for want of memory, or where turns and refusals pass 2^60, nothing changes; else it is refused
+    -- a restart that fails: where memory is short, or turns and refusals pass 2^60, nothing changes; else it is refused
     abbrev pub IsNoRestart : CellParts Setup Hosted Store M.Body M.Line M.Target M.Effect M.Played U → CellFault
         → CellParts Setup Hosted Store M.Body M.Line M.Target M.Effect M.Played U → Type 0
     IsNoRestart c Memory d = d ≡ c
