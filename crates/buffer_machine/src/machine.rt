@@ -7,6 +7,7 @@ ghost use Rattle.buffer_machine.specs.Buffers.{attached, nick, playback};
 ghost use Rattle.buffer_machine.specs.Effects.{TakesNone};
 ghost use Rattle.buffer_machine.specs.Held.{IsSound, commands};
 ghost use Rattle.buffer_machine.specs.Machine.{held_of};
+ghost use Rattle.buffer_machine.specs.Messages.{is_among};
 ghost use Rattle.buffer_machine.specs.Answering.{played_of, target_of_key};
 
 use crate::buffers::Buffers;
@@ -48,6 +49,14 @@ impl BufferMachine {
             → result.now ≡ nick s (commands history) }
     {
         &self.buffers.nick
+    }
+
+    /// Whether a client is attached.
+    pub fn is_attached(&self, client: Origin) -> bool
+        ensures { (s : Settings) (history : History Command) → Stands self.now s history
+            → result ≡ is_among client (attached s (commands history)) }
+    {
+        self.buffers.clients.is_attached(client)
     }
 }
 

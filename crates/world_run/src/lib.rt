@@ -19,8 +19,10 @@ pub use agreeing::{
     a_new_leader_appends_a_blank_entry, a_vote_is_never_changed, committed_lists_agree,
     later_leaders_hold_what_is_committed, logs_match, one_leader_a_term,
 };
+pub use cell::Cell;
 pub use confirmed::what_is_asked_later_stands_above;
 pub use faithful::{no_more_leaves_than_is_agreed, what_leaves_is_of_the_agreed_list};
+pub use group::Group;
 pub use outcome::{Outcome, WorldFault};
 pub use running::{each_node_is_sound, runs_are_apart, sessions_are_apart};
 pub use world::World;
