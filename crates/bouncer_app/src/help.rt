@@ -3,6 +3,10 @@
 /// How it is called, where it is called otherwise.
 pub const USAGE: &str = "usage: bouncer [fold | world N | replay FILE | run CONFIG]";
 
+/// What a person at a terminal is told who is to type the input.
+pub const WAITING: &str =
+    "bouncer: reads from the terminal until Ctrl-D; `bouncer help` says what it can do";
+
 /// The program's name, and its version.
 pub const VERSION: &str = "bouncer 0.1.0";
 

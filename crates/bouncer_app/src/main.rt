@@ -6,13 +6,13 @@
 
 mod help;
 
-use crate::help::{HELP, USAGE, VERSION};
+use crate::help::{HELP, USAGE, VERSION, WAITING};
 use bouncer_run::{Hands, check, run};
 use fold_app::{FoldFault, fold};
 use records::Verdict;
 use std::env::{Args, args};
 use std::fmt::Display;
-use std::io::{ErrorKind, Write};
+use std::io::{ErrorKind, IsTerminal, Write};
 use std::process::ExitCode;
 use std::rt::Runtime;
 use std::{fs, io};
@@ -63,7 +63,9 @@ fn asked(words: Args) -> Option<Task> {
 
 /// Folds standard input. The exit code is 0, or 1 with the fault on standard error.
 fn run_fold(rt: &HostRuntime) -> ExitCode {
-    match fold(rt.alloc(), &mut rt.reader(), &mut io::writer(rt)) {
+    let mut input = rt.reader();
+    tell_waiting(rt, &input);
+    match fold(rt.alloc(), &mut input, &mut io::writer(rt)) {
         Ok(()) => ExitCode::SUCCESS,
         Err(fault) => failed(rt, fault),
     }
@@ -72,7 +74,9 @@ fn run_fold(rt: &HostRuntime) -> ExitCode {
 /// Runs the events of standard input over so many nodes. The exit code is 0, or 1 with the fault on
 /// standard error.
 fn run_world(rt: &HostRuntime, size: u32) -> ExitCode {
-    match world(rt.alloc(), size, &mut rt.reader(), &mut io::writer(rt)) {
+    let mut input = rt.reader();
+    tell_waiting(rt, &input);
+    match world(rt.alloc(), size, &mut input, &mut io::writer(rt)) {
         Ok(()) => ExitCode::SUCCESS,
         Err(fault) => failed(rt, fault),
     }
@@ -108,6 +112,13 @@ fn run_check(rt: &HostRuntime, path: &str) -> ExitCode {
         return failed(rt, FoldFault::Write);
     }
     ExitCode::SUCCESS
+}
+
+/// Tells a person at a terminal that the program waits for what they type.
+fn tell_waiting(rt: &HostRuntime, input: &impl IsTerminal) {
+    if input.is_terminal() {
+        let _ = eprintln!(rt; "{WAITING}");
+    }
 }
 
 /// Writes a text to standard output, as a line.

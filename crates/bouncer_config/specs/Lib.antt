@@ -4,3 +4,4 @@ pub mod KeyTexts
 pub mod Reads
 pub mod Texts
 pub mod Wrong
+pub mod Placing

@@ -13,6 +13,7 @@ mod lists;
 mod log_level;
 mod parse;
 mod password;
+mod placing;
 mod problem;
 mod reading;
 mod unknown;

@@ -1,5 +1,6 @@
 -- What was read of a configuration.
 use Rattle.std.specs.Prelude.{◌≡◌, ℕ, List, Option, IfSome}
+use Rattle.bouncer_config.specs.Placing.{IsPlaced}
 use Rattle.bouncer_config.specs.Reads.{IsFault, Says}
 use Rattle.bouncer_config.specs.declared.config.Config.{Config}
 use Rattle.bouncer_config.specs.declared.problem.Problem.{Problem}
@@ -18,9 +19,9 @@ pub record IsConfigOf (remaining : Option (List ℕ)) (c : Config) : Type 0 wher
   pub known : IfSome remaining (λ bytes. text ≡ bytes)
   pub says : Says text c
 
--- some text says this configuration
-abbrev pub IsSaid : Config → Type 0
-IsSaid c = (text : List ℕ) × Says text c
+-- some text says this configuration, whose paths go by the folder of this file
+abbrev pub IsSaidIn : List ℕ → Config → Type 0
+IsSaidIn file c = (text : List ℕ) × (said : Config) × Says text said × IsPlaced file said c
 
 -- the bytes of a reader, as far as they are known, are a text with which this is wrong
 pub record IsRefusedText (remaining : Option (List ℕ)) (problem : Problem) : Type 0 where

@@ -6,7 +6,7 @@ ghost use Rattle.bouncer_run.specs.Configs.{IsUnreadFault};
 use crate::reading::read;
 use crate::run_fault::RunFault;
 use bouncer_config::Config;
-use run_plan::{plan, warning_of};
+use run_plan::{Warning, plan};
 use std::fs::File;
 use std::rt::Runtime;
 
@@ -14,7 +14,7 @@ use std::rt::Runtime;
 /// of was told on standard error. Nothing else is opened than that file, and nothing is made: it is given no
 /// net and no threads.
 pub fn check<R: Runtime<File = File> + AllocGlobal>(rt: &R, path: &str) -> Result<Vec<u8>, RunFault>
-    ensures plan { IfOk result (λ text. IsSomePlan text.items) }
+    ensures plan { IfOk result (λ text. IsSomePlan path.now text.items) }
     ensures fault { IfErr result IsUnreadFault }
 {
     let config = read(rt, path)?;
@@ -24,7 +24,9 @@ pub fn check<R: Runtime<File = File> + AllocGlobal>(rt: &R, path: &str) -> Resul
 
 /// Tells what a configuration is warned of.
 fn warn<R: Runtime>(rt: &R, path: &str, config: &Config) {
-    if let Some(warning) = warning_of(config) {
-        let _ = eprintln!(rt; "{path}: {warning}");
+    for warning in Warning::all() {
+        if warning.is_of(config) {
+            let _ = eprintln!(rt; "{path}: {warning}");
+        }
     }
 }

@@ -1,6 +1,6 @@
 //! The configuration of a file.
 ghost use Rattle.std.specs.Prelude.{◌≡◌, IfErr, IfOk};
-ghost use Rattle.bouncer_run.specs.Configs.{IsConfigOf, IsSaid, IsUnread, IsUnreadFault, fault_of_unread};
+ghost use Rattle.bouncer_run.specs.Configs.{IsConfigOf, IsSaidIn, IsUnread, IsUnreadFault, fault_of_unread};
 
 use crate::run_fault::RunFault;
 use bouncer_config::{Config, ConfigFault, Problem, parse_config};
@@ -36,10 +36,11 @@ impl Unread {
     }
 }
 
-/// The configuration in the file of this path. Where there is none, and it is not for want of
-/// memory, a line was written to standard error that names the file and says why.
+/// The configuration in the file of this path, its own paths by the folder of that file. Where there
+/// is none, and it is not for want of memory, a line was written to standard error that names the file
+/// and says why.
 pub fn read<R: Runtime<File = File> + AllocGlobal>(rt: &R, path: &str) -> Result<Config, RunFault>
-    ensures said { IfOk result IsSaid }
+    ensures said { IfOk result (IsSaidIn path.now) }
     ensures fault { IfErr result IsUnreadFault }
 {
     let mut file = match fs::open(rt, path) {
@@ -51,7 +52,10 @@ pub fn read<R: Runtime<File = File> + AllocGlobal>(rt: &R, path: &str) -> Result
         }
     };
     match read_config(rt.alloc(), &mut file) {
-        Ok(config) => Ok(config),
+        Ok(mut config) => {
+            config.place(rt.alloc(), path)?;
+            Ok(config)
+        }
         Err(unread) => {
             tell(rt, path, &unread);
             Err(unread.fault())

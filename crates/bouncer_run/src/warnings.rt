@@ -3,11 +3,13 @@ use crate::system::System;
 use crate::telling::Telling;
 use bouncer_config::Config;
 use driver::Now;
-use run_plan::warning_of;
+use run_plan::Warning;
 
-/// An operator is warned of a leader that is heard too seldom to stay.
+/// An operator is told of each warning of a configuration.
 pub fn warn<R: System>(now: &Now, config: &Config, telling: &Telling<R>) {
-    if let Some(warning) = warning_of(config) {
-        telling.tell_all(now, &warning);
+    for warning in Warning::all() {
+        if warning.is_of(config) {
+            telling.tell_all(now, &warning);
+        }
     }
 }

@@ -1,8 +1,28 @@
 -- What a configuration is warned of.
-use Rattle.std.specs.Prelude.{ℕ, ◌*◌, nat_lt, Option, Some, None, if◌then◌else◌}
+use Rattle.std.specs.Prelude.{ℕ, ◌*◌, nat_le, nat_lt, Bool, false, not, ◌&&◌, ◌||◌, ◌==◌, List, [], ◌∷◌}
+use Rattle.std.specs.List.{list_all}
+use Rattle.bouncer_config.specs.declared.config.Config.{Config}
 use Rattle.run_plan.specs.declared.warning.Warning.{Warning}
-use Rattle.run_plan.specs.declared.warning.Warning.TheVariants.{BeatsTooSeldom}
+use Rattle.run_plan.specs.declared.warning.Warning.TheVariants.{BeatsTooSeldom, NickIsTakenNowhere}
 
--- of beats so far apart that three of them take longer than the others wait for a leader
-abbrev pub warning_of : ℕ → ℕ → Option Warning
-warning_of beat_ms timeout_ms = if nat_lt timeout_ms (3 * beat_ms) then Some BeatsTooSeldom else None
+-- beats so far apart that three of them take longer than the others wait for a leader
+abbrev pub are_too_seldom : ℕ → ℕ → Bool
+are_too_seldom beat_ms timeout_ms = nat_lt timeout_ms (3 * beat_ms)
+
+-- a byte that a nick may begin with: by RFC 2812 a letter or one of `[]\`_^{|}`, the bytes 65 to 125; servers that take more take those past 127
+abbrev pub begins_nicks : ℕ → Bool
+begins_nicks b = (nat_le 65 b && nat_le b 125) || nat_le 128 b
+
+-- a byte that a nick may have: these, a digit, or `-`
+abbrev pub is_of_nicks : ℕ → Bool
+is_of_nicks b = begins_nicks b || (nat_le 48 b && nat_le b 57) || b == 45
+
+-- a nick that some server takes
+abbrev pub is_taken_somewhere : List ℕ → Bool
+is_taken_somewhere [] = false
+is_taken_somewhere (b ∷ bs) = begins_nicks b && list_all is_of_nicks bs
+
+-- a configuration is warned of this
+abbrev pub is_warned : Warning → Config → Bool
+is_warned BeatsTooSeldom c = are_too_seldom c.beat_ms c.timeout_ms
+is_warned NickIsTakenNowhere c = not (is_taken_somewhere c.setup.nick)

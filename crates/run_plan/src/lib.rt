@@ -10,4 +10,4 @@ mod warning;
 
 pub use paths::journal_path;
 pub use planning::plan;
-pub use warning::{Warning, warning_of};
+pub use warning::Warning;

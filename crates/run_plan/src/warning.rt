@@ -1,6 +1,8 @@
 //! What in a configuration is allowed, and serves nobody.
-ghost use Rattle.std.specs.Prelude.{◌≡◌};
-ghost use Rattle.run_plan.specs.Warnings.{warning_of};
+ghost use Rattle.std.specs.Prelude.{◌≡◌, [], ◌∷◌};
+ghost use Rattle.std.specs.List.{list_all};
+ghost use Rattle.run_plan.specs.Warnings.{are_too_seldom, begins_nicks, is_of_nicks, is_taken_somewhere, is_warned};
+ghost use Rattle.run_plan.specs.declared.warning.Warning.TheVariants.{BeatsTooSeldom, NickIsTakenNowhere};
 
 use bouncer_config::Config;
 use std::fmt;
@@ -14,25 +16,76 @@ const LEAST_BEATS: u32 = 3;
 pub enum Warning {
     /// Leaders are heard too seldom to stay.
     BeatsTooSeldom,
+    /// No server takes the nick: RFC 2812, section 2.3.1, has what a nick is made of.
+    NickIsTakenNowhere,
 }
 
 impl fmt::Display for Warning {
     fn fmt<W: fmt::Write>(&self, f: &mut fmt::Formatter<W>) -> fmt::Result {
-        match self {
+        f.write_str(match self {
             Warning::BeatsTooSeldom => {
-                f.write_str("timeout_ms is less than three times beat_ms: no leader may last")
+                "timeout_ms is less than three times beat_ms: no leader may last"
             }
+            Warning::NickIsTakenNowhere => {
+                "nick: servers refuse it: it needs a letter or one of []\\`_^{|} first, and behind it those, digits and -"
+            }
+        })
+    }
+}
+
+impl Warning {
+    /// All that a configuration may be warned of.
+    pub const fn all() -> [Warning; 2]
+        ensures { result ≡ BeatsTooSeldom ∷ NickIsTakenNowhere ∷ [] }
+    {
+        [Warning::BeatsTooSeldom, Warning::NickIsTakenNowhere]
+    }
+
+    /// Whether a configuration is warned of this.
+    pub fn is_of(self, config: &Config) -> bool
+        ensures { result ≡ is_warned self config.now }
+    {
+        match self {
+            Warning::BeatsTooSeldom => are_too_seldom(config.beat_ms, config.timeout_ms),
+            Warning::NickIsTakenNowhere => !is_taken_somewhere(config.setup.nick().as_bytes()),
         }
     }
 }
 
-/// What a configuration is warned of.
-pub fn warning_of(config: &Config) -> Option<Warning>
-    ensures { result ≡ warning_of config.now.beat_ms config.now.timeout_ms }
+/// Whether a leader that beats so seldom, in milliseconds, is taken for gone too soon.
+fn are_too_seldom(beat_ms: u16, timeout_ms: u16) -> bool
+    ensures { result ≡ are_too_seldom beat_ms timeout_ms }
 {
-    if (config.timeout_ms as u32) < LEAST_BEATS * config.beat_ms as u32 {
-        Some(Warning::BeatsTooSeldom)
-    } else {
-        None
+    (timeout_ms as u32) < LEAST_BEATS * beat_ms as u32
+}
+
+/// Whether some server takes a nick.
+fn is_taken_somewhere(nick: &[u8]) -> bool
+    ensures { result ≡ is_taken_somewhere nick.now }
+{
+    match nick {
+        [] => false,
+        [first, rest @ ..] => begins_nicks(*first) && are_of_nicks(rest),
     }
+}
+
+/// Whether a nick may have all of these bytes behind its first.
+fn are_of_nicks(bytes: &[u8]) -> bool
+    ensures { result ≡ list_all is_of_nicks bytes.now }
+{
+    bytes.iter().all(|byte| is_of_nicks(*byte))
+}
+
+/// Whether a nick may begin with a byte.
+fn begins_nicks(byte: u8) -> bool
+    ensures { result ≡ begins_nicks byte }
+{
+    (b'A' <= byte && byte <= b'}') || 128 <= byte
+}
+
+/// Whether a nick may have a byte behind its first.
+fn is_of_nicks(byte: u8) -> bool
+    ensures { result ≡ is_of_nicks byte }
+{
+    begins_nicks(byte) || (b'0' <= byte && byte <= b'9') || byte == b'-'
 }

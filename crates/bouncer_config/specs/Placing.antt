@@ -1,0 +1,29 @@
+-- Where the paths of a configuration lie: they go by the folder of the file that it is read from.
+use Rattle.std.specs.Prelude.{◌≡◌, ℕ, List, Option, Some, None, option_map, string_bytes}
+use Rattle.std.specs.Path.{path_join, path_parent}
+use Rattle.bouncer_config.specs.declared.config.Config.{Config}
+
+-- a path, as a folder places it: an absolute one stays
+abbrev pub placed_in : Option (List ℕ) → List ℕ → List ℕ
+placed_in None path = path
+placed_in (Some folder) path = path_join folder path
+
+-- a path, as it stands in this file: it goes by the folder that the file lies in
+abbrev pub placed : List ℕ → List ℕ → List ℕ
+placed file path = placed_in (path_parent file) path
+
+-- a configuration whose store and record go by the folder of this file, and of which all else is as it was
+pub record IsPlaced (file : List ℕ) (was is : Config) : Type 0 where
+  pub store : string_bytes is.store ≡ placed file (string_bytes was.store)
+  pub record_file : option_map string_bytes is.record ≡ option_map (placed file) (option_map string_bytes was.record)
+  pub setup : is.setup ≡ was.setup
+  pub password : is.password ≡ was.password
+  pub upstream : is.upstream ≡ was.upstream
+  pub upstream_password : is.upstream_password ≡ was.upstream_password
+  pub listen : is.listen ≡ was.listen
+  pub beat : is.beat_ms ≡ was.beat_ms
+  pub timeout : is.timeout_ms ≡ was.timeout_ms
+  pub burst : is.flood_burst ≡ was.flood_burst
+  pub flood : is.flood_ms ≡ was.flood_ms
+  pub log : is.log ≡ was.log
+  pub input_end : is.input_end ≡ was.input_end

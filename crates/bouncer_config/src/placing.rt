@@ -1,0 +1,47 @@
+//! The paths of a configuration, which go by the folder of its file.
+ghost use Rattle.std.specs.Prelude.{◌≡◌, IfOk, OnErr, OnOk, option_map, string_bytes};
+ghost use Rattle.bouncer_config.specs.Placing.{IsPlaced, placed};
+
+use crate::config::Config;
+use std::alloc::{AllocError, Global};
+use std::path::Path;
+
+impl Config {
+    /// The paths that are not absolute go by the folder of this file, which the configuration was
+    /// read from. A refused call changes nothing.
+    pub fn place(&mut self, alloc: Global, file: &str) -> Result<(), AllocError>
+        ensures ok { OnOk result (IsPlaced file.now self.old self.new) }
+        ensures err { OnErr result (self.new ≡ self.old) }
+    {
+        let store = placed(alloc, file, self.store.as_str())?;
+        let record = placed_record(alloc, file, &self.record)?;
+        self.store = store;
+        self.record = record;
+        Ok(())
+    }
+}
+
+/// The path of a record, if one is written, as a file places it.
+fn placed_record(
+    alloc: Global,
+    file: &str,
+    record: &Option<String>,
+) -> Result<Option<String>, AllocError>
+    ensures { IfOk result (λ path. option_map string_bytes path ≡
+        option_map (placed file.now) (option_map string_bytes record.now)) }
+{
+    match record {
+        Some(path) => Ok(Some(placed(alloc, file, path.as_str())?)),
+        None => Ok(None),
+    }
+}
+
+/// A path, as it stands in a file.
+fn placed(alloc: Global, file: &str, path: &str) -> Result<String, AllocError>
+    ensures { IfOk result (λ text. string_bytes text ≡ placed file.now path.now) }
+{
+    match Path::new(file).parent() {
+        Some(folder) => Ok(folder.join(alloc, path)?.into_string()),
+        None => String::from_str(alloc, path),
+    }
+}
