@@ -8,7 +8,7 @@ use Rattle.machine_laws.specs.declared.class.Class.{Class}
 use Rattle.machine_laws.specs.declared.class.Class.TheVariants.{Hand, Nowhere, Rejoin, To}
 use Rattle.bouncer_tower.specs.Hosting.{class_of}
 use Rattle.client_gate.specs.Gates.{GateEffect}
-use Rattle.irc_line.specs.Lines.{Parts}
+use Rattle.irc_line.specs.Lines.{Parts, parameter}
 use Rattle.wire_bytes.specs.declared.moment.Moment.{Moment}
 use Rattle.wire_bytes.specs.declared.origin.Origin.{Origin}
 use Rattle.driver.specs.declared.client.Client.{Client}
@@ -19,14 +19,15 @@ use Rattle.driver.specs.declared.order.Order.{Order}
 use Rattle.driver.specs.declared.order.Order.TheVariants.{Send, Write}
 use Rattle.driver.specs.Crowds.{Told}
 use Rattle.driver.specs.Driving.{told_of}
-use Rattle.driver.specs.Kicks.{AreKicked, IsKickedIf, RejoinsIf, has_joined_in, joined_as}
+use Rattle.driver.specs.Kicks.{KickEach, KicksClient, RejoinsIf}
+use Rattle.driver.specs.Opening.{closed, has_open, joined_as}
 use Rattle.driver.specs.Learning.{LearnsIf, LearnsNick, nick_learnt}
 use Rattle.driver.specs.Links.{SendsIf, is_session_of}
 use Rattle.driver.specs.Nicks.{AreWritten, IsNamedIn, IsWritten, IsWrittenIf, is_misnamed, is_reached, nick_in}
 use Rattle.driver.specs.Passing.{HearsOne, PassEach, Passes, PassesBy}
-use Rattle.driver.specs.Rosters.{client_at}
+use Rattle.driver.specs.Rosters.{AreOthersSame, client_at}
 use Rattle.driver.specs.Telling.{Ordered, ordered}
-use Rattle.driver.proofs.Growing.{AllAre, AllGood, Grows, all_append, grows_both, one_grows, same_grows}
+use Rattle.driver.proofs.Growing.{AllAre, AllGood, Good, Grows, all_append, by_number, good_as, grows_both, one_grows, or_this, same_grows}
 use Rattle.driver.proofs.Owning.{hears_own}
 
 -- More is ordered, all of it so.
@@ -88,45 +89,67 @@ all_written_add P (number ∷ numbers) clients text before after good (behind, f
     (written_adds P clients number (client_at clients number) text before behind refl good first)
     (all_written_add P numbers clients text behind after good more)
 
-kicked_if : (P : Order → Type 0) (joined : Bool) (clients : Clients) (number : ℕ) (text : List ℕ) (before after : Ordered) → AllGood P clients → IsKickedIf joined (client_at clients number) text before after → Adds P before after
-kicked_if P false clients number text before after good none = nothing_adds P before after none
-kicked_if P true clients number text before after good w = written_adds P clients number (client_at clients number) text before after refl good w
-
-kicked_adds : (P : Order → Type 0) (numbers : List ℕ) (clients : Clients) (text : List ℕ) (before after : Ordered) → AllGood P clients → AreKicked numbers clients text before after → Adds P before after
-unfolding AreKicked
-kicked_adds P [] clients text before after good none = nothing_adds P before after none
-kicked_adds P (number ∷ numbers) clients text before after good (behind, first, more) =
-    adds_both P before behind after
-    (kicked_if P (has_joined_in (client_at clients number)) clients number text before behind good first)
-    (kicked_adds P numbers clients text behind after good more)
-
 pub sends_add : (P : Order → Type 0) (is : Bool) (line : Parts) (before after : Ordered) → ((bytes : Vec ℕ) → P (Send bytes)) → SendsIf is line before after → Adds P before after
 sends_add P false line before after fits none = nothing_adds P before after none
 sends_add P true line before after fits sent = one_adds P (Send sent.bytes) before after sent.orders (fits sent.bytes)
 
-rejoins_add : (P : Order → Type 0) (is : Bool) (line : Parts) (nick : List ℕ) (clients : Clients) (before after : Ordered) → ((bytes : Vec ℕ) → P (Send bytes)) → AllGood P clients → RejoinsIf is line nick clients before after → Adds P before after
-rejoins_add P false line nick clients before after fits good none = nothing_adds P before after none
-rejoins_add P true line nick clients before after fits good r =
-    adds_both P before r.kicked after
-    (kicked_adds P (keys clients.all) clients _ before r.kicked good r.kicks)
-    (one_adds P (Send r.sent.bytes) r.kicked after r.sent.orders (fits r.sent.bytes))
+-- Clients that have a channel open are put out of it.
 
-heard_of : (P : Order → Type 0) (now : ℕ) (at : Moment) (origin : Origin) (effect : GateEffect) (c : Client) (same : Bool) (old new : Told) → client_at old.clients origin.2 ≡ Some c → same_origin c.origin origin ≡ same → AllGood P old.clients → HearsOne now at origin effect old new → Grows P old new
-heard_of P now at origin effect c false old new is own good h =
+kicked_good : (P : Order → Type 0) (channel : List ℕ) (number : ℕ) (c : Client) (old new : Clients) → AllGood P old → AreOthersSame number old new → Good P c → client_at new number ≡ Some (record c { open = closed channel c.open }) → AllGood P new
+kicked_good P channel number c old new good others here is n d found =
+    by_number number n (Good P d)
+    (λ same.
+    let at_number = subst (λ (k : ℕ). client_at new k ≡ Some d) (sym same) found in
+    good_as P (record c { open = closed channel c.open }) d (ap (or_this c) (sym is ∙ at_number))
+    (record { settings = here.settings; calls = here.calls; stands = here.stands; fits = here.fits }))
+    (λ apart. good n d (sym (others n apart) ∙ found))
+
+kick_of : (P : Order → Type 0) (channel text : List ℕ) (number : ℕ) (c : Client) (open : Bool) (old new : Told) → client_at old.clients number ≡ Some c → has_open channel c.open ≡ open → AllGood P old.clients → KicksClient channel text number old new → Grows P old new
+kick_of P channel text number c false old new is open good k = same_grows P old new good (k.stays c is open)
+kick_of P channel text number c true old new is open good k =
+    let adds = written_adds P old.clients number (Some c) text old.orders new.orders is good (k.written c is open) in
+    record {
+      told = adds.told;
+      orders = adds.orders;
+      all = adds.all;
+      good = kicked_good P channel number c old.clients new.clients good k.others (good number c is) (k.closes c is open);
+    }
+
+kick_by : (P : Order → Type 0) (channel text : List ℕ) (number : ℕ) (found : Option Client) (old new : Told) → client_at old.clients number ≡ found → AllGood P old.clients → KicksClient channel text number old new → Grows P old new
+kick_by P channel text number None old new is good k = same_grows P old new good (k.nobody is)
+kick_by P channel text number (Some c) old new is good k = kick_of P channel text number c (has_open channel c.open) old new is refl good k
+
+kicks_grow : (P : Order → Type 0) (channel text : List ℕ) (numbers : List ℕ) (old new : Told) → AllGood P old.clients → KickEach channel text numbers old new → Grows P old new
+unfolding KickEach
+kicks_grow P channel text [] old new good same =
+    same_grows P old new good (ap (λ (told : Told). told.clients) same, ap (λ (told : Told). told.orders) same)
+kicks_grow P channel text (number ∷ numbers) old new good (behind, kicks, more) =
+    let first = kick_by P channel text number (client_at old.clients number) old behind refl good kicks in
+    grows_both P old behind new first (kicks_grow P channel text numbers behind new first.good more)
+
+rejoins_grow : (P : Order → Type 0) (is : Bool) (line : Parts) (nick : List ℕ) (old new : Told) → ((bytes : Vec ℕ) → P (Send bytes)) → AllGood P old.clients → RejoinsIf is line nick old new → Grows P old new
+rejoins_grow P false line nick old new fits good same = same_grows P old new good same
+rejoins_grow P true line nick old new fits good r =
+    let first = kicks_grow P (parameter 0 line) _ (keys old.clients.all) old r.kicked good r.kicks in
+    grows_both P old r.kicked new first
+    (adds_grow P r.kicked new first.good r.clients (one_adds P (Send r.sent.bytes) r.kicked.orders new.orders r.sent.orders (fits r.sent.bytes)))
+
+heard_of : (P : Order → Type 0) (now : ℕ) (at : Moment) (nick : List ℕ) (origin : Origin) (effect : GateEffect) (c : Client) (same : Bool) (old new : Told) → client_at old.clients origin.2 ≡ Some c → same_origin c.origin origin ≡ same → AllGood P old.clients → HearsOne now at nick origin effect old new → Grows P old new
+heard_of P now at nick origin effect c false old new is own good h =
     same_grows P old new good (h.stranger c is own)
-heard_of P now at origin effect c true old new is own good h =
+heard_of P now at nick origin effect c true old new is own good h =
     one_grows P origin.2 _ _ old new c is (is, own) good h.others h.served
-    (λ s calls client stands e. hears_own effect now at s calls c client old.orders new.orders e)
+    (λ s calls client stands e. hears_own effect nick now at s calls c client old.orders new.orders e)
 
-heard_by : (P : Order → Type 0) (now : ℕ) (at : Moment) (origin : Origin) (effect : GateEffect) (found : Option Client) (old new : Told) → client_at old.clients origin.2 ≡ found → AllGood P old.clients → HearsOne now at origin effect old new → Grows P old new
-heard_by P now at origin effect None old new is good h = same_grows P old new good (h.nobody is)
-heard_by P now at origin effect (Some c) old new is good h = heard_of P now at origin effect c (same_origin c.origin origin) old new is refl good h
+heard_by : (P : Order → Type 0) (now : ℕ) (at : Moment) (nick : List ℕ) (origin : Origin) (effect : GateEffect) (found : Option Client) (old new : Told) → client_at old.clients origin.2 ≡ found → AllGood P old.clients → HearsOne now at nick origin effect old new → Grows P old new
+heard_by P now at nick origin effect None old new is good h = same_grows P old new good (h.nobody is)
+heard_by P now at nick origin effect (Some c) old new is good h = heard_of P now at nick origin effect c (same_origin c.origin origin) old new is refl good h
 
 -- An effect passes.
 pub pass_by : (P : Order → Type 0) (class : Class Parts) (now : ℕ) (at : Moment) (stage : Stage) (nick : List ℕ) (node : ℕ) (effect : GateEffect) (old new : Told) → ((bytes : Vec ℕ) → P (Send bytes)) → AllGood P old.clients → PassesBy class now at stage nick node effect old new → Grows P old new
-pass_by P (To origin) now at stage nick node effect old new fits good h = heard_by P now at origin effect (client_at old.clients origin.2) old new refl good h
-pass_by P (Rejoin session line) now at stage nick node effect old new fits good (same, rejoins) =
-    adds_grow P old new good same (rejoins_add P (is_session_of stage node) line nick old.clients old.orders new.orders fits good rejoins)
+pass_by P (To origin) now at stage nick node effect old new fits good h = heard_by P now at nick origin effect (client_at old.clients origin.2) old new refl good h
+pass_by P (Rejoin session line) now at stage nick node effect old new fits good rejoins =
+    rejoins_grow P (is_session_of stage node) line nick old new fits good rejoins
 pass_by P (Hand session number line) now at stage nick node effect old new fits good same =
     same_grows P old new good (ap (λ (told : Told). told.clients) same, ap (λ (told : Told). told.orders) same)
 pass_by P Nowhere now at stage nick node effect old new fits good same =

@@ -164,8 +164,8 @@ reads_by false bytes now at s calls old new before after is stands h =
     (λ p. cut_once s calls at _ new before after p)
     (h.stays is)
 
-hears_once : (e : GateEffect) (now : ℕ) (at : Moment) (s : Settings) (calls : List Call) (old new : Client) (before after : Ordered) → Hears e now at s calls old before new after → TellsOnce s calls before new after
-hears_once e now at s calls old new before after h =
+hears_once : (e : GateEffect) (nick : List ℕ) (now : ℕ) (at : Moment) (s : Settings) (calls : List Call) (old new : Client) (before after : Ordered) → Hears e nick now at s calls old before new after → TellsOnce s calls before new after
+hears_once e nick now at s calls old new before after h =
     ⊎_elim
     (λ p. passed_once s calls (Hear e ∷ calls) (given_effect s e) at _ new before after (hear_numbers s calls e) p)
     (λ p. cut_once s calls at _ new before after p)
@@ -243,8 +243,8 @@ ticks_by false false timeout now at s calls old new before after is quiet stands
 event_once : (event : Event) (now : ℕ) (at : Moment) (s : Settings) (calls : List Call) (old new : Client) (before after : Ordered) → asks_again event now old ≡ false → Happens event now at old before new after → Stands s calls old.gate → TellsOnce s calls before new after
 event_once (Speaks bytes) now at s calls old new before after quiet h stands =
     reads_by old.is_gone bytes now at s calls old new before after refl stands (h s calls stands)
-event_once (Learns effect) now at s calls old new before after quiet h stands =
-    hears_once effect now at s calls old new before after (h s calls stands)
+event_once (Learns effect nick) now at s calls old new before after quiet h stands =
+    hears_once effect nick now at s calls old new before after (h s calls stands)
 event_once Goes now at s calls old new before after quiet h stands =
     lost_by old.is_gone now at s calls old new before after refl stands (h s calls stands)
 event_once (Words lost refused) now at s calls old new before after quiet h stands =

@@ -88,7 +88,7 @@ by_number a b P same other =
     (cases_lt b a))
     (cases_lt a b)
 
-abbrev or_this : Client → Option Client → Client
+abbrev pub or_this : Client → Option Client → Client
 or_this c None = c
 or_this c (Some d) = d
 
@@ -100,7 +100,7 @@ kept_is : (over : Bool) (c d : Client) → (if over then None else Some c) ≡ S
 kept_is true c d is = none_some d (c ≡ d) is
 kept_is false c d is = ap (or_this c) is
 
-good_as : (P : Order → Type 0) (c d : Client) → c ≡ d → Good P c → Good P d
+pub good_as : (P : Order → Type 0) (c d : Client) → c ≡ d → Good P c → Good P d
 good_as P c d same good = subst (λ (client : Client). Good P client) same good
 
 -- One client became another, and the rest stay.

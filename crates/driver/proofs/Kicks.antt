@@ -1,18 +1,16 @@
 -- Lemmas on clients that are put out of a channel, one after another.
 use Rattle.std.proofs.Common.{◌≡◌, ◌∷◌, ℕ, List, [], refl, subst, sym}
-use Rattle.driver.specs.declared.clients.Clients.{Clients}
-use Rattle.driver.specs.Kicks.{AreKicked, IsKicked}
-use Rattle.driver.specs.Rosters.{client_at}
-use Rattle.driver.specs.Telling.{Ordered}
+use Rattle.driver.specs.Crowds.{Told}
+use Rattle.driver.specs.Kicks.{KickEach, KicksClient}
 
 -- one client is kicked, and then those behind it
-pub kick_more : (clients : Clients) (text : List ℕ) (number : ℕ) (left more : List ℕ) (old behind new : Ordered) → left ≡ number ∷ more → IsKicked (client_at clients number) text old behind → AreKicked more clients text behind new → AreKicked left clients text old new
-unfolding AreKicked
-kick_more clients text number left more old behind new is kicks all =
-    subst (λ (left : List ℕ). AreKicked left clients text old new) (sym is) (behind, kicks, all)
+pub kick_more : (channel text : List ℕ) (number : ℕ) (left more : List ℕ) (old behind new : Told) → left ≡ number ∷ more → KicksClient channel text number old behind → KickEach channel text more behind new → KickEach channel text left old new
+unfolding KickEach
+kick_more channel text number left more old behind new is kicks all =
+    subst (λ (left : List ℕ). KickEach channel text left old new) (sym is) (behind, kicks, all)
 
 -- where none is left none is kicked
-pub kick_none : (clients : Clients) (text : List ℕ) (left : List ℕ) (last : Ordered) → left ≡ [] → AreKicked left clients text last last
-unfolding AreKicked
-kick_none clients text left last none =
-    subst (λ (left : List ℕ). AreKicked left clients text last last) (sym none) refl
+pub kick_none : (channel text : List ℕ) (left : List ℕ) (last : Told) → left ≡ [] → KickEach channel text left last last
+unfolding KickEach
+kick_none channel text left last none =
+    subst (λ (left : List ℕ). KickEach channel text left last last) (sym none) refl

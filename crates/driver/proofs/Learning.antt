@@ -4,9 +4,9 @@ use Rattle.std.specs.Prelude.{if◌then◌else◌}
 use Rattle.irc_line.specs.Names.{is_name, same_bytes}
 use Rattle.irc_line.proofs.SameBytes.{same_bytes-eq}
 use Rattle.driver.specs.declared.driver.Driver.{Driver}
-use Rattle.driver.specs.Kicks.{joined_as}
 use Rattle.driver.specs.Learning.{JoinsShowTheNick, LearnsIf, name_if, nick_learnt}
 use Rattle.driver.specs.Nicks.{nick_by, nick_in}
+use Rattle.driver.specs.Opening.{joined_as}
 
 named_by : (b : Bool) (nick : List ℕ) (old learnt : Driver) → b ≡ true → LearnsIf (if b then Some nick else None) old learnt → nick_in learnt ≡ nick
 named_by true nick old learnt is l = ap nick_in l.rest

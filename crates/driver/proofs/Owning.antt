@@ -139,8 +139,8 @@ reads_own false bytes now at s calls old new before after is stands h =
     (λ p. renamed s old _ new before after refl (cut_own s calls at _ new before after p))
     (h.stays is)
 
-pub hears_own : (e : GateEffect) (now : ℕ) (at : Moment) (s : Settings) (calls : List Call) (old new : Client) (before after : Ordered) → Hears e now at s calls old before new after → Owns s old before new after
-hears_own e now at s calls old new before after h =
+pub hears_own : (e : GateEffect) (nick : List ℕ) (now : ℕ) (at : Moment) (s : Settings) (calls : List Call) (old new : Client) (before after : Ordered) → Hears e nick now at s calls old before new after → Owns s old before new after
+hears_own e nick now at s calls old new before after h =
     ⊎_elim
     (λ p. renamed s old _ new before after refl (passed_own s (Hear e ∷ calls) (given_effect s e) at _ new before after p))
     (λ p. renamed s old _ new before after refl (cut_own s calls at _ new before after p))
@@ -232,8 +232,8 @@ ticks_own false false timeout now at s calls old new before after is stands t =
 event_own : (event : Event) (now : ℕ) (at : Moment) (s : Settings) (calls : List Call) (old new : Client) (before after : Ordered) → Happens event now at old before new after → Stands s calls old.gate → Owns s old before new after
 event_own (Speaks bytes) now at s calls old new before after h stands =
     reads_own old.is_gone bytes now at s calls old new before after refl stands (h s calls stands)
-event_own (Learns effect) now at s calls old new before after h stands =
-    hears_own effect now at s calls old new before after (h s calls stands)
+event_own (Learns effect nick) now at s calls old new before after h stands =
+    hears_own effect nick now at s calls old new before after (h s calls stands)
 event_own Goes now at s calls old new before after h stands =
     lost_own old.is_gone now at s calls old new before after refl stands (h s calls stands)
 event_own (Words lost refused) now at s calls old new before after h stands =

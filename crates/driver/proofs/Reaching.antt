@@ -3,7 +3,8 @@ use Rattle.std.proofs.Common.{◌≡◌, ◌∙◌, ℕ, ◌≤◌, Bool, true, 
 use Rattle.std.proofs.lemmas.List.{append-nil}
 use Rattle.bouncer_tower.specs.Hosting.{class_of}
 use Rattle.client_gate.specs.Gates.{GateEffect}
-use Rattle.irc_line.specs.Lines.{Parts}
+use Rattle.std.specs.BTreeMap.{keys}
+use Rattle.irc_line.specs.Lines.{Parts, parameter}
 use Rattle.machine_laws.specs.Origins.{same_origin}
 use Rattle.machine_laws.specs.declared.class.Class.{Class}
 use Rattle.machine_laws.specs.declared.class.Class.TheVariants.{Hand, Nowhere, Rejoin, To}
@@ -20,7 +21,10 @@ use Rattle.driver.specs.Driving.{told_of}
 use Rattle.driver.specs.Nicks.{nick_in}
 use Rattle.driver.specs.Once.{TellsOnly}
 use Rattle.driver.specs.Passing.{HearsOne, PassEach, PassesBy}
-use Rattle.driver.specs.Reaching.{EffectsReach, ReachEach, Reaches, ReachesBy}
+use Rattle.driver.specs.Kicks.{KickEach, KicksClient, RejoinsIf}
+use Rattle.driver.specs.Links.{is_session_of}
+use Rattle.driver.specs.Opening.{closed, has_open}
+use Rattle.driver.specs.Reaching.{AreSameButOpen, EffectsReach, ReachEach, Reaches, ReachesBy}
 use Rattle.driver.specs.Rosters.{client_at}
 use Rattle.driver.specs.Waking.{awake}
 use Rattle.driver.proofs.Adding.{learnt_good, passes_one}
@@ -52,12 +56,12 @@ others_stay origin c old new is own others number d found apart =
     absurd (cc (subst (λ (x : Client). same_origin x.origin origin ≡ true) one own, apart)))
     (λ other. others number other ∙ found)
 
-reach_of : (n now : ℕ) (at : Moment) (origin : Origin) (effect : GateEffect) (c : Client) (same : Bool) (old new : Told) → client_at old.clients origin.2 ≡ Some c → same_origin c.origin origin ≡ same → AllGood (NoClaim n) old.clients → HearsOne now at origin effect old new → Reaches origin old new
-reach_of n now at origin effect c false old new is own good h = same_reaches origin old new (h.stranger c is own)
-reach_of n now at origin effect c true old new is own good h =
+reach_of : (n now : ℕ) (at : Moment) (nick : List ℕ) (origin : Origin) (effect : GateEffect) (c : Client) (same : Bool) (old new : Told) → client_at old.clients origin.2 ≡ Some c → same_origin c.origin origin ≡ same → AllGood (NoClaim n) old.clients → HearsOne now at nick origin effect old new → Reaches origin old new
+reach_of n now at nick origin effect c false old new is own good h = same_reaches origin old new (h.stranger c is own)
+reach_of n now at nick origin effect c true old new is own good h =
     let g = good origin.2 c is in
     let b = h.served g.settings g.calls c (is, own) g.stands in
-    let o = hears_own effect now at g.settings g.calls c b.client old.orders new.orders b.happened in
+    let o = hears_own effect nick now at g.settings g.calls c b.client old.orders new.orders b.happened in
     record {
       others = others_stay origin c old new is own h.others;
       own = record {
@@ -67,13 +71,60 @@ reach_of n now at origin effect c true old new is own good h =
       };
     }
 
-reach_by : (n now : ℕ) (at : Moment) (origin : Origin) (effect : GateEffect) (found : Option Client) (old new : Told) → client_at old.clients origin.2 ≡ found → AllGood (NoClaim n) old.clients → HearsOne now at origin effect old new → Reaches origin old new
-reach_by n now at origin effect None old new is good h = same_reaches origin old new (h.nobody is)
-reach_by n now at origin effect (Some c) old new is good h = reach_of n now at origin effect c (same_origin c.origin origin) old new is refl good h
+reach_by : (n now : ℕ) (at : Moment) (nick : List ℕ) (origin : Origin) (effect : GateEffect) (found : Option Client) (old new : Told) → client_at old.clients origin.2 ≡ found → AllGood (NoClaim n) old.clients → HearsOne now at nick origin effect old new → Reaches origin old new
+reach_by n now at nick origin effect None old new is good h = same_reaches origin old new (h.nobody is)
+reach_by n now at nick origin effect (Some c) old new is good h = reach_of n now at nick origin effect c (same_origin c.origin origin) old new is refl good h
+
+-- clients that are put out of a channel
+
+same_open : (old new : Clients) → new ≡ old → AreSameButOpen old new
+same_open old new same = record {
+  same = λ number c is. (c, subst (λ (clients : Clients). client_at clients number ≡ Some c) (sym same) is, refl);
+}
+
+kick_open : (channel text : List ℕ) (number : ℕ) (c : Client) (open : Bool) (old new : Told) → client_at old.clients number ≡ Some c → has_open channel c.open ≡ open → KicksClient channel text number old new → AreSameButOpen old.clients new.clients
+kick_open channel text number c false old new is open k = let (same, none) = k.stays c is open in same_open old.clients new.clients same
+kick_open channel text number c true old new is open k = record {
+  same = λ n d found.
+      by_number number n ((e : Client) × (client_at new.clients n ≡ Some e) × (e ≡ record d { open = e.open }))
+      (λ same.
+      let here = subst (λ (k : ℕ). client_at old.clients k ≡ Some d) (sym same) found in
+      let one : c ≡ d = ap (or_client c) (sym is ∙ here) in
+      let closes = subst (λ (x : Client). client_at new.clients number ≡ Some (record x { open = closed channel x.open })) one (k.closes c is open) in
+      (record d { open = closed channel d.open }, subst (λ (k : ℕ). client_at new.clients k ≡ Some (record d { open = closed channel d.open })) same closes, refl))
+      (λ apart. (d, k.others n apart ∙ found, refl));
+}
+
+kick_open_by : (channel text : List ℕ) (number : ℕ) (found : Option Client) (old new : Told) → client_at old.clients number ≡ found → KicksClient channel text number old new → AreSameButOpen old.clients new.clients
+kick_open_by channel text number None old new is k = let (same, none) = k.nobody is in same_open old.clients new.clients same
+kick_open_by channel text number (Some c) old new is k = kick_open channel text number c (has_open channel c.open) old new is refl k
+
+open_both : (old behind new : Clients) → AreSameButOpen old behind → AreSameButOpen behind new → AreSameButOpen old new
+open_both old behind new first last = record {
+  same = λ number c is.
+      let (d, here, same) = first.same number c is in
+      let (e, there, more) = last.same number d here in
+      (e, there, more ∙ ap (λ (x : Client). record x { open = e.open }) same);
+}
+
+kicks_open : (channel text : List ℕ) (numbers : List ℕ) (old new : Told) → KickEach channel text numbers old new → AreSameButOpen old.clients new.clients
+unfolding KickEach
+kicks_open channel text [] old new same = same_open old.clients new.clients (ap (λ (told : Told). told.clients) same)
+kicks_open channel text (number ∷ numbers) old new (behind, kicks, more) =
+    open_both old.clients behind.clients new.clients
+    (kick_open_by channel text number (client_at old.clients number) old behind refl kicks)
+    (kicks_open channel text numbers behind new more)
+
+rejoins_open : (is : Bool) (line : Parts) (nick : List ℕ) (old new : Told) → RejoinsIf is line nick old new → AreSameButOpen old.clients new.clients
+rejoins_open false line nick old new (same, none) = same_open old.clients new.clients same
+rejoins_open true line nick old new r =
+    open_both old.clients r.kicked.clients new.clients
+    (kicks_open (parameter 0 line) _ (keys old.clients.all) old r.kicked r.kicks)
+    (same_open r.kicked.clients new.clients r.clients)
 
 reaches_by : (n : ℕ) (class : Class Parts) (now : ℕ) (at : Moment) (stage : Stage) (nick : List ℕ) (node : ℕ) (effect : GateEffect) (old new : Told) → AllGood (NoClaim n) old.clients → PassesBy class now at stage nick node effect old new → ReachesBy class old new
-reaches_by n (To origin) now at stage nick node effect old new good h = reach_by n now at origin effect (client_at old.clients origin.2) old new refl good h
-reaches_by n (Rejoin session line) now at stage nick node effect old new good (same, rejoins) = same
+reaches_by n (To origin) now at stage nick node effect old new good h = reach_by n now at nick origin effect (client_at old.clients origin.2) old new refl good h
+reaches_by n (Rejoin session line) now at stage nick node effect old new good rejoins = rejoins_open (is_session_of stage node) line nick old new rejoins
 reaches_by n (Hand session number line) now at stage nick node effect old new good same = ap (λ (told : Told). told.clients) same
 reaches_by n Nowhere now at stage nick node effect old new good same = ap (λ (told : Told). told.clients) same
 

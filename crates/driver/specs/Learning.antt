@@ -3,7 +3,7 @@ use Rattle.std.specs.Prelude.{◌≡◌, ℕ, true, if◌then◌else◌, List, O
 use Rattle.irc_line.specs.Names.{is_name, same_bytes}
 use Rattle.client_gate.specs.Gates.{GateEffect}
 use Rattle.driver.specs.declared.driver.Driver.{Driver}
-use Rattle.driver.specs.Kicks.{joined_as}
+use Rattle.driver.specs.Opening.{joined_as}
 use Rattle.driver.specs.Nicks.{AllAreWritten, nick_in, renaming}
 
 -- these bytes, where they are a name

@@ -19,6 +19,7 @@ pub mod Led
 pub mod Links
 pub mod Nicks
 pub mod Once
+pub mod Opening
 pub mod Operators
 pub mod Outages
 pub mod Passing

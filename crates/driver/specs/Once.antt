@@ -48,11 +48,11 @@ pub record TellsOnce (s : Settings) (calls : List Call) (before : Ordered) (new 
   pub orders : after ≡ ordered before told
   pub once : numbers_of (all_requests s behind) ≡ numbers_of (all_requests s calls) ++ numbers_told told
 
--- What happens to a client at a moment: bytes of it come, something comes of a request, its connection is gone, its node tells what
+-- What happens to a client at a moment: bytes of it come, something comes of a request, under a nick, its connection is gone, its node tells what
 -- may be lost and whether it refused a turn, or time passes, in which it is read or not.
 pub data Event : Type 0 where
   Speaks : List ℕ → Event
-  Learns : GateEffect → Event
+  Learns : GateEffect → List ℕ → Event
   Goes : Event
   Words : ℕ → Bool → Event
   Waits : Bool → ℕ → Event
@@ -61,8 +61,8 @@ pub data Event : Type 0 where
 abbrev pub Happens : Event → ℕ → Moment → Client → Ordered → Client → Ordered → Type 0
 Happens (Speaks bytes) now at old before new after =
     (s : Settings) (calls : List Call) → Stands s calls old.gate → Receives bytes now at s calls old before new after
-Happens (Learns effect) now at old before new after =
-    (s : Settings) (calls : List Call) → Stands s calls old.gate → Hears effect now at s calls old before new after
+Happens (Learns effect nick) now at old before new after =
+    (s : Settings) (calls : List Call) → Stands s calls old.gate → Hears effect nick now at s calls old before new after
 Happens Goes now at old before new after =
     (s : Settings) (calls : List Call) → Stands s calls old.gate → IsLost now at s calls old before new after
 Happens (Words lost refused) now at old before new after =

@@ -21,7 +21,7 @@ use Rattle.driver.specs.Serving.{Hears}
 
 -- An effect for the client of this origin is heard by it, where there is one; all others are as they were, one of another origin that has
 -- the same number too.
-pub record HearsOne (now : ℕ) (at : Moment) (origin : Origin) (effect : GateEffect) (old new : Told) : Type 0 where
+pub record HearsOne (now : ℕ) (at : Moment) (nick : List ℕ) (origin : Origin) (effect : GateEffect) (old new : Told) : Type 0 where
   pub others : AreOthersSame origin.2 old.clients new.clients
   pub nobody : client_at old.clients origin.2 ≡ None → (new.clients ≡ old.clients) × (new.orders ≡ old.orders)
   pub stranger :
@@ -30,14 +30,14 @@ pub record HearsOne (now : ℕ) (at : Moment) (origin : Origin) (effect : GateEf
   pub served :
       Serves
       (λ c. (client_at old.clients origin.2 ≡ Some c) × (same_origin c.origin origin ≡ true))
-      (λ s calls c client. Hears effect now at s calls c old.orders client new.orders)
+      (λ s calls c client. Hears effect nick now at s calls c old.orders client new.orders)
       origin.2 new.clients
 
 -- An effect that joins anew goes to the server in a session of this node, one for a client to that client, and others nowhere.
 abbrev pub PassesBy : Class Parts → ℕ → Moment → Stage → List ℕ → ℕ → GateEffect → Told → Told → Type 0
-PassesBy (To origin) now at stage nick node effect old new = HearsOne now at origin effect old new
+PassesBy (To origin) now at stage nick node effect old new = HearsOne now at nick origin effect old new
 PassesBy (Rejoin session line) now at stage nick node effect old new =
-    (new.clients ≡ old.clients) × Rejoins stage node line nick old.clients old.orders new.orders
+    Rejoins stage node line nick old new
 PassesBy (Hand session number line) now at stage nick node effect old new = new ≡ old
 PassesBy Nowhere now at stage nick node effect old new = new ≡ old
 

@@ -11,6 +11,7 @@ use Rattle.node_notes.specs.declared.status.Status.{Status}
 use Rattle.wire_bytes.specs.declared.moment.Moment.{Moment}
 use Rattle.wire_bytes.specs.declared.origin.Origin.{Origin}
 use Rattle.driver.specs.declared.client.Client.{Client}
+use Rattle.driver.specs.declared.clients.Clients.{Clients}
 use Rattle.driver.specs.declared.driver.Driver.{Driver}
 use Rattle.driver.specs.Calls.{Led, Reports, Step}
 use Rattle.driver.specs.Crowds.{Told}
@@ -28,10 +29,16 @@ pub record Reaches (origin : Origin) (old new : Told) : Type 0 where
       → client_at new.clients number ≡ Some c
   pub own : TellsOwn origin old.orders new.orders
 
--- what is for no client changes none
+-- Each client is as it was, but for the channels that it has open.
+pub record AreSameButOpen (old new : Clients) : Type 0 where
+  pub same :
+      (number : ℕ) (c : Client) → client_at old number ≡ Some c
+      → (d : Client) × (client_at new number ≡ Some d) × (d ≡ record c { open = d.open })
+
+-- what is for no client changes none; of clients that are put out of a channel it changes what they have open
 abbrev pub ReachesBy : Class Parts → Told → Told → Type 0
 ReachesBy (To origin) old new = Reaches origin old new
-ReachesBy (Rejoin session line) old new = new.clients ≡ old.clients
+ReachesBy (Rejoin session line) old new = AreSameButOpen old.clients new.clients
 ReachesBy (Hand session number line) old new = new.clients ≡ old.clients
 ReachesBy Nowhere old new = new.clients ≡ old.clients
 

@@ -1,5 +1,5 @@
 -- What happens to one of all clients.
-use Rattle.std.specs.Prelude.{◌≡◌, ◌-◌, ◌&&◌, ℕ, Bool, true, false, not, nat_le, if◌then◌else◌, List, length, Option, Some, None, slice_get}
+use Rattle.std.specs.Prelude.{◌≡◌, ◌-◌, ◌&&◌, ℕ, Bool, true, false, not, nat_le, if◌then◌else◌, List, [], length, Option, Some, None, slice_get}
 use Rattle.std.specs.Ordering.{nat_cmp}
 use Rattle.std.specs.BTreeMap.{get}
 use Rattle.client_gate.specs.declared.settings.Settings.{Settings}
@@ -86,6 +86,6 @@ pub record IsNew (origin : Origin) (held : Held) (nick : List ℕ) (now : ℕ) (
   pub asked_is : client.asked ≡ record { note = 0; at = at now }
   pub is_not_held_up : client.is_held_up ≡ false
   pub is_not_attached : client.is_attached ≡ false
-  pub has_not_joined : client.has_joined ≡ false
+  pub has_none_open : client.open ≡ []
   pub is_not_pinged : client.is_pinged ≡ false
   pub is_not_gone : client.is_gone ≡ false

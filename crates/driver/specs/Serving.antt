@@ -12,18 +12,18 @@ use Rattle.driver.specs.declared.client.Client.{Client}
 use Rattle.driver.specs.Asking.{begun, held_behind, now_asked}
 use Rattle.driver.specs.Clients.{behind_fed, parting_unless, passed}
 use Rattle.driver.specs.Desks.{at}
-use Rattle.driver.specs.Kicks.{shows_join}
+use Rattle.driver.specs.Opening.{open_behind}
 use Rattle.driver.specs.Telling.{Ordered, ordered}
 
 -- a client of which bytes came: it was heard of
 abbrev pub spoke : Asked → ℕ → List Request → Client → Client
 spoke asked now waiting c = record (begun asked waiting c) { heard = at now; is_pinged = false }
 
--- a client of which something came of a request
-abbrev pub answered : Asked → GateEffect → List Request → Client → Client
-answered asked effect waiting c =
+-- a client of which something came of a request, under this nick
+abbrev pub answered : Asked → GateEffect → List ℕ → List Request → Client → Client
+answered asked effect nick waiting c =
     let behind = begun asked waiting c in
-    record behind { is_held_up = held_behind effect behind.is_held_up; has_joined = behind.has_joined || shows_join effect }
+    record behind { is_held_up = held_behind effect behind.is_held_up; open = open_behind nick effect behind.open }
 
 -- a client whose connection is gone
 abbrev pub gone_from : Asked → List Request → Client → Client
@@ -66,9 +66,9 @@ pub record Receives (bytes : List ℕ) (now : ℕ) (moment : Moment) (s : Settin
   pub gone : old.is_gone ≡ true → (new ≡ old) × (after ≡ before)
 
 -- Something came of a request of a client; what was left out is not asked for again at once.
-abbrev pub Hears : GateEffect → ℕ → Moment → Settings → List Call → Client → Ordered → Client → Ordered → Type 0
-Hears effect now moment s calls old before new after =
-    HasPassed s (Hear effect ∷ calls) (given_effect s effect) moment (answered (now_asked before now old) effect (gate s calls).waiting old) before new after
+abbrev pub Hears : GateEffect → List ℕ → ℕ → Moment → Settings → List Call → Client → Ordered → Client → Ordered → Type 0
+Hears effect nick now moment s calls old before new after =
+    HasPassed s (Hear effect ∷ calls) (given_effect s effect) moment (answered (now_asked before now old) effect nick (gate s calls).waiting old) before new after
     ⊎ IsCutOff s calls moment (begun (now_asked before now old) (gate s calls).waiting old) before new after
 
 -- A client's connection is gone, or is closed; where it was gone before nothing changes.

@@ -10,14 +10,16 @@ ghost use Rattle.driver.specs.Serving.{Hears, IsLost, Receives, StandsSo, ended,
 ghost use Rattle.driver.specs.Telling.{ordered};
 
 mod asking;
+mod channels;
 mod joining;
 mod naming;
+mod opening;
 mod reading;
 mod silence;
 mod word;
 
 use crate::client::asking::asks;
-use crate::client::joining::shows_join;
+use crate::client::channels::Channels;
 use crate::news::News;
 use crate::order::Now;
 use crate::orders::Orders;
@@ -60,8 +62,7 @@ pub struct Client {
     /// waits may be lost.
     is_held_up: bool,
     is_attached: bool,
-    /// It was shown that someone joined a channel: it has channels open.
-    has_joined: bool,
+    open: Channels,
     /// It was asked for a word since it was last heard of.
     is_pinged: bool,
     /// Its connection is gone, or is to be closed.
@@ -86,7 +87,7 @@ impl Client {
             },
             is_held_up: false,
             is_attached: false,
-            has_joined: false,
+            open: Channels::new(alloc),
             is_pinged: false,
             is_gone: false,
         }
@@ -111,13 +112,6 @@ impl Client {
         ensures { result ≡ self.now.is_attached }
     {
         self.is_attached
-    }
-
-    /// Whether it was shown that someone joined a channel.
-    pub fn has_joined(&self) -> bool
-        ensures { result ≡ self.now.has_joined }
-    {
-        self.has_joined
     }
 
     /// Whether its connection is gone, or is to be closed.
@@ -159,22 +153,23 @@ impl Client {
         Ok(())
     }
 
-    /// Something came of a request.
+    /// Something came of a request, under this nick.
     pub fn hear(
         &mut self,
         now: &Now,
+        nick: &[u8],
         effect: &TowerEffect,
         orders: &mut Orders,
     ) -> Result<(), AllocError>
         ensures { (s : Settings) (calls : List Call) → Stands s calls self.old.gate →
-            OnOk result (Hears effect.now now.now.ms now.now.at s calls
+            OnOk result (Hears effect.now nick.now now.now.ms now.now.at s calls
             self.old orders.old self.new orders.new) }
     {
         self.begin_asking(now, orders);
         match self.gate.on_effect(effect) {
             Ok(fed) => {
                 self.is_held_up = is_held_behind(effect, self.is_held_up);
-                self.has_joined = self.has_joined || shows_join(effect);
+                self.follow(nick, effect)?;
                 self.pass(now, fed, orders)?;
             }
             Err(_) => self.part(now, orders)?,

@@ -81,11 +81,12 @@ impl Clients {
         Ok(())
     }
 
-    /// Something came of a request of the client of this origin. A client of another origin that has the
+    /// Something came of a request of the client of this origin, under this nick. A client of another origin that has the
     /// same number is as it was.
     pub fn hear(
         &mut self,
         now: &Now,
+        nick: &[u8],
         origin: Origin,
         effect: &TowerEffect,
         orders: &mut Orders,
@@ -97,7 +98,7 @@ impl Clients {
             same_origin c.origin origin ≡ false → (self.new ≡ self.old) × (orders.new ≡ orders.old) }
         ensures served { OnOk result (Serves
             (λ c. (client_at self.old origin.2 ≡ Some c) × (same_origin c.origin origin ≡ true))
-            (λ s calls c new. Hears effect.now now.now.ms now.now.at s calls c orders.old
+            (λ s calls c new. Hears effect.now nick.now now.now.ms now.now.at s calls c orders.old
             new orders.new) origin.2 self.new) }
     {
         if !self.is_there(origin) {
@@ -106,7 +107,7 @@ impl Clients {
         let Some(client) = self.all.get_mut(&origin.client()) else {
             return Ok(());
         };
-        client.hear(now, effect, orders)?;
+        client.hear(now, nick, effect, orders)?;
         self.forget_if_over(origin.client());
         Ok(())
     }

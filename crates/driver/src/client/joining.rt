@@ -1,23 +1,104 @@
-//! Whether a client is shown that someone joins a channel, and by which nick.
+//! What a client is shown of who joins a channel, and of its own parting.
 ghost use Rattle.std.specs.Prelude.{◌≡◌, option_map};
-ghost use Rattle.driver.specs.Kicks.{behind_space, is_join, joined_as, nick_joining, shows_join, upto};
+ghost use Rattle.driver.specs.Opening.{behind_space, channel_joined, channel_left, closed_by, first_in, is_join, is_kick, is_part};
+ghost use Rattle.driver.specs.Opening.{joined_as, nick_joining, opened_by, second_in, source_in, upto};
 
 use bouncer_tower::TowerEffect;
 use buffer_commands::Effect;
+use irc_line::{is_same, is_same_name};
 use request_once::Answer;
 use session_fence::FenceEffect;
 use upstream_claim::ClaimsEffect;
 
-/// Whether an effect shows a client that someone joins a channel.
-pub fn shows_join(effect: &TowerEffect) -> bool
-    ensures { result ≡ shows_join effect.now }
+/// The channel that an effect opens at its client: it shows that someone joins it.
+pub fn opened_by(effect: &TowerEffect) -> Option<&[u8]>
+    ensures { option_map (λ name. name.now) result ≡ opened_by effect.now }
 {
     match effect {
         Answer::Effect(ClaimsEffect::Inner(FenceEffect::Inner(Effect::Show(_, shown)))) => {
-            is_join(shown.spelling())
+            channel_joined(shown.spelling())
         }
-        _ => false,
+        _ => None,
     }
+}
+
+/// The channel that an effect closes at its client, who has this nick: it shows that the client parts from
+/// it, or is kicked.
+pub fn closed_by<'a>(effect: &'a TowerEffect, nick: &[u8]) -> Option<&'a [u8]>
+    ensures { option_map (λ name. name.now) result ≡ closed_by nick.now effect.now }
+{
+    match effect {
+        Answer::Effect(ClaimsEffect::Inner(FenceEffect::Inner(Effect::Show(_, shown)))) => {
+            channel_left(shown.spelling(), nick)
+        }
+        _ => None,
+    }
+}
+
+/// The channel of a JOIN with a prefix, by its spelling.
+fn channel_joined(shown: &[u8]) -> Option<&[u8]>
+    ensures { option_map (λ name. name.now) result ≡ channel_joined shown.now }
+{
+    if !is_join(shown) {
+        return None;
+    }
+    match shown {
+        [_, line @ ..] => Some(first_in(line)),
+        [] => None,
+    }
+}
+
+/// The channel of a PART of this nick, or of a KICK of it, by the line's spelling.
+fn channel_left<'a>(shown: &'a [u8], nick: &[u8]) -> Option<&'a [u8]>
+    ensures { option_map (λ name. name.now) result ≡ channel_left nick.now shown.now }
+{
+    match shown {
+        [b':', line @ ..] => {
+            if is_part(line, nick) || is_kick(line, nick) {
+                Some(first_in(line))
+            } else {
+                None
+            }
+        }
+        _ => None,
+    }
+}
+
+/// Whether a line, behind the mark of its prefix, is a PART of this nick.
+fn is_part(line: &[u8], nick: &[u8]) -> bool
+    ensures { result ≡ is_part nick.now line.now }
+{
+    let command = upto(behind_space(line), b' ');
+    is_same(command, b"PART") && is_same_name(source_in(line), nick)
+}
+
+/// Whether it is a KICK of this nick.
+fn is_kick(line: &[u8], nick: &[u8]) -> bool
+    ensures { result ≡ is_kick nick.now line.now }
+{
+    let command = upto(behind_space(line), b' ');
+    is_same(command, b"KICK") && is_same_name(second_in(line), nick)
+}
+
+/// The nick in its prefix.
+fn source_in(line: &[u8]) -> &[u8]
+    ensures { result.now ≡ source_in line.now }
+{
+    upto(upto(line, b' '), b'!')
+}
+
+/// Its first parameter.
+fn first_in(line: &[u8]) -> &[u8]
+    ensures { result.now ≡ first_in line.now }
+{
+    upto(behind_space(behind_space(line)), b' ')
+}
+
+/// Its second parameter, up to a space.
+fn second_in(line: &[u8]) -> &[u8]
+    ensures { result.now ≡ second_in line.now }
+{
+    upto(behind_space(behind_space(behind_space(line))), b' ')
 }
 
 /// By which nick an effect shows a client that someone joins a channel, if it does.
@@ -40,7 +121,7 @@ fn nick_joining(shown: &[u8]) -> Option<&[u8]>
         return None;
     }
     match shown {
-        [_, line @ ..] => Some(upto(upto(line, b' '), b'!')),
+        [_, line @ ..] => Some(source_in(line)),
         [] => None,
     }
 }

@@ -12,6 +12,7 @@ ghost use Rattle.driver.specs.Telling.{ordered, told_to};
 
 use crate::desk::Heard;
 use crate::driver::Driver;
+use crate::driver::nick::nick_by;
 use crate::order::{Now, TowerReport};
 use bouncer_tower::{Tower, TowerEffect};
 use machine_laws::{Class, Hosted};
@@ -126,7 +127,11 @@ impl Driver {
             { clients = self.new.clients; orders = self.new.orders } }
     {
         match <Tower as Hosted>::class(effect) {
-            Class::To(origin) => self.clients.hear(now, origin, effect, &mut self.orders)?,
+            Class::To(origin) => {
+                let nick = nick_by(&self.given, &self.settings.nick);
+                self.clients
+                    .hear(now, nick.as_bytes(), origin, effect, &mut self.orders)?
+            }
             Class::Rejoin(_, line) => self.rejoin(node, line)?,
             Class::Hand(_, _, _) | Class::Nowhere => {}
         }

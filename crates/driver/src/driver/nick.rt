@@ -1,6 +1,6 @@
 //! The nick in force, and what clients are told of it.
 ghost use Rattle.std.specs.Prelude.{◌≡◌, IfOk, None, OnOk};
-ghost use Rattle.driver.specs.Kicks.{joined_as};
+ghost use Rattle.driver.specs.Opening.{joined_as};
 ghost use Rattle.driver.specs.Learning.{LearnsNick, nick_learnt};
 ghost use Rattle.driver.specs.Nicks.{AllAreWritten, HearsNick, IsGreeted, RenamesIf, TakesNick, is_renamed, nick_by, nick_in, notice, renaming};
 ghost use Rattle.driver.specs.Rosters.{client_at};
@@ -121,7 +121,7 @@ impl Driver {
 }
 
 /// The nick that the server gave, if it gave one, and else the one that is asked for.
-fn nick_by<'a>(given: &'a Option<Name>, asked: &'a Name) -> &'a Name
+pub(crate) fn nick_by<'a>(given: &'a Option<Name>, asked: &'a Name) -> &'a Name
     ensures { result.now ≡ nick_by given.now asked.now }
 {
     match given {

@@ -1,5 +1,6 @@
 //! Channels that are joined again in a new session.
 ghost use Rattle.std.specs.Prelude.{◌≡◌, OnOk};
+ghost use Rattle.driver.specs.Driving.{told_of};
 ghost use Rattle.driver.specs.Kicks.{Rejoins};
 ghost use Rattle.driver.specs.Nicks.{nick_in};
 
@@ -14,14 +15,17 @@ impl Driver {
     /// channel open is put out of it before: some programs close its window at a JOIN that they don't expect.
     pub(crate) fn rejoin(&mut self, node: NodeId, line: &Line) -> Result<(), AllocError>
         ensures told { OnOk result (Rejoins self.old.link.stage node line.now (nick_in self.old)
-            self.old.clients self.old.orders self.new.orders) }
-        ensures rest { self.new ≡ record self.old { orders = self.new.orders } }
+            (told_of self.old) (told_of self.new)) }
+        ensures rest { self.new ≡ record self.old
+            { clients = self.new.clients; orders = self.new.orders } }
     {
         if !self.link.is_session_of(node) {
             return Ok(());
         }
-        let kick = kick_line(self.alloc, line.parameter(0), self.nick().as_bytes())?;
-        self.clients.kick_all(kick.as_slice(), &mut self.orders)?;
+        let channel = line.parameter(0);
+        let kick = kick_line(self.alloc, channel, self.nick().as_bytes())?;
+        self.clients
+            .kick_all(channel, kick.as_slice(), &mut self.orders)?;
         self.link.send(node, line, &mut self.orders)
     }
 }

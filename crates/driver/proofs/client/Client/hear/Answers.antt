@@ -3,7 +3,7 @@ use Rattle.client_gate.specs.Calls.{Hear, Stands}
 use Rattle.client_gate.specs.Gates.{given_effect}
 use Rattle.driver.specs.declared.client.Client.{Client}
 use Rattle.driver.specs.Asking.{held_behind}
-use Rattle.driver.specs.Kicks.{shows_join}
+use Rattle.driver.specs.Opening.{open_behind}
 use Rattle.driver.specs.Serving.{HasPassed}
 use Rattle.driver.proofs.client.Client.hear.Goals as goal
 
@@ -17,7 +17,7 @@ returns-in_ok-pass-in-Ok c s calls stands =
     let so = c.in_ok-pass-in-Ok.ensures.stands s heard behind in
     inl
     (subst
-    (λ (x : Client). HasPassed s heard (given_effect s effect) c.args.now.now.at (record x { is_held_up = held_behind effect x.is_held_up; has_joined = x.has_joined || shows_join effect }) c.args.orders.now c.pass.new.self c.pass.new.orders)
+    (λ (x : Client). HasPassed s heard (given_effect s effect) c.args.now.now.at (record x { is_held_up = held_behind effect x.is_held_up; open = open_behind c.args.nick.now effect x.open }) c.args.orders.now c.pass.new.self c.pass.new.orders)
     begun
     (record {
       fed = c.in-Ok.fed;

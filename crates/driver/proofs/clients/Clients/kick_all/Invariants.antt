@@ -1,11 +1,11 @@
 use Rattle.std.specs.BTreeMap.{keys}
 use Rattle.std.specs.Vec.Iter.{into_iter_items}
-use Rattle.driver.specs.Kicks.{AreKicked}
-use Rattle.driver.specs.Telling.{Ordered}
+use Rattle.driver.specs.Crowds.{Told, told}
+use Rattle.driver.specs.Kicks.{KickEach}
 use Rattle.driver.proofs.clients.Clients.kick_all.Given as goal
 
--- once what is left is written to, all are
+-- once it comes to what is left, it came to all
 abbrev pub invariant-loop-number : goal.invariant-loop-number
 invariant-loop-number l =
-    (new : Ordered) → AreKicked (into_iter_items l.number-iterator) l.self l.text l.orders new
-    → AreKicked (keys l.self.all) l.self l.text l.initial.orders new
+    (new : Told) → KickEach l.channel l.text (into_iter_items l.number-iterator) (told l.self l.orders) new
+    → KickEach l.channel l.text (keys l.initial.self.all) (told l.initial.self l.initial.orders) new

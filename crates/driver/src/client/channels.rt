@@ -1,0 +1,71 @@
+//! The channels that a client has open.
+ghost use Rattle.std.specs.Prelude.{◌≡◌, [], OnErr, OnOk};
+ghost use Rattle.std.specs.List.{list_any};
+ghost use Rattle.irc_line.specs.Names.{same_name};
+ghost use Rattle.driver.specs.Opening.{closed, opened};
+
+use irc_line::{Name, is_a_name, is_same_name};
+use std::alloc::{AllocError, Global};
+use std::marker::Model;
+
+/// The channels that a client has open: of each of them a JOIN was the last that it was shown of its own
+/// coming and going.
+///
+/// A clause sees their names, each as it was shown first.
+#[derive(Drop)]
+pub struct Channels {
+    alloc: Global,
+    names: Vec<Name>,
+}
+
+impl Model for Channels {
+    ghost use Rattle.std.specs.Prelude.{ℕ, List};
+
+    ghost Value = { List (List ℕ) };
+
+    ghost view = { λ c. c.names.items };
+}
+
+impl Channels {
+    /// There is none.
+    pub fn new(alloc: Global) -> Channels
+        ensures { result ≡ [] }
+    {
+        Channels {
+            alloc,
+            names: Vec::new(alloc),
+        }
+    }
+
+    /// Whether one of this name is open.
+    pub fn has(&self, name: &[u8]) -> bool
+        ensures { result ≡ list_any (same_name name.now) self.now }
+    {
+        self.names
+            .iter()
+            .any(|open| is_same_name(name, open.as_bytes()))
+    }
+
+    /// One of this name is open now.
+    pub fn open(&mut self, name: &[u8]) -> Result<(), AllocError>
+        ensures opened { OnOk result (self.new ≡ opened name.now self.old) }
+        ensures kept { OnErr result (self.new ≡ self.old) }
+    {
+        if self.has(name) || !is_a_name(name) {
+            return Ok(());
+        }
+        let bytes = Vec::from_slice(self.alloc, name)?;
+        if let Some(name) = Name::from_bytes(bytes) {
+            self.names.push(name)?;
+        }
+        Ok(())
+    }
+
+    /// None of this name is open any more.
+    pub fn close(&mut self, name: &[u8])
+        ensures { self.new ≡ closed name.now self.old }
+    {
+        self.names
+            .retain(|open| !is_same_name(name, open.as_bytes()));
+    }
+}

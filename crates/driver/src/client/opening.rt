@@ -1,0 +1,38 @@
+//! Which channels a client has open.
+ghost use Rattle.std.specs.Prelude.{◌≡◌, OnOk};
+ghost use Rattle.driver.specs.Opening.{closed, has_open, open_behind};
+
+use crate::client::Client;
+use crate::client::joining::{closed_by, opened_by};
+use bouncer_tower::TowerEffect;
+use std::alloc::AllocError;
+
+impl Client {
+    /// An effect may open a channel, or close one, where it is shown under this nick.
+    pub(crate) fn follow(&mut self, nick: &[u8], effect: &TowerEffect) -> Result<(), AllocError>
+        ensures { OnOk result (self.new
+            ≡ record self.old { open = open_behind nick.now effect.now self.old.open }) }
+    {
+        if let Some(channel) = opened_by(effect) {
+            self.open.open(channel)?;
+        }
+        if let Some(channel) = closed_by(effect, nick) {
+            self.open.close(channel);
+        }
+        Ok(())
+    }
+
+    /// Whether it has a channel of this name open.
+    pub fn has_open(&self, channel: &[u8]) -> bool
+        ensures { result ≡ has_open channel.now self.now.open }
+    {
+        self.open.has(channel)
+    }
+
+    /// It has no channel of this name open any more.
+    pub fn close(&mut self, channel: &[u8])
+        ensures { self.new ≡ record self.old { open = closed channel.now self.old.open } }
+    {
+        self.open.close(channel);
+    }
+}
