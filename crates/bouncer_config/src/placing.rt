@@ -25,12 +25,12 @@ impl Config {
 fn placed_record(
     alloc: Global,
     file: &str,
-    record: &Option<String>,
+    path: &Option<String>,
 ) -> Result<Option<String>, AllocError>
-    ensures { IfOk result (λ path. option_map string_bytes path ≡
-        option_map (placed file.now) (option_map string_bytes record.now)) }
+    ensures { IfOk result (λ placed_path. option_map string_bytes placed_path ≡
+        option_map (placed file.now) (option_map string_bytes path.now)) }
 {
-    match record {
+    match path {
         Some(path) => Ok(Some(placed(alloc, file, path.as_str())?)),
         None => Ok(None),
     }
