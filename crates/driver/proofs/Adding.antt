@@ -95,29 +95,29 @@ sends_add P true line before after fits sent = one_adds P (Send sent.bytes) befo
 
 -- Clients that have a channel open are put out of it.
 
-kicked_good : (P : Order → Type 0) (channel : List ℕ) (number : ℕ) (c : Client) (old new : Clients) → AllGood P old → AreOthersSame number old new → Good P c → client_at new number ≡ Some (record c { open = closed channel c.open }) → AllGood P new
+kicked_good : (P : Order → Type 0) (channel : List ℕ) (number : ℕ) (c : Client) (old new : Clients) → AllGood P old → AreOthersSame number old new → Good P c → client_at new number ≡ Some (record c { channels = closed channel c.channels }) → AllGood P new
 kicked_good P channel number c old new good others here is n d found =
     by_number number n (Good P d)
     (λ same.
     let at_number = subst (λ (k : ℕ). client_at new k ≡ Some d) (sym same) found in
-    good_as P (record c { open = closed channel c.open }) d (ap (or_this c) (sym is ∙ at_number))
+    good_as P (record c { channels = closed channel c.channels }) d (ap (or_this c) (sym is ∙ at_number))
     (record { settings = here.settings; calls = here.calls; stands = here.stands; fits = here.fits }))
     (λ apart. good n d (sym (others n apart) ∙ found))
 
-kick_of : (P : Order → Type 0) (channel text : List ℕ) (number : ℕ) (c : Client) (open : Bool) (old new : Told) → client_at old.clients number ≡ Some c → has_open channel c.open ≡ open → AllGood P old.clients → KicksClient channel text number old new → Grows P old new
-kick_of P channel text number c false old new is open good k = same_grows P old new good (k.stays c is open)
-kick_of P channel text number c true old new is open good k =
-    let adds = written_adds P old.clients number (Some c) text old.orders new.orders is good (k.written c is open) in
+kick_of : (P : Order → Type 0) (channel text : List ℕ) (number : ℕ) (c : Client) (has : Bool) (old new : Told) → client_at old.clients number ≡ Some c → has_open channel c.channels ≡ has → AllGood P old.clients → KicksClient channel text number old new → Grows P old new
+kick_of P channel text number c false old new is has good k = same_grows P old new good (k.stays c is has)
+kick_of P channel text number c true old new is has good k =
+    let adds = written_adds P old.clients number (Some c) text old.orders new.orders is good (k.written c is has) in
     record {
       told = adds.told;
       orders = adds.orders;
       all = adds.all;
-      good = kicked_good P channel number c old.clients new.clients good k.others (good number c is) (k.closes c is open);
+      good = kicked_good P channel number c old.clients new.clients good k.others (good number c is) (k.closes c is has);
     }
 
 kick_by : (P : Order → Type 0) (channel text : List ℕ) (number : ℕ) (found : Option Client) (old new : Told) → client_at old.clients number ≡ found → AllGood P old.clients → KicksClient channel text number old new → Grows P old new
 kick_by P channel text number None old new is good k = same_grows P old new good (k.nobody is)
-kick_by P channel text number (Some c) old new is good k = kick_of P channel text number c (has_open channel c.open) old new is refl good k
+kick_by P channel text number (Some c) old new is good k = kick_of P channel text number c (has_open channel c.channels) old new is refl good k
 
 kicks_grow : (P : Order → Type 0) (channel text : List ℕ) (numbers : List ℕ) (old new : Told) → AllGood P old.clients → KickEach channel text numbers old new → Grows P old new
 unfolding KickEach

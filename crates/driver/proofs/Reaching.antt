@@ -82,29 +82,29 @@ same_open old new same = record {
   same = λ number c is. (c, subst (λ (clients : Clients). client_at clients number ≡ Some c) (sym same) is, refl);
 }
 
-kick_open : (channel text : List ℕ) (number : ℕ) (c : Client) (open : Bool) (old new : Told) → client_at old.clients number ≡ Some c → has_open channel c.open ≡ open → KicksClient channel text number old new → AreSameButOpen old.clients new.clients
-kick_open channel text number c false old new is open k = let (same, none) = k.stays c is open in same_open old.clients new.clients same
-kick_open channel text number c true old new is open k = record {
+kick_open : (channel text : List ℕ) (number : ℕ) (c : Client) (has : Bool) (old new : Told) → client_at old.clients number ≡ Some c → has_open channel c.channels ≡ has → KicksClient channel text number old new → AreSameButOpen old.clients new.clients
+kick_open channel text number c false old new is has k = let (same, none) = k.stays c is has in same_open old.clients new.clients same
+kick_open channel text number c true old new is has k = record {
   same = λ n d found.
-      by_number number n ((e : Client) × (client_at new.clients n ≡ Some e) × (e ≡ record d { open = e.open }))
+      by_number number n ((e : Client) × (client_at new.clients n ≡ Some e) × (e ≡ record d { channels = e.channels }))
       (λ same.
       let here = subst (λ (k : ℕ). client_at old.clients k ≡ Some d) (sym same) found in
       let one : c ≡ d = ap (or_client c) (sym is ∙ here) in
-      let closes = subst (λ (x : Client). client_at new.clients number ≡ Some (record x { open = closed channel x.open })) one (k.closes c is open) in
-      (record d { open = closed channel d.open }, subst (λ (k : ℕ). client_at new.clients k ≡ Some (record d { open = closed channel d.open })) same closes, refl))
+      let closes = subst (λ (x : Client). client_at new.clients number ≡ Some (record x { channels = closed channel x.channels })) one (k.closes c is has) in
+      (record d { channels = closed channel d.channels }, subst (λ (k : ℕ). client_at new.clients k ≡ Some (record d { channels = closed channel d.channels })) same closes, refl))
       (λ apart. (d, k.others n apart ∙ found, refl));
 }
 
 kick_open_by : (channel text : List ℕ) (number : ℕ) (found : Option Client) (old new : Told) → client_at old.clients number ≡ found → KicksClient channel text number old new → AreSameButOpen old.clients new.clients
 kick_open_by channel text number None old new is k = let (same, none) = k.nobody is in same_open old.clients new.clients same
-kick_open_by channel text number (Some c) old new is k = kick_open channel text number c (has_open channel c.open) old new is refl k
+kick_open_by channel text number (Some c) old new is k = kick_open channel text number c (has_open channel c.channels) old new is refl k
 
 open_both : (old behind new : Clients) → AreSameButOpen old behind → AreSameButOpen behind new → AreSameButOpen old new
 open_both old behind new first last = record {
   same = λ number c is.
       let (d, here, same) = first.same number c is in
       let (e, there, more) = last.same number d here in
-      (e, there, more ∙ ap (λ (x : Client). record x { open = e.open }) same);
+      (e, there, more ∙ ap (λ (x : Client). record x { channels = e.channels }) same);
 }
 
 kicks_open : (channel text : List ℕ) (numbers : List ℕ) (old new : Told) → KickEach channel text numbers old new → AreSameButOpen old.clients new.clients

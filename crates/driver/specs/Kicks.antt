@@ -17,18 +17,18 @@ kick_line channel nick = codes ":bouncer.local KICK " ++ channel ++ 32 ∷ nick 
 -- a client has a channel of this name open, if there is one
 abbrev pub has_open_in : List ℕ → Option Client → Bool
 has_open_in name None = false
-has_open_in name (Some client) = has_open name client.open
+has_open_in name (Some client) = has_open name client.channels
 
 -- The client of this number, where it has the channel open: it is written this, where it is attached and its connection stands, and has
 -- the channel open no more. All others are as they were.
 pub record KicksClient (channel text : List ℕ) (number : ℕ) (old new : Told) : Type 0 where
   pub others : AreOthersSame number old.clients new.clients
   pub nobody : client_at old.clients number ≡ None → IsSame old new
-  pub stays : (c : Client) → client_at old.clients number ≡ Some c → has_open channel c.open ≡ false → IsSame old new
+  pub stays : (c : Client) → client_at old.clients number ≡ Some c → has_open channel c.channels ≡ false → IsSame old new
   pub closes :
-      (c : Client) → client_at old.clients number ≡ Some c → has_open channel c.open ≡ true
-      → client_at new.clients number ≡ Some (record c { open = closed channel c.open })
-  pub written : (c : Client) → client_at old.clients number ≡ Some c → has_open channel c.open ≡ true → IsWritten (Some c) text old.orders new.orders
+      (c : Client) → client_at old.clients number ≡ Some c → has_open channel c.channels ≡ true
+      → client_at new.clients number ≡ Some (record c { channels = closed channel c.channels })
+  pub written : (c : Client) → client_at old.clients number ≡ Some c → has_open channel c.channels ≡ true → IsWritten (Some c) text old.orders new.orders
 
 -- the same of the clients of these numbers, in this order
 unfoldable pub KickEach : List ℕ → List ℕ → List ℕ → Told → Told → Type 0

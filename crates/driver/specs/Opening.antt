@@ -78,26 +78,26 @@ closed_by nick other = None
 
 -- a channel of this name is among those that are open
 abbrev pub has_open : List ℕ → List (List ℕ) → Bool
-has_open name open = list_any (same_name name) open
+has_open name names = list_any (same_name name) names
 
 -- those that are open once one of this name is
 abbrev pub opened : List ℕ → List (List ℕ) → List (List ℕ)
-opened name open = if has_open name open || not (is_name name) then open else open ++ name ∷ []
+opened name names = if has_open name names || not (is_name name) then names else names ++ name ∷ []
 
 -- those that are open once none of this name is
 abbrev pub closed : List ℕ → List (List ℕ) → List (List ℕ)
-closed name open = filter (λ other. not (same_name name other)) open
+closed name names = filter (λ other. not (same_name name other)) names
 
 -- those that are open once one of this name is, if there is one
 abbrev pub opened_if : Option (List ℕ) → List (List ℕ) → List (List ℕ)
-opened_if None open = open
-opened_if (Some name) open = opened name open
+opened_if None names = names
+opened_if (Some name) names = opened name names
 
 -- those that are open once none of this name is, if there is one
 abbrev pub closed_if : Option (List ℕ) → List (List ℕ) → List (List ℕ)
-closed_if None open = open
-closed_if (Some name) open = closed name open
+closed_if None names = names
+closed_if (Some name) names = closed name names
 
 -- those that are open behind an effect, at a client of this nick
 abbrev pub open_behind : List ℕ → GateEffect → List (List ℕ) → List (List ℕ)
-open_behind nick effect open = closed_if (closed_by nick effect) (opened_if (opened_by effect) open)
+open_behind nick effect names = closed_if (closed_by nick effect) (opened_if (opened_by effect) names)

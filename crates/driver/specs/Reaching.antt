@@ -33,7 +33,7 @@ pub record Reaches (origin : Origin) (old new : Told) : Type 0 where
 pub record AreSameButOpen (old new : Clients) : Type 0 where
   pub same :
       (number : ℕ) (c : Client) → client_at old number ≡ Some c
-      → (d : Client) × (client_at new number ≡ Some d) × (d ≡ record c { open = d.open })
+      → (d : Client) × (client_at new number ≡ Some d) × (d ≡ record c { channels = d.channels })
 
 -- what is for no client changes none; of clients that are put out of a channel it changes what they have open
 abbrev pub ReachesBy : Class Parts → Told → Told → Type 0

@@ -86,6 +86,6 @@ pub record IsNew (origin : Origin) (held : Held) (nick : List ℕ) (now : ℕ) (
   pub asked_is : client.asked ≡ record { note = 0; at = at now }
   pub is_not_held_up : client.is_held_up ≡ false
   pub is_not_attached : client.is_attached ≡ false
-  pub has_none_open : client.open ≡ []
+  pub has_none_open : client.channels ≡ []
   pub is_not_pinged : client.is_pinged ≡ false
   pub is_not_gone : client.is_gone ≡ false

@@ -23,7 +23,7 @@ spoke asked now waiting c = record (begun asked waiting c) { heard = at now; is_
 abbrev pub answered : Asked → GateEffect → List ℕ → List Request → Client → Client
 answered asked effect nick waiting c =
     let behind = begun asked waiting c in
-    record behind { is_held_up = held_behind effect behind.is_held_up; open = open_behind nick effect behind.open }
+    record behind { is_held_up = held_behind effect behind.is_held_up; channels = open_behind nick effect behind.channels }
 
 -- a client whose connection is gone
 abbrev pub gone_from : Asked → List Request → Client → Client

@@ -62,7 +62,7 @@ pub struct Client {
     /// waits may be lost.
     is_held_up: bool,
     is_attached: bool,
-    open: Channels,
+    channels: Channels,
     /// It was asked for a word since it was last heard of.
     is_pinged: bool,
     /// Its connection is gone, or is to be closed.
@@ -87,7 +87,7 @@ impl Client {
             },
             is_held_up: false,
             is_attached: false,
-            open: Channels::new(alloc),
+            channels: Channels::new(alloc),
             is_pinged: false,
             is_gone: false,
         }

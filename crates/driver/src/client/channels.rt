@@ -47,7 +47,7 @@ impl Channels {
     }
 
     /// One of this name is open now.
-    pub fn open(&mut self, name: &[u8]) -> Result<(), AllocError>
+    pub fn add(&mut self, name: &[u8]) -> Result<(), AllocError>
         ensures opened { OnOk result (self.new ≡ opened name.now self.old) }
         ensures kept { OnErr result (self.new ≡ self.old) }
     {

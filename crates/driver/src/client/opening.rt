@@ -11,13 +11,13 @@ impl Client {
     /// An effect may open a channel, or close one, where it is shown under this nick.
     pub(crate) fn follow(&mut self, nick: &[u8], effect: &TowerEffect) -> Result<(), AllocError>
         ensures { OnOk result (self.new
-            ≡ record self.old { open = open_behind nick.now effect.now self.old.open }) }
+            ≡ record self.old { channels = open_behind nick.now effect.now self.old.channels }) }
     {
         if let Some(channel) = opened_by(effect) {
-            self.open.open(channel)?;
+            self.channels.add(channel)?;
         }
         if let Some(channel) = closed_by(effect, nick) {
-            self.open.close(channel);
+            self.channels.close(channel);
         }
         Ok(())
     }
@@ -26,13 +26,13 @@ impl Client {
     pub fn has_open(&self, channel: &[u8]) -> bool
         ensures { result ≡ has_open channel.now self.now.open }
     {
-        self.open.has(channel)
+        self.channels.has(channel)
     }
 
     /// It has no channel of this name open any more.
     pub fn close(&mut self, channel: &[u8])
-        ensures { self.new ≡ record self.old { open = closed channel.now self.old.open } }
+        ensures { self.new ≡ record self.old { channels = closed channel.now self.old.channels } }
     {
-        self.open.close(channel);
+        self.channels.close(channel);
     }
 }

@@ -43,13 +43,13 @@ impl Clients {
         ensures nobody { client_at self.old number ≡ None →
             (self.new ≡ self.old) × (orders.new ≡ orders.old) }
         ensures stays { (c : Client) → client_at self.old number ≡ Some c →
-            has_open channel.now c.open ≡ false →
+            has_open channel.now c.channels ≡ false →
             (self.new ≡ self.old) × (orders.new ≡ orders.old) }
         ensures closes { (c : Client) → client_at self.old number ≡ Some c →
-            has_open channel.now c.open ≡ true → OnOk result (client_at self.new number
-            ≡ Some (record c { open = closed channel.now c.open })) }
+            has_open channel.now c.channels ≡ true → OnOk result (client_at self.new number
+            ≡ Some (record c { channels = closed channel.now c.channels })) }
         ensures written { (c : Client) → client_at self.old number ≡ Some c →
-            has_open channel.now c.open ≡ true →
+            has_open channel.now c.channels ≡ true →
             OnOk result (IsWritten (Some c) text.now orders.old orders.new) }
     {
         if !self.has_open(channel, number) {
@@ -74,7 +74,7 @@ impl Clients {
     fn close(&mut self, channel: &[u8], number: u64)
         ensures others { AreOthersSame number self.old self.new }
         ensures closes { (c : Client) → client_at self.old number ≡ Some c →
-            client_at self.new number ≡ Some (record c { open = closed channel.now c.open }) }
+            client_at self.new number ≡ Some (record c { channels = closed channel.now c.channels }) }
     {
         let Some(client) = self.all.get_mut(&number) else {
             return;

@@ -17,7 +17,7 @@ returns-in_ok-pass-in-Ok c s calls stands =
     let so = c.in_ok-pass-in-Ok.ensures.stands s heard behind in
     inl
     (subst
-    (λ (x : Client). HasPassed s heard (given_effect s effect) c.args.now.now.at (record x { is_held_up = held_behind effect x.is_held_up; open = open_behind c.args.nick.now effect x.open }) c.args.orders.now c.pass.new.self c.pass.new.orders)
+    (λ (x : Client). HasPassed s heard (given_effect s effect) c.args.now.now.at (record x { is_held_up = held_behind effect x.is_held_up; channels = open_behind c.args.nick.now effect x.channels }) c.args.orders.now c.pass.new.self c.pass.new.orders)
     begun
     (record {
       fed = c.in-Ok.fed;
