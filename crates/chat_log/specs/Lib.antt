@@ -1,0 +1,5 @@
+pub mod Moments
+pub mod Texts
+pub mod Chats
+pub mod Machine
+pub mod Logs

@@ -1,0 +1,48 @@
+-- What is printed of one line.
+use Rattle.std.specs.Prelude.{ℕ, Bool, ◌&&◌, ◌||◌, if◌then◌else◌, ◌==◌, nat_lt, List, [], ◌∷◌, ◌++◌, drop, length, map, is_some, codes}
+use Rattle.irc_line.specs.Names.{action_mark, begins_with}
+use Rattle.irc_line.specs.Lines.{Parts, parameter, spelling}
+use Rattle.buffer_machine.specs.Messages.{has_command, is_message, source}
+use Rattle.chat_log.specs.Moments.{stamp}
+
+-- a byte as it is printed: a dot in place of one that a terminal may obey
+abbrev pub printed : ℕ → ℕ
+printed b = if nat_lt b 32 || b == 127 then 46 else b
+
+-- one byte 1 at the end is dropped
+abbrev pub without_mark : List ℕ → List ℕ
+without_mark [] = []
+without_mark (b ∷ []) = if b == 1 then [] else b ∷ []
+without_mark (b ∷ c ∷ s) = b ∷ without_mark (c ∷ s)
+
+-- a message of somebody, with a target and a text
+abbrev pub is_speech : Parts → Bool
+is_speech line = is_some line.prefix && is_message line && length line.parameters == 2
+
+-- a NOTICE as `-alice- hi`
+abbrev pub noticed : Parts → List ℕ
+noticed line = 45 ∷ (source line ++ 45 ∷ 32 ∷ parameter 1 line)
+
+-- an ACTION as `* alice waves`
+abbrev pub acted : Parts → List ℕ
+acted line = 42 ∷ 32 ∷ (source line ++ 32 ∷ without_mark (drop 8 (parameter 1 line)))
+
+-- any other message as `<alice> hi`
+abbrev pub said : Parts → List ℕ
+said line = 60 ∷ (source line ++ 62 ∷ 32 ∷ parameter 1 line)
+
+-- who says what
+abbrev pub speech : Parts → List ℕ
+speech line =
+    if has_command (codes "NOTICE") line
+    then noticed line
+    else
+    if begins_with (parameter 1 line) action_mark then acted line else said line
+
+-- a message as its target and who says what; any other line by its canonical spelling
+abbrev pub content : Parts → List ℕ
+content line = if is_speech line then parameter 0 line ++ 32 ∷ speech line else spelling line
+
+-- a line of a moment, as a line of text
+unfoldable pub line_text : ℕ → Parts → List ℕ
+line_text at line = stamp at ++ (map printed (content line) ++ 10 ∷ [])

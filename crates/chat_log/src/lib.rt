@@ -1,0 +1,17 @@
+//! The chat that a node's journal holds, as text: one line for each line from upstream and for what clients said.
+//! Stands under bouncer_app.
+//! Promises that the text is the definition's of the commands that the journal's entries come to, each told once.
+#![tactic(auto)]
+
+mod chat;
+mod lines;
+mod log;
+mod setup;
+mod stamp;
+mod telling;
+mod text;
+
+#[cfg(test)]
+mod tests;
+
+pub use log::chat_log;

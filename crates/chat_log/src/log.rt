@@ -1,0 +1,110 @@
+//! The chat of a journal.
+ghost use Rattle.std.specs.Prelude.{◌≡◌, ◌≢◌, [], map, Ok, Err, IfErr, IfOk, OnOk};
+ghost use Rattle.machine_laws.specs.Runs.{run};
+ghost use Rattle.std.specs.Option.{option_map};
+ghost use Rattle.journal_store.specs.Journals.{found};
+ghost use Rattle.journal_store.specs.Payloads.{payloads};
+ghost use Rattle.stable_store.specs.Stores.{nothing_saved};
+ghost use Rattle.buffer_commands.specs.Settings.{plain};
+ghost use Rattle.chat_log.specs.Chats.{chat_text};
+ghost use Rattle.chat_log.specs.Logs.{chat_of, plain_commands};
+
+use crate::chat::Chat;
+use crate::setup::ChatSetup;
+use bouncer_tower::TowerBody;
+use buffer_commands::Setup;
+use irc_line::Name;
+use journal_store::{JournalStore, MemoryDisk};
+use machine_laws::{ApplyFault, Machine};
+use raft_log::Entry;
+use request_once::Once;
+use session_fence::Fence;
+use stable_store::{Saved, Stable, StoreFault};
+use std::alloc::{AllocError, Global};
+use upstream_claim::Claims;
+use wire_bytes::Wire;
+
+/// The layers of the tower over the chat: requests take effect once, lines are taken of the session in force.
+type Told = Once<Claims<Fence<Chat>>>;
+
+/// The text of a journal's chat, the oldest line first: all of it, or what concerns a target. Without the setup of the bouncer
+/// the own nick is `me` until the server's welcome, and any number of clients may be attached.
+pub fn chat_log(
+    alloc: Global,
+    journal: Vec<u8>,
+    target: Option<&Name>,
+) -> Result<Vec<u8>, StoreFault>
+    ensures text { IfOk result (λ v. chat_of (option_map (λ x. x.now) target.entry)
+        (found (payloads (⟦<TowerBody as Wire>⟧.taken)) nothing_saved journal.items) ≡ Ok v.items) }
+    ensures fault { IfErr result (λ e. e ≢ StoreFault.Memory
+        → found (payloads (⟦<TowerBody as Wire>⟧.taken)) nothing_saved journal.items ≡ Err e) }
+{
+    let saved = saved_in(alloc, journal)?;
+    let setup = setup_for(alloc, target)?;
+    Ok(text_of(alloc, &setup, saved.log.entries())?)
+}
+
+/// What a journal stands for.
+fn saved_in(alloc: Global, journal: Vec<u8>) -> Result<Saved<TowerBody>, StoreFault>
+    ensures found { IfOk result (λ s.
+        found (payloads (⟦<TowerBody as Wire>⟧.taken)) nothing_saved journal.items ≡ Ok s) }
+    ensures fault { IfErr result (λ e. e ≢ StoreFault.Memory
+        → found (payloads (⟦<TowerBody as Wire>⟧.taken)) nothing_saved journal.items ≡ Err e) }
+{
+    let disk = MemoryDisk::new(alloc, journal);
+    let store = JournalStore::<TowerBody, MemoryDisk>::adopt(alloc, disk).map_err(refusal)?;
+    store.read().map_err(|_| StoreFault::Memory)
+}
+
+/// A refusal of what a disk in memory holds, which fails no call.
+fn refusal(fault: StoreFault) -> StoreFault {
+    match fault {
+        StoreFault::Device => StoreFault::Memory,
+        other => other,
+    }
+}
+
+/// The plain setup of the buffers, and a target.
+fn setup_for(alloc: Global, target: Option<&Name>) -> Result<ChatSetup, AllocError>
+    ensures { IfOk result (λ s. (s.buffers ≡ plain)
+        × (s.target ≡ option_map (λ x. x.now) target.entry)) }
+{
+    let target = match target {
+        None => None,
+        Some(name) => Some(name.copy(alloc)?),
+    };
+    Ok(ChatSetup {
+        buffers: Setup::plain(alloc)?,
+        target,
+    })
+}
+
+/// The text of the chat of these entries, the first at place 1.
+fn text_of(
+    alloc: Global,
+    setup: &ChatSetup,
+    entries: &[Entry<TowerBody>],
+) -> Result<Vec<u8>, AllocError>
+    ensures { IfOk result (λ v. v.items ≡ chat_text setup.now.buffers setup.now.target
+        (plain_commands (map (λ e. e.body) entries.now))) }
+{
+    let mut told = Told::start(alloc, setup)?;
+    apply_all(&mut told, entries).map_err(|_| AllocError)?;
+    let chat = told.machine().machine().machine();
+    chat.text().to_vec(alloc)
+}
+
+/// Applies the bodies of entries, the first at place 1, to layers to which nothing came. After an error they are to be thrown
+/// away.
+fn apply_all(told: &mut Told, entries: &[Entry<TowerBody>]) -> Result<(), ApplyFault>
+    ensures { (s : ChatSetup) → ⟦<Told as Machine>⟧.stands told.old s []
+        → OnOk result (⟦<Told as Machine>⟧.stands told.new s
+        (run (map (λ e. e.body) entries.now))) }
+{
+    let mut place = 0u64;
+    for entry in entries {
+        place += 1;
+        told.apply(place, entry.body.get())?;
+    }
+    Ok(())
+}

@@ -1,0 +1,81 @@
+//! What is told of a command.
+ghost use Rattle.std.specs.Prelude.{◌≡◌, ◌++◌, ℕ, OnOk};
+ghost use Rattle.machine_laws.specs.Runs.{History};
+ghost use Rattle.buffer_commands.specs.Settings.{Settings};
+ghost use Rattle.buffer_machine.specs.Buffers.{attached, nick};
+ghost use Rattle.buffer_machine.specs.Held.{commands};
+ghost use Rattle.buffer_machine.specs.Machine.{Stands};
+ghost use Rattle.chat_log.specs.Chats.{concerns, is_wanted, told, told_line};
+
+use crate::lines::{channel_of, is_query_line, own_message, source_of};
+use crate::text::push_line;
+use buffer_commands::{Action, Command};
+use buffer_machine::BufferMachine;
+use irc_line::{Line, Name, is_same_name};
+use std::alloc::{AllocError, Global};
+use wire_bytes::Moment;
+
+/// Appends what is told of a command, by the buffers before it. After an error a part of it may have been appended.
+pub fn push_told(
+    alloc: Global,
+    out: &mut Vec<u8>,
+    buffers: &BufferMachine,
+    target: &Option<Name>,
+    command: &Command,
+) -> Result<(), AllocError>
+    ensures { (s : Settings) (history : History Command) → Stands buffers.now s history
+        → OnOk result (out.new.items ≡ out.old.items ++
+        told target.now (attached s (commands history)) (nick s (commands history)) command.now) }
+{
+    match command {
+        Command::Upstream(at, line) => {
+            push_wanted(alloc, out, target, buffers.nick(), *at, line.line())
+        }
+        Command::Client(client, at, Action::Say(verb, name, text)) => {
+            if !buffers.is_attached(*client) {
+                return Ok(());
+            }
+            let line = own_message(alloc, buffers.nick(), *verb, name, text)?;
+            push_wanted(alloc, out, target, buffers.nick(), *at, &line)
+        }
+        Command::Client(_, _, _) | Command::NodeGone(_, _) | Command::Up | Command::Down => Ok(()),
+    }
+}
+
+/// Appends a line of a moment, where it is to be told.
+fn push_wanted(
+    alloc: Global,
+    out: &mut Vec<u8>,
+    target: &Option<Name>,
+    nick: &Name,
+    at: Moment,
+    line: &Line,
+) -> Result<(), AllocError>
+    ensures { OnOk result (out.new.items ≡ out.old.items ++
+        told_line target.now nick.now at line.now) }
+{
+    if is_wanted(target, nick, line) {
+        push_line(alloc, out, at, line)
+    } else {
+        Ok(())
+    }
+}
+
+/// Whether a line is to be told: each is without a target, with one those that concern it.
+fn is_wanted(target: &Option<Name>, nick: &Name, line: &Line) -> bool
+    ensures { result ≡ is_wanted target.now nick.now line.now }
+{
+    match target {
+        None => true,
+        Some(target) => concerns(target, nick, line),
+    }
+}
+
+/// Whether a line names a target as its channel or is said to it, or is of its query.
+fn concerns(target: &Name, nick: &Name, line: &Line) -> bool
+    ensures { result ≡ concerns nick.now target.now line.now }
+{
+    let (target, nick) = (target.as_bytes(), nick.as_bytes());
+    is_same_name(target, channel_of(line))
+        || (is_query_line(line, nick) && is_same_name(target, source_of(line)))
+}

@@ -1,0 +1,127 @@
+//! What is printed of one line.
+ghost use Rattle.std.specs.Prelude.{◌≡◌, ◌++◌, ◌∷◌, [], drop, map, IfOk, OnOk};
+ghost use Rattle.chat_log.specs.Texts.{acted, content, is_speech, line_text, noticed, printed, said, speech, without_mark};
+
+use crate::lines::{has_command, is_message, source_of};
+use crate::stamp::push_stamp;
+use irc_line::{ACTION_MARK, Line, is_action};
+use std::alloc::{AllocError, Global};
+use wire_bytes::Moment;
+
+/// Appends a line of a moment, as a line of text. After an error a part of it may have been appended.
+#[tactic(auto, unfolding(crate::specs::Texts::line_text))]
+pub fn push_line(
+    alloc: Global,
+    out: &mut Vec<u8>,
+    at: Moment,
+    line: &Line,
+) -> Result<(), AllocError>
+    ensures { OnOk result (out.new.items ≡ out.old.items ++ line_text at line.now) }
+{
+    let content = content_of(alloc, line)?;
+    push_stamp(out, at)?;
+    push_printed(out, &content)?;
+    out.push(b'\n')?;
+    Ok(())
+}
+
+/// Appends bytes as they are printed.
+fn push_printed(out: &mut Vec<u8>, bytes: &[u8]) -> Result<(), AllocError>
+    ensures { OnOk result (out.new.items ≡ out.old.items ++ map printed bytes.now) }
+{
+    for byte in bytes {
+        out.push(printed(*byte))?;
+    }
+    Ok(())
+}
+
+/// A byte as it is printed: a dot in place of one that a terminal may obey.
+fn printed(byte: u8) -> u8
+    ensures { result ≡ printed byte }
+{
+    if byte < b' ' || byte == 127 { b'.' } else { byte }
+}
+
+/// What is told of a line: of a message its target and who says what, of any other its canonical spelling.
+fn content_of(alloc: Global, line: &Line) -> Result<Vec<u8>, AllocError>
+    ensures { IfOk result (λ v. v.items ≡ content line.now) }
+{
+    let mut out = Vec::new(alloc);
+    if is_speech(line) {
+        out.extend_from_slice(line.parameter(0))?;
+        out.push(b' ')?;
+        push_speech(&mut out, line)?;
+    } else {
+        line.write_to(&mut out)?;
+    }
+    Ok(out)
+}
+
+/// Whether a line is a message of somebody, with a target and a text.
+fn is_speech(line: &Line) -> bool
+    ensures { result ≡ is_speech line.now }
+{
+    line.prefix().is_some() && is_message(line) && line.parameter_count() == 2
+}
+
+/// Appends who says what.
+fn push_speech(out: &mut Vec<u8>, line: &Line) -> Result<(), AllocError>
+    ensures { OnOk result (out.new.items ≡ out.old.items ++ speech line.now) }
+{
+    if has_command(line, b"NOTICE") {
+        push_noticed(out, line)
+    } else if is_action(line.parameter(1)) {
+        push_acted(out, line)
+    } else {
+        push_said(out, line)
+    }
+}
+
+fn push_noticed(out: &mut Vec<u8>, line: &Line) -> Result<(), AllocError>
+    ensures { OnOk result (out.new.items ≡ out.old.items ++ noticed line.now) }
+{
+    out.push(b'-')?;
+    out.extend_from_slice(source_of(line))?;
+    out.extend_from_slice(b"- ")?;
+    out.extend_from_slice(line.parameter(1))
+}
+
+fn push_said(out: &mut Vec<u8>, line: &Line) -> Result<(), AllocError>
+    ensures { OnOk result (out.new.items ≡ out.old.items ++ said line.now) }
+{
+    out.push(b'<')?;
+    out.extend_from_slice(source_of(line))?;
+    out.extend_from_slice(b"> ")?;
+    out.extend_from_slice(line.parameter(1))
+}
+
+fn push_acted(out: &mut Vec<u8>, line: &Line) -> Result<(), AllocError>
+    ensures { OnOk result (out.new.items ≡ out.old.items ++ acted line.now) }
+{
+    out.extend_from_slice(b"* ")?;
+    out.extend_from_slice(source_of(line))?;
+    out.push(b' ')?;
+    let deed = behind_mark(line.parameter(1));
+    out.extend_from_slice(without_mark(deed))
+}
+
+/// What stands behind the mark of an ACTION.
+fn behind_mark(text: &[u8]) -> &[u8]
+    ensures { result.now ≡ drop 8 text.now }
+{
+    if text.len() < ACTION_MARK.len() {
+        &[]
+    } else {
+        &text[ACTION_MARK.len()..]
+    }
+}
+
+/// The bytes without one byte 1 at their end.
+fn without_mark(text: &[u8]) -> &[u8]
+    ensures { result.now ≡ without_mark text.now }
+{
+    match text {
+        [] => text,
+        [front @ .., last] => if *last == 1 { front } else { text },
+    }
+}
