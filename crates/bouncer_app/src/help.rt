@@ -1,7 +1,7 @@
 //! What the program says of itself.
 
 /// How it is called, where it is called otherwise.
-pub const USAGE: &str = "usage: bouncer [fold | world N | replay FILE | run CONFIG]";
+pub const USAGE: &str = "usage: bouncer [fold | world N | replay FILE | show JOURNAL [TARGET] | run CONFIG]";
 
 /// What a person at a terminal is told who is to type the input.
 pub const WAITING: &str =
@@ -24,6 +24,9 @@ bouncer keeps you on IRC while you are away. Words, each with an example:
                   bouncer world 3 < examples/election.events
   replay FILE   runs a record again: is it the same?
                   bouncer replay examples/candidate.record
+  show JOURNAL  prints the chat in a journal; a channel or a nick behind it, what
+                concerns that one
+                  bouncer show store/node-1 '#x'
   help          prints this page
   --version     prints the version
 

@@ -1,14 +1,17 @@
 //! `bouncer`: runs a bouncer; folds numbered commands into what its clients are shown, and runs events over
-//! its nodes, again too where they were recorded.
+//! its nodes, again too where they were recorded; shows what a journal holds.
 //! No crate stands on it. Its arguments, exit codes and standard error are tested; what its tasks do is promised by
-//! bouncer_run, fold_app and world_app.
+//! bouncer_run, fold_app, world_app and chat_log.
 #![tactic(auto)]
 
 mod help;
+mod show;
 
 use crate::help::{HELP, USAGE, VERSION, WAITING};
+use crate::show::show;
 use bouncer_run::{Hands, check, run};
 use fold_app::{FoldFault, fold};
+use irc_line::Name;
 use records::Verdict;
 use std::env::{Args, args};
 use std::fmt::Display;
@@ -29,6 +32,8 @@ enum Task {
     World(u32),
     /// To run what is recorded in the file of this path again.
     Replay(String),
+    /// To show the journal in the file of this path: all of it, or what concerns a target.
+    Show(String, Option<Name>),
     /// To run the bouncer that the configuration in the file of this path says.
     Run(String),
     /// To say what that run would do.
@@ -38,8 +43,9 @@ enum Task {
 }
 
 /// What the words, the program's name first, ask for: a fold where none follows, or `fold` alone; the
-/// events of a world where `world` and a number follow; a record's where `replay` and a path do; a bouncer's
-/// run, or a check of its configuration, where `run` or `check` and a path do.
+/// events of a world where `world` and a number follow; a record's where `replay` and a path do; a journal's chat
+/// where `show`, a path and a name or none do; a bouncer's run, or a check of its configuration, where `run` or
+/// `check` and a path do.
 fn asked(words: Args) -> Option<Task> {
     let mut words = words.skip(1);
     let Some(word) = words.next() else {
@@ -49,6 +55,7 @@ fn asked(words: Args) -> Option<Task> {
         "fold" => Task::Fold,
         "world" => Task::World(size_of(words.next()?.as_str())?),
         "replay" => Task::Replay(words.next()?),
+        "show" => Task::Show(words.next()?, target_of(words.next())?),
         "run" => Task::Run(words.next()?),
         "check" => Task::Check(words.next()?),
         "help" | "--help" | "-h" => Task::Help,
@@ -59,6 +66,14 @@ fn asked(words: Args) -> Option<Task> {
         return None;
     }
     Some(task)
+}
+
+/// The target that a word names, or none where there is no word. A word that is no name is refused.
+fn target_of(word: Option<String>) -> Option<Option<Name>> {
+    match word {
+        None => Some(None),
+        Some(word) => Some(Some(Name::from_bytes(word.into_bytes())?)),
+    }
 }
 
 /// Folds standard input. The exit code is 0, or 1 with the fault on standard error.
@@ -96,6 +111,14 @@ fn run_replay(rt: &HostRuntime, path: &str) -> ExitCode {
     match replay_record(rt.alloc(), &mut file, &mut io::writer(rt)) {
         Ok(Verdict::Same) => ExitCode::SUCCESS,
         Ok(Verdict::Differs(_)) => ExitCode::from(DIFFERS),
+        Err(fault) => failed(rt, fault),
+    }
+}
+
+/// Shows the journal in a file. The exit code is 0, or 1 with the fault on standard error.
+fn run_show(rt: &HostRuntime, path: &str, target: Option<&Name>) -> ExitCode {
+    match show(rt, path, target) {
+        Ok(()) => ExitCode::SUCCESS,
         Err(fault) => failed(rt, fault),
     }
 }
@@ -147,6 +170,7 @@ fn main(rt: HostRuntime) -> ExitCode {
             Some(Task::Fold) => run_fold(&rt),
             Some(Task::World(size)) => run_world(&rt, size),
             Some(Task::Replay(path)) => run_replay(&rt, path.as_str()),
+            Some(Task::Show(path, target)) => run_show(&rt, path.as_str(), target.as_ref()),
             Some(Task::Run(path)) => match run(&rt, path.as_str(), rt.reader(), &Hands::new) {
                 Ok(()) => ExitCode::SUCCESS,
                 Err(fault) => failed(&rt, fault),
