@@ -1,2 +1,4 @@
 pub mod Calendar
 pub mod Ends
+pub mod Adopting
+pub mod Comes

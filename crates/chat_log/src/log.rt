@@ -1,11 +1,13 @@
 //! The chat of a journal.
 ghost use Rattle.std.specs.Prelude.{◌≡◌, ◌≢◌, [], map, Ok, Err, IfErr, IfOk, OnOk};
-ghost use Rattle.machine_laws.specs.Runs.{run};
+ghost use Rattle.machine_laws.specs.Runs.{History, run};
 ghost use Rattle.std.specs.Option.{option_map};
 ghost use Rattle.journal_store.specs.Journals.{found};
 ghost use Rattle.journal_store.specs.Payloads.{payloads};
 ghost use Rattle.stable_store.specs.Stores.{nothing_saved};
-ghost use Rattle.buffer_commands.specs.Settings.{plain};
+ghost use Rattle.buffer_commands.specs.Settings as settings;
+ghost use Rattle.buffer_machine.specs.Held.{commands};
+ghost use Rattle.bouncer_tower.specs.Bodies.{TowerBody, plain};
 ghost use Rattle.chat_log.specs.Chats.{chat_text};
 ghost use Rattle.chat_log.specs.Logs.{chat_of, plain_commands};
 
@@ -39,25 +41,33 @@ pub fn chat_log(
     ensures fault { IfErr result (λ e. e ≢ StoreFault.Memory
         → found (payloads (⟦<TowerBody as Wire>⟧.taken)) nothing_saved journal.items ≡ Err e) }
 {
-    let saved = saved_in(alloc, journal)?;
+    let saved = saved_in::<TowerBody>(alloc, journal)?;
     let setup = setup_for(alloc, target)?;
-    Ok(text_of(alloc, &setup, saved.log.entries())?)
+    let text = text_of(alloc, &setup, saved.log.entries())?;
+    Ok(text)
 }
 
 /// What a journal stands for.
-fn saved_in(alloc: Global, journal: Vec<u8>) -> Result<Saved<TowerBody>, StoreFault>
-    ensures found { IfOk result (λ s.
-        found (payloads (⟦<TowerBody as Wire>⟧.taken)) nothing_saved journal.items ≡ Ok s) }
+fn saved_in<B: Wire>(alloc: Global, journal: Vec<u8>) -> Result<Saved<B>, StoreFault>
+    ensures found { IfOk result
+        (λ s. found (payloads B.taken) nothing_saved journal.items ≡ Ok s) }
     ensures fault { IfErr result (λ e. e ≢ StoreFault.Memory
-        → found (payloads (⟦<TowerBody as Wire>⟧.taken)) nothing_saved journal.items ≡ Err e) }
+        → found (payloads B.taken) nothing_saved journal.items ≡ Err e) }
 {
     let disk = MemoryDisk::new(alloc, journal);
-    let store = JournalStore::<TowerBody, MemoryDisk>::adopt(alloc, disk).map_err(refusal)?;
-    store.read().map_err(|_| StoreFault::Memory)
+    match JournalStore::<B, MemoryDisk>::adopt(alloc, disk) {
+        Ok(store) => match store.read() {
+            Ok(saved) => Ok(saved),
+            Err(_) => Err(StoreFault::Memory),
+        },
+        Err(fault) => Err(refusal(fault)),
+    }
 }
 
 /// A refusal of what a disk in memory holds, which fails no call.
-fn refusal(fault: StoreFault) -> StoreFault {
+fn refusal(fault: StoreFault) -> StoreFault
+    ensures { result ≢ StoreFault.Memory → (result ≡ fault) × (fault ≢ StoreFault.Device) }
+{
     match fault {
         StoreFault::Device => StoreFault::Memory,
         other => other,
@@ -66,7 +76,7 @@ fn refusal(fault: StoreFault) -> StoreFault {
 
 /// The plain setup of the buffers, and a target.
 fn setup_for(alloc: Global, target: Option<&Name>) -> Result<ChatSetup, AllocError>
-    ensures { IfOk result (λ s. (s.buffers ≡ plain)
+    ensures { IfOk result (λ s. (s.buffers ≡ settings.plain)
         × (s.target ≡ option_map (λ x. x.now) target.entry)) }
 {
     let target = match target {
@@ -88,23 +98,51 @@ fn text_of(
     ensures { IfOk result (λ v. v.items ≡ chat_text setup.now.buffers setup.now.target
         (plain_commands (map (λ e. e.body) entries.now))) }
 {
-    let mut told = Told::start(alloc, setup)?;
-    apply_all(&mut told, entries).map_err(|_| AllocError)?;
-    let chat = told.machine().machine().machine();
-    chat.text().to_vec(alloc)
+    let mut layers = Told::start(alloc, setup)?;
+    tell(alloc, &mut layers, entries)
 }
 
-/// Applies the bodies of entries, the first at place 1, to layers to which nothing came. After an error they are to be thrown
-/// away.
-fn apply_all(told: &mut Told, entries: &[Entry<TowerBody>]) -> Result<(), ApplyFault>
-    ensures { (s : ChatSetup) → ⟦<Told as Machine>⟧.stands told.old s []
-        → OnOk result (⟦<Told as Machine>⟧.stands told.new s
-        (run (map (λ e. e.body) entries.now))) }
+/// Applies the bodies of entries, the first at place 1, to layers to which nothing came, and copies the text.
+fn tell(
+    alloc: Global,
+    layers: &mut Told,
+    entries: &[Entry<TowerBody>],
+) -> Result<Vec<u8>, AllocError>
+    ensures { (s : ChatSetup) → ⟦<Told as Machine>⟧.stands layers.old s []
+        → IfOk result (λ v. v.items ≡ chat_text s.buffers s.target
+        (plain_commands (map (λ e. e.body) entries.now))) }
+{
+    match apply_all(layers, entries) {
+        Ok(()) => copied_text(alloc, layers),
+        Err(_) => Err(AllocError),
+    }
+}
+
+/// The text of the chat below the layers.
+fn copied_text(alloc: Global, layers: &Told) -> Result<Vec<u8>, AllocError>
+    ensures { (s : ChatSetup) (history : History TowerBody)
+        → ⟦<Told as Machine>⟧.stands layers.now s history
+        → IfOk result (λ v. v.items ≡ chat_text s.buffers s.target (commands (plain history))) }
+{
+    let chat = layers.machine().machine().machine();
+    let text = Vec::from_slice(alloc, chat.text())?;
+    Ok(text)
+}
+
+/// Applies the bodies of entries, the first at place 1, to a machine to which nothing came. After an error the machine is to be
+/// thrown away.
+#[tactic(auto, using(crate::proofs::Comes::run_more))]
+fn apply_all<M: Machine>(
+    machine: &mut M,
+    entries: &[Entry<M::Command>],
+) -> Result<(), ApplyFault>
+    ensures { (s : M.Setup) → M.stands machine.old s []
+        → OnOk result (M.stands machine.new s (run (map (λ e. e.body) entries.now))) }
 {
     let mut place = 0u64;
     for entry in entries {
         place += 1;
-        told.apply(place, entry.body.get())?;
+        machine.apply(place, entry.body.get())?;
     }
     Ok(())
 }
