@@ -19,6 +19,6 @@ abbrev pub plain_commands : List TowerBody → List Command
 plain_commands list = commands (plain (run list))
 
 -- the chat of what a file stands for, or why the file is refused
-abbrev pub chat_of : Option (List ℕ) → Result (Saved TowerBody) StoreFault → Result (List ℕ) StoreFault
+unfoldable pub chat_of : Option (List ℕ) → Result (Saved TowerBody) StoreFault → Result (List ℕ) StoreFault
 chat_of target (Ok saved) = Ok (chat_text settings.plain target (plain_commands (bodies saved)))
 chat_of target (Err fault) = Err fault

@@ -11,7 +11,4 @@ mod stamp;
 mod telling;
 mod text;
 
-#[cfg(test)]
-mod tests;
-
 pub use log::chat_log;

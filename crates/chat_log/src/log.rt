@@ -9,7 +9,7 @@ ghost use Rattle.buffer_commands.specs.Settings as settings;
 ghost use Rattle.buffer_machine.specs.Held.{commands};
 ghost use Rattle.bouncer_tower.specs.Bodies.{TowerBody, plain};
 ghost use Rattle.chat_log.specs.Chats.{chat_text};
-ghost use Rattle.chat_log.specs.Logs.{chat_of, plain_commands};
+ghost use Rattle.chat_log.specs.Logs.{bodies, chat_of, plain_commands};
 
 use crate::chat::Chat;
 use crate::setup::ChatSetup;
@@ -31,6 +31,7 @@ type Told = Once<Claims<Fence<Chat>>>;
 
 /// The text of a journal's chat, the oldest line first: all of it, or what concerns a target. Without the setup of the bouncer
 /// the own nick is `me` until the server's welcome, and any number of clients may be attached.
+#[tactic(auto, using(crate::proofs::Telling::told_is))]
 pub fn chat_log(
     alloc: Global,
     journal: Vec<u8>,
@@ -42,8 +43,7 @@ pub fn chat_log(
         → found (payloads (⟦<TowerBody as Wire>⟧.taken)) nothing_saved journal.items ≡ Err e) }
 {
     let saved = saved_in::<TowerBody>(alloc, journal)?;
-    let setup = setup_for(alloc, target)?;
-    let text = text_of(alloc, &setup, saved.log.entries())?;
+    let text = text_of(alloc, &saved, target)?;
     Ok(text)
 }
 
@@ -74,10 +74,26 @@ fn refusal(fault: StoreFault) -> StoreFault
     }
 }
 
+/// The text of what a journal stands for.
+#[tactic(auto, using(crate::proofs::Telling::same_text))]
+fn text_of(
+    alloc: Global,
+    saved: &Saved<TowerBody>,
+    target: Option<&Name>,
+) -> Result<Vec<u8>, AllocError>
+    ensures { IfOk result (λ v. v.items ≡ chat_text settings.plain
+        (option_map (λ x. x.now) target.entry) (plain_commands (bodies saved.now))) }
+{
+    let setup = setup_for(alloc, target)?;
+    let mut layers = Told::start(alloc, &setup)?;
+    let text = tell(alloc, &mut layers, saved.log.entries())?;
+    Ok(text)
+}
+
 /// The plain setup of the buffers, and a target.
 fn setup_for(alloc: Global, target: Option<&Name>) -> Result<ChatSetup, AllocError>
-    ensures { IfOk result (λ s. (s.buffers ≡ settings.plain)
-        × (s.target ≡ option_map (λ x. x.now) target.entry)) }
+    ensures buffers { IfOk result (λ s. s.buffers ≡ settings.plain) }
+    ensures target { IfOk result (λ s. s.target ≡ option_map (λ x. x.now) target.entry) }
 {
     let target = match target {
         None => None,
@@ -87,19 +103,6 @@ fn setup_for(alloc: Global, target: Option<&Name>) -> Result<ChatSetup, AllocErr
         buffers: Setup::plain(alloc)?,
         target,
     })
-}
-
-/// The text of the chat of these entries, the first at place 1.
-fn text_of(
-    alloc: Global,
-    setup: &ChatSetup,
-    entries: &[Entry<TowerBody>],
-) -> Result<Vec<u8>, AllocError>
-    ensures { IfOk result (λ v. v.items ≡ chat_text setup.now.buffers setup.now.target
-        (plain_commands (map (λ e. e.body) entries.now))) }
-{
-    let mut layers = Told::start(alloc, setup)?;
-    tell(alloc, &mut layers, entries)
 }
 
 /// Applies the bodies of entries, the first at place 1, to layers to which nothing came, and copies the text.
@@ -125,8 +128,8 @@ fn copied_text(alloc: Global, layers: &Told) -> Result<Vec<u8>, AllocError>
         → IfOk result (λ v. v.items ≡ chat_text s.buffers s.target (commands (plain history))) }
 {
     let chat = layers.machine().machine().machine();
-    let text = Vec::from_slice(alloc, chat.text())?;
-    Ok(text)
+    let copy = Vec::from_slice(alloc, chat.text())?;
+    Ok(copy)
 }
 
 /// Applies the bodies of entries, the first at place 1, to a machine to which nothing came. After an error the machine is to be
