@@ -1,7 +1,8 @@
 //! What the program says of itself.
 
 /// How it is called, where it is called otherwise.
-pub const USAGE: &str = "usage: bouncer [fold | world N | replay FILE | show JOURNAL [TARGET] | run CONFIG]";
+pub const USAGE: &str =
+    "usage: bouncer [fold | world N | replay FILE | show JOURNAL [TARGET] | run CONFIG]";
 
 /// What a person at a terminal is told who is to type the input.
 pub const WAITING: &str =

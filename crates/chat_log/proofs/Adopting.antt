@@ -1,5 +1,5 @@
 -- What is found of a disk whose file is synced is what that file stands for.
-use Rattle.std.proofs.Common.{◌≡◌, ℕ, List, Result, Ok, Err, subst}
+use Rattle.std.proofs.Common.{◌≡◌, ℕ, List, Ok, Err, subst}
 use Rattle.wire_bytes.specs.Fields.{Reading}
 use Rattle.stable_store.specs.declared.saved.Saved.{Saved}
 use Rattle.stable_store.specs.declared.store_fault.StoreFault.{StoreFault}

@@ -1,5 +1,5 @@
 -- Entries whose bodies come one behind the other.
-use Rattle.std.proofs.Common.{◌≡◌, ℕ, ◌+◌, ◌<◌, List, [], ◌∷◌, ◌++◌, length, take, get_or, map, ap, ◌∙◌, arith, length-take}
+use Rattle.std.proofs.Common.{◌≡◌, ℕ, ◌+◌, ◌<◌, List, [], ◌∷◌, length, take, get_or, map, ap, ◌∙◌, arith, length-take}
 use Rattle.std.proofs.lemmas.List.{take_more, map-append, length-map}
 use Rattle.machine_laws.specs.Runs.{History, run}
 use Rattle.machine_laws.proofs.Come.{came_one_more}

@@ -2,4 +2,4 @@ pub mod Calendar
 pub mod Ends
 pub mod Adopting
 pub mod Comes
-pub mod Telling
+pub mod Told

@@ -31,7 +31,6 @@ type Told = Once<Claims<Fence<Chat>>>;
 
 /// The text of a journal's chat, the oldest line first: all of it, or what concerns a target. Without the setup of the bouncer
 /// the own nick is `me` until the server's welcome, and any number of clients may be attached.
-#[tactic(auto, using(crate::proofs::Telling::told_is))]
 pub fn chat_log(
     alloc: Global,
     journal: Vec<u8>,
@@ -75,7 +74,7 @@ fn refusal(fault: StoreFault) -> StoreFault
 }
 
 /// The text of what a journal stands for.
-#[tactic(auto, using(crate::proofs::Telling::same_text))]
+#[tactic(auto, using(crate::proofs::Told::same_text))]
 fn text_of(
     alloc: Global,
     saved: &Saved<TowerBody>,
@@ -135,10 +134,7 @@ fn copied_text(alloc: Global, layers: &Told) -> Result<Vec<u8>, AllocError>
 /// Applies the bodies of entries, the first at place 1, to a machine to which nothing came. After an error the machine is to be
 /// thrown away.
 #[tactic(auto, using(crate::proofs::Comes::run_more))]
-fn apply_all<M: Machine>(
-    machine: &mut M,
-    entries: &[Entry<M::Command>],
-) -> Result<(), ApplyFault>
+fn apply_all<M: Machine>(machine: &mut M, entries: &[Entry<M::Command>]) -> Result<(), ApplyFault>
     ensures { (s : M.Setup) → M.stands machine.old s []
         → OnOk result (M.stands machine.new s (run (map (λ e. e.body) entries.now))) }
 {

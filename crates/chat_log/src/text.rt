@@ -39,7 +39,11 @@ fn push_printed(out: &mut Vec<u8>, bytes: &[u8]) -> Result<(), AllocError>
 fn printed(byte: u8) -> u8
     ensures { result ≡ printed byte }
 {
-    if byte < b' ' || byte == 127 { b'.' } else { byte }
+    if byte < b' ' || byte == 127 {
+        b'.'
+    } else {
+        byte
+    }
 }
 
 /// What is told of a line: of a message its target and who says what, of any other its canonical spelling.

@@ -1,6 +1,5 @@
 use Rattle.std.proofs.Common.{◌≡◌, Ok, Err, subst, sym, ◌∙◌, ⊎_elim}
 use Rattle.stable_store.specs.declared.store_fault.StoreFault.{StoreFault}
-use Rattle.stable_store.specs.declared.saved.Saved.{Saved}
 use Rattle.stable_store.specs.Stores.{nothing_saved}
 use Rattle.journal_store.specs.Journals.{found}
 use Rattle.journal_store.specs.Payloads.{payloads}

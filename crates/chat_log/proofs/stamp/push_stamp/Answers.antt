@@ -1,4 +1,4 @@
-use Rattle.std.proofs.Common.{◌/◌, ap, sym, append_assoc, ◌∙◌}
+use Rattle.std.proofs.Common.{◌/◌, ap, append_assoc, ◌∙◌}
 use Rattle.jiff_core.specs.Date.{epoch_day}
 use Rattle.chat_log.specs.Moments.{stamp}
 use Rattle.chat_log.proofs.stamp.push_stamp.Goals as goal
