@@ -76,9 +76,13 @@ line_from last node role from (row ∷ rows) =
 unfoldable pub lane : ℕ → List Row → ℕ → List ℕ
 lane last rows node = name node ++ line_from last node Follower 0 rows
 
+-- the first words of a part of a text, which stands apart from the part before it
+unfoldable pub part_opening : List ℕ
+part_opening = codes "<tspan dx='6' class='"
+
 -- words with a number, as part of a text
 unfoldable pub part : List ℕ → List ℕ → ℕ → List ℕ
-part class words number = codes "<tspan class='" ++ class ++ codes "'> " ++ named words number ++ codes "</tspan>"
+part class words number = part_opening ++ class ++ codes "'>" ++ named words number ++ codes "</tspan>"
 
 -- the role that a node takes, where it is another one or in another term
 unfoldable pub role_part : NodeView → NodeView → List ℕ
@@ -108,7 +112,7 @@ parts before after = boot_part before after ++ role_part before after ++ commit_
 -- what an event was, and what it changed, beside its node's lane
 unfoldable pub change_text : ℕ → Happening → Change → List ℕ
 change_text number happening c =
-    dot c.node number ++ placed (happening_class happening) (lane_x c.node + 12) (row_y number + 4)
+    dot c.node number ++ placed (happening_class happening) (lane_x c.node + 20) (row_y number + 4)
     ++ happening_text happening ++ parts c.before c.after ++ codes "</text>\n"
 
 -- the same, or that there is no such node or message
@@ -156,7 +160,7 @@ foot = codes "</svg>\n"
 -- the picture of a diagram: lanes, arrows over them, and rows over both
 abbrev pub picture : Diagram → List ℕ
 picture d =
-    head (200 * d.size + 120) (row_y d.last + 40)
+    head (200 * d.size + 180) (row_y d.last + 40)
     ++ flat_map (lane d.last d.rows.items) (range_from 1 d.size)
     ++ flat_map arrow_text d.arrows.items
     ++ flat_map row_text d.rows.items

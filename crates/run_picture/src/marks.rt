@@ -1,6 +1,6 @@
 //! Pieces of the picture's text.
 ghost use Rattle.std.specs.Prelude.{◌≡◌, ◌++◌, ◌+◌, ◌*◌, decimal, OnOk};
-ghost use Rattle.run_picture.specs.Picture.{named, part, path_from, placed};
+ghost use Rattle.run_picture.specs.Picture.{named, part, part_opening, path_from, placed};
 
 use itoa::Buffer;
 use std::alloc::AllocError;
@@ -72,9 +72,17 @@ pub fn push_part(
 ) -> Result<(), AllocError>
     ensures { OnOk result (out.new.items ≡ out.old.items ++ part class.now words.now number) }
 {
-    out.extend_from_slice(b"<tspan class='")?;
+    push_part_opening(out)?;
     out.extend_from_slice(class)?;
-    out.extend_from_slice(b"'> ")?;
+    out.extend_from_slice(b"'>")?;
     push_named(out, words, number)?;
     out.extend_from_slice(b"</tspan>")
+}
+
+/// Appends the first words of a part of a text.
+#[tactic(auto, unfolding(crate::specs::Picture::part_opening))]
+fn push_part_opening(out: &mut Vec<u8>) -> Result<(), AllocError>
+    ensures { OnOk result (out.new.items ≡ out.old.items ++ part_opening) }
+{
+    out.extend_from_slice(b"<tspan dx='6' class='")
 }

@@ -17,7 +17,7 @@ const NUMBER_X: u64 = 152;
 const NONE_X: u64 = 158;
 
 /// How far beside its lane a text begins.
-const BESIDE: u64 = 12;
+const BESIDE: u64 = 20;
 
 /// How far below the middle of its row a text stands.
 const BELOW: u64 = 4;

@@ -5,7 +5,7 @@ pub const OPENING: &[u8] = b"<svg xmlns='http://www.w3.org/2000/svg' viewBox='12
 
 /// Colours, widths and arrow heads, the rows' rules, and the words that explain the colours.
 pub const STYLE: &[u8] = b"<style>\
-text{font:12px sans-serif;paint-order:stroke;stroke:#fff;stroke-width:4px;stroke-linejoin:round;fill:#333}\
+text{font:12px sans-serif;paint-order:stroke;stroke:#fff;stroke-width:3px;stroke-linejoin:round;fill:#333}\
 .name{font:bold 15px sans-serif;text-anchor:middle}\
 .number{fill:#999;text-anchor:end}\
 .none,.stop{fill:#c22f2f}\
@@ -35,8 +35,8 @@ marker path{stroke:none;marker-end:none}\
 <rect x='120' width='100%' height='100%' fill='#fff'/>\n\
 <rect x='160' y='84' width='100%' height='100%' fill='url(#rules)'/>\n\
 <path class='follower' d='M140 20H164'/><text x='170' y='24'>follower</text>\
-<path class='candidate' d='M232 20H256'/><text x='262' y='24'>candidate</text>\
-<path class='leader' d='M332 20H356'/><text x='362' y='24'>leader</text>\
-<path class='vote' d='M414 20H452'/><text x='446' y='24'>votes</text>\
-<path class='append' d='M492 20H530'/><text x='524' y='24'>appends, replies</text>\
-<path class='forward' d='M630 20H668'/><text x='662' y='24'>forwards, gaps</text>\n";
+<path class='candidate' d='M236 20H260'/><text x='266' y='24'>candidate</text>\
+<path class='leader' d='M340 20H364'/><text x='370' y='24'>leader</text>\
+<path class='vote' d='M424 20H468'/><text x='474' y='24'>votes</text>\
+<path class='append' d='M514 20H558'/><text x='564' y='24'>appends, replies</text>\
+<path class='forward' d='M670 20H714'/><text x='720' y='24'>forwards, gaps</text>\n";

@@ -12,7 +12,7 @@ use crate::style::{OPENING, STYLE};
 use std::alloc::{AllocError, Global};
 
 /// How far the picture goes on beside the last lane.
-const BESIDE: u64 = 120;
+const BESIDE: u64 = 180;
 
 /// How far the picture goes on below the last row.
 const BELOW: u64 = 40;
