@@ -1,0 +1,4 @@
+pub mod Found
+pub mod Noted
+pub mod Known
+pub mod Onward

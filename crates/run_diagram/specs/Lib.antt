@@ -1,0 +1,5 @@
+pub mod Kinds
+pub mod Diagrams
+pub mod SendingRows
+pub mod Delivered
+pub mod Drawings
