@@ -13,7 +13,9 @@ use Rattle.chat_log.specs.Texts.{line_text}
 
 -- a line that names a target as its channel or is said to it, or that is of its query
 abbrev pub concerns : List ℕ → List ℕ → Parts → Bool
-concerns nick target line = same_name target (channel_of line) || (is_query_line nick line && same_name target (source line))
+concerns nick target line =
+    same_name target (channel_of line)
+    || (is_query_line nick line && same_name target (source line))
 
 -- every line, or one that concerns the target
 abbrev pub is_wanted : Option (List ℕ) → List ℕ → Parts → Bool
@@ -24,8 +26,8 @@ is_wanted (Some target) nick line = concerns nick target line
 abbrev pub told_line : Option (List ℕ) → List ℕ → ℕ → Parts → List ℕ
 told_line target nick at line = if is_wanted target nick line then line_text at line else []
 
--- what is told of a command, by who is attached and the own nick before it: a line from upstream, and what a client that is
--- attached says, as the others see it
+-- what is told of a command, by who is attached and the own nick before it: a line from upstream, and what an attached
+-- client says, as the others see it
 abbrev pub told : Option (List ℕ) → List Origin → List ℕ → Command → List ℕ
 told target attached nick (Upstream at line) = told_line target nick at line
 told target attached nick (Client o at (Say verb name text)) =
@@ -35,4 +37,5 @@ told target attached nick _ = []
 -- the text of the commands that came, the oldest first
 unfoldable pub chat_text : Settings → Option (List ℕ) → List Command → List ℕ
 chat_text s target [] = []
-chat_text s target (x ∷ earlier) = chat_text s target earlier ++ told target (attached s earlier) (nick s earlier) x
+chat_text s target (x ∷ earlier) =
+    chat_text s target earlier ++ told target (attached s earlier) (nick s earlier) x

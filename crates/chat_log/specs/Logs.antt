@@ -13,12 +13,13 @@ use Rattle.chat_log.specs.Chats.{chat_text}
 abbrev pub bodies : Saved TowerBody → List TowerBody
 bodies saved = map (λ e. e.body) saved.log
 
--- the commands of the buffers that these bodies give at the places from 1 on, the newest first; what is repeated, and lines of
--- sessions that are over, give none
+-- the commands of the buffers that these bodies give at the places from 1 on, the newest first; what is repeated, and
+-- lines of sessions that are over, give none
 abbrev pub plain_commands : List TowerBody → List Command
 plain_commands list = commands (plain (run list))
 
 -- the chat of what a file stands for, or why the file is refused
-unfoldable pub chat_of : Option (List ℕ) → Result (Saved TowerBody) StoreFault → Result (List ℕ) StoreFault
+unfoldable pub chat_of : Option (List ℕ) → Result (Saved TowerBody) StoreFault
+    → Result (List ℕ) StoreFault
 chat_of target (Ok saved) = Ok (chat_text settings.plain target (plain_commands (bodies saved)))
 chat_of target (Err fault) = Err fault

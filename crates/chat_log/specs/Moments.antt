@@ -36,7 +36,9 @@ date_text y m d = four_digits y ++ 45 ∷ (two_digits m ++ 45 ∷ two_digits d)
 
 -- a time of day as `18:50:37`
 abbrev pub time_text : ℕ → List ℕ
-time_text second = two_digits (second / 3600) ++ 58 ∷ (two_digits (second / 60 % 60) ++ 58 ∷ two_digits (second % 60))
+time_text second =
+    two_digits (second / 3600)
+    ++ 58 ∷ (two_digits (second / 60 % 60) ++ 58 ∷ two_digits (second % 60))
 
 -- the date of a day and a time of day, a space behind each
 abbrev pub stamp_of : Day → ℕ → List ℕ

@@ -95,9 +95,11 @@ fn step(
     place: u64,
     command: &Command,
 ) -> Result<(), ApplyFault>
-    ensures buffers { (s : Settings) (history : History Command) → buffers_machine.Stands buffers.old s history
+    ensures buffers { (s : Settings) (history : History Command)
+        → buffers_machine.Stands buffers.old s history
         → OnOk result (buffers_machine.Stands buffers.new s ((place, command.now) ∷ history)) }
-    ensures text { (s : Settings) (history : History Command) → buffers_machine.Stands buffers.old s history
+    ensures text { (s : Settings) (history : History Command)
+        → buffers_machine.Stands buffers.old s history
         → text.old.items ≡ chat_text s target.now (commands history)
         → OnOk result (text.new.items ≡
         chat_text s target.now (commands ((place, command.now) ∷ history))) }

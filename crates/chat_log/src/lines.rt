@@ -2,7 +2,8 @@
 ghost use Rattle.std.specs.Prelude.{◌≡◌, ◌==◌, not, IfOk, IsTrue};
 ghost use Rattle.std.specs.List.{take_while};
 ghost use Rattle.irc_line.specs.Lines.{is_upper_command, is_word};
-ghost use Rattle.buffer_machine.specs.Messages.{channel_of, has_command, is_message, is_query_line, is_query_name, names_first, names_second, own_prefix, own_said, source, verb_word};
+ghost use Rattle.buffer_machine.specs.Messages.{channel_of, has_command, is_message, names_first, names_second};
+ghost use Rattle.buffer_machine.specs.Messages.{is_query_line, is_query_name, own_prefix, own_said, source, verb_word};
 
 use buffer_commands::Verb;
 use irc_line::{Line, Name, Text, is_a_name, is_channel_name, is_same, is_same_name};

@@ -29,8 +29,8 @@ use wire_bytes::Wire;
 /// The layers of the tower over the chat: requests take effect once, lines are taken of the session in force.
 type Told = Once<Claims<Fence<Chat>>>;
 
-/// The text of a journal's chat, the oldest line first: all of it, or what concerns a target. Without the setup of the bouncer
-/// the own nick is `me` until the server's welcome, and any number of clients may be attached.
+/// The text of a journal's chat, the oldest line first: all of it, or what concerns a target. The setup of the bouncer
+/// is not known: the own nick is `me` until the server's welcome, and any number of clients may be attached.
 pub fn chat_log(
     alloc: Global,
     journal: Vec<u8>,
@@ -131,8 +131,8 @@ fn copied_text(alloc: Global, layers: &Told) -> Result<Vec<u8>, AllocError>
     Ok(copy)
 }
 
-/// Applies the bodies of entries, the first at place 1, to a machine to which nothing came. After an error the machine is to be
-/// thrown away.
+/// Applies the bodies of entries, the first at place 1, to a machine to which nothing came. After an error the machine
+/// is to be thrown away.
 #[tactic(auto, using(crate::proofs::Comes::run_more))]
 fn apply_all<M: Machine>(machine: &mut M, entries: &[Entry<M::Command>]) -> Result<(), ApplyFault>
     ensures { (s : M.Setup) → M.stands machine.old s []

@@ -1,6 +1,7 @@
 //! What is printed of one line.
 ghost use Rattle.std.specs.Prelude.{◌≡◌, ◌++◌, ◌∷◌, [], drop, map, IfOk, OnOk};
-ghost use Rattle.chat_log.specs.Texts.{acted, content, is_speech, line_text, noticed, printed, said, speech, without_mark};
+ghost use Rattle.chat_log.specs.Texts.{acted, content, is_speech, line_text, noticed};
+ghost use Rattle.chat_log.specs.Texts.{printed, said, speech, without_mark};
 
 use crate::lines::{has_command, is_message, source_of};
 use crate::stamp::push_stamp;
