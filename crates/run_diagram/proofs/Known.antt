@@ -20,7 +20,7 @@ use Rattle.run_diagram.specs.Kinds.{delivery_of}
 use Rattle.run_diagram.specs.SendingRows.{AreEmpty, AreNoted, noted, row_in, rows_at}
 
 -- a number is below another, or is not
-lt_or_le : (k n : ℕ) → (k < n) ⊎ (n ≤ k)
+pub lt_or_le : (k n : ℕ) → (k < n) ⊎ (n ≤ k)
 lt_or_le k zero = inr (omega arith)
 lt_or_le zero (suc n) = inl (omega arith)
 lt_or_le (suc k) (suc n) = ⊎_elim (λ h. inl (omega (arith, h))) (λ h. inr (omega (arith, h))) (lt_or_le k n)

@@ -2,3 +2,4 @@ pub mod Found
 pub mod Noted
 pub mod Known
 pub mod Onward
+pub mod Moments

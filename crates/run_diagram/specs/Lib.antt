@@ -3,3 +3,4 @@ pub mod Diagrams
 pub mod SendingRows
 pub mod Delivered
 pub mod Drawings
+pub mod DiagramLaws

@@ -7,6 +7,7 @@
 mod delivered;
 mod diagrams;
 mod drawing;
+mod laws;
 mod naming;
 mod places;
 mod sending_rows;
@@ -14,3 +15,4 @@ mod views;
 
 pub use diagrams::diagram_of;
 pub use drawing::draw;
+pub use laws::{arrows_leave_where_sent, rows_show_worlds};

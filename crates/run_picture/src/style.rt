@@ -27,10 +27,14 @@ tspan.boot{fill:#c22f2f}\
 marker path{stroke:none;marker-end:none}\
 </style>\n\
 <defs>\
-<marker id='vote' viewBox='0 0 10 10' refX='15' refY='5' markerWidth='10' markerHeight='10' markerUnits='userSpaceOnUse' orient='auto'><path d='M0 1L10 5L0 9z' style='fill:#e08a00'/></marker>\
-<marker id='append' viewBox='0 0 10 10' refX='15' refY='5' markerWidth='10' markerHeight='10' markerUnits='userSpaceOnUse' orient='auto'><path d='M0 1L10 5L0 9z' style='fill:#2f6fd0'/></marker>\
-<marker id='forward' viewBox='0 0 10 10' refX='15' refY='5' markerWidth='10' markerHeight='10' markerUnits='userSpaceOnUse' orient='auto'><path d='M0 1L10 5L0 9z' style='fill:#8a4fc8'/></marker>\
-<pattern id='rules' y='60' width='24' height='24' patternUnits='userSpaceOnUse'><path d='M0 12H24' stroke='#eee'/></pattern>\
+<marker id='vote' viewBox='0 0 10 10' refX='15' refY='5' markerWidth='10' markerHeight='10' \
+markerUnits='userSpaceOnUse' orient='auto'><path d='M0 1L10 5L0 9z' style='fill:#e08a00'/></marker>\
+<marker id='append' viewBox='0 0 10 10' refX='15' refY='5' markerWidth='10' markerHeight='10' \
+markerUnits='userSpaceOnUse' orient='auto'><path d='M0 1L10 5L0 9z' style='fill:#2f6fd0'/></marker>\
+<marker id='forward' viewBox='0 0 10 10' refX='15' refY='5' markerWidth='10' markerHeight='10' \
+markerUnits='userSpaceOnUse' orient='auto'><path d='M0 1L10 5L0 9z' style='fill:#8a4fc8'/></marker>\
+<pattern id='rules' y='60' width='24' height='24' patternUnits='userSpaceOnUse'>\
+<path d='M0 12H24' stroke='#eee'/></pattern>\
 </defs>\n\
 <rect x='120' width='100%' height='100%' fill='#fff'/>\n\
 <rect x='160' y='84' width='100%' height='100%' fill='url(#rules)'/>\n\

@@ -1,7 +1,7 @@
 //! The words and the classes of the picture's parts.
 ghost use Rattle.std.specs.Prelude.{◌≡◌};
-ghost use Rattle.run_picture.specs.Words.{deed_word, happening_class, happening_front, kind_class, role_class, role_words};
-ghost use Rattle.run_picture.specs.Words.{deed_of, done_word};
+ghost use Rattle.run_picture.specs.Words.{deed_of, deed_word, done_word, happening_class};
+ghost use Rattle.run_picture.specs.Words.{happening_front, kind_class, role_class, role_words};
 
 use crate::kinds::{Deed, Happening, MessageKind};
 use raft_log::Role;
