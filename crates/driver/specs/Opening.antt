@@ -1,5 +1,5 @@
 -- The channels that a client has open, by what it is shown.
-use Rattle.std.specs.Prelude.{◌==◌, ◌&&◌, ◌||◌, ℕ, Bool, true, false, not, codes, nat_eq, if◌then◌else◌, filter, List, [], ◌∷◌, ◌++◌, Option, Some, None}
+use Rattle.std.specs.Prelude.{◌==◌, ◌&&◌, ◌||◌, ℕ, Bool, false, not, codes, nat_eq, if◌then◌else◌, filter, List, [], ◌∷◌, ◌++◌, Option, Some, None}
 use Rattle.std.specs.List.{list_any, starts_with, take_while}
 use Rattle.irc_line.specs.Names.{is_name, same_bytes, same_name}
 use Rattle.buffer_commands.specs.declared.effect.Effect.TheVariants as effect

@@ -24,7 +24,7 @@ impl Client {
 
     /// Whether it has a channel of this name open.
     pub fn has_open(&self, channel: &[u8]) -> bool
-        ensures { result ≡ has_open channel.now self.now.open }
+        ensures { result ≡ has_open channel.now self.now.channels }
     {
         self.channels.has(channel)
     }
