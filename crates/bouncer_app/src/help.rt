@@ -2,7 +2,7 @@
 
 /// How it is called, where it is called otherwise.
 pub const USAGE: &str =
-    "usage: bouncer [fold | world N | replay FILE | show JOURNAL [TARGET] | run CONFIG]";
+    "usage: bouncer [fold | world N | replay FILE | draw FILE | show JOURNAL [TARGET] | run CONFIG]";
 
 /// What a person at a terminal is told who is to type the input.
 pub const WAITING: &str =
@@ -25,6 +25,8 @@ bouncer keeps you on IRC while you are away. Words, each with an example:
                   bouncer world 3 < examples/election.events
   replay FILE   runs a record again: is it the same?
                   bouncer replay examples/candidate.record
+  draw FILE     draws the run of a record, as a sequence diagram in SVG
+                  bouncer draw examples/failover.record > run.svg
   show JOURNAL  prints the chat in a journal; a channel or a nick behind it, what
                 concerns that one
                   bouncer show store/node-1 '#x'

@@ -1,7 +1,7 @@
 //! `bouncer`: runs a bouncer; folds numbered commands into what its clients are shown, and runs events over
 //! its nodes, again too where they were recorded; shows what a journal holds.
 //! No crate stands on it. Its arguments, exit codes and standard error are tested; what its tasks do is promised by
-//! bouncer_run, fold_app, world_app and chat_log.
+//! bouncer_run, fold_app, world_app, run_diagram and chat_log.
 #![tactic(auto)]
 
 mod help;
@@ -12,13 +12,16 @@ use crate::show::show;
 use bouncer_run::{Hands, check, run};
 use fold_app::{FoldFault, fold};
 use irc_line::Name;
-use records::Verdict;
+use records::{ReplayFault, Verdict};
+use run_diagram::draw;
+use std::alloc::Global;
 use std::env::{Args, args};
 use std::fmt::Display;
-use std::io::{ErrorKind, IsTerminal, Write};
+use std::io::{ErrorKind, IsTerminal, Read, Write};
 use std::process::ExitCode;
 use std::rt::Runtime;
 use std::{fs, io};
+use whole_input::read_whole;
 use world_app::{RecordFault, replay_record, size_of, world};
 
 /// The exit code where a record differs from a run of its events.
@@ -32,6 +35,8 @@ enum Task {
     World(u32),
     /// To run what is recorded in the file of this path again.
     Replay(String),
+    /// To draw the run that is recorded in the file of this path.
+    Draw(String),
     /// To show the journal in the file of this path: all of it, or what concerns a target.
     Show(String, Option<Name>),
     /// To run the bouncer that the configuration in the file of this path says.
@@ -43,9 +48,9 @@ enum Task {
 }
 
 /// What the words, the program's name first, ask for: a fold where none follows, or `fold` alone; the
-/// events of a world where `world` and a number follow; a record's where `replay` and a path do; a journal's chat
-/// where `show`, a path and a name or none do; a bouncer's run, or a check of its configuration, where `run` or
-/// `check` and a path do.
+/// events of a world where `world` and a number follow; a record's where `replay` and a path do, and its picture
+/// where `draw` and a path do; a journal's chat where `show`, a path and a name or none do; a bouncer's run, or a
+/// check of its configuration, where `run` or `check` and a path do.
 fn asked(words: Args) -> Option<Task> {
     let mut words = words.skip(1);
     let Some(word) = words.next() else {
@@ -55,6 +60,7 @@ fn asked(words: Args) -> Option<Task> {
         "fold" => Task::Fold,
         "world" => Task::World(size_of(words.next()?.as_str())?),
         "replay" => Task::Replay(words.next()?),
+        "draw" => Task::Draw(words.next()?),
         "show" => Task::Show(words.next()?, target_of(words.next())?),
         "run" => Task::Run(words.next()?),
         "check" => Task::Check(words.next()?),
@@ -102,16 +108,44 @@ fn run_world(rt: &HostRuntime, size: u32) -> ExitCode {
 fn run_replay(rt: &HostRuntime, path: &str) -> ExitCode {
     let mut file = match fs::open(rt, path) {
         Ok(file) => file,
-        Err(error) => if error.kind() == ErrorKind::OutOfMemory {
-            return failed(rt, FoldFault::Memory);
-        } else {
-            return failed(rt, RecordFault::Read);
-        },
+        Err(error) => return failed(rt, unopened(error.kind())),
     };
     match replay_record(rt.alloc(), &mut file, &mut io::writer(rt)) {
         Ok(Verdict::Same) => ExitCode::SUCCESS,
         Ok(Verdict::Differs(_)) => ExitCode::from(DIFFERS),
         Err(fault) => failed(rt, fault),
+    }
+}
+
+/// Draws the run that is recorded in a file. The exit code is 0, or 1 with the fault on standard error.
+fn run_draw(rt: &HostRuntime, path: &str) -> ExitCode {
+    let mut file = match fs::open(rt, path) {
+        Ok(file) => file,
+        Err(error) => return failed(rt, unopened(error.kind())),
+    };
+    let picture = match drawn(rt.alloc(), &mut file) {
+        Ok(picture) => picture,
+        Err(fault) => return failed(rt, fault),
+    };
+    let mut output = io::writer(rt);
+    if output.write_all(&picture).is_err() || output.flush().is_err() {
+        return failed(rt, RecordFault::Write);
+    }
+    ExitCode::SUCCESS
+}
+
+/// The picture of the record that an input has.
+fn drawn<R: Read>(alloc: Global, input: &mut R) -> Result<Vec<u8>, RecordFault> {
+    let record = read_whole(alloc, input)?;
+    Ok(draw(alloc, &record)?)
+}
+
+/// Why a record is not read that cannot be opened.
+fn unopened(kind: ErrorKind) -> RecordFault {
+    if kind == ErrorKind::OutOfMemory {
+        RecordFault::Replay(ReplayFault::Memory)
+    } else {
+        RecordFault::Read
     }
 }
 
@@ -170,6 +204,7 @@ fn main(rt: HostRuntime) -> ExitCode {
             Some(Task::Fold) => run_fold(&rt),
             Some(Task::World(size)) => run_world(&rt, size),
             Some(Task::Replay(path)) => run_replay(&rt, path.as_str()),
+            Some(Task::Draw(path)) => run_draw(&rt, path.as_str()),
             Some(Task::Show(path, target)) => run_show(&rt, path.as_str(), target.as_ref()),
             Some(Task::Run(path)) => match run(&rt, path.as_str(), rt.reader(), &Hands::new) {
                 Ok(()) => ExitCode::SUCCESS,
