@@ -13,3 +13,5 @@ mod marked;
 mod running;
 #[cfg(test)]
 mod tickets;
+#[cfg(test)]
+mod walks;

@@ -1,0 +1,58 @@
+//! What happens to one node by an event.
+ghost use Rattle.std.specs.Prelude.{◌≡◌, ◌<◌, None, IfOk};
+ghost use Rattle.world_views.specs.Views.{carries};
+
+use raft_node::Input as NodeStep;
+use std::alloc::Global;
+use std::test::Fail;
+use wire_bytes::{Copied, Wire};
+use world_events::Input;
+use world_views::NodeInput;
+
+/// The place of the node of this number, from 1, among so many.
+pub fn place_of(node: u64, count: usize) -> Result<usize, Fail>
+    ensures { IfOk result (λ place. place < count) }
+{
+    if node == 0 || node > count as u64 {
+        return Err(Fail::from("no such node"));
+    }
+    Ok(node as usize - 1)
+}
+
+/// The input that the cell of a node takes, other than a delivery or a look.
+pub fn own_input<B: Wire, L: Wire, T>(
+    alloc: Global,
+    input: &Input<B, L, T>,
+) -> Result<NodeInput<B, L>, Fail>
+    ensures { IfOk result (λ i. carries i ≡ None) }
+{
+    match input {
+        Input::Timeout(_) => Ok(NodeInput::Timeout),
+        Input::Beat(_) => Ok(NodeInput::Beat),
+        Input::Ask(_, body) => Ok(NodeInput::Ask(body.copy(alloc)?)),
+        Input::Opened(_) => Ok(NodeInput::Opened),
+        Input::Closed(_) => Ok(NodeInput::Closed),
+        Input::Heard(_, at, line) => Ok(NodeInput::Heard(*at, line.copy(alloc)?)),
+        Input::Claim(_) => Ok(NodeInput::Claim),
+        Input::Apply(_) => Ok(NodeInput::Apply),
+        Input::Deliver(_, _) | Input::Look(_, _, _) => Err(Fail::from("no such input here")),
+    }
+}
+
+/// The same, as a node takes it.
+pub fn own_step<B: Wire, L: Wire, T>(
+    alloc: Global,
+    input: &Input<B, L, T>,
+) -> Result<NodeStep<B, L>, Fail> {
+    Ok(match own_input(alloc, input)? {
+        NodeInput::Timeout => NodeStep::Timeout,
+        NodeInput::Beat => NodeStep::Beat,
+        NodeInput::Deliver(envelope) => NodeStep::Deliver(envelope.message),
+        NodeInput::Ask(body) => NodeStep::Ask(body),
+        NodeInput::Opened => NodeStep::Opened,
+        NodeInput::Closed => NodeStep::Closed,
+        NodeInput::Heard(at, line) => NodeStep::Heard(at, line),
+        NodeInput::Claim => NodeStep::Claim,
+        NodeInput::Apply => NodeStep::Apply,
+    })
+}
