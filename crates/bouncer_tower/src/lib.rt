@@ -1,6 +1,6 @@
 //! The machine that the nodes of a bouncer host: buffers whose sessions with upstream follow one another, whose lines
 //! for upstream are numbered and claimed once, and whose requests take effect once.
-//! Stands under headline, running_bouncers, driver and bouncer_run, among others.
+//! Stands under headline, chat_log, driver and bouncer_run, among others.
 //! Promises that the answers of a list of bodies are the definitions' of all layers together.
 #![tactic(auto)]
 
@@ -8,6 +8,7 @@ mod answers;
 mod fits;
 mod hosted;
 mod laws;
+mod marking;
 mod tower;
 
 pub use answers::answer_all;

@@ -6,6 +6,7 @@ ghost use Rattle.buffer_machine.specs.Messages.{channel_of, has_command, is_by, 
 
 use irc_line::{Line, is_a_name, is_action, is_channel_name, is_same, is_same_name};
 
+/// Whether a line has this command, which is in capital letters.
 pub fn has_command(line: &Line, word: &[u8]) -> bool
     ensures { result ≡ has_command word.now line.now }
 {
@@ -13,7 +14,7 @@ pub fn has_command(line: &Line, word: &[u8]) -> bool
 }
 
 /// Whether a line is a message to a channel or a nick (RFC 2812, 3.3).
-fn is_message_line(line: &Line) -> bool
+pub fn is_message(line: &Line) -> bool
     ensures { result ≡ is_message line.now }
 {
     has_command(line, b"PRIVMSG") || has_command(line, b"NOTICE")
@@ -23,7 +24,7 @@ fn is_message_line(line: &Line) -> bool
 pub fn may_store(line: &Line) -> bool
     ensures { result ≡ is_storable line.now }
 {
-    is_message_line(line) && line.parameter_count() == 2 && is_plain_text(line.parameter(1))
+    is_message(line) && line.parameter_count() == 2 && is_plain_text(line.parameter(1))
 }
 
 fn is_plain_text(text: &[u8]) -> bool

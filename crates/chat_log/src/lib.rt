@@ -4,7 +4,6 @@
 #![tactic(auto)]
 
 mod chat;
-mod lines;
 mod log;
 mod setup;
 mod stamp;

@@ -7,10 +7,9 @@ ghost use Rattle.buffer_machine.specs.Held.{commands};
 ghost use Rattle.buffer_machine.specs.Machine.{Stands};
 ghost use Rattle.chat_log.specs.Chats.{concerns, is_wanted, told, told_line};
 
-use crate::lines::{channel_of, is_query_line, own_message, source_of};
 use crate::text::push_line;
 use buffer_commands::{Action, Command};
-use buffer_machine::BufferMachine;
+use buffer_machine::{BufferMachine, channel_of, is_query_line, own_message, source_of};
 use irc_line::{Line, Name, is_same_name};
 use std::alloc::{AllocError, Global};
 use wire_bytes::Moment;

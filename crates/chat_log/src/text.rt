@@ -3,8 +3,8 @@ ghost use Rattle.std.specs.Prelude.{◌≡◌, ◌++◌, ◌∷◌, [], drop, ma
 ghost use Rattle.chat_log.specs.Texts.{acted, content, is_speech, line_text, noticed};
 ghost use Rattle.chat_log.specs.Texts.{printed, said, speech, without_mark};
 
-use crate::lines::{has_command, is_message, source_of};
 use crate::stamp::push_stamp;
+use buffer_machine::{has_command, is_message, source_of};
 use irc_line::{ACTION_MARK, Line, is_action};
 use std::alloc::{AllocError, Global};
 use wire_bytes::Moment;

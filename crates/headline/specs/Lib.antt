@@ -1,2 +1,3 @@
 pub mod Tower
 pub mod Promises
+pub mod Running

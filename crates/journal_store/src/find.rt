@@ -6,7 +6,7 @@ ghost use Rattle.journal_store.specs.Journals.{begins, found, record_read, AtRes
 ghost use Rattle.journal_store.specs.Payloads.{goes_up, keeps_within, may_follow, names_node};
 ghost use Rattle.journal_store.specs.Payloads.{payloads};
 
-use raft_log::{Log, NodeId};
+use raft_log::{ENTRY_LIMIT, Log, NodeId};
 use stable_store::{Change, Saved, StoreFault};
 use std::alloc::{AllocError, Global};
 use wire_bytes::{Number, Wire, WireFault, take_u32};
@@ -17,9 +17,6 @@ const VERSION: [u8; 2] = *b"01";
 
 /// The greatest length of a payload.
 const PAYLOAD_LIMIT: u32 = 33_554_432;
-
-/// How many entries a log has at most.
-const ENTRY_LIMIT: usize = 1_000_000;
 
 /// What stands in a new store.
 pub fn nothing<B: Wire>(alloc: Global) -> Saved<B>

@@ -15,9 +15,8 @@ ghost use Rattle.marked_cells.specs.Marking.{HasLookedAfter, HasMarked};
 
 use crate::mark_turn::MarkTurn;
 use crate::reaching::{asks, is_reached, is_refusal, larger, reached_after};
-use body_marks::Marking;
 use ether::{Ether, Pass};
-use machine_laws::{Hosted, Machine};
+use machine_laws::{Hosted, Machine, Marking};
 use node_cells::{CellFault, NodeCell, NodeRecord, Recording, TurnOutput, Upstream};
 use node_steps::Refusal;
 use raft_node::{Described, Looked, NodeFault};

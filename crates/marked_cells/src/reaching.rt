@@ -2,7 +2,7 @@
 ghost use Rattle.std.specs.Prelude.{◌≡◌, suc};
 ghost use Rattle.marked_cells.specs.Marks.{asks, is_reached, is_refusal, larger, mark_at, reached_after, with_mark};
 
-use body_marks::Marking;
+use machine_laws::Marking;
 use node_cells::CellFault;
 use raft_log::{Log, NodeId, NodeState};
 use raft_node::NodeFault;

@@ -3,7 +3,7 @@ use Rattle.std.specs.Prelude.{◌≡◌, ◌↔◌, ℕ, [], ◌∷◌, Option, 
 use Rattle.std.proofs.Common.{sym, ap, ◌∙◌}
 use Rattle.wire_bytes.specs.declared.mark.Mark.{Mark}
 use Rattle.machine_laws.specs.Runs.{History}
-use Rattle.body_marks.specs.Marks.{IsBodyOf}
+use Rattle.machine_laws.specs.Marks.{IsBodyOf}
 
 -- what is no run's mark
 abbrev pub no_mark : Mark

@@ -44,7 +44,7 @@ pub fn on_ask<B: Wire>(
 }
 
 /// Whether a body of this source is asked at this node, in this run of it.
-fn may_ask(standing: &Standing, id: NodeId, source: Source) -> bool
+pub fn may_ask(standing: &Standing, id: NodeId, source: Source) -> bool
     ensures { result ≡ may_ask id (node_of {B = ℕ} standing.now [] []) source }
 {
     let boot = standing.boot.value();

@@ -12,7 +12,7 @@ mod sessions;
 mod timeout;
 mod unprepared;
 
-pub use asks::on_ask;
+pub use asks::{may_ask, on_ask};
 pub use messages::on_message;
 pub use refusal::Refusal;
 pub use sessions::{on_claim, on_closed, on_heard, on_opened};

@@ -2,8 +2,7 @@
 ghost use Rattle.node_threads.specs.Joins.{CanJoinAll, JoinsAll};
 
 use crate::worker::Running;
-use body_marks::Marking;
-use machine_laws::Hosted;
+use machine_laws::{Hosted, Marking};
 use node_cells::{Closing, Upstream};
 use stable_store::Stable;
 use std::thread::Threads;

@@ -24,7 +24,7 @@ pub use group_size::GroupSize;
 pub use laws::{
     the_first_conflict_cuts, what_does_not_conflict_is_added, what_stands_before_a_conflict_is_kept,
 };
-pub use log::Log;
+pub use log::{ENTRY_LIMIT, Log};
 pub use message::{Kind, Message};
 pub use node_id::NodeId;
 pub use node_state::{Live, NodeState, Standing};

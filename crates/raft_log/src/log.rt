@@ -10,7 +10,7 @@ use std::marker::Model;
 use wire_bytes::{Copied, Number, Wire, copied_all};
 
 /// How many entries a log has at most.
-const ENTRY_LIMIT: usize = 1_000_000;
+pub const ENTRY_LIMIT: usize = 1_000_000;
 
 /// A node's entries, the first at place 1 and at most 1,000,000. Place 0 has term 0.
 #[derive(Drop)]

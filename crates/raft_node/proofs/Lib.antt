@@ -17,3 +17,5 @@ pub mod Nodes
 pub mod Applying
 pub mod Acting
 pub mod Starts
+pub mod Adding
+pub mod SteppingAll

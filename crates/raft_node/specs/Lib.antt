@@ -9,4 +9,6 @@ pub mod Parts
 pub mod Kept
 pub mod Stepping
 pub mod Stood
+pub mod Together
+pub mod SteppingTogether
 pub mod Starting

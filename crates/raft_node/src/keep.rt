@@ -25,6 +25,8 @@ pub fn keep<B: Wire, S: Stable<B>>(
     ensures kept { IsKept (keeper S.saved S.may_stand S.condition) store.old state.old
         (after state.old step) store.new state.new result }
     ensures sent { IfOk result (λ messages. messages.items ≡ step.messages.items) }
+    ensures still { IsStill state.old step.standing step.keep (length step.entries.items)
+        → store.new ≡ store.old }
 {
     let Step {
         standing,

@@ -1,9 +1,12 @@
 //! What one node keeps by its own steps alone, whatever it hears.
+ghost use Rattle.raft_node.specs.Parts.{keeper};
 ghost use Rattle.raft_node.specs.Sound.{BeginsSound, StaysSound, TurnKeepsApplied};
 ghost use Rattle.raft_node.specs.Sound.{SentGrows, SentIsNotRead};
+ghost use Rattle.raft_node.specs.SteppingTogether.{OneIsAStep};
 
 use crate::described::Described;
-use machine_laws::Hosted;
+use machine_laws::{Hosted, Machine};
+use stable_store::Stable;
 
 /// A node begins sound, and whatever happens to it keeps it so: what it applied is committed, and that stands in its log;
 /// a live session is of the term in which it leads; it knows a leader only while it follows; its lists by node are of the
@@ -23,4 +26,10 @@ pub fn a_turn_keeps_what_was_applied<M: Hosted>()
 pub fn what_was_sent_stays_and_is_not_read<M: Hosted>()
     ensures grows { (s : M.Setup) → SentGrows (⟦<M as Described>⟧.machine s) }
     ensures is_not_read { (s : M.Setup) → SentIsNotRead (⟦<M as Described>⟧.machine s) }
+{}
+
+/// What several inputs of a leader come to by one save, one input alone comes to by a step.
+pub fn one_input_alone_is_a_step<M: Hosted, S: Stable<M::Command>>()
+    ensures { (s : M.Setup) → OneIsAStep (⟦<M as Described>⟧.machine s) M.Setup M
+        (keeper S.saved S.may_stand S.condition) }
 {}

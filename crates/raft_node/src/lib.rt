@@ -4,6 +4,7 @@
 //! refused step changes nothing.
 #![tactic(auto)]
 
+mod addition;
 mod begin;
 mod described;
 mod input;
@@ -13,11 +14,13 @@ mod leaving;
 mod node;
 mod node_fault;
 mod prepare;
+mod together;
 
 pub use described::Described;
 pub use input::{Input, Looked, Output};
 pub use laws::{
-    a_node_stays_sound, a_turn_keeps_what_was_applied, what_was_sent_stays_and_is_not_read,
+    a_node_stays_sound, a_turn_keeps_what_was_applied, one_input_alone_is_a_step,
+    what_was_sent_stays_and_is_not_read,
 };
 pub use node::Node;
-pub use node_fault::{Cause, NodeFault};
+pub use node_fault::{Cause, NodeFault, Unsaved};

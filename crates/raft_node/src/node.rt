@@ -3,7 +3,7 @@ ghost use Rattle.std.specs.Prelude.{◌≡◌, ◌≤◌, false, length, take, I
 ghost use Rattle.node_steps.specs.Plans.{IsPrepared};
 ghost use Rattle.raft_node.specs.Inputs.{bodies, input_plan, is_apply};
 ghost use Rattle.raft_node.specs.Parts.{IsWhole, applied_bodies, keeper, size_of};
-ghost use Rattle.raft_node.specs.Kept.{MayStand};
+ghost use Rattle.raft_node.specs.Kept.{IsStill, MayStand};
 ghost use Rattle.raft_node.specs.Stepping.{IsLooked, IsStepped};
 ghost use Rattle.raft_node.specs.Stood.{IsApplied, IsStood};
 ghost use Rattle.raft_node.specs.Starting.{IsRestarted, IsStarted};
@@ -22,6 +22,8 @@ use stable_store::Stable;
 use std::alloc::Global;
 use std::marker::Model;
 use wire_bytes::{Copied, Number, Wire};
+
+mod stepping;
 
 /// A node of a group, with the machine that it hosts and the store that it keeps.
 ///
@@ -171,7 +173,10 @@ impl<M: Hosted, S: Stable<M::Command>> Node<M, S> {
     fn stand(&mut self, step: Step<M::Command>) -> Result<Output<M::Command, M::Effect>, NodeFault>
         requires up { self.old.down ≡ None }
         requires may { MayStand self.old.state step }
-        ensures { IsStood (keeper S.saved S.may_stand S.condition) step self.old result self.new }
+        ensures stood { IsStood (keeper S.saved S.may_stand S.condition) step self.old result
+            self.new }
+        ensures still { IsStill self.old.state step.standing step.keep (length step.entries.items)
+            → self.new.store ≡ self.old.store }
     {
         match keep(&mut self.store, &mut self.state, step) {
             Ok(messages) => Ok(Output {

@@ -1,5 +1,5 @@
 //! Why a call of a node failed.
-ghost use Rattle.std.specs.Prelude.{◌≡◌};
+ghost use Rattle.std.specs.Prelude.{◌≡◌, Some};
 ghost use Rattle.raft_node.specs.Faults.{cause_after, cause_of, fault_number};
 
 use node_steps::Refusal;
@@ -65,6 +65,28 @@ impl NodeFault {
             NodeFault::Refused(Refusal::Behind(_)) => 6,
             NodeFault::Refused(Refusal::BadOrigin) => 7,
         }
+    }
+}
+
+/// Why several inputs of a node were not done together.
+#[derive(Drop)]
+pub struct Unsaved {
+    /// Why the node is down.
+    pub cause: Cause,
+    /// What each input answers once they are saved, in order, where a save of them was tried. None
+    /// where none was.
+    pub answers: Option<Vec<Result<(), Refusal>>>,
+}
+
+impl Unsaved {
+    /// Of inputs whose save was tried.
+    pub fn tried(fault: NodeFault, answers: Vec<Result<(), Refusal>>) -> Unsaved
+        ensures cause { result.cause ≡ cause_after fault }
+        ensures answers { result.answers ≡ Some answers }
+    {
+        let cause = fault.cause();
+        let answers = Some(answers);
+        Unsaved { cause, answers }
     }
 }
 

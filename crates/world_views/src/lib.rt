@@ -1,5 +1,5 @@
 //! What running nodes did, each by its own view, and what all views come to together.
-//! Stands under ether, node_cells and running_bouncers.
+//! Stands under ether, node_cells and headline.
 //! Where the views of all nodes keep the rule over honest stores, the events of all records by rising ticket are
 //! one list, which leads to the states of all views; so what holds of every list of events holds of running nodes.
 #![tactic(auto)]

@@ -7,8 +7,7 @@ ghost use Rattle.node_cells.specs.Causes.{down_in};
 ghost use Rattle.node_cells.specs.Cells.{IsIn, view_in};
 
 use crate::marked_cell::MarkedCell;
-use body_marks::Marking;
-use machine_laws::{Hosted, Machine};
+use machine_laws::{Hosted, Machine, Marking};
 use node_cells::Upstream;
 use raft_log::{GroupSize, NodeId, NodeState};
 use raft_node::Cause;

@@ -2,9 +2,8 @@
 ghost use Rattle.std.specs.Prelude.{◌≡◌};
 ghost use Rattle.node_cases.specs.Latest.{no_mark};
 
-use body_marks::Marking;
 use irc_line::Line;
-use machine_laws::{ApplyFault, Class, Hosted, Machine, Source, single};
+use machine_laws::{ApplyFault, Class, Hosted, Machine, Marking, single, Source};
 use std::alloc::{AllocError, Global};
 use wire_bytes::{Mark, Moment, Number, Origin, SessionId};
 

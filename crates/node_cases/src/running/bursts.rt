@@ -3,8 +3,7 @@
 use crate::running::client::Client;
 use crate::running::clusters::{Counter, Crew, MOST_POLLS, lead, rest};
 use crate::running::story::Told;
-use body_marks::Marking;
-use machine_laws::{Hosted, Machine};
+use machine_laws::{Hosted, Machine, Marking};
 use node_notes::Note;
 use raft_log::NodeId;
 use std::alloc::Global;

@@ -1,8 +1,7 @@
 //! Clusters over new stores.
 use crate::cell::upstream::NoUpstream;
 use crate::running::watch::Watch;
-use body_marks::Marking;
-use machine_laws::{Hosted, Machine};
+use machine_laws::{Hosted, Machine, Marking};
 use node_notes::Note;
 use node_threads::{Cluster, Part};
 use raft_log::{GroupSize, NodeId};

@@ -1,6 +1,6 @@
 //! What bodies tell of marks, by example.
-use body_marks::Marking;
 use bouncer_tower::Tower;
+use machine_laws::Marking;
 use std::test::Fail;
 use toy_machine::Toy;
 use wire_bytes::{Mark, Number};

@@ -1,8 +1,7 @@
 //! Two nodes whose first turns meet.
 use crate::running::clusters::Crew;
 use crate::running::story::Told;
-use body_marks::Marking;
-use machine_laws::Machine;
+use machine_laws::{Machine, Marking};
 use node_notes::Note;
 use raft_log::NodeId;
 use std::alloc::Global;

@@ -3,9 +3,8 @@ ghost use Rattle.std.specs.Prelude.{◌≡◌, ◌↔◌, IsTrue};
 ghost use Rattle.node_threads.specs.Reports.{IsStatusOf, leads_in, told_fault};
 
 use crate::job::{Job, put};
-use body_marks::Marking;
 use crossbeam_channel::Sender;
-use machine_laws::{Hosted, Machine};
+use machine_laws::{Hosted, Machine, Marking};
 use marked_cells::MarkedCell;
 use node_cells::{CellFault, Upstream};
 use node_notes::{Note, Progress, Status};

@@ -9,11 +9,11 @@ pub invariant_of-self-in-Err : goal.invariant_of-self-in-Err
 invariant_of-self-in-Err g c =
     falls_whole _ _ _ _ c.self.view_is c.args.step c.requires.may c.requires.up c.self.invariant c.in-Err.cause c.keep.new.store c.keep.new.state c.in-Err.ensures.kept
 
-pub returns-in-Ok : goal.returns-in-Ok
-returns-in-Ok g c =
+pub returns-in-Ok-clause-stood : goal.returns-in-Ok-clause-stood
+returns-in-Ok-clause-stood g c =
     stood _ _ _ _ c.self.view_is c.args.step c.requires.may c.requires.up c.self.invariant
     _ c.keep.new.store c.keep.new.state c.in-Ok.messages c.in-Ok.ensures.kept c.in-Ok.ensures.sent c.new.ensures c.new-in-Ok.ensures.items
 
-pub returns-in-Err : goal.returns-in-Err
-returns-in-Err g c =
+pub returns-in-Err-clause-stood : goal.returns-in-Err-clause-stood
+returns-in-Err-clause-stood g c =
     fell _ _ _ _ c.self.view_is c.args.step c.requires.may c.requires.up c.self.invariant g.row.M-Effect.Denot c.in-Err.cause c.keep.new.store c.keep.new.state c.in-Err.ensures.kept

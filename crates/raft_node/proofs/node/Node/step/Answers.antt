@@ -7,7 +7,7 @@ pub returns-in-Ok : goal.returns-in-Ok
 returns-in-Ok g c =
     let saves : is_apply c.args.input ≡ false = sym c.is_apply.ensures ∙ c.if-is_apply.false in
     let up : c.args.self.now.down ≡ None = search rules in
-    acted _ _ c.args.input saves c.args.self.now up c.in-Ok.step c.in-Ok.ensures.planned c.stand.result c.stand.new.self c.stand.ensures
+    acted _ _ c.args.input saves c.args.self.now up c.in-Ok.step c.in-Ok.ensures.planned c.stand.result c.stand.new.self c.stand.ensures.stood
 
 pub returns-in-Err-Refused : goal.returns-in-Err-Refused
 returns-in-Err-Refused g c =

@@ -1,0 +1,129 @@
+//! What a leader is about to do by several inputs that only append.
+ghost use Rattle.std.specs.Prelude.{◌≡◌, ◌≤◌, ◌+◌, IfOk, OnOk, [], length, true};
+ghost use Rattle.std.specs.List.{AllByRecursion};
+ghost use Rattle.raft_log.specs.Logs.{entry_limit};
+ghost use Rattle.raft_log.specs.Node.{is_leader};
+ghost use Rattle.raft_log.specs.Positions.{live_of, role_of};
+ghost use Rattle.raft_log.specs.Seen.{seen};
+ghost use Rattle.node_steps.specs.Plans.{CountsLines, own_plan};
+ghost use Rattle.raft_node.specs.Inputs.{bodies, input_plan};
+ghost use Rattle.raft_node.specs.Kept.{MayStand};
+ghost use Rattle.raft_node.specs.Parts.{size_of};
+ghost use Rattle.raft_node.specs.Sound.{IsSound};
+ghost use Rattle.raft_node.specs.Together.{ArePlanned, IsAdded, IsAppend, IsTakenIn, OnlyAppends};
+ghost use Rattle.raft_node.specs.Together.{addition_plan, leading};
+
+use crate::addition::{Addition, to_append};
+use crate::input::Input;
+use machine_laws::Hosted;
+use node_steps::Refusal;
+use raft_log::{ENTRY_LIMIT, Entry, Live, LoggedBody, NodeId, NodeState, Position, Standing, Step};
+use std::alloc::{AllocError, Global};
+use wire_bytes::{Number, Wire};
+
+/// What a leader is about to do by inputs that only append, as far as they are planned: its
+/// session, the attempts made and the entries behind its log, and what each input answers.
+#[derive(Drop)]
+pub struct Together<B: Wire> {
+    pub live: Option<Live>,
+    pub attempts: Number,
+    pub entries: Vec<Entry<B>>,
+    pub answers: Vec<Result<(), Refusal>>,
+}
+
+/// What the leader of this number is about to do by these inputs, each planned as if those before
+/// it stood. Nothing changes.
+pub fn plan_together<M: Hosted>(
+    alloc: Global,
+    id: NodeId,
+    state: &NodeState<M::Command>,
+    next: Option<Number>,
+    inputs: Vec<Input<M::Command, M::Line>>,
+) -> Result<(Step<M::Command>, Vec<Result<(), Refusal>>), AllocError>
+    requires leads { is_leader (role_of state.now.standing.position) ≡ true }
+    requires sound { IsSound (size_of state.now) (seen state.now []) }
+    requires counts { CountsLines (live_of state.now.standing.position) (length state.now.log) }
+    requires appends { AllByRecursion OnlyAppends inputs.items }
+    requires few { length inputs.items ≤ 256 }
+    ensures planned { IfOk result (λ r. ArePlanned
+        (input_plan (bodies M.blank M.opened M.shut M.heard M.claim M.source) next
+        (size_of state.now) id) state.now inputs.items r.0 r.1.items) }
+    ensures may { IfOk result (λ r. MayStand state.now r.0) }
+    ensures appends { IfOk result (λ r. IsAppend state.now r.0) }
+{
+    let keep = state.log.len();
+    let mut together = Together {
+        live: state.standing.position.live(),
+        attempts: state.standing.attempts,
+        entries: Vec::new(alloc),
+        answers: Vec::new(alloc),
+    };
+    for input in inputs {
+        let standing = led(&state.standing, &together);
+        let added = to_append::<M>(id, &standing, &next, input);
+        take_in::<M>(state, &mut together, added)?;
+    }
+    let step = Step {
+        standing: led(&state.standing, &together),
+        keep,
+        entries: together.entries,
+        messages: Vec::new(alloc),
+    };
+    Ok((step, together.answers))
+}
+
+/// The standing of a leader once what was planned so far stands.
+fn led<B: Wire>(standing: &Standing, together: &Together<B>) -> Standing
+    ensures { result ≡ leading standing.now together.now.live together.now.attempts }
+{
+    Standing {
+        position: Position::Leader(together.live),
+        attempts: together.attempts,
+        ..*standing
+    }
+}
+
+/// What is to be appended is planned behind what was planned so far, where the log has room for it.
+fn take_in<M: Hosted>(
+    state: &NodeState<M::Command>,
+    together: &mut Together<M::Command>,
+    added: Result<Option<Addition<M::Command>>, Refusal>,
+) -> Result<(), AllocError>
+    requires room { length state.now.log + length together.old.entries.items ≤ entry_limit }
+    ensures { OnOk result (IsTakenIn (addition_plan added) state.now together.old together.new) }
+{
+    let answer = match added {
+        Ok(Some(addition)) => append::<M>(state, together, addition)?,
+        Ok(None) => Ok(()),
+        Err(refusal) => Err(refusal),
+    };
+    Ok(together.answers.push(answer)?)
+}
+
+/// Appends a body where the log has room for it. Refused with `LogFull`.
+fn append<M: Hosted>(
+    state: &NodeState<M::Command>,
+    together: &mut Together<M::Command>,
+    addition: Addition<M::Command>,
+) -> Result<Result<(), Refusal>, AllocError>
+    requires room { length state.now.log + length together.old.entries.items ≤ entry_limit }
+    ensures { IfOk result (λ answer. IsAdded
+        (own_plan addition.live addition.attempts addition.body) state.now together.old together.new
+        answer) }
+{
+    let Addition {
+        live,
+        attempts,
+        body,
+    } = addition;
+    if state.log.len().value() as usize + together.entries.len() >= ENTRY_LIMIT {
+        return Ok(Err(Refusal::LogFull));
+    }
+    M::fits(&body);
+    let body = LoggedBody::new(body);
+    let term = state.standing.term;
+    together.entries.push(Entry { term, body })?;
+    together.live = live;
+    together.attempts = attempts;
+    Ok(Ok(()))
+}
