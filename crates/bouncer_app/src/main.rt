@@ -1,7 +1,7 @@
 //! `bouncer`: runs a bouncer; folds numbered commands into what its clients are shown, and runs events over
 //! its nodes, again too where they were recorded; shows what a journal holds.
 //! No crate stands on it. Its arguments, exit codes and standard error are tested; what its tasks do is promised by
-//! bouncer_run, fold_app, world_app, run_diagram and chat_log.
+//! bouncer_run, fold_app, world_app and chat_log.
 #![tactic(auto)]
 
 mod help;
@@ -13,7 +13,6 @@ use bouncer_run::{Hands, check, run};
 use fold_app::{FoldFault, fold};
 use irc_line::Name;
 use records::{ReplayFault, Verdict};
-use run_diagram::draw;
 use std::alloc::Global;
 use std::env::{Args, args};
 use std::fmt::Display;
@@ -22,7 +21,7 @@ use std::process::ExitCode;
 use std::rt::Runtime;
 use std::{fs, io};
 use whole_input::read_whole;
-use world_app::{RecordFault, replay_record, size_of, world};
+use world_app::{RecordFault, draw, replay_record, size_of, world};
 
 /// The exit code where a record differs from a run of its events.
 const DIFFERS: u8 = 3;

@@ -26,8 +26,6 @@ pub use laws::{
     a_detached_channel_is_not_shown, no_target_keeps_more_than_its_size, playing_leaves_nothing,
     who_is_not_attached_changes_nothing,
 };
-pub use lines::{
-    channel_of, has_command, is_message, is_new_nick, is_query_line, source_of,
-};
+pub use lines::{channel_of, has_command, is_message, is_new_nick, is_query_line, source_of};
 pub use machine::BufferMachine;
 pub use message::own_message;

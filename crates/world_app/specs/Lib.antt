@@ -1,2 +1,10 @@
 pub mod Worlds
 pub mod Replays
+pub mod Words
+pub mod Picture
+pub mod Kinds
+pub mod Diagrams
+pub mod SendingRows
+pub mod Delivered
+pub mod Drawings
+pub mod DiagramLaws

@@ -3,7 +3,7 @@ ghost use Rattle.std.specs.Prelude.{◌≡◌};
 ghost use Rattle.node_cases.specs.Latest.{no_mark};
 
 use irc_line::Line;
-use machine_laws::{ApplyFault, Class, Hosted, Machine, Marking, single, Source};
+use machine_laws::{ApplyFault, Class, Hosted, Machine, Marking, Source, single};
 use std::alloc::{AllocError, Global};
 use wire_bytes::{Mark, Moment, Number, Origin, SessionId};
 

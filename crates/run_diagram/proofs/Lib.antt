@@ -1,5 +1,0 @@
-pub mod Found
-pub mod Noted
-pub mod Known
-pub mod Onward
-pub mod Moments
