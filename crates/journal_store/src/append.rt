@@ -1,5 +1,6 @@
 //! A record behind the last one of a journal.
-ghost use Rattle.std.specs.Prelude.{◌≡◌, ◌≤◌, ◌<◌, ◌^◌, IsTrue, IfOk, IfErr, OnOk, length};
+ghost use Rattle.std.specs.Prelude.{◌≡◌, ◌≤◌, ◌<◌, ◌^◌, ◌++◌, IsTrue, IfOk, IfErr, OnOk, drop, length};
+ghost use Rattle.std.specs.Int.{to_be_bytes, w32};
 ghost use Rattle.stable_store.specs.declared.saved.Saved.{Saved};
 ghost use Rattle.stable_store.specs.Changes.{spelled_change, FitsChange};
 ghost use Rattle.stable_store.specs.Stores.{changed, nothing_saved, MayFollow};
@@ -18,6 +19,9 @@ use wire_bytes::Wire;
 /// The name, the version and a closed gate.
 const EMPTY: [u8; 9] = *b"RBSTOR01\0";
 
+/// How many bytes the length of a payload has.
+const LENGTH_BYTES: usize = 4;
+
 /// Writes an empty journal on a disk whose file has at most 9 bytes, synced, and syncs. Whatever a crash
 /// leaves at any moment opens as an empty store or is refused, and then it may be begun again.
 pub fn begin<B: Wire, D: Disk>(disk: &mut D) -> Result<(), DiskFault>
@@ -32,17 +36,24 @@ pub fn begin<B: Wire, D: Disk>(disk: &mut D) -> Result<(), DiskFault>
     put(disk, 0, &EMPTY)
 }
 
+/// The first bytes become this length.
+fn set_length(bytes: &mut [u8], len: u32)
+    requires { 4 ≤ length bytes.old }
+    ensures { bytes.new ≡ to_be_bytes w32 len ++ drop 4 bytes.old }
+{
+    bytes[..LENGTH_BYTES].copy_from_slice(&len.to_be_bytes());
+}
+
 /// The length, the payload and a closed gate.
 fn record<B: Wire>(alloc: Global, change: &Change<B>) -> Result<Vec<u8>, AllocError>
     ensures bytes { IfOk result (λ r. r.items ≡ staged (spelled_change B.spelled change.now)) }
     ensures fits { FitsChange B.fits B.spelled change.now }
 {
     change.fits();
-    let mut payload = Vec::new(alloc);
-    change.put(&mut payload)?;
-    let mut bytes = Vec::new(alloc);
-    bytes.extend_from_slice(&(payload.len() as u32).to_be_bytes())?;
-    bytes.extend_from_slice(&payload)?;
+    let mut bytes = Vec::from_slice(alloc, &[0; LENGTH_BYTES])?;
+    change.put(&mut bytes)?;
+    let len = (bytes.len() - LENGTH_BYTES) as u32;
+    set_length(&mut bytes, len);
     bytes.push(0)?;
     Ok(bytes)
 }

@@ -6,4 +6,6 @@ use Rattle.journal_store.proofs.append.record.Goals as goal
 pub overflow_cast-len : goal.overflow_cast-len
 overflow_cast-len g c =
     let small = change_size g.B.Wire.fits g.B.Wire.spelled c.args.change.now c.fits.ensures in
-    omega (arith, small, ap length c.in_ok-put.ensures.items, c.len.ensures, ap length c.new-payload.ensures.items, length-append c.new-payload.result.items (spelled_change g.B.Wire.spelled c.args.change.now))
+    let put = ap length c.in_ok-put.ensures.items in
+    let front = ap length c.in_ok-bytes.ensures.items in
+    omega (arith, small, c.len.ensures, put, front, length-append c.in_ok-bytes.bytes.items (spelled_change g.B.Wire.spelled c.args.change.now))
