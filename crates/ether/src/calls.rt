@@ -19,6 +19,7 @@ use machine_laws::Hosted;
 use raft_node::{Described, Node};
 use stable_store::Stable;
 use std::marker::Brand;
+use std::snapshot::Snapshot;
 use world_views::{Envelope, NodeEvent};
 
 impl<M: Hosted> Ether<M> {
@@ -58,18 +59,19 @@ impl<M: Hosted> Ether<M> {
             .fetch_add::<Opens<W>>(&mut pass.seat, 0, 1)
     }
 
-    /// An event of the pass's node. Answers its ticket; `Spent` where the pass has made 2^60 ticks.
+    /// An event of the pass's node: what it was is for clauses alone. Answers its ticket; `Spent` where
+    /// the pass has made 2^60 ticks.
     pub fn tick(
         &self,
         pass: &mut Pass<M::Command, M::Line, M::Target>,
-        event: &NodeEvent<M::Command, M::Line, M::Target>,
+        event: Snapshot<NodeEvent<M::Command, M::Line, M::Target>>,
     ) -> Result<u64, EtherFault>
         requires pass { IsOpenPass self.now pass.old }
-        requires heard { IsHeard (view_of pass.old) event.now }
+        requires heard { IsHeard (view_of pass.old) event.value }
         ensures open { StaysOpen self.now pass.old pass.new }
         ensures ticket { IfOk result (λ t. view_of pass.new
             ≡ after_event (⟦<M as Described>⟧.machine self.now.setup) (view_of pass.old) t
-            event.now) }
+            event.value) }
         ensures spent { IfErr result (λ e. (e ≡ Spent) × (pass.new ≡ pass.old)
             × (length (view_of pass.old).turns ≡ 2 ^ 60)) }
         ensures looks { looks_of pass.new ≡ looks_of pass.old }
@@ -83,15 +85,15 @@ impl<M: Hosted> Ether<M> {
     fn count<W: Step<Known<M::Command, M::Line, M::Target>>>(
         &self,
         pass: &mut Pass<M::Command, M::Line, M::Target>,
-        event: &NodeEvent<M::Command, M::Line, M::Target>,
+        event: Snapshot<NodeEvent<M::Command, M::Line, M::Target>>,
     ) -> u64
         requires pass { IsOpenPass self.now pass.old × (pass.old.ticks < 2 ^ 60) }
-        requires heard { IsHeard (view_of pass.old) event.now }
-        requires step { W.becomes ≡ ticked (⟦<M as Described>⟧.machine self.now.setup) event.now }
+        requires heard { IsHeard (view_of pass.old) event.value }
+        requires step { W.becomes ≡ ticked (⟦<M as Described>⟧.machine self.now.setup) event.value }
         ensures open { StaysOpen self.now pass.old pass.new }
         ensures view { view_of pass.new
             ≡ after_event (⟦<M as Described>⟧.machine self.now.setup) (view_of pass.old) result
-            event.now }
+            event.value }
         ensures looks { looks_of pass.new ≡ looks_of pass.old }
     {
         let _ = event;

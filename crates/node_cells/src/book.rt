@@ -18,6 +18,7 @@ use raft_log::{GroupSize, Message};
 use raft_node::Described;
 use std::alloc::Global;
 use std::marker::Model;
+use std::snapshot::Snapshot;
 use std::sync::Arc;
 use world_run::Outcome;
 use world_views::{Envelope, NodeEvent};
@@ -89,7 +90,7 @@ impl<M: Hosted> Book<M> {
         ensures noted { HasNoted (⟦<M as Described>⟧.machine self.old.ether.setup) self.old event
             outcome self.new }
     {
-        let Ok(ticket) = self.ether.tick(&mut self.pass, &event) else {
+        let Ok(ticket) = self.ether.tick(&mut self.pass, Snapshot::of(&event)) else {
             unreachable!()
         };
         self.keep(NodeTurn {

@@ -10,6 +10,7 @@ use raft_log::{Message, NodeId};
 use raft_node::{Described, Input, Node};
 use stable_store::Stable;
 use std::alloc::Global;
+use std::snapshot::Snapshot;
 use std::test::Fail;
 use world_views::{Envelope, NodeEvent, NodeInput};
 
@@ -85,7 +86,7 @@ impl<M: Hosted, S: Stable<M::Command>> Seated<M, S> {
             ≡ (view_of self.old.pass).state.sent ++ r.1.items) }
         ensures count { IfOk result (λ r. self.new.sent ≡ self.old.sent + length r.1.items) }
     {
-        let ticket = ether.tick(&mut self.pass, &event)?;
+        let ticket = ether.tick(&mut self.pass, Snapshot::of(&event))?;
         let messages = step(&mut self.node, event)?;
         let Some(sent) = self.sent.checked_add(messages.len() as u64) else {
             return Err(Fail::from("too many messages"));

@@ -23,6 +23,6 @@ fetch_add-requires g c =
     let few : length (view_of c.args.pass.now).turns < 1152921504606846976 = (let lt = c.requires.pass.1 in let n = is.ticks in omega arith) in (
       search rules,
       search rules,
-      ticks_as (machine g key.setup) key.size _ _ _ no_step g.W.Step.becomes c.args.pass.now.spare (looks_of c.args.pass.now) (view_of c.args.pass.now) opened.0.0 c.args.event.now
-          (subst (λ (s : g.row.M-Setup.Denot). g.W.Step.becomes ≡ ticked (machine g s) c.args.event.now) same c.requires.step) opened.1 opened.0.1 few c.requires.heard,
+      ticks_as (machine g key.setup) key.size _ _ _ no_step g.W.Step.becomes c.args.pass.now.spare (looks_of c.args.pass.now) (view_of c.args.pass.now) opened.0.0 c.args.event.value
+          (subst (λ (s : g.row.M-Setup.Denot). g.W.Step.becomes ≡ ticked (machine g s) c.args.event.value) same c.requires.step) opened.1 opened.0.1 few c.requires.heard,
     )

@@ -10,4 +10,4 @@ machine g s =
     (g.M.Hosted.next_claim s) (g.M.Hosted.playback s) g.M.Hosted.class
 
 abbrev pub ghosts-count : goal.ghosts-count
-ghosts-count g a = record { becomes = ticked (machine g a.self.now.setup) a.event.now; from = 0; fact = λ _. Unit {0} }
+ghosts-count g a = record { becomes = ticked (machine g a.self.now.setup) a.event.value; from = 0; fact = λ _. Unit {0} }
