@@ -4,7 +4,8 @@ a server on loopback that is played here, which says lines to one channel. bench
 Prints the disk's own rate of syncs; the memory and the processor of a run at rest; for 1, 10 and 50 clients spread over the
 nodes how long 20,000 lines take that are said at once, with the lines and the deliveries a second, and the delay of 2,000
 lines at 200 a second from the server to the clients of the node that leads, and to those of the others, as median and 99th
-percentile; how long a client waits for a playback of 500 lines; and the memory at the end.
+percentile; how long a client waits for a playback of 500 lines; the memory at the end; and the lines a second of the flood to
+1 client where each sync takes 2 ms longer.
 
 All is read and written by this one process, so that its own time is in every number.
 """
@@ -19,12 +20,17 @@ import sys
 import tempfile
 import time
 
+sys.dont_write_bytecode = True
+sys.path.append(os.path.join(os.path.dirname(os.path.realpath(__file__)), os.pardir, "tests"))
+from shims import built
+
 FLOOD = 20_000
 PACED = 2_000
 RATE = 200
 PLAYED = 500
 LIMIT = 200
 MARK = b" PRIVMSG #x :"
+SYNC_MS = 2
 QUIET = 2.5  # seconds without a change of a journal after which all that was said is in it
 
 
@@ -90,6 +96,7 @@ class Run:
     """The program, the server, and clients."""
 
     password = "word"
+    environment = {}
 
     def __init__(self, program):
         self.room = selectors.DefaultSelector()
@@ -115,7 +122,11 @@ class Run:
             )
         self.log = open(os.path.join(self.folder, "log"), "w+")
         self.program = subprocess.Popen(
-            [program, "run", config], stdin=subprocess.PIPE, stderr=self.log, cwd=self.folder
+            [program, "run", config],
+            stdin=subprocess.PIPE,
+            stderr=self.log,
+            cwd=self.folder,
+            env=os.environ | self.environment,
         )
 
     def is_open(self):
@@ -296,6 +307,19 @@ def begin(run):
     first.close()
 
 
+def on_a_slow_disk(program):
+    """Lines a second of the flood to 1 client where each sync takes longer."""
+
+    class Slow(Run):
+        environment = {"LD_PRELOAD": built(tempfile.mkdtemp(), "slow_sync"), "SYNC_MS": str(SYNC_MS)}
+
+    run = Slow(program)
+    begin(run)
+    lines, _ = flood(run, 1)
+    run.end()
+    return lines
+
+
 def shown(delay):
     return "no client" if delay is None else f"median {delay[0]:.2f} ms, 99th percentile {delay[1]:.2f} ms"
 
@@ -322,6 +346,7 @@ def main():
     except (Closed, Late) as fault:
         sys.exit(f"{type(fault).__doc__}\n{run.told()}")
     run.end()
+    print(f"where a sync takes {SYNC_MS} ms longer: {on_a_slow_disk(sys.argv[1]):,.0f} lines a second to 1 client")
 
 
 if __name__ == "__main__":
