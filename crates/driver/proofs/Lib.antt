@@ -21,6 +21,7 @@ mod Marks
 mod Nicks
 mod OneClaim
 mod Owning
+mod Paced
 mod Passing
 mod Quiet
 mod Reaching

@@ -9,7 +9,7 @@ use Rattle.node_notes.specs.declared.note.Note.{Note}
 use Rattle.node_notes.specs.declared.note.Note.TheVariants as note
 use Rattle.node_notes.specs.declared.status.Status.{Status}
 use Rattle.node_notes.specs.Notes.{leads}
-use Rattle.pacing.specs.declared.timer.Timer.{Timer}
+use Rattle.driver.specs.declared.timer.Timer.{Timer}
 use Rattle.wire_bytes.specs.declared.origin.Origin.{Origin}
 use Rattle.driver.specs.declared.desk.Desk.{Desk}
 use Rattle.driver.specs.declared.gone.Notice.{Notice}

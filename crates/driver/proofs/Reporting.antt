@@ -7,7 +7,7 @@ use Rattle.client_gate.specs.Gates.{GateEffect}
 use Rattle.node_notes.specs.declared.progress.Progress.{Progress}
 use Rattle.node_notes.specs.declared.status.Status.{Status}
 use Rattle.raft_node.specs.declared.node_fault.Cause.{Cause}
-use Rattle.pacing.specs.declared.timer.Timer.{Timer}
+use Rattle.driver.specs.declared.timer.Timer.{Timer}
 use Rattle.driver.specs.declared.clients.Clients.{Clients}
 use Rattle.driver.specs.declared.desk.Claimed.{Claimed}
 use Rattle.driver.specs.declared.desk.Desk.{Desk}

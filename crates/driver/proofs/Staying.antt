@@ -8,7 +8,7 @@ use Rattle.node_notes.specs.declared.note.Note.{Note}
 use Rattle.node_notes.specs.declared.note.Note.TheVariants as note
 use Rattle.node_notes.specs.declared.status.Status.{Status}
 use Rattle.node_notes.specs.Notes.{leads}
-use Rattle.pacing.specs.declared.timer.Timer.{Timer}
+use Rattle.driver.specs.declared.timer.Timer.{Timer}
 use Rattle.driver.specs.declared.clients.Clients.{Clients}
 use Rattle.driver.specs.declared.desk.Desk.{Desk}
 use Rattle.driver.specs.declared.driver.Driver.{Driver}

@@ -8,9 +8,9 @@ use Rattle.node_notes.specs.declared.progress.Progress.{Progress}
 use Rattle.node_notes.specs.declared.status.Status.{Status}
 use Rattle.node_notes.specs.Notes.{leads}
 use Rattle.machine_laws.specs.Sessions.{same_session}
-use Rattle.pacing.specs.declared.timer.Timer.{Timer}
-use Rattle.pacing.specs.declared.pace.Pace.{Pace}
-use Rattle.pacing.specs.Pacing.{doubled, free_after, may_go}
+use Rattle.driver.specs.declared.timer.Timer.{Timer}
+use Rattle.driver.specs.declared.pace.Pace.{Pace}
+use Rattle.driver.specs.Pacing.{doubled, free_after, may_go}
 use Rattle.driver.specs.declared.desk.Desk.{Desk}
 use Rattle.driver.specs.declared.desk.Claimed.{Claimed}
 use Rattle.driver.specs.declared.order.Order.{Order}

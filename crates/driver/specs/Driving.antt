@@ -22,7 +22,7 @@ use Rattle.driver.specs.Links.{IsLost, backoff_behind, ending, idle_behind, is_s
 use Rattle.driver.specs.Rounds.{GoesRound, Round, round}
 use Rattle.driver.specs.Telling.{Ordered, ordered}
 use Rattle.driver.specs.Waking.{awake}
-use Rattle.pacing.specs.Pacing.{may_go}
+use Rattle.driver.specs.Pacing.{may_go}
 
 -- the desks, that of this node changed
 abbrev pub changed_if : (Desk → Desk) → List Desk → ℕ → Option Desk → List Desk

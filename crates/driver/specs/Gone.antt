@@ -5,7 +5,7 @@ use Rattle.bouncer_tower.specs.Hosting.{of_buffers}
 use Rattle.buffer_commands.specs.declared.command.Command.TheVariants.{NodeGone}
 use Rattle.buffer_commands.specs.declared.wire_line.WireLine.{WireLine}
 use Rattle.node_notes.specs.Notes.{leads}
-use Rattle.pacing.specs.declared.timer.Timer.{Timer}
+use Rattle.driver.specs.declared.timer.Timer.{Timer}
 use Rattle.node_notes.specs.declared.note.Note.{Note}
 use Rattle.node_notes.specs.declared.note.Note.TheVariants.{Restart}
 use Rattle.node_notes.specs.declared.status.Status.{Status}

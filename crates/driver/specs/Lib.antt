@@ -22,6 +22,7 @@ pub mod Once
 pub mod Opening
 pub mod Operators
 pub mod Outages
+pub mod Pacing
 pub mod Passing
 pub mod Reaching
 pub mod Reports

@@ -14,8 +14,8 @@ use Rattle.uplink.specs.Calls.{Fed, Ended, GoesOn, IsAfter}
 use Rattle.uplink.specs.Calls as uplink
 use Rattle.uplink.specs.Sending.{first_bytes}
 use Rattle.node_notes.specs.declared.status.Status.{Status}
-use Rattle.pacing.specs.declared.backoff.Backoff.{Backoff}
-use Rattle.pacing.specs.Pacing.{doubled}
+use Rattle.driver.specs.declared.backoff.Backoff.{Backoff}
+use Rattle.driver.specs.Pacing.{doubled}
 use Rattle.driver.specs.declared.desk.Desk.{Desk}
 use Rattle.driver.specs.declared.link.Session.{Session}
 use Rattle.driver.specs.declared.link.Stage.{Stage}

@@ -1,6 +1,6 @@
 -- How long nodes were silent: only while their driver ran.
 use Rattle.std.specs.Prelude.{ℕ, ◌+◌, ◌-◌, ◌/◌, ◌^◌, min, map}
-use Rattle.pacing.specs.declared.timer.Timer.{Timer}
+use Rattle.driver.specs.declared.timer.Timer.{Timer}
 use Rattle.driver.specs.declared.desk.Desk.{Desk}
 use Rattle.driver.specs.declared.driver.Driver.{Driver}
 use Rattle.driver.specs.Desks.{at}

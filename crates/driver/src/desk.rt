@@ -11,13 +11,15 @@ mod clock;
 mod hearing;
 mod reading;
 
+use crate::backoff::Backoff;
 use crate::news::News;
 use crate::order::Now;
 use crate::orders::Orders;
+use crate::pace::Pace;
 use crate::settings::Settings;
+use crate::timer::Timer;
 pub use hearing::Heard;
 use node_notes::{Note, Progress, Status};
-use pacing::{Backoff, Pace, Timer};
 use raft_log::NodeId;
 pub use reading::reads_for;
 use std::alloc::AllocError;

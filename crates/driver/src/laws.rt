@@ -5,6 +5,7 @@ ghost use Rattle.driver.specs.Downtime.{DownIsOnlyRestarted};
 ghost use Rattle.driver.specs.Learning.{JoinsShowTheNick};
 ghost use Rattle.driver.specs.Led.{IsOfLeaderHeard, IsOfLeaderTicked};
 ghost use Rattle.driver.specs.Once.{AsksOnce, AsksOwn};
+ghost use Rattle.driver.specs.Pacing.{IsPaced};
 ghost use Rattle.driver.specs.Reaching.{EffectsReach};
 
 /// Over whatever happens to a client, as long as its node told of nothing lost that it was told of it, and
@@ -53,4 +54,10 @@ pub fn a_node_that_is_down_is_only_restarted()
 /// JOIN, from before it is shown that on.
 pub fn joins_show_the_nick_in_force()
     ensures { JoinsShowTheNick }
+{}
+
+/// In any stretch of time no more lines go than may go at once, and one for each time that a line takes in
+/// it.
+pub fn lines_are_paced()
+    ensures { IsPaced }
 {}

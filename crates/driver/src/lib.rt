@@ -4,6 +4,7 @@
 //! client up, each of its requests is told to its node once, and in order. Both are proved where there is memory.
 #![tactic(auto)]
 
+mod backoff;
 mod client;
 mod clients;
 mod desk;
@@ -18,10 +19,15 @@ mod news;
 mod notices;
 mod order;
 mod orders;
+mod pace;
 mod settings;
+mod timer;
 
+pub use backoff::Backoff;
 pub use driver::Driver;
 pub use level::Level;
 pub use news::{Ending, News};
 pub use order::{Now, Order, TowerNote, TowerReport};
+pub use pace::Pace;
 pub use settings::Settings;
+pub use timer::Timer;

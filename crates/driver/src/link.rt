@@ -12,13 +12,14 @@ ghost use Rattle.driver.specs.Telling.{ordered};
 
 mod notes;
 
+use crate::backoff::Backoff;
 use crate::link::notes::notes_of;
 use crate::news::{Ending, News};
 use crate::order::{Now, TowerNote};
 use crate::orders::Orders;
 use crate::settings::Settings;
+use crate::timer::Timer;
 use irc_line::Line;
-use pacing::{Backoff, Timer};
 use raft_log::NodeId;
 use std::alloc::{AllocError, Global};
 use uplink::{Passed, Uplink};

@@ -7,7 +7,7 @@ ghost use Rattle.driver.specs.Silence.{IsAsked, IsKept, IsSentOff, held_back, is
 use crate::client::Client;
 use crate::order::Now;
 use crate::orders::Orders;
-use pacing::Timer;
+use crate::timer::Timer;
 use std::alloc::AllocError;
 
 /// How long a client may take to register, in milliseconds: programs send all of it at once, and one that

@@ -4,14 +4,15 @@ ghost use Rattle.node_notes.specs.declared.note.Note.TheVariants.{Beat};
 ghost use Rattle.driver.specs.Desks.{beaten_at, claim_at, claim_due, desk_behind, desk_claimed};
 ghost use Rattle.driver.specs.Desks.{is_claimed, is_to_beat, line_to_claim, note_at, paced, told};
 ghost use Rattle.driver.specs.Telling.{ordered};
-ghost use Rattle.pacing.specs.Pacing.{may_go};
+ghost use Rattle.driver.specs.Pacing.{may_go};
 
 use crate::desk::{Claimed, Desk};
 use crate::order::Now;
 use crate::orders::Orders;
+use crate::pace::Pace;
 use crate::settings::Settings;
+use crate::timer::Timer;
 use node_notes::Note;
-use pacing::{Pace, Timer};
 use std::alloc::AllocError;
 use wire_bytes::{Number, SessionId};
 

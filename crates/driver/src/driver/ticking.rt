@@ -9,7 +9,7 @@ use crate::driver::session::is_that;
 use crate::driver::{Driver, MOST_NODES};
 use crate::leader::leader_of;
 use crate::order::Now;
-use pacing::Timer;
+use crate::timer::Timer;
 use raft_log::NodeId;
 use std::alloc::AllocError;
 

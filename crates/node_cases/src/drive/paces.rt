@@ -1,5 +1,5 @@
 //! How often something may be done, by example.
-use pacing::{Backoff, Pace, Timer};
+use driver::{Backoff, Pace, Timer};
 use std::test::Fail;
 
 #[test]

@@ -1,6 +1,6 @@
 //! How long to wait before the next try.
 ghost use Rattle.std.specs.Prelude.{◌≡◌};
-ghost use Rattle.pacing.specs.Pacing.{doubled};
+ghost use Rattle.driver.specs.Pacing.{doubled};
 
 /// How long to wait after a try that failed, in milliseconds: twice as long as before, up to a limit.
 #[derive(Clone, Copy, Debug, Drop, PartialEq, Eq)]

@@ -1,6 +1,6 @@
 //! How often lines may be claimed.
 ghost use Rattle.std.specs.Prelude.{◌≡◌};
-ghost use Rattle.pacing.specs.Pacing.{free_after, may_go};
+ghost use Rattle.driver.specs.Pacing.{free_after, may_go};
 
 /// No moment is later: some 292 million years.
 const LAST: u64 = 1 << 63;

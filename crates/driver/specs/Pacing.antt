@@ -1,5 +1,5 @@
 -- How often lines may go, and how long is waited after what failed.
-use Rattle.std.specs.Prelude.{◌≡◌, ◌≤◌, ◌+◌, ◌*◌, ◌-◌, ◌^◌, ◌&&◌, ℕ, pred, Bool, nat_le, nat_lt, max, min, if◌then◌else◌, List, [], ◌∷◌, IsTrue}
+use Rattle.std.specs.Prelude.{◌≡◌, ◌≤◌, ◌+◌, ◌*◌, ◌^◌, ◌&&◌, ◌++◌, ℕ, pred, Bool, nat_le, nat_lt, max, min, if◌then◌else◌, List, [], ◌∷◌, length}
 
 -- a line may go at this moment, where so many may go at once, a line takes so long, and all is free again at a moment
 abbrev pub may_go : ℕ → ℕ → ℕ → ℕ → Bool
@@ -25,3 +25,12 @@ gone burst line free (now ∷ later) =
 -- twice as long, up to a limit
 abbrev pub doubled : ℕ → ℕ → ℕ
 doubled most wait = min (wait * 2) most
+
+-- Of any run of lines that went, from one at the first moment to one at the last: there are no more than may go at once, and one
+-- more for each time that a line takes of what lies between the two.
+abbrev pub IsPaced : Type 0
+IsPaced =
+    (burst line : ℕ) (moments before between after : List ℕ) (first last : ℕ)
+    → 1 ≤ burst
+    → gone burst line 0 moments ≡ before ++ first ∷ (between ++ last ∷ after)
+    → first + (length between + 2) * line ≤ last + burst * line

@@ -1,10 +1,10 @@
 -- Lines that went are paced.
-use Rattle.std.proofs.Common.{◌≡◌, ◌≤◌, ◌<◌, ◌+◌, ◌*◌, ◌-◌, ◌^◌, ◌∷◌, ◌++◌, ℕ, zero, suc, Bool, true, false, List, [], length, refl, sym, ap, subst, ◌∙◌, arith, IsTrue}
-use Rattle.std.specs.Prelude.{◌&&◌, pred, nat_le, nat_lt, max, if◌then◌else◌}
+use Rattle.std.proofs.Common.{◌≡◌, ◌≤◌, ◌+◌, ◌*◌, ◌^◌, ◌∷◌, ◌++◌, ℕ, zero, suc, Bool, true, false, List, [], length, refl, ap, subst, arith}
+use Rattle.std.specs.Prelude.{pred, nat_le, nat_lt, max, if◌then◌else◌}
 use Rattle.std.proofs.lemmas.Bool.Decides.{nat_tests}
 use Rattle.irc_line.proofs.Booleans.{and_right}
-use Rattle.pacing.specs.Laws.{IsPaced}
-use Rattle.pacing.specs.Pacing.{may_go, free_after, gone}
+use Rattle.driver.specs.Pacing.{IsPaced}
+use Rattle.driver.specs.Pacing.{may_go, free_after, gone}
 
 module _ (burst line : ℕ) where
   -- each of these lines went in its turn
