@@ -6,14 +6,14 @@ use Rattle.std.proofs.lemmas.List.Elements.{All-nil, All-cons, All-weaker, All-a
 use Rattle.std.specs.List.{All}
 use Rattle.bouncer_tower.specs.Bodies.{TowerBody}
 use Rattle.stable_store.specs.declared.saved.Saved.{Saved}
-use Rattle.bouncer_run.specs.Runs.{run_in}
+use Rattle.bouncer_run.specs.Runs.{boot_in}
 use Rattle.bouncer_run.specs.Moved.{Covers}
 use Rattle.bouncer_run.specs.declared.moved_away.Earlier.{Earlier}
 
 -- who is behind more is behind less
-pub covers_later : (node : ℕ) (less more : Earlier) (saved : Saved TowerBody) → less.run ≤ more.run → less.term ≤ more.term → Covers node less saved → Covers node more saved
-covers_later node less more saved run term covers = record {
-  runs = All-weaker (λ e. run_in node e.body ≤ less.run) (λ e. run_in node e.body ≤ more.run) (λ e le. omega (arith, le, run)) saved.log covers.runs;
+pub covers_later : (node : ℕ) (less more : Earlier) (saved : Saved TowerBody) → less.boot ≤ more.boot → less.term ≤ more.term → Covers node less saved → Covers node more saved
+covers_later node less more saved boot term covers = record {
+  boots = All-weaker (λ e. boot_in node e.body ≤ less.boot) (λ e. boot_in node e.body ≤ more.boot) (λ e le. omega (arith, le, boot)) saved.log covers.boots;
   term = omega (arith, covers.term, term);
 }
 

@@ -1,4 +1,4 @@
--- The greatest run that a list tells of.
+-- The greatest boot that a list tells of.
 use Rattle.std.proofs.Common.{◌≡◌, ℕ, ◌≤◌, ◌<◌, max, suc, List, [], ◌∷◌, length, drop, get_or, sym, ap, ◌∙◌, subst, arith}
 use Rattle.std.proofs.Math.Nat.{le-max_left, le-max_right}
 use Rattle.std.proofs.Math.Seq.{drop-cons}
@@ -7,15 +7,15 @@ use Rattle.std.proofs.lemmas.List.Elements.{All-nil, All-cons, All-weaker}
 use Rattle.std.specs.List.{All}
 use Rattle.bouncer_tower.specs.Bodies.{TowerBody}
 use Rattle.raft_log.specs.declared.entry.Entry.{Entry}
-use Rattle.bouncer_run.specs.Runs.{greatest_run, run_in}
+use Rattle.bouncer_run.specs.Runs.{greatest_boot, boot_in}
 
 -- no entry tells of a later one
-pub none_is_later : (node : ℕ) (es : List (Entry TowerBody)) → All (λ e. run_in node e.body ≤ greatest_run node es) es
-none_is_later node [] = All-nil (λ e. run_in node e.body ≤ 0)
+pub none_is_later : (node : ℕ) (es : List (Entry TowerBody)) → All (λ e. boot_in node e.body ≤ greatest_boot node es) es
+none_is_later node [] = All-nil (λ e. boot_in node e.body ≤ 0)
 none_is_later node (e ∷ es) =
-    All-cons (λ x. run_in node x.body ≤ max (run_in node e.body) (greatest_run node es)) e es (le-max_left (run_in node e.body) (greatest_run node es))
-    (All-weaker (λ x. run_in node x.body ≤ greatest_run node es) (λ x. run_in node x.body ≤ max (run_in node e.body) (greatest_run node es))
-    (λ x le. omega (arith, le, le-max_right (run_in node e.body) (greatest_run node es))) es (none_is_later node es))
+    All-cons (λ x. boot_in node x.body ≤ max (boot_in node e.body) (greatest_boot node es)) e es (le-max_left (boot_in node e.body) (greatest_boot node es))
+    (All-weaker (λ x. boot_in node x.body ≤ greatest_boot node es) (λ x. boot_in node x.body ≤ max (boot_in node e.body) (greatest_boot node es))
+    (λ x le. omega (arith, le, le-max_right (boot_in node e.body) (greatest_boot node es))) es (none_is_later node es))
 
 max_zero : (a : ℕ) → max a 0 ≡ a
 max_zero a = omega arith
@@ -25,14 +25,14 @@ max_of_three a b c = omega arith
 
 -- one more entry
 pub one_more : (node greatest i : ℕ) (es : List (Entry TowerBody)) (e : Entry TowerBody) → i < length es
-    → max (max greatest (run_in node (get_or es i e).body)) (greatest_run node (drop (suc i) es)) ≡ max greatest (greatest_run node (drop i es))
+    → max (max greatest (boot_in node (get_or es i e).body)) (greatest_boot node (drop (suc i) es)) ≡ max greatest (greatest_boot node (drop i es))
 one_more node greatest i es e h =
-    max_of_three greatest (run_in node (get_or es i e).body) (greatest_run node (drop (suc i) es))
-    ∙ ap (λ (rest : List (Entry TowerBody)). max greatest (greatest_run node rest)) (sym (drop-cons es i e h))
+    max_of_three greatest (boot_in node (get_or es i e).body) (greatest_boot node (drop (suc i) es))
+    ∙ ap (λ (rest : List (Entry TowerBody)). max greatest (greatest_boot node rest)) (sym (drop-cons es i e h))
 
 -- nor than the greatest of all
-pub none_behind : (node greatest i : ℕ) (es : List (Entry TowerBody)) → max greatest (greatest_run node (drop i es)) ≡ greatest_run node es → length es ≤ i
-    → All (λ e. run_in node e.body ≤ greatest) es
+pub none_behind : (node greatest i : ℕ) (es : List (Entry TowerBody)) → max greatest (greatest_boot node (drop i es)) ≡ greatest_boot node es → length es ≤ i
+    → All (λ e. boot_in node e.body ≤ greatest) es
 none_behind node greatest i es is h =
-    subst (λ (n : ℕ). All (λ e. run_in node e.body ≤ n) es) (sym is ∙ (ap (λ (rest : List (Entry TowerBody)). max greatest (greatest_run node rest)) (drop_all i es h) ∙ max_zero greatest))
+    subst (λ (n : ℕ). All (λ e. boot_in node e.body ≤ n) es) (sym is ∙ (ap (λ (rest : List (Entry TowerBody)). max greatest (greatest_boot node rest)) (drop_all i es h) ∙ max_zero greatest))
     (none_is_later node es)

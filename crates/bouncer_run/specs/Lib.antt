@@ -13,4 +13,4 @@ pub mod Pasts
 pub mod Runs
 pub mod Settings
 pub mod Turns
-pub mod Words
+pub mod LoopMessages

@@ -4,15 +4,15 @@ use Rattle.std.specs.List.{All}
 use Rattle.bouncer_tower.specs.Bodies.{TowerBody}
 use Rattle.stable_store.specs.Stores.{nothing_saved}
 use Rattle.stable_store.specs.declared.saved.Saved.{Saved}
-use Rattle.bouncer_run.specs.Runs.{run_in}
+use Rattle.bouncer_run.specs.Runs.{boot_in}
 use Rattle.bouncer_run.specs.declared.moved_away.Earlier.{Earlier}
 
--- what a store holds tells of no later run of the node, and of no later term
+-- what a store holds tells of no greater boot of the node, and of no later term
 pub record Covers (node : ℕ) (earlier : Earlier) (saved : Saved TowerBody) : Type 0 where
-  pub runs : All (λ e. run_in node e.body ≤ earlier.run) saved.log
+  pub boots : All (λ e. boot_in node e.body ≤ earlier.boot) saved.log
   pub term : saved.term ≤ earlier.term
 
 -- a new store now says that the node has had these runs, and voted for itself in that term
 pub record IsApart (node : ℕ) (earlier : Earlier) (before now : Saved TowerBody) : Type 0 where
   pub new : before ≡ nothing_saved
-  pub is : now ≡ record { boot = earlier.run; term = earlier.term; vote = Some node; log = [] }
+  pub is : now ≡ record { boot = earlier.boot; term = earlier.term; vote = Some node; log = [] }

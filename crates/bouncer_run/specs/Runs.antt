@@ -9,34 +9,34 @@ use Rattle.request_once.specs.declared.body.Body.TheVariants as body
 use Rattle.wire_bytes.specs.declared.origin.Origin.{Origin}
 use Rattle.raft_log.specs.declared.entry.Entry.{Entry}
 
--- the run of a client, where it is of this node
-abbrev pub run_of : ℕ → Origin → ℕ
-run_of node o = if o.0 == node then o.1 else 0
+-- the boot of a client, where it is of this node
+abbrev pub boot_of : ℕ → Origin → ℕ
+boot_of node o = if o.0 == node then o.1 else 0
 
 -- that of a client, or the floor below which the node's runs are gone
-abbrev pub run_in_command : ℕ → Command → ℕ
-run_in_command node (Client o at action) = run_of node o
-run_in_command node (NodeGone gone floor) = if gone == node then floor else 0
-run_in_command node _ = 0
+abbrev pub boot_in_command : ℕ → Command → ℕ
+boot_in_command node (Client o at action) = boot_of node o
+boot_in_command node (NodeGone gone floor) = if gone == node then floor else 0
+boot_in_command node _ = 0
 
--- the run that a command for the buffers tells of; an opening, an end or a line of a session tells of none
-abbrev pub run_in_session : ℕ → Sessioned → ℕ
-run_in_session node (fence.Inner c) = run_in_command node c
-run_in_session node _ = 0
+-- the boot that a command for the buffers tells of; an opening, an end or a line of a session tells of none
+abbrev pub boot_in_session : ℕ → Sessioned → ℕ
+boot_in_session node (fence.Inner c) = boot_in_command node c
+boot_in_session node _ = 0
 
--- the run that a command for the fence tells of; a claim of a line tells of none
-abbrev pub run_in_claims : ℕ → Claimed → ℕ
-run_in_claims node (claims.Inner c) = run_in_session node c
-run_in_claims node (claims.Claim id number) = 0
+-- the boot that a command for the fence tells of; a claim of a line tells of none
+abbrev pub boot_in_claims : ℕ → Claimed → ℕ
+boot_in_claims node (claims.Inner c) = boot_in_session node c
+boot_in_claims node (claims.Claim id number) = 0
 
--- the run of a node that a body tells of: of who asks, of who made a mark, or the floor below which its runs are gone; else 0
-abbrev pub run_in : ℕ → TowerBody → ℕ
-run_in node (body.Inner c) = run_in_claims node c
-run_in node (body.Asked o number at action) = run_of node o
-run_in node body.Blank = 0
-run_in node (body.Mark m) = if m.node == node then m.boot else 0
+-- the boot of a node that a body tells of: of who asks, of who made a mark, or the floor below which its runs are gone; else 0
+abbrev pub boot_in : ℕ → TowerBody → ℕ
+boot_in node (body.Inner c) = boot_in_claims node c
+boot_in node (body.Asked o number at action) = boot_of node o
+boot_in node body.Blank = 0
+boot_in node (body.Mark m) = if m.node == node then m.boot else 0
 
--- the greatest run of a node that the entries of a list tell of
-abbrev pub greatest_run : ℕ → List (Entry TowerBody) → ℕ
-greatest_run node [] = 0
-greatest_run node (e ∷ es) = max (run_in node e.body) (greatest_run node es)
+-- the greatest boot of a node that the entries of a list tell of
+abbrev pub greatest_boot : ℕ → List (Entry TowerBody) → ℕ
+greatest_boot node [] = 0
+greatest_boot node (e ∷ es) = max (boot_in node e.body) (greatest_boot node es)

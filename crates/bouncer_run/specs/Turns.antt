@@ -2,21 +2,21 @@
 use Rattle.std.specs.Prelude.{◌≡◌, ◌-◌, ◌<◌, ◌≤◌, ◌==◌, ◌++◌, ◌∷◌, [], ℕ, Bool, true, false, if◌then◌else◌, List, length, take, get_or, Option}
 use Rattle.std.specs.List.{All, list_any}
 use Rattle.driver.specs.declared.client.Client.{Client}
-use Rattle.driver.specs.declared.desk.Desk.{Desk}
+use Rattle.driver.specs.declared.node_monitor.NodeMonitor.{NodeMonitor}
 use Rattle.driver.specs.declared.driver.Driver.{Driver}
 use Rattle.driver.specs.Links.{node_of}
 use Rattle.driver.specs.Rosters.{IsReadOf, client_at, is_attached_in, is_read_for}
 use Rattle.driver.specs.Telling.{Ordered}
 
 -- a client is read as the driver says, but in any case before it registered
-pub record IsReadNow (reads : Bool) (orders : Ordered) (desks : List Desk) (client : Option Client) : Type 0 where
-  pub registered : is_attached_in client ≡ true → IsReadOf reads orders desks client
+pub record IsReadNow (reads : Bool) (orders : Ordered) (monitors : List NodeMonitor) (client : Option Client) : Type 0 where
+  pub registered : is_attached_in client ≡ true → IsReadOf reads orders monitors client
   pub arriving : is_attached_in client ≡ false → reads ≡ true
 
 -- whether the connection of this token may be read at this moment: the server's, or that of the client whose number is 1000 less
 pub record MayBeRead (driver : Driver) (token : ℕ) (reads : Bool) : Type 0 where
-  pub server : token < 1000 → reads ≡ is_read_for driver.orders driver.desks (node_of driver.link.stage)
-  pub client : 1000 ≤ token → IsReadNow reads driver.orders driver.desks (client_at driver.clients (token - 1000))
+  pub server : token < 1000 → reads ≡ is_read_for driver.orders driver.monitors (node_of driver.link.stage)
+  pub client : 1000 ≤ token → IsReadNow reads driver.orders driver.monitors (client_at driver.clients (token - 1000))
 
 -- one that waits already keeps its place, and a new one waits behind all
 abbrev pub joined : ℕ → List ℕ → List ℕ

@@ -3,7 +3,7 @@ ghost use Rattle.std.specs.Prelude.{◌≡◌, IfOk, IsTrue};
 ghost use Rattle.std.specs.Io.KnownBytes.{IsAtEnd};
 ghost use Rattle.bouncer_run.specs.declared.ending.InputState.TheVariants.{Ended};
 
-use crate::inlet::{Inlet, Word};
+use crate::inlet::{Inlet, LoopMessage};
 use mio::unix::SourceFd;
 use mio::{Events, Interest, Poll, Token};
 use std::alloc::Global;
@@ -93,7 +93,7 @@ where
 fn wait_for_end<R: Wait, I: Read + Drop>(rt: &R, input: I, inlet: &Inlet) {
     let mut input = input;
     read_to_end(&mut input);
-    let _ = inlet.tell(rt, Word::End);
+    let _ = inlet.tell(rt, LoopMessage::End);
 }
 
 /// Whether the input was read to its end; where it was not, it can't be read.

@@ -1,10 +1,10 @@
 //! The loop.
 ghost use Rattle.std.specs.Prelude.{◌≡◌, IfOk, OnOk};
-ghost use Rattle.bouncer_run.specs.Words.{IsHeard, is_end};
+ghost use Rattle.bouncer_run.specs.LoopMessages.{IsHeard, is_end};
 
 use crate::clock::{Clockwork, Ticks};
 use crate::edge_news::EdgeNews;
-use crate::inlet::Word;
+use crate::inlet::LoopMessage;
 use crate::sockets::Sockets;
 use crossbeam_channel::Receiver;
 use driver::{Driver, News, Now, Order, TowerNote};
@@ -20,8 +20,8 @@ use thiserror::Error;
 /// How many sockets are told of at once.
 const EVENTS: usize = 256;
 
-/// How many words are heard before the sockets are looked at again.
-const MOST_WORDS: usize = 10_000;
+/// How many messages are heard before the sockets are looked at again.
+const MOST_MESSAGES: usize = 10_000;
 
 /// Why the loop ended before it was to.
 #[derive(Clone, Copy, Debug, Drop, PartialEq, Eq, Error)]
@@ -59,7 +59,7 @@ pub trait Operator {
     fn hear_edge(&mut self, now: &Now, news: EdgeNews);
 }
 
-/// Waits for sockets, for words and for time to pass, until it is told to end; an operator is told
+/// Waits for sockets, for messages and for time to pass, until it is told to end; an operator is told
 /// what happens.
 pub fn run_loop<R: Net + Wait + Clock, N: Nodes, O: Operator>(
     rt: &R,
@@ -68,7 +68,7 @@ pub fn run_loop<R: Net + Wait + Clock, N: Nodes, O: Operator>(
     driver: &mut Driver,
     sockets: &mut Sockets,
     nodes: &N,
-    words: &Receiver<Word>,
+    messages: &Receiver<LoopMessage>,
     operator: &mut O,
 ) -> Result<(), LoopFault> {
     let mut events = Events::with_capacity(alloc, EVENTS)?;
@@ -82,7 +82,7 @@ pub fn run_loop<R: Net + Wait + Clock, N: Nodes, O: Operator>(
         }
         now = clock.now(rt).map_err(|_| LoopFault::Socket)?;
         sockets.serve_all(&now, driver, &events)?;
-        let is_over = hear_words(rt, &now, driver, words)?;
+        let is_over = hear_messages(rt, &now, driver, messages)?;
         sockets.take_turns(&now, driver)?;
         if ticks.take(now.ms) {
             driver.tick(&now)?;
@@ -103,17 +103,17 @@ pub fn run_loop<R: Net + Wait + Clock, N: Nodes, O: Operator>(
 }
 
 /// What other threads told goes to the driver. Whether the bouncer is to end.
-fn hear_words(
+fn hear_messages(
     rt: &impl Wait,
     now: &Now,
     driver: &mut Driver,
-    words: &Receiver<Word>,
+    messages: &Receiver<LoopMessage>,
 ) -> Result<bool, LoopFault> {
-    for _ in 0..MOST_WORDS {
-        let Ok(word) = words.try_recv(rt) else {
+    for _ in 0..MOST_MESSAGES {
+        let Ok(message) = messages.try_recv(rt) else {
             break;
         };
-        if hear_word(now, driver, word)? {
+        if hear_message(now, driver, message)? {
             return Ok(true);
         }
     }
@@ -121,14 +121,14 @@ fn hear_words(
 }
 
 /// What another thread told goes to the driver. Whether the bouncer is to end.
-fn hear_word(now: &Now, driver: &mut Driver, word: Word) -> Result<bool, LoopFault>
-    ensures heard { OnOk result (IsHeard now.now word driver.old driver.new) }
-    ensures over { IfOk result (λ over. over ≡ is_end word) }
+fn hear_message(now: &Now, driver: &mut Driver, message: LoopMessage) -> Result<bool, LoopFault>
+    ensures heard { OnOk result (IsHeard now.now message driver.old driver.new) }
+    ensures over { IfOk result (λ over. over ≡ is_end message) }
 {
-    match word {
-        Word::Report(report) => driver.hear(now, report)?,
-        Word::Hand(node, line) => driver.hand(node, &line)?,
-        Word::End => return Ok(true),
+    match message {
+        LoopMessage::Report(report) => driver.hear(now, report)?,
+        LoopMessage::Hand(node, line) => driver.hand(node, &line)?,
+        LoopMessage::End => return Ok(true),
     }
     Ok(false)
 }
@@ -166,10 +166,10 @@ fn carry_out<R: Net + Wait, N: Nodes, O: Operator>(
     order: Order,
 ) -> Result<(), LoopFault> {
     match order {
-        Order::Tell(node, note) => if !nodes.tell(rt, node, note) {
+        Order::Submit(node, note) => if !nodes.tell(rt, node, note) {
             return Err(LoopFault::Memory);
         },
-        Order::Tells(news) => {
+        Order::Log(news) => {
             tell_clients(driver, &news)?;
             if let News::Attached(origin) = news {
                 sockets.register(origin.client());

@@ -2,9 +2,9 @@
 ghost use Rattle.std.specs.Prelude.{◌≡◌, ◌++◌, ◌∷◌, [], IfSome};
 ghost use Rattle.node_cells.specs.Upstreams.{one_more};
 ghost use Rattle.bouncer_run.specs.Pasts.{lines_of};
-ghost use Rattle.bouncer_run.specs.declared.inlet.Word.TheVariants.{Hand};
+ghost use Rattle.bouncer_run.specs.declared.inlet.LoopMessage.TheVariants.{Hand};
 
-use crate::inlet::{Inlet, Told, Word};
+use crate::inlet::{Inlet, LoopMessage, Told};
 use crate::past::Past;
 use irc_line::Line;
 use node_cells::{Upstream, UpstreamFault};
@@ -45,9 +45,12 @@ impl<R: Wait + Drop> Hands<R> {
 
     /// The loop is told a line of this node, where it can be.
     fn tell(&self, line: Line) -> Option<Told>
-        ensures { IfSome result (λ told. told.word.value ≡ Hand self.now.node line) }
+        ensures { IfSome result (λ told. told.message.value ≡ Hand self.now.node line) }
     {
-        match self.inlet.tell(&self.rt, Word::Hand(self.node, line)) {
+        match self
+            .inlet
+            .tell(&self.rt, LoopMessage::Hand(self.node, line))
+        {
             Ok(told) => Some(told),
             Err(_) => None,
         }
@@ -55,7 +58,7 @@ impl<R: Wait + Drop> Hands<R> {
 
     /// The loop was told this line.
     fn keep(&mut self, number: u64, line: &Line, _told: Told)
-        requires { _told.word.value ≡ Hand self.old.node line.now }
+        requires { _told.message.value ≡ Hand self.old.node line.now }
         ensures told { lines_of self.new.told.value
             ≡ lines_of self.old.told.value ++ (number, line.now) ∷ [] }
         ensures failures { self.new.failures ≡ self.old.failures }

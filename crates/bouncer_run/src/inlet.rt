@@ -11,7 +11,7 @@ use std::sync::{Arc, Wait};
 
 /// What the loop is told by other threads.
 #[derive(Drop)]
-pub enum Word {
+pub enum LoopMessage {
     /// A node's worker tells what came of a turn.
     Report(TowerReport),
     /// A node handed out a line for the server.
@@ -20,29 +20,29 @@ pub enum Word {
     End,
 }
 
-/// That the loop was told a word: only `Inlet::tell` makes one.
+/// That the loop was told a message: only `Inlet::tell` makes one.
 #[derive(Drop)]
 pub struct Told {
-    pub(crate) word: Snapshot<Word>,
+    pub(crate) message: Snapshot<LoopMessage>,
 }
 
 /// Tells the loop something, and wakes it.
 #[derive(Drop)]
 pub struct Inlet {
-    pub words: Sender<Word>,
+    pub messages: Sender<LoopMessage>,
     pub waker: Arc<Waker>,
 }
 
 impl Inlet {
-    /// The loop is told a word, which is given back where there is no memory, or the loop ended.
-    pub fn tell(&self, rt: &impl Wait, word: Word) -> Result<Told, Word>
-        ensures told { IfOk result (λ told. told.word.value ≡ word) }
-        ensures back { IfErr result (λ back. back ≡ word) }
+    /// The loop is told a message, which is given back where there is no memory, or the loop ended.
+    pub fn tell(&self, rt: &impl Wait, message: LoopMessage) -> Result<Told, LoopMessage>
+        ensures told { IfOk result (λ told. told.message.value ≡ message) }
+        ensures back { IfErr result (λ back. back ≡ message) }
     {
         let told = Told {
-            word: Snapshot::of(&word),
+            message: Snapshot::of(&message),
         };
-        if let Err(error) = self.words.send(rt, word) {
+        if let Err(error) = self.messages.send(rt, message) {
             return Err(error.into_inner());
         }
         // where it can't be woken, the loop hears of it at its next tick

@@ -1,5 +1,5 @@
 //! Ways to tell the loop something.
-use crate::inlet::{Inlet, Word};
+use crate::inlet::{Inlet, LoopMessage};
 use crossbeam_channel::Sender;
 use mio::Waker;
 use std::alloc::AllocError;
@@ -8,19 +8,19 @@ use std::sync::Arc;
 /// What each inlet of a loop is made from.
 #[derive(Drop)]
 pub struct Inlets {
-    pub words: Sender<Word>,
+    pub messages: Sender<LoopMessage>,
     pub waker: Arc<Waker>,
 }
 
 impl Inlets {
     /// One more way to tell the loop something.
     pub fn one(&self) -> Result<Inlet, AllocError> {
-        let Ok(words) = self.words.clone() else {
+        let Ok(messages) = self.messages.clone() else {
             return Err(AllocError);
         };
         let Ok(waker) = Arc::try_clone(&self.waker) else {
             return Err(AllocError);
         };
-        Ok(Inlet { words, waker })
+        Ok(Inlet { messages, waker })
     }
 }

@@ -5,48 +5,48 @@ ghost use Rattle.stable_store.specs.Changes.{change};
 ghost use Rattle.stable_store.specs.Stores.{IsHonest, nothing_saved};
 ghost use Rattle.bouncer_run.specs.Moved.{Covers, IsApart};
 
-use crate::earlier_runs::greatest_run;
+use crate::earlier_runs::greatest_boot;
 use bouncer_tower::TowerBody;
 use raft_log::NodeId;
 use stable_store::{Change, Saved, Stable, StoreFault};
 use std::alloc::Global;
 use wire_bytes::Number;
 
-/// What stores tell of the earlier runs of a node: its greatest run, and the greatest term that
+/// What stores tell of the earlier runs of a node: its greatest boot, and the greatest term that
 /// there was.
 #[derive(Drop)]
 pub struct Earlier {
-    pub run: Number,
+    pub boot: Number,
     pub term: Number,
 }
 
 impl Earlier {
     /// Nothing is told.
     pub fn none() -> Earlier
-        ensures { result ≡ record { run = 0; term = 0 } }
+        ensures { result ≡ record { boot = 0; term = 0 } }
     {
         Earlier {
-            run: Number::new(0),
+            boot: Number::new(0),
             term: Number::new(0),
         }
     }
 
     /// Whether nothing is told.
     pub fn is_none(&self) -> bool
-        ensures { result ≡ (self.now.run + self.now.term == 0) }
+        ensures { result ≡ (self.now.boot + self.now.term == 0) }
     {
-        self.run.value() == 0 && self.term.value() == 0
+        self.boot.value() == 0 && self.term.value() == 0
     }
 
     /// With what stands in one more store.
     pub fn with(&self, node: NodeId, saved: &Saved<TowerBody>) -> Earlier
         ensures covers { Covers node result saved.now }
-        ensures run { self.now.run ≤ result.run }
+        ensures boot { self.now.boot ≤ result.boot }
         ensures term { self.now.term ≤ result.term }
     {
-        let run = greatest_run(node, saved.log.entries());
+        let boot = greatest_boot(node, saved.log.entries());
         Earlier {
-            run: Number::new(self.run.value().max(run)),
+            boot: Number::new(self.boot.value().max(boot)),
             term: Number::new(self.term.value().max(saved.term.value())),
         }
     }
@@ -77,7 +77,7 @@ pub fn give<S: Stable<TowerBody>>(
     ensures kept { IsHonest (S.condition store.old) → IfOk result (λ is_given.
         is_given ≡ false → S.saved store.new ≡ S.saved store.old) }
     ensures when { IsHonest (S.condition store.old) → S.saved store.old ≡ nothing_saved
-        → 0 < earlier.now.run + earlier.now.term → IfOk result IsTrue }
+        → 0 < earlier.now.boot + earlier.now.term → IfOk result IsTrue }
 {
     let saved = store.read()?;
     if !is_nothing(&saved) || earlier.is_none() {
@@ -90,11 +90,11 @@ pub fn give<S: Stable<TowerBody>>(
 /// The change that puts a new node behind its earlier runs: it has had the greatest of them, and
 /// voted for itself in the greatest term that there was, so for no other one.
 fn behind(alloc: Global, node: NodeId, earlier: &Earlier) -> Change<TowerBody>
-    ensures { result ≡ change earlier.now.run earlier.now.term (Some node) 0 [] }
+    ensures { result ≡ change earlier.now.boot earlier.now.term (Some node) 0 [] }
 {
     let none = Number::new(0);
     let vote = Some(node.value());
-    Change::new(earlier.run, earlier.term, vote, none, Vec::new(alloc))
+    Change::new(earlier.boot, earlier.term, vote, none, Vec::new(alloc))
 }
 
 /// Whether nothing stands in a store.

@@ -32,7 +32,7 @@ impl Sockets {
                 self.disconnect(now);
                 Ok(())
             }
-            Order::Tell(_, _) | Order::Tells(_) => Ok(()),
+            Order::Submit(_, _) | Order::Log(_) => Ok(()),
         }
     }
 

@@ -1,7 +1,7 @@
 //! What leaves a node, told to the loop.
 ghost use Rattle.std.specs.Prelude.{◌≡◌, IfErr};
 
-use crate::inlet::{Inlet, Word};
+use crate::inlet::{Inlet, LoopMessage};
 use bouncer_tower::TowerEffect;
 use node_notes::Report;
 use node_threads::Outlet;
@@ -21,9 +21,9 @@ impl Outlet<TowerEffect> for LoopOutlet {
     ) -> Result<(), Report<TowerEffect>>
         ensures { IfErr result (λ back. back ≡ report) }
     {
-        match self.inlet.tell(rt, Word::Report(report)) {
+        match self.inlet.tell(rt, LoopMessage::Report(report)) {
             Ok(_) => Ok(()),
-            Err(Word::Report(report)) => Err(report),
+            Err(LoopMessage::Report(report)) => Err(report),
             Err(_) => unreachable!(),
         }
     }

@@ -20,7 +20,7 @@ impl Sockets {
     /// The next piece of what a client sent. It is read before it registered, then where the driver
     /// reads the client, and nowhere else.
     pub fn next_of_client(&mut self, driver: &Driver, number: u64, piece: &mut [u8]) -> Got
-        ensures later { IsReadNow (not (is_later result)) driver.now.orders driver.now.desks
+        ensures later { IsReadNow (not (is_later result)) driver.now.orders driver.now.monitors
             (client_at driver.now.clients number) }
         ensures untouched { IsTrue (is_later result) → piece.new ≡ piece.old }
     {
@@ -36,7 +36,7 @@ impl Sockets {
     /// The next piece of what the server sent. It is read where the driver reads the server, and
     /// nowhere else.
     pub fn next_of_server(&mut self, driver: &Driver, piece: &mut [u8]) -> Got
-        ensures later { is_later result ≡ not (is_read_for driver.now.orders driver.now.desks
+        ensures later { is_later result ≡ not (is_read_for driver.now.orders driver.now.monitors
             (node_of driver.now.link.stage)) }
         ensures untouched { IsTrue (is_later result) → piece.new ≡ piece.old }
     {
@@ -53,7 +53,7 @@ impl Sockets {
 /// Whether a client is read at this moment: before it registered in any case, since what it sends
 /// until then asks for nothing of its node, and its time to register passes.
 pub fn reads_client(driver: &Driver, number: u64) -> bool
-    ensures { IsReadNow result driver.now.orders driver.now.desks
+    ensures { IsReadNow result driver.now.orders driver.now.monitors
         (client_at driver.now.clients number) }
 {
     !driver.is_attached(number) || driver.reads_client(number)

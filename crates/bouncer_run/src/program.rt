@@ -7,7 +7,7 @@ use crate::driver_settings::settings_of;
 use crate::ending::watch_input;
 use crate::event_loop::run_loop;
 use crate::group::{address_of, size_of};
-use crate::inlet::{Inlet, Word};
+use crate::inlet::{Inlet, LoopMessage};
 use crate::inlets::Inlets;
 use crate::input::open_input;
 use crate::journal_errors::JournalErrors;
@@ -69,7 +69,7 @@ pub fn run<
 #[derive(Drop)]
 struct Edge {
     sockets: Sockets,
-    words: Receiver<Word>,
+    messages: Receiver<LoopMessage>,
     inlets: Inlets,
 }
 
@@ -82,14 +82,14 @@ impl Edge {
         let sockets = Sockets::new(alloc, rt, address_of(config.upstream)).map_err(socket_fault)?;
         let waker = sockets.waker().map_err(socket_fault)?;
         let waker = Arc::new(alloc, waker).map_err(|_| RunFault::Memory)?;
-        let (to_loop, words) = unbounded(alloc)?;
+        let (to_loop, messages) = unbounded(alloc)?;
         let inlets = Inlets {
-            words: to_loop,
+            messages: to_loop,
             waker,
         };
         Ok(Edge {
             sockets,
-            words,
+            messages,
             inlets,
         })
     }
@@ -124,7 +124,7 @@ impl Edge {
             &mut driver,
             &mut self.sockets,
             running,
-            &self.words,
+            &self.messages,
             &mut telling,
         )
         .map_err(RunFault::of_loop)?;

@@ -158,18 +158,18 @@ pass_by P Nowhere now at stage nick node effect old new fits good same =
 -- A nick is learnt: what is ordered is written to clients, and all else that matters here stays.
 pub record Learnt (P : Order → Type 0) (old new : Driver) : Type 0 where
   pub adds : Adds P old.orders new.orders
-  pub desks : new.desks ≡ old.desks
+  pub monitors : new.monitors ≡ old.monitors
   pub clients : new.clients ≡ old.clients
 
 learns_if : (P : Order → Type 0) (nick : Option (List ℕ)) (old new : Driver) → AllGood P old.clients → LearnsIf nick old new → Learnt P old new
 learns_if P None old new good same = record {
   adds = nothing_adds P old.orders new.orders (ap (λ (driver : Driver). driver.orders) same);
-  desks = ap (λ (driver : Driver). driver.desks) same;
+  monitors = ap (λ (driver : Driver). driver.monitors) same;
   clients = ap (λ (driver : Driver). driver.clients) same;
 }
 learns_if P (Some nick) old new good l = record {
   adds = all_written_add P (keys old.clients.all) old.clients _ old.orders new.orders good l.written;
-  desks = ap (λ (driver : Driver). driver.desks) l.rest;
+  monitors = ap (λ (driver : Driver). driver.monitors) l.rest;
   clients = ap (λ (driver : Driver). driver.clients) l.rest;
 }
 
@@ -177,21 +177,21 @@ pub learnt_good : (P : Order → Type 0) (effect : GateEffect) (old new : Driver
 learnt_good P effect old new good l =
     subst (λ (clients : Clients). AllGood P clients) (sym (learns_if P (nick_learnt old.given old.settings.nick (joined_as effect)) old new good l).clients) good
 
--- an effect passes, and the desks stay
-pub passes_one : (P : Order → Type 0) (now : ℕ) (at : Moment) (node : ℕ) (effect : GateEffect) (old new : Driver) → ((bytes : Vec ℕ) → P (Send bytes)) → AllGood P old.clients → Passes now at node effect old new → Grows P (told_of old) (told_of new) × (new.desks ≡ old.desks)
+-- an effect passes, and the monitors stay
+pub passes_one : (P : Order → Type 0) (now : ℕ) (at : Moment) (node : ℕ) (effect : GateEffect) (old new : Driver) → ((bytes : Vec ℕ) → P (Send bytes)) → AllGood P old.clients → Passes now at node effect old new → Grows P (told_of old) (told_of new) × (new.monitors ≡ old.monitors)
 passes_one P now at node effect old new fits good p =
     let l = learns_if P (nick_learnt old.given old.settings.nick (joined_as effect)) old p.learnt good p.learns in
     let first = adds_grow P (told_of old) (told_of p.learnt) good l.clients l.adds in
     let last = pass_by P (class_of effect) now at p.learnt.link.stage (nick_in p.learnt) node effect (told_of p.learnt) (told_of new) fits first.good p.passes in
-    (grows_both P (told_of old) (told_of p.learnt) (told_of new) first last, ap (λ (driver : Driver). driver.desks) p.rest ∙ l.desks)
+    (grows_both P (told_of old) (told_of p.learnt) (told_of new) first last, ap (λ (driver : Driver). driver.monitors) p.rest ∙ l.monitors)
 
-pub passes_grow : (P : Order → Type 0) (now : ℕ) (at : Moment) (node : ℕ) (effects : List GateEffect) (old new : Driver) → ((bytes : Vec ℕ) → P (Send bytes)) → AllGood P old.clients → PassEach now at node effects old new → Grows P (told_of old) (told_of new) × (new.desks ≡ old.desks)
+pub passes_grow : (P : Order → Type 0) (now : ℕ) (at : Moment) (node : ℕ) (effects : List GateEffect) (old new : Driver) → ((bytes : Vec ℕ) → P (Send bytes)) → AllGood P old.clients → PassEach now at node effects old new → Grows P (told_of old) (told_of new) × (new.monitors ≡ old.monitors)
 unfolding PassEach
 passes_grow P now at node [] old new fits good same = (
   same_grows P (told_of old) (told_of new) good (ap (λ (driver : Driver). driver.clients) same, ap (λ (driver : Driver). driver.orders) same),
-  ap (λ (driver : Driver). driver.desks) same,
+  ap (λ (driver : Driver). driver.monitors) same,
 )
 passes_grow P now at node (effect ∷ effects) old new fits good (behind, passes, more) =
-    let (first, desks) = passes_one P now at node effect old behind fits good passes in
+    let (first, monitors) = passes_one P now at node effect old behind fits good passes in
     let (last, rest) = passes_grow P now at node effects behind new fits first.good more in
-    (grows_both P (told_of old) (told_of behind) (told_of new) first last, rest ∙ desks)
+    (grows_both P (told_of old) (told_of behind) (told_of new) first last, rest ∙ monitors)

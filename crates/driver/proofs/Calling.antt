@@ -15,7 +15,7 @@ use Rattle.uplink.specs.declared.input.UplinkInput.{UplinkInput}
 use Rattle.uplink.specs.declared.input.UplinkInput.TheVariants as input
 use Rattle.driver.specs.declared.client.Client.{Client}
 use Rattle.driver.specs.declared.clients.Clients.{Clients}
-use Rattle.driver.specs.declared.desk.Desk.{Desk}
+use Rattle.driver.specs.declared.node_monitor.NodeMonitor.{NodeMonitor}
 use Rattle.driver.specs.declared.driver.Driver.{Driver}
 use Rattle.driver.specs.declared.level.Level.{Level}
 use Rattle.driver.specs.declared.link.Stage.{Stage}
@@ -29,7 +29,7 @@ use Rattle.driver.specs.Calls.{ConnectsTo, Goes, Orders, Speaks}
 use Rattle.driver.specs.Crowds.{told as crowd}
 use Rattle.driver.specs.Driving.{orders_of, told_of}
 use Rattle.driver.specs.Filling.{TellsLevelIf, WatchesFor}
-use Rattle.driver.specs.Gone.{with_seen}
+use Rattle.driver.specs.Retiring.{with_seen}
 use Rattle.driver.specs.Hearing.{turned_away, turned_away_news}
 use Rattle.driver.specs.Links.{Connects, Receives, notes_of, send_some}
 use Rattle.driver.specs.Nicks.{IsGreeted, RenamesBy, RenamesIf, is_renamed, nick_in}
@@ -39,7 +39,7 @@ use Rattle.driver.specs.Filling.{is_left_out}
 use Rattle.driver.specs.Telling.{Ordered, ordered}
 use Rattle.driver.proofs.Adding.{Adds, adds_both, all_written_add, named_adds, nothing_adds, one_adds}
 use Rattle.driver.proofs.Keeping.{Keeps, Sound, keeps_both, orders_keep, same_keeps}
-use Rattle.driver.proofs.Desks.{changed_same, ids_kept, look_at}
+use Rattle.driver.proofs.Monitors.{changed_same, ids_kept, look_at}
 use Rattle.driver.proofs.Growing.{AllAre, AllGood, Good, by_number, one_grows}
 use Rattle.driver.proofs.Owning.{lost_own, reads_own}
 use Rattle.driver.proofs.Quiet.{IsQuiet, NoClaim, quiet_client, quiet_told}
@@ -71,35 +71,35 @@ arrive_good n node None number password nick now old new good others same = subs
 arrive_good n node (Some boot) None password nick now old new good others same = subst (λ (clients : Clients). AllGood (NoClaim n) clients) (sym same) good
 arrive_good n node (Some boot) (Some number) password nick now old new good others a = arrived_good n node boot number password nick now old new good others a
 
-pub visited_look : (boot : Option ℕ) (taken : Bool) (desks : List Desk) (node j : ℕ) → look_at (visited boot taken desks node) j ≡ look_at desks j
-visited_look None taken desks node j = changed_same turned_away (λ d. refl) desks node j
-visited_look (Some boot) true desks node j = changed_same (with_seen boot) (λ d. refl) desks node j
-visited_look (Some boot) false desks node j = refl
+pub visited_look : (boot : Option ℕ) (taken : Bool) (monitors : List NodeMonitor) (node j : ℕ) → look_at (visited boot taken monitors node) j ≡ look_at monitors j
+visited_look None taken monitors node j = changed_same turned_away (λ d. refl) monitors node j
+visited_look (Some boot) true monitors node j = changed_same (with_seen boot) (λ d. refl) monitors node j
+visited_look (Some boot) false monitors node j = refl
 
-pub away_quiet : (n : ℕ) (away : Bool) (id : ℕ) → AllAre (NoClaim n) (if away then [] else order.Tells (TurnedAway id) ∷ [])
+pub away_quiet : (n : ℕ) (away : Bool) (id : ℕ) → AllAre (NoClaim n) (if away then [] else order.Log (TurnedAway id) ∷ [])
 unfolding AllAre
 away_quiet n true id = tt
 away_quiet n false id = (refl, tt)
 
-pub turned_quiet : (n : ℕ) (found : Option Desk) → AllAre (NoClaim n) (orders_of turned_away_news found)
+pub turned_quiet : (n : ℕ) (found : Option NodeMonitor) → AllAre (NoClaim n) (orders_of turned_away_news found)
 unfolding AllAre
 turned_quiet n None = tt
 turned_quiet n (Some d) = away_quiet n d.has_turned_away d.id
 
-pub turned_by : (n : ℕ) (boot : Option ℕ) (desks : List Desk) (node : ℕ) → AllAre (NoClaim n) (turned_away_by boot desks node)
+pub turned_by : (n : ℕ) (boot : Option ℕ) (monitors : List NodeMonitor) (node : ℕ) → AllAre (NoClaim n) (turned_away_by boot monitors node)
 unfolding AllAre
-turned_by n None desks node = turned_quiet n (slice_get desks (node - 1))
-turned_by n (Some boot) desks node = tt
+turned_by n None monitors node = turned_quiet n (slice_get monitors (node - 1))
+turned_by n (Some boot) monitors node = tt
 
 pub connect_keeps : (n now node : ℕ) (old new : Driver) → Sound n old → ConnectsTo now node old new → Keeps n old new
 connect_keeps n now node old new sound c =
-    let boot = boot_at old.desks node in
-    let same = λ (j : ℕ). ap (λ (desks : List Desk). look_at desks j) c.desks ∙ visited_look boot (nat_lt old.numbered (2 ^ 60)) old.desks node j in
+    let boot = boot_at old.monitors node in
+    let same = λ (j : ℕ). ap (λ (monitors : List NodeMonitor). look_at monitors j) c.monitors ∙ visited_look boot (nat_lt old.numbered (2 ^ 60)) old.monitors node j in
     record {
-      adds = record { told = turned_away_by boot old.desks node; orders = c.orders; all = turned_by n boot old.desks node };
+      adds = record { told = turned_away_by boot old.monitors node; orders = c.orders; all = turned_by n boot old.monitors node };
       sound = record {
-        good = arrive_good n node boot (next_number old.desks node old.numbered) old.settings.password.items (nick_in old) now old.clients new.clients sound.good c.others c.arrived;
-        ids = ids_kept old.desks new.desks same sound.ids;
+        good = arrive_good n node boot (next_number old.monitors node old.numbered) old.settings.password.items (nick_in old) now old.clients new.clients sound.good c.others c.arrived;
+        ids = ids_kept old.monitors new.monitors same sound.ids;
       };
       same = same (n - 1);
     }
@@ -113,7 +113,7 @@ greeted_adds P false clients number nick before after good named = named_adds P 
 pub speaks_by : (n : ℕ) (bytes : List ℕ) (now : ℕ) (at : Moment) (number : ℕ) (found : Option Client) (old new : Driver) → client_at old.clients number ≡ found → Sound n old → Speaks bytes now at number old new → Keeps n old new
 speaks_by n bytes now at number None old new is sound s =
     let (clients, orders) = s.nobody is in
-    orders_keep n old new sound (ap (λ (driver : Driver). driver.desks) s.rest) clients (nothing_adds (NoClaim n) old.orders new.orders orders)
+    orders_keep n old new sound (ap (λ (driver : Driver). driver.monitors) s.rest) clients (nothing_adds (NoClaim n) old.orders new.orders orders)
 speaks_by n bytes now at number (Some c) old new is sound s =
     let behind = crowd new.clients s.comes.told in
     let g =
@@ -122,21 +122,21 @@ speaks_by n bytes now at number (Some c) old new is sound s =
     in
     let greeted = greeted_adds (NoClaim n) (is_attached_in (client_at old.clients number)) new.clients number (nick_in old) s.comes.told new.orders g.good s.comes.greeted in
     let all = adds_both (NoClaim n) old.orders s.comes.told new.orders (record { told = g.told; orders = g.orders; all = g.all }) greeted in
-    grows_keep n old new sound (ap (λ (driver : Driver). driver.desks) s.rest) (record { told = all.told; orders = all.orders; all = all.all; good = g.good })
+    grows_keep n old new sound (ap (λ (driver : Driver). driver.monitors) s.rest) (record { told = all.told; orders = all.orders; all = all.all; good = g.good })
 
 pub goes_by : (n now : ℕ) (at : Moment) (number : ℕ) (found : Option Client) (old new : Driver) → client_at old.clients number ≡ found → Sound n old → Goes now at number old new → Keeps n old new
 goes_by n now at number None old new is sound s =
     let (clients, orders) = s.nobody is in
-    orders_keep n old new sound (ap (λ (driver : Driver). driver.desks) s.rest) clients (nothing_adds (NoClaim n) old.orders new.orders orders)
+    orders_keep n old new sound (ap (λ (driver : Driver). driver.monitors) s.rest) clients (nothing_adds (NoClaim n) old.orders new.orders orders)
 goes_by n now at number (Some c) old new is sound s =
-    grows_keep n old new sound (ap (λ (driver : Driver). driver.desks) s.rest)
+    grows_keep n old new sound (ap (λ (driver : Driver). driver.monitors) s.rest)
     (one_grows (NoClaim n) number _ _ (told_of old) (told_of new) c is is sound.good s.others s.served
     (λ gs calls client stands h. lost_own c.is_gone now at gs calls c client old.orders new.orders refl stands h))
 
 -- Only orders are given.
 pub orders_of_call : (n : ℕ) (gives : Ordered → Ordered → Type 0) (old new : Driver) → Sound n old → (o : Orders gives old new) → Adds (NoClaim n) old.orders new.orders → Keeps n old new
 orders_of_call n gives old new sound o adds =
-    orders_keep n old new sound (ap (λ (driver : Driver). driver.desks) o.rest) (ap (λ (driver : Driver). driver.clients) o.rest) adds
+    orders_keep n old new sound (ap (λ (driver : Driver). driver.monitors) o.rest) (ap (λ (driver : Driver). driver.clients) o.rest) adds
 
 -- The server is connected to.
 pub stands_add : (P : Order → Type 0) (stage : Stage) (settings : Settings) (now : ℕ) (before after : Ordered) (new : Stage) → ((bytes : Vec ℕ) → P (order.Send bytes)) → Connects stage settings now before new after → Adds P before after
@@ -195,16 +195,16 @@ pub tells_keep : (n : ℕ) (out : Bool) (node : ℕ) (came : Note TowerBody Wire
 tells_keep n true node came old new sound is same = same_keeps n old new sound same
 tells_keep n false node came old new sound is t =
     let named =
-    orders_keep n old t.named sound (ap (λ (driver : Driver). driver.desks) t.nick.rest) (ap (λ (driver : Driver). driver.clients) t.nick.rest)
+    orders_keep n old t.named sound (ap (λ (driver : Driver). driver.monitors) t.nick.rest) (ap (λ (driver : Driver). driver.clients) t.nick.rest)
     (renames_by (NoClaim n) came old t.named.orders sound.good t.nick.renames)
     in
     let opened =
-    orders_keep n t.named t.opened named.sound (ap (λ (driver : Driver). driver.desks) t.opens.rest) (ap (λ (driver : Driver). driver.clients) t.opens.rest)
+    orders_keep n t.named t.opened named.sound (ap (λ (driver : Driver). driver.monitors) t.opens.rest) (ap (λ (driver : Driver). driver.clients) t.opens.rest)
     (record { told = opened_of node came; orders = t.opens.orders; all = opened_quiet n node came })
     in
     let last =
-    orders_keep n t.opened new opened.sound (ap (λ (driver : Driver). driver.desks) t.rest) (ap (λ (driver : Driver). driver.clients) t.rest)
-    (one_adds (NoClaim n) (order.Tell node came) t.opened.orders new.orders t.orders (quiet_told n node came is))
+    orders_keep n t.opened new opened.sound (ap (λ (driver : Driver). driver.monitors) t.rest) (ap (λ (driver : Driver). driver.clients) t.rest)
+    (one_adds (NoClaim n) (order.Submit node came) t.opened.orders new.orders t.orders (quiet_told n node came is))
     in
     keeps_both n old t.opened new (keeps_both n old t.named t.opened named opened) last
 
@@ -234,16 +234,16 @@ pub takes_keep : (n : ℕ) (node : Option ℕ) (now : ℕ) (at : Moment) (bytes 
 takes_keep n None now at bytes old new sound same = same_keeps n old new sound same
 takes_keep n (Some node) now at bytes old new sound t =
     let (adds, all) = received_add n old.link.stage now at bytes old.orders t.taken.orders t.taken.link.stage t.notes t.receives in
-    let first = orders_keep n old t.taken sound (ap (λ (driver : Driver). driver.desks) t.rest) (ap (λ (driver : Driver). driver.clients) t.rest) adds in
+    let first = orders_keep n old t.taken sound (ap (λ (driver : Driver). driver.monitors) t.rest) (ap (λ (driver : Driver). driver.clients) t.rest) adds in
     keeps_both n old t.taken new first (tells_all_keep n node t.notes t.taken new first.sound all t.tells)
 
 -- The log is looked at.
 pub level_keeps : (n : ℕ) (rises : Bool) (node : ℕ) (level : Level) (old new : Driver) → Sound n old → TellsLevelIf rises node level old new → Keeps n old new
 level_keeps n false node level old new sound same = same_keeps n old new sound same
 level_keeps n true node level old new sound t =
-    orders_keep n old new sound (ap (λ (driver : Driver). driver.desks) t.rest) (ap (λ (driver : Driver). driver.clients) t.rest)
-    (adds_both (NoClaim n) old.orders (ordered old.orders (order.Tells (LogFills node level) ∷ [])) new.orders
-    (one_adds (NoClaim n) (order.Tells (LogFills node level)) old.orders _ refl refl)
+    orders_keep n old new sound (ap (λ (driver : Driver). driver.monitors) t.rest) (ap (λ (driver : Driver). driver.clients) t.rest)
+    (adds_both (NoClaim n) old.orders (ordered old.orders (order.Log (LogFills node level) ∷ [])) new.orders
+    (one_adds (NoClaim n) (order.Log (LogFills node level)) old.orders _ refl refl)
     (all_written_add (NoClaim n) (keys old.clients.all) old.clients _ _ new.orders sound.good t.written))
 
 pub watch_keeps : (n : ℕ) (leader : Option ℕ) (old new : Driver) → Sound n old → WatchesFor leader old new → Keeps n old new

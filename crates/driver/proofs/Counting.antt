@@ -27,13 +27,13 @@ raised_zero : (more : ℕ) → min more most ≡ min (0 + more) most
 raised_zero more = omega (arith)
 
 counted_length : (told : List ℕ) (o : Order) → length (counted told o) ≡ length told
-counted_length told (order.Tell other note) = length-set told (other - 1) _
+counted_length told (order.Submit other note) = length-set told (other - 1) _
 counted_length told (order.Write client bytes) = refl
 counted_length told (order.Close client) = refl
 counted_length told order.Connect = refl
 counted_length told (order.Send bytes) = refl
 counted_length told order.Disconnect = refl
-counted_length told (order.Tells news) = refl
+counted_length told (order.Log news) = refl
 
 -- the count of a node behind an order
 pub record Counts (node : ℕ) (told : List ℕ) (o : Order) (more : ℕ) : Type 0 where
@@ -58,15 +58,15 @@ if_none true k is = absurd (cc is)
 if_none false k is = refl
 
 counts_one : (node : ℕ) (told : List ℕ) (o : Order) (more : ℕ) → node - 1 < length told → slice_index told (node - 1) ≤ most → Counts node told o more
-counts_one node told (order.Tell other note) more within small =
-    by_number (other - 1) (node - 1) (Counts node told (order.Tell other note) more)
+counts_one node told (order.Submit other note) more within small =
+    by_number (other - 1) (node - 1) (Counts node told (order.Submit other note) more)
     (λ same.
     let count = slice_index told (node - 1) in
-    let raised : slice_index (counted told (order.Tell other note)) (node - 1) ≡ one_more count =
+    let raised : slice_index (counted told (order.Submit other note)) (node - 1) ≡ one_more count =
     subst (λ (k : ℕ). slice_index (set told k (one_more (slice_index told k))) (node - 1) ≡ one_more count) (sym same)
     (get_or-set_same told (node - 1) (one_more count) 0 within)
     in
-    let one : notes_in node (order.Tell other note) ≡ 1 = if_one (nat_eq (other - 1) (node - 1)) 1 (subst (λ (k : ℕ). nat_eq k (node - 1) ≡ true) (sym same) (same_eq (node - 1))) in
+    let one : notes_in node (order.Submit other note) ≡ 1 = if_one (nat_eq (other - 1) (node - 1)) 1 (subst (λ (k : ℕ). nat_eq k (node - 1) ≡ true) (sym same) (same_eq (node - 1))) in
     record {
       small = subst (λ (k : ℕ). k ≤ most) (sym raised) (omega (arith));
       same =
@@ -75,7 +75,7 @@ counts_one node told (order.Tell other note) more within small =
           ∙ ap (λ (k : ℕ). min (count + (k + more)) most) (sym one);
     })
     (λ apart.
-    counts_none node told (order.Tell other note) more small
+    counts_none node told (order.Submit other note) more small
     (get_or-set_other told (other - 1) (node - 1) _ 0 (λ e. apart (sym e)))
     (if_none (nat_eq (other - 1) (node - 1)) 1 (apart_eq (other - 1) (node - 1) apart)))
 counts_one node told (order.Write client bytes) more within small = counts_none node told (order.Write client bytes) more small refl refl
@@ -83,7 +83,7 @@ counts_one node told (order.Close client) more within small = counts_none node t
 counts_one node told order.Connect more within small = counts_none node told order.Connect more small refl refl
 counts_one node told (order.Send bytes) more within small = counts_none node told (order.Send bytes) more small refl refl
 counts_one node told order.Disconnect more within small = counts_none node told order.Disconnect more small refl refl
-counts_one node told (order.Tells news) more within small = counts_none node told (order.Tells news) more small refl refl
+counts_one node told (order.Log news) more within small = counts_none node told (order.Log news) more small refl refl
 
 small_is : (count : ℕ) → count ≤ most → count ≡ min (count + 0) most
 small_is count small = omega (arith, small)

@@ -1,20 +1,20 @@
 -- What comes of clients, one and then those behind it.
 use Rattle.std.proofs.Common.{◌≡◌, ◌∷◌, ℕ, Bool, List, [], refl, subst, sym}
 use Rattle.wire_bytes.specs.declared.moment.Moment.{Moment}
-use Rattle.driver.specs.declared.desk.Desk.{Desk}
+use Rattle.driver.specs.declared.node_monitor.NodeMonitor.{NodeMonitor}
 use Rattle.driver.specs.Crowds.{CutEach, CutsClient, LeaveEach, LeavesClient, TickEach, TicksClient, Told, WordEach, WordsClient}
 
 -- time passes for one client, and then for those behind it
-pub tick_more : (at : Moment) (timeout now : ℕ) (desks : List Desk) (number : ℕ) (left more : List ℕ) (old behind new : Told) → left ≡ number ∷ more → TicksClient at timeout now desks number old behind → TickEach at timeout now desks more behind new → TickEach at timeout now desks left old new
+pub tick_more : (at : Moment) (timeout now : ℕ) (monitors : List NodeMonitor) (number : ℕ) (left more : List ℕ) (old behind new : Told) → left ≡ number ∷ more → TicksClient at timeout now monitors number old behind → TickEach at timeout now monitors more behind new → TickEach at timeout now monitors left old new
 unfolding TickEach
-tick_more at timeout now desks number left more old behind new is ticks all =
-    subst (λ (left : List ℕ). TickEach at timeout now desks left old new) (sym is) (behind, ticks, all)
+tick_more at timeout now monitors number left more old behind new is ticks all =
+    subst (λ (left : List ℕ). TickEach at timeout now monitors left old new) (sym is) (behind, ticks, all)
 
 -- where none is left it is done
-pub tick_none : (at : Moment) (timeout now : ℕ) (desks : List Desk) (left : List ℕ) (last : Told) → left ≡ [] → TickEach at timeout now desks left last last
+pub tick_none : (at : Moment) (timeout now : ℕ) (monitors : List NodeMonitor) (left : List ℕ) (last : Told) → left ≡ [] → TickEach at timeout now monitors left last last
 unfolding TickEach
-tick_none at timeout now desks left last none =
-    subst (λ (left : List ℕ). TickEach at timeout now desks left last last) (sym none) refl
+tick_none at timeout now monitors left last none =
+    subst (λ (left : List ℕ). TickEach at timeout now monitors left last last) (sym none) refl
 
 -- one client is left, or stays, and then those behind it
 pub leave_more : (at : Moment) (node boot number : ℕ) (left more : List ℕ) (old behind new : Told) → left ≡ number ∷ more → LeavesClient at node boot number old behind → LeaveEach at node boot more behind new → LeaveEach at node boot left old new

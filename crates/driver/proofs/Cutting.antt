@@ -12,7 +12,7 @@ use Rattle.driver.specs.declared.client.Client.{Client}
 use Rattle.driver.specs.declared.clients.Clients.{Clients}
 use Rattle.driver.specs.declared.news.News.{News}
 use Rattle.driver.specs.declared.order.Order.{Order}
-use Rattle.driver.specs.declared.order.Order.TheVariants.{Close, Tells, Write}
+use Rattle.driver.specs.declared.order.Order.TheVariants.{Close, Log, Write}
 use Rattle.driver.specs.Crowds.{CutEach, CutsClient, IsSame, Told, is_of}
 use Rattle.driver.specs.Outages.{IsToldIf}
 use Rattle.driver.specs.Rosters.{AreOthersSame, client_at}
@@ -71,7 +71,7 @@ told_cut node number true c old new left none same = record {
   away = λ d is. none_some d (is_of d.origin node ≡ false) (sym none ∙ is);
 }
 told_cut node number false c old new left none (line, says, orders) = record {
-  told = Write c.origin.2 line ∷ Close c.origin.2 ∷ Tells (News.Left c.origin) ∷ [];
+  told = Write c.origin.2 line ∷ Close c.origin.2 ∷ Log (News.Left c.origin) ∷ [];
   orders = orders;
   all = ((tt, refl), ((tt, refl), ((tt, refl), tt)));
   left = left;

@@ -14,7 +14,7 @@ use Rattle.node_notes.specs.declared.note.Note.{Note}
 use Rattle.node_notes.specs.declared.note.Note.TheVariants as note
 use Rattle.driver.specs.declared.client.Client.{Client}
 use Rattle.driver.specs.declared.clients.Clients.{Clients}
-use Rattle.driver.specs.declared.desk.Desk.{Desk}
+use Rattle.driver.specs.declared.node_monitor.NodeMonitor.{NodeMonitor}
 use Rattle.driver.specs.declared.driver.Driver.{Driver}
 use Rattle.driver.specs.declared.level.Level.{Level}
 use Rattle.driver.specs.declared.link.Stage.{Stage}
@@ -26,7 +26,7 @@ use Rattle.driver.specs.Calls.{ConnectsTo, Goes, Orders, Speaks}
 use Rattle.driver.specs.Crowds.{told as crowd}
 use Rattle.driver.specs.Driving.{orders_of, told_of}
 use Rattle.driver.specs.Filling.{TellsLevelIf, WatchesFor, is_left_out}
-use Rattle.driver.specs.Gone.{with_seen}
+use Rattle.driver.specs.Retiring.{with_seen}
 use Rattle.driver.specs.Hearing.{turned_away, turned_away_news}
 use Rattle.driver.specs.Links.{Receives, send_some}
 use Rattle.driver.specs.Nicks.{nick_in}
@@ -35,7 +35,7 @@ use Rattle.driver.specs.Sessions.{TakesIf, TellsAllOf, TellsIf, opened_of}
 use Rattle.driver.specs.Telling.{Ordered, ordered}
 use Rattle.driver.proofs.Adding.{Adds, adds_both, all_written_add, nothing_adds, one_adds}
 use Rattle.driver.proofs.Calling.{greeted_adds, or_client, renames_by, visited_look}
-use Rattle.driver.proofs.Desks.{ids_kept, look_at}
+use Rattle.driver.proofs.Monitors.{ids_kept, look_at}
 use Rattle.driver.proofs.Growing.{AllAre, AllGood, Good, by_number, one_grows}
 use Rattle.driver.proofs.Owning.{lost_own, reads_own}
 use Rattle.driver.proofs.Restarts.{Plain, both_false, client_plain, told_apart}
@@ -66,41 +66,41 @@ arrive_fits n down node (Some boot) None password nick now old new up good other
 arrive_fits n down node (Some boot) (Some number) password nick now old new up good others a =
     arrived_fits n down node boot number password nick now old new (up refl) good others a
 
-away_fits : (n : ℕ) (down away : Bool) (id : ℕ) → AllAre (Plain n down) (if away then [] else order.Tells (TurnedAway id) ∷ [])
+away_fits : (n : ℕ) (down away : Bool) (id : ℕ) → AllAre (Plain n down) (if away then [] else order.Log (TurnedAway id) ∷ [])
 unfolding AllAre
 away_fits n down true id = tt
 away_fits n down false id = ((tt, refl), tt)
 
-turned_fits : (n : ℕ) (down : Bool) (found : Option Desk) → AllAre (Plain n down) (orders_of turned_away_news found)
+turned_fits : (n : ℕ) (down : Bool) (found : Option NodeMonitor) → AllAre (Plain n down) (orders_of turned_away_news found)
 unfolding AllAre
 turned_fits n down None = tt
 turned_fits n down (Some d) = away_fits n down d.has_turned_away d.id
 
-turned_by : (n : ℕ) (down : Bool) (boot : Option ℕ) (desks : List Desk) (node : ℕ) → AllAre (Plain n down) (turned_away_by boot desks node)
+turned_by : (n : ℕ) (down : Bool) (boot : Option ℕ) (monitors : List NodeMonitor) (node : ℕ) → AllAre (Plain n down) (turned_away_by boot monitors node)
 unfolding AllAre
-turned_by n down None desks node = turned_fits n down (slice_get desks (node - 1))
-turned_by n down (Some boot) desks node = tt
+turned_by n down None monitors node = turned_fits n down (slice_get monitors (node - 1))
+turned_by n down (Some boot) monitors node = tt
 
-visited_as : (n : ℕ) (down : Bool) (boot : Option ℕ) (taken : Bool) (desks : List Desk) (node : ℕ) → StandsAs down (slice_get desks (n - 1)) → StandsAs down (slice_get (visited boot taken desks node) (n - 1))
-visited_as n down None taken desks node at = changed_as n node down turned_away desks (λ d. (refl, refl)) at
-visited_as n down (Some boot) true desks node at = changed_as n node down (with_seen boot) desks (λ d. (refl, refl)) at
-visited_as n down (Some boot) false desks node at = at
+visited_as : (n : ℕ) (down : Bool) (boot : Option ℕ) (taken : Bool) (monitors : List NodeMonitor) (node : ℕ) → StandsAs down (slice_get monitors (n - 1)) → StandsAs down (slice_get (visited boot taken monitors node) (n - 1))
+visited_as n down None taken monitors node at = changed_as n node down turned_away monitors (λ d. (refl, refl)) at
+visited_as n down (Some boot) true monitors node at = changed_as n node down (with_seen boot) monitors (λ d. (refl, refl)) at
+visited_as n down (Some boot) false monitors node at = at
 
 pub connect_stays : (n now node : ℕ) (down : Bool) (old new : Driver) → Steady n down old → ConnectsTo now node old new → Stays n down old new
 connect_stays n now node down old new steady c =
-    let boot = boot_at old.desks node in
+    let boot = boot_at old.monitors node in
     let taken = nat_lt old.numbered (2 ^ 60) in
     record {
-      adds = record { told = turned_away_by boot old.desks node; orders = c.orders; all = turned_by n down boot old.desks node };
+      adds = record { told = turned_away_by boot old.monitors node; orders = c.orders; all = turned_by n down boot old.monitors node };
       steady = record {
         good =
-            arrive_fits n down node boot (next_number old.desks node old.numbered) old.settings.password.items (nick_in old) now old.clients new.clients
-            (λ up. both_false down (nat_eq node n) (λ own. up_own n node down old.desks steady.at up own))
+            arrive_fits n down node boot (next_number old.monitors node old.numbered) old.settings.password.items (nick_in old) now old.clients new.clients
+            (λ up. both_false down (nat_eq node n) (λ own. up_own n node down old.monitors steady.at up own))
             steady.good c.others c.arrived;
-        ids = ids_kept old.desks new.desks (λ j. ap (λ (desks : List Desk). look_at desks j) c.desks ∙ visited_look boot taken old.desks node j) steady.ids;
+        ids = ids_kept old.monitors new.monitors (λ j. ap (λ (monitors : List NodeMonitor). look_at monitors j) c.monitors ∙ visited_look boot taken old.monitors node j) steady.ids;
         at =
-            subst (λ (desks : List Desk). StandsAs down (slice_get desks (n - 1))) (sym c.desks)
-            (visited_as n down boot taken old.desks node steady.at);
+            subst (λ (monitors : List NodeMonitor). StandsAs down (slice_get monitors (n - 1))) (sym c.monitors)
+            (visited_as n down boot taken old.monitors node steady.at);
       };
     }
 
@@ -109,7 +109,7 @@ connect_stays n now node down old new steady c =
 pub speaks_stay : (n : ℕ) (down : Bool) (bytes : List ℕ) (now : ℕ) (at : Moment) (number : ℕ) (found : Option Client) (old new : Driver) → client_at old.clients number ≡ found → Steady n down old → Speaks bytes now at number old new → Stays n down old new
 speaks_stay n down bytes now at number None old new is steady s =
     let (clients, orders) = s.nobody is in
-    orders_stay n down old new steady (ap (λ (driver : Driver). driver.desks) s.rest) clients (nothing_adds (Plain n down) old.orders new.orders orders)
+    orders_stay n down old new steady (ap (λ (driver : Driver). driver.monitors) s.rest) clients (nothing_adds (Plain n down) old.orders new.orders orders)
 speaks_stay n down bytes now at number (Some c) old new is steady s =
     let behind = crowd new.clients s.comes.told in
     let g =
@@ -118,21 +118,21 @@ speaks_stay n down bytes now at number (Some c) old new is steady s =
     in
     let greeted = greeted_adds (Plain n down) (is_attached_in (client_at old.clients number)) new.clients number (nick_in old) s.comes.told new.orders g.good s.comes.greeted in
     let all = adds_both (Plain n down) old.orders s.comes.told new.orders (record { told = g.told; orders = g.orders; all = g.all }) greeted in
-    grows_stay n down old new steady (ap (λ (driver : Driver). driver.desks) s.rest) (record { told = all.told; orders = all.orders; all = all.all; good = g.good })
+    grows_stay n down old new steady (ap (λ (driver : Driver). driver.monitors) s.rest) (record { told = all.told; orders = all.orders; all = all.all; good = g.good })
 
 pub goes_stay : (n : ℕ) (down : Bool) (now : ℕ) (at : Moment) (number : ℕ) (found : Option Client) (old new : Driver) → client_at old.clients number ≡ found → Steady n down old → Goes now at number old new → Stays n down old new
 goes_stay n down now at number None old new is steady s =
     let (clients, orders) = s.nobody is in
-    orders_stay n down old new steady (ap (λ (driver : Driver). driver.desks) s.rest) clients (nothing_adds (Plain n down) old.orders new.orders orders)
+    orders_stay n down old new steady (ap (λ (driver : Driver). driver.monitors) s.rest) clients (nothing_adds (Plain n down) old.orders new.orders orders)
 goes_stay n down now at number (Some c) old new is steady s =
-    grows_stay n down old new steady (ap (λ (driver : Driver). driver.desks) s.rest)
+    grows_stay n down old new steady (ap (λ (driver : Driver). driver.monitors) s.rest)
     (one_grows (Plain n down) number _ _ (told_of old) (told_of new) c is is steady.good s.others s.served
     (λ gs calls client stands h. lost_own c.is_gone now at gs calls c client old.orders new.orders refl stands h))
 
 -- Only orders are given.
 pub given_stay : (n : ℕ) (down : Bool) (gives : Ordered → Ordered → Type 0) (old new : Driver) → Steady n down old → (o : Orders gives old new) → Adds (Plain n down) old.orders new.orders → Stays n down old new
 given_stay n down gives old new steady o adds =
-    orders_stay n down old new steady (ap (λ (driver : Driver). driver.desks) o.rest) (ap (λ (driver : Driver). driver.clients) o.rest) adds
+    orders_stay n down old new steady (ap (λ (driver : Driver). driver.monitors) o.rest) (ap (λ (driver : Driver). driver.clients) o.rest) adds
 
 -- Bytes of the server come, of a session of a node that is up.
 
@@ -153,16 +153,16 @@ tells_stay : (n : ℕ) (down out : Bool) (node : ℕ) (came : Note TowerBody Wir
 tells_stay n down true node came old new up steady same = same_stays n down old new steady same
 tells_stay n down false node came old new up steady t =
     let named =
-    orders_stay n down old t.named steady (ap (λ (driver : Driver). driver.desks) t.nick.rest) (ap (λ (driver : Driver). driver.clients) t.nick.rest)
+    orders_stay n down old t.named steady (ap (λ (driver : Driver). driver.monitors) t.nick.rest) (ap (λ (driver : Driver). driver.clients) t.nick.rest)
     (renames_by (Plain n down) came old t.named.orders steady.good t.nick.renames)
     in
     let opened =
-    orders_stay n down t.named t.opened named.steady (ap (λ (driver : Driver). driver.desks) t.opens.rest) (ap (λ (driver : Driver). driver.clients) t.opens.rest)
+    orders_stay n down t.named t.opened named.steady (ap (λ (driver : Driver). driver.monitors) t.opens.rest) (ap (λ (driver : Driver). driver.clients) t.opens.rest)
     (record { told = opened_of node came; orders = t.opens.orders; all = opened_fits n down node came })
     in
     let last =
-    orders_stay n down t.opened new opened.steady (ap (λ (driver : Driver). driver.desks) t.rest) (ap (λ (driver : Driver). driver.clients) t.rest)
-    (one_adds (Plain n down) (order.Tell node came) t.opened.orders new.orders t.orders (told_apart down (nat_eq node n) came up, refl))
+    orders_stay n down t.opened new opened.steady (ap (λ (driver : Driver). driver.monitors) t.rest) (ap (λ (driver : Driver). driver.clients) t.rest)
+    (one_adds (Plain n down) (order.Submit node came) t.opened.orders new.orders t.orders (told_apart down (nat_eq node n) came up, refl))
     in
     stays_both n down old t.opened new (stays_both n down old t.named t.opened named opened) last
 
@@ -189,7 +189,7 @@ takes_stay n down None now at bytes old new up steady same = same_stays n down o
 takes_stay n down (Some node) now at bytes old new up steady t =
     let apart = both_false down (nat_eq node n) (λ own. up (ap Some (eqb-true node n own))) in
     let first =
-    orders_stay n down old t.taken steady (ap (λ (driver : Driver). driver.desks) t.rest) (ap (λ (driver : Driver). driver.clients) t.rest)
+    orders_stay n down old t.taken steady (ap (λ (driver : Driver). driver.monitors) t.rest) (ap (λ (driver : Driver). driver.clients) t.rest)
     (received_fits n down old.link.stage now at bytes old.orders t.taken.orders t.taken.link.stage t.notes t.receives)
     in
     stays_both n down old t.taken new first (tells_all_stay n down node t.notes t.taken new apart first.steady t.tells)
@@ -199,9 +199,9 @@ takes_stay n down (Some node) now at bytes old new up steady t =
 level_stays : (n : ℕ) (down rises : Bool) (node : ℕ) (level : Level) (old new : Driver) → Steady n down old → TellsLevelIf rises node level old new → Stays n down old new
 level_stays n down false node level old new steady same = same_stays n down old new steady same
 level_stays n down true node level old new steady t =
-    orders_stay n down old new steady (ap (λ (driver : Driver). driver.desks) t.rest) (ap (λ (driver : Driver). driver.clients) t.rest)
-    (adds_both (Plain n down) old.orders (ordered old.orders (order.Tells (LogFills node level) ∷ [])) new.orders
-    (one_adds (Plain n down) (order.Tells (LogFills node level)) old.orders _ refl (tt, refl))
+    orders_stay n down old new steady (ap (λ (driver : Driver). driver.monitors) t.rest) (ap (λ (driver : Driver). driver.clients) t.rest)
+    (adds_both (Plain n down) old.orders (ordered old.orders (order.Log (LogFills node level) ∷ [])) new.orders
+    (one_adds (Plain n down) (order.Log (LogFills node level)) old.orders _ refl (tt, refl))
     (all_written_add (Plain n down) (keys old.clients.all) old.clients _ _ new.orders steady.good t.written))
 
 pub watch_stays : (n : ℕ) (down : Bool) (leader : Option ℕ) (old new : Driver) → Steady n down old → WatchesFor leader old new → Stays n down old new

@@ -7,14 +7,14 @@ use Rattle.bouncer_tower.specs.Bodies.{TowerBody}
 use Rattle.node_notes.specs.declared.note.Note.{Note}
 use Rattle.node_notes.specs.declared.note.Note.TheVariants as note
 use Rattle.driver.specs.declared.clients.Clients.{Clients}
-use Rattle.driver.specs.declared.desk.Desk.{Desk}
+use Rattle.driver.specs.declared.node_monitor.NodeMonitor.{NodeMonitor}
 use Rattle.driver.specs.declared.driver.Driver.{Driver}
 use Rattle.driver.specs.declared.link.Link.{Link}
 use Rattle.driver.specs.declared.link.Stage.{Stage}
 use Rattle.driver.specs.declared.link.Stage.TheVariants.{Connecting, Idle, Open}
 use Rattle.driver.specs.declared.order.Order.{Order}
 use Rattle.driver.specs.declared.settings.Settings.{Settings}
-use Rattle.driver.specs.Arriving.{IsNewDriver, new_desks}
+use Rattle.driver.specs.Arriving.{IsNewDriver, new_monitors}
 use Rattle.driver.specs.Calls.{Call, Does, DoesAll, IsTold, Step}
 use Rattle.driver.specs.Calls.{Connect, Connected, End, Hand, Hear, Lose, Notice, Receive, ReceiveLine, Refuse, Take, Tick, Watch}
 use Rattle.driver.specs.Counting.{all_told}
@@ -28,7 +28,7 @@ use Rattle.driver.specs.Sessions.{TakesIf, TellsAllOf, TellsIf, link_behind}
 use Rattle.driver.specs.Telling.{Ordered, ordered}
 use Rattle.driver.proofs.Adding.{all_written_add, sends_add, written_adds}
 use Rattle.driver.proofs.Calling.{stands_add}
-use Rattle.driver.proofs.Desks.{Ids}
+use Rattle.driver.proofs.Monitors.{Ids}
 use Rattle.driver.proofs.Dialing.{connect_stays, given_stay, goes_stay, speaks_stay, takes_stay, watch_stays}
 use Rattle.driver.proofs.Falling.{Turns}
 use Rattle.driver.proofs.Growing.{AllGood, Good, none_some}
@@ -54,13 +54,13 @@ none_other : (n : ℕ) (P : Type 0) → None ≡ Some n → P
 none_other n P is = absurd (cc is)
 
 -- it is of the node that leads, which is up
-leader_by : (n : ℕ) (down : Bool) (desks : List Desk) (own leader : Option ℕ) → StandsAs down (slice_get desks (n - 1)) → IsLeader desks leader → IsOf own leader → own ≡ Some n → down ≡ false
-leader_by n down desks None leader at leads is own = none_other n (down ≡ false) own
-leader_by n down desks (Some node) leader at leads is own =
-    lead_own n n down desks at (subst (λ (leader : Option ℕ). IsLeader desks leader) (is ∙ own) leads) refl
+leader_by : (n : ℕ) (down : Bool) (monitors : List NodeMonitor) (own leader : Option ℕ) → StandsAs down (slice_get monitors (n - 1)) → IsLeader monitors leader → IsOf own leader → own ≡ Some n → down ≡ false
+leader_by n down monitors None leader at leads is own = none_other n (down ≡ false) own
+leader_by n down monitors (Some node) leader at leads is own =
+    lead_own n n down monitors at (subst (λ (leader : Option ℕ). IsLeader monitors leader) (is ∙ own) leads) refl
 
 leader_up : (n : ℕ) (down : Bool) (driver : Driver) → Steady n down driver → IsOfLeader driver → IsUp n down driver.link.stage
-leader_up n down driver steady l = λ own. leader_by n down driver.desks (node_of driver.link.stage) l.leader steady.at l.is_leader l.is_of own
+leader_up n down driver steady l = λ own. leader_by n down driver.monitors (node_of driver.link.stage) l.leader steady.at l.is_leader l.is_of own
 
 connected_node : (stage : Stage) (settings : Settings) (now : ℕ) (before after : Ordered) (new : Stage) → Connects stage settings now before new after → node_of new ≡ node_of stage
 connected_node (Idle since wait) settings now before after new (same, none) = ap node_of same
@@ -166,7 +166,7 @@ call_result n down (Tick now at) told old new low steady up t is =
     stayed n down old new told s (leader_up n down new s.steady (ticked_of_leader now at old new t)) is
 call_result n down (Connected now) told old new low steady up s is =
     stayed n down old new told
-    (orders_stay n down old new steady (ap (λ (driver : Driver). driver.desks) s.rest) (ap (λ (driver : Driver). driver.clients) s.rest) (stands_add (Plain n down) old.link.stage old.settings now old.orders new.orders new.link.stage (λ bytes. (tt, refl)) s.stands))
+    (orders_stay n down old new steady (ap (λ (driver : Driver). driver.monitors) s.rest) (ap (λ (driver : Driver). driver.clients) s.rest) (stands_add (Plain n down) old.link.stage old.settings now old.orders new.orders new.link.stage (λ bytes. (tt, refl)) s.stands))
     (up_kept n down old.link.stage new.link.stage (connected_node old.link.stage old.settings now old.orders new.orders new.link.stage s.stands) up)
     is
 call_result n down (ReceiveLine now at bytes) told old new low steady up t is =
@@ -192,8 +192,8 @@ call_result n down Take told old new low steady up o is = record {
   follows = subst (λ (items : List Order). Follows n down items down) (sym is) refl;
   steady = record {
     good = subst (λ (clients : Clients). AllGood (Plain n down) clients) (sym (ap (λ (driver : Driver). driver.clients) o.rest)) steady.good;
-    ids = subst (λ (desks : List Desk). Ids desks) (sym (ap (λ (driver : Driver). driver.desks) o.rest)) steady.ids;
-    at = subst (λ (desks : List Desk). StandsAs down (slice_get desks (n - 1))) (sym (ap (λ (driver : Driver). driver.desks) o.rest)) steady.at;
+    ids = subst (λ (monitors : List NodeMonitor). Ids monitors) (sym (ap (λ (driver : Driver). driver.monitors) o.rest)) steady.ids;
+    at = subst (λ (monitors : List NodeMonitor). StandsAs down (slice_get monitors (n - 1))) (sym (ap (λ (driver : Driver). driver.monitors) o.rest)) steady.at;
   };
   up = same_link n down old new (ap (λ (driver : Driver). driver.link) o.rest) up;
 }
@@ -216,7 +216,7 @@ steps_lead n down (step ∷ more) old new low steady up (behind, does, rest) =
 
 -- A new driver knows of no node that it is down.
 
-new_at : (settings : Settings) (now i : ℕ) → StandsAs false (slice_get (new_desks settings now) i)
+new_at : (settings : Settings) (now i : ℕ) → StandsAs false (slice_get (new_monitors settings now) i)
 new_at settings now zero = (refl, refl)
 new_at settings now (suc zero) = (refl, refl)
 new_at settings now (suc (suc zero)) = (refl, refl)
@@ -229,8 +229,8 @@ new_at settings now (suc (suc (suc (suc (suc (suc (suc i))))))) = refl
 new_steady : (n : ℕ) (settings : Settings) (now : ℕ) (driver : Driver) → IsNewDriver settings now driver → Steady n false driver
 new_steady n settings now driver new = record {
   good = λ number c found. none_some c (Good (Plain n false) c) (sym (new.clients number) ∙ found);
-  ids = subst (λ (desks : List Desk). Ids desks) (sym new.desks) (new_ids settings now);
-  at = subst (λ (desks : List Desk). StandsAs false (slice_get desks (n - 1))) (sym new.desks) (new_at settings now (n - 1));
+  ids = subst (λ (monitors : List NodeMonitor). Ids monitors) (sym new.monitors) (new_ids settings now);
+  at = subst (λ (monitors : List NodeMonitor). StandsAs false (slice_get monitors (n - 1))) (sym new.monitors) (new_at settings now (n - 1));
 }
 
 pub only_restarted : DownIsOnlyRestarted

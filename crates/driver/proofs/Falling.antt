@@ -9,7 +9,7 @@ use Rattle.node_notes.specs.declared.status.Status.{Status}
 use Rattle.raft_node.specs.declared.node_fault.Cause.{Cause}
 use Rattle.driver.specs.declared.timer.Timer.{Timer}
 use Rattle.driver.specs.declared.clients.Clients.{Clients}
-use Rattle.driver.specs.declared.desk.Desk.{Desk}
+use Rattle.driver.specs.declared.node_monitor.NodeMonitor.{NodeMonitor}
 use Rattle.driver.specs.declared.driver.Driver.{Driver}
 use Rattle.driver.specs.declared.news.News.TheVariants as news
 use Rattle.driver.specs.declared.order.Order.{Order}
@@ -20,7 +20,7 @@ use Rattle.driver.specs.Reports.{Hears, Stands}
 use Rattle.driver.specs.Telling.{ordered, told_to}
 use Rattle.driver.specs.Waking.{awake, slept, waited_longer}
 use Rattle.driver.proofs.Adding.{nothing_adds, passes_grow}
-use Rattle.driver.proofs.Desks.{Ids, Look, ids_changed, ids_kept, mapped_same}
+use Rattle.driver.proofs.Monitors.{Ids, Look, ids_changed, ids_kept, mapped_same}
 use Rattle.driver.proofs.Growing.{AllAre, AllGood, all_append}
 use Rattle.driver.proofs.Reporting.{heard_look}
 use Rattle.driver.proofs.Restarts.{Follows, Plain, follows_all}
@@ -52,10 +52,10 @@ awake_stays n now down old steady =
       adds = nothing_adds (Plain n down) old.orders old.orders refl;
       steady = record {
         good = steady.good;
-        ids = ids_kept old.desks (map change old.desks) (λ j. mapped_same change (λ d. refl) old.desks j) steady.ids;
+        ids = ids_kept old.monitors (map change old.monitors) (λ j. mapped_same change (λ d. refl) old.monitors j) steady.ids;
         at =
-            subst (λ (found : Option Desk). StandsAs down found) (sym (slice_get-map change old.desks (n - 1)))
-            (as_kept down change (slice_get old.desks (n - 1)) (λ d. (refl, refl)) steady.at);
+            subst (λ (found : Option NodeMonitor). StandsAs down found) (sym (slice_get-map change old.monitors (n - 1)))
+            (as_kept down change (slice_get old.monitors (n - 1)) (λ d. (refl, refl)) steady.at);
       };
     }
 
@@ -68,7 +68,7 @@ passed_stays n now at node status effects progress refused down old new steady h
 
 -- How the node stands is told.
 
-pub elected_plain : (n : ℕ) (down b : Bool) (node term : ℕ) → AllAre (Plain n down) (if b then order.Tells (news.Elected node term) ∷ [] else [])
+pub elected_plain : (n : ℕ) (down b : Bool) (node term : ℕ) → AllAre (Plain n down) (if b then order.Log (news.Elected node term) ∷ [] else [])
 unfolding AllAre
 elected_plain n down true node term = ((tt, refl), tt)
 elected_plain n down false node term = tt
@@ -94,16 +94,16 @@ unfolding AllAre
 down_other n down id cause None apart = ((tt, said_down down (nat_eq id n) apart), tt)
 down_other n down id cause (Some since) apart = tt
 
-stood_other : (n : ℕ) (down : Bool) (d : Desk) (status : Status) (cause : Option Cause) → nat_eq d.id n ≡ false → AllAre (Plain n down) (stood_news d status cause)
+stood_other : (n : ℕ) (down : Bool) (d : NodeMonitor) (status : Status) (cause : Option Cause) → nat_eq d.id n ≡ false → AllAre (Plain n down) (stood_news d status cause)
 stood_other n down d status None apart = up_other n down d.id status.boot (was_up d.status) apart
 stood_other n down d status (Some cause) apart = down_other n down d.id cause d.down apart
 
--- the desk of a report is another node's, if it is one's
-abbrev pub IsOther : ℕ → Option Desk → Type 0
+-- the monitor of a report is another node's, if it is one's
+abbrev pub IsOther : ℕ → Option NodeMonitor → Type 0
 IsOther n None = Unit {0}
 IsOther n (Some d) = nat_eq d.id n ≡ false
 
-news_other : (n : ℕ) (down : Bool) (status : Status) (found : Option Desk) → IsOther n found → AllAre (Plain n down) (orders_of (λ d. heard_news d status) found)
+news_other : (n : ℕ) (down : Bool) (status : Status) (found : Option NodeMonitor) → IsOther n found → AllAre (Plain n down) (orders_of (λ d. heard_news d status) found)
 unfolding AllAre
 news_other n down status None other = tt
 news_other n down status (Some d) other =
@@ -111,32 +111,32 @@ news_other n down status (Some d) other =
     (elected_plain n down (is_elected d status) d.id status.term)
     (stood_other n down d status status.down other)
 
--- what the report changes of its desk
-abbrev pub stood_change : Driver → ℕ → Status → Progress → Desk → Desk
+-- what the report changes of its monitor
+abbrev pub stood_change : Driver → ℕ → Status → Progress → NodeMonitor → NodeMonitor
 stood_change old now status progress = λ d. heard_behind d now (told_to old.orders d.id) status progress
 
-pub stood_ids : (n now node : ℕ) (status : Status) (progress : Progress) (refused : Bool) (old new : Driver) → Ids old.desks → Stands now node status progress refused old new → Ids new.desks
+pub stood_ids : (n now node : ℕ) (status : Status) (progress : Progress) (refused : Bool) (old new : Driver) → Ids old.monitors → Stands now node status progress refused old new → Ids new.monitors
 stood_ids n now node status progress refused old new ids s =
-    subst (λ (desks : List Desk). Ids desks) (sym s.desks)
-    (ids_changed (stood_change old now status progress) (λ d. ap (λ (x : Look). x.id) (heard_look d now (told_to old.orders d.id) status progress)) old.desks node ids)
+    subst (λ (monitors : List NodeMonitor). Ids monitors) (sym s.monitors)
+    (ids_changed (stood_change old now status progress) (λ d. ap (λ (x : Look). x.id) (heard_look d now (told_to old.orders d.id) status progress)) old.monitors node ids)
 
 pub stood_good : (now node : ℕ) (status : Status) (progress : Progress) (refused : Bool) (P : Order → Type 0) (old new : Driver) → AllGood P old.clients → Stands now node status progress refused old new → AllGood P new.clients
 stood_good now node status progress refused P old new good s =
     subst (λ (clients : Clients). AllGood P clients) (sym (ap (λ (driver : Driver). driver.clients) s.rest)) good
 
-pub other_stands : (n now node : ℕ) (down : Bool) (status : Status) (progress : Progress) (refused : Bool) (old new : Driver) → Steady n down old → IsOther n (slice_get old.desks (node - 1)) → slice_get (changed_at (stood_change old now status progress) old.desks node) (n - 1) ≡ slice_get old.desks (n - 1) → Stands now node status progress refused old new → Stays n down old new
+pub other_stands : (n now node : ℕ) (down : Bool) (status : Status) (progress : Progress) (refused : Bool) (old new : Driver) → Steady n down old → IsOther n (slice_get old.monitors (node - 1)) → slice_get (changed_at (stood_change old now status progress) old.monitors node) (n - 1) ≡ slice_get old.monitors (n - 1) → Stands now node status progress refused old new → Stays n down old new
 other_stands n now node down status progress refused old new steady other same s = record {
   adds = record {
-    told = orders_of (λ d. heard_news d status) (slice_get old.desks (node - 1));
+    told = orders_of (λ d. heard_news d status) (slice_get old.monitors (node - 1));
     orders = s.orders;
-    all = news_other n down status (slice_get old.desks (node - 1)) other;
+    all = news_other n down status (slice_get old.monitors (node - 1)) other;
   };
   steady = record {
     good = stood_good now node status progress refused (Plain n down) old new steady.good s;
     ids = stood_ids n now node status progress refused old new steady.ids s;
     at =
-        subst (λ (desks : List Desk). StandsAs down (slice_get desks (n - 1))) (sym s.desks)
-        (subst (λ (found : Option Desk). StandsAs down found) (sym same) steady.at);
+        subst (λ (monitors : List NodeMonitor). StandsAs down (slice_get monitors (n - 1))) (sym s.monitors)
+        (subst (λ (found : Option NodeMonitor). StandsAs down found) (sym same) steady.at);
   };
 }
 
@@ -169,24 +169,24 @@ unfolding Follows
 down_own n down id cause None own is = (tt, begun_down down (nat_eq id n) own)
 down_own n down id cause (Some since) own is = sym is
 
-pub stood_own : (n : ℕ) (down : Bool) (d : Desk) (status : Status) (cause : Option Cause) → nat_eq d.id n ≡ true → StandsAs down (Some d) → Follows n down (stood_news d status cause) (is_some cause)
+pub stood_own : (n : ℕ) (down : Bool) (d : NodeMonitor) (status : Status) (cause : Option Cause) → nat_eq d.id n ≡ true → StandsAs down (Some d) → Follows n down (stood_news d status cause) (is_some cause)
 stood_own n down d status None own (is, so) = up_own n down d.id status.boot (was_up d.status) own (λ up. sym so ∙ was_up_so d.status up)
 stood_own n down d status (Some cause) own (is, so) = down_own n down d.id cause d.down own is
 
-up_stands : (d : Desk) (now : ℕ) (up : Bool) → is_some (up_behind d now up).down ≡ false
+up_stands : (d : NodeMonitor) (now : ℕ) (up : Bool) → is_some (up_behind d now up).down ≡ false
 up_stands d now true = refl
 up_stands d now false = refl
 
-down_stands : (d : Desk) (now : ℕ) (down : Option Timer) → d.down ≡ down → is_some (down_behind d now down).down ≡ true
+down_stands : (d : NodeMonitor) (now : ℕ) (down : Option Timer) → d.down ≡ down → is_some (down_behind d now down).down ≡ true
 down_stands d now None is = refl
 down_stands d now (Some since) is = ap (λ (down : Option Timer). is_some down) is
 
-stood_stands : (d : Desk) (now : ℕ) (up : Bool) (cause : Option Cause) → is_some (stood_behind d now up cause).down ≡ is_some cause
+stood_stands : (d : NodeMonitor) (now : ℕ) (up : Bool) (cause : Option Cause) → is_some (stood_behind d now up cause).down ≡ is_some cause
 stood_stands d now up None = up_stands d now up
 stood_stands d now up (Some cause) = down_stands d now d.down refl
 
--- the desk behind a report knows what it told
-pub heard_stands : (d : Desk) (now told : ℕ) (status : Status) (progress : Progress) → StandsAs (is_some status.down) (Some (heard_behind d now told status progress))
+-- the monitor behind a report knows what it told
+pub heard_stands : (d : NodeMonitor) (now told : ℕ) (status : Status) (progress : Progress) → StandsAs (is_some status.down) (Some (heard_behind d now told status progress))
 heard_stands d now told status progress = (
   stood_stands (told_behind d now told status progress) now (was_up d.status) status.down,
   ap (λ (x : Look). is_down_so x.status) (heard_look d now told status progress),

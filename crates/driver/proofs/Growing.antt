@@ -12,7 +12,7 @@ use Rattle.driver.specs.declared.client.Client.{Client}
 use Rattle.driver.specs.declared.clients.Clients.{Clients}
 use Rattle.driver.specs.declared.news.News.{News}
 use Rattle.driver.specs.declared.order.Order.{Order}
-use Rattle.driver.specs.declared.order.Order.TheVariants.{Close, Tells, Write}
+use Rattle.driver.specs.declared.order.Order.TheVariants.{Close, Log, Write}
 use Rattle.driver.specs.Asking.{is_idle}
 use Rattle.driver.specs.Clients.{parting_unless}
 use Rattle.driver.specs.Crowds.{CutEach, CutsClient, IsSame, LeaveEach, LeavesClient, TickEach, TicksClient, Told, WordEach, WordsClient, is_below, is_of}
@@ -131,20 +131,20 @@ one_grows P number meant happens old new c found is good others serves own =
     }
 
 -- Time passes for clients.
-tick_by : (P : Order → Type 0) (at : Moment) (timeout now : ℕ) (desks : List _) (number : ℕ) (found : Option Client) (old new : Told) → client_at old.clients number ≡ found → AllGood P old.clients → TicksClient at timeout now desks number old new → Grows P old new
-tick_by P at timeout now desks number None old new is good t = same_grows P old new good (t.nobody is)
-tick_by P at timeout now desks number (Some c) old new is good t =
+tick_by : (P : Order → Type 0) (at : Moment) (timeout now : ℕ) (monitors : List _) (number : ℕ) (found : Option Client) (old new : Told) → client_at old.clients number ≡ found → AllGood P old.clients → TicksClient at timeout now monitors number old new → Grows P old new
+tick_by P at timeout now monitors number None old new is good t = same_grows P old new good (t.nobody is)
+tick_by P at timeout now monitors number (Some c) old new is good t =
     one_grows P number _ _ old new c is is good t.others t.served
     (λ s calls client stands h.
     ticks_own h.reads (is_too_slow (waited h.reads now c) now) timeout now at s calls c client old.orders new.orders refl stands h.ticks)
 
-pub ticks_grow : (P : Order → Type 0) (at : Moment) (timeout now : ℕ) (desks : List _) (numbers : List ℕ) (old new : Told) → AllGood P old.clients → TickEach at timeout now desks numbers old new → Grows P old new
+pub ticks_grow : (P : Order → Type 0) (at : Moment) (timeout now : ℕ) (monitors : List _) (numbers : List ℕ) (old new : Told) → AllGood P old.clients → TickEach at timeout now monitors numbers old new → Grows P old new
 unfolding TickEach
-ticks_grow P at timeout now desks [] old new good same =
+ticks_grow P at timeout now monitors [] old new good same =
     same_grows P old new good (ap (λ (told : Told). told.clients) same, ap (λ (told : Told). told.orders) same)
-ticks_grow P at timeout now desks (number ∷ numbers) old new good (behind, ticks, more) =
-    let first = tick_by P at timeout now desks number (client_at old.clients number) old behind refl good ticks in
-    grows_both P old behind new first (ticks_grow P at timeout now desks numbers behind new first.good more)
+ticks_grow P at timeout now monitors (number ∷ numbers) old new good (behind, ticks, more) =
+    let first = tick_by P at timeout now monitors number (client_at old.clients number) old behind refl good ticks in
+    grows_both P old behind new first (ticks_grow P at timeout now monitors numbers behind new first.good more)
 
 -- A node tells what may be lost.
 word_of : (P : Order → Type 0) (at : Moment) (now node lost : ℕ) (refused : Bool) (number : ℕ) (c : Client) (own : Bool) (old new : Told) → client_at old.clients number ≡ Some c → is_of c.origin node ≡ own → AllGood P old.clients → WordsClient at now node lost refused number old new → Grows P old new
@@ -208,9 +208,9 @@ cut_told P true c old new g good none = record {
   good = good;
 }
 cut_told P false c old new g good (line, says, orders) = record {
-  told = Write c.origin.2 line ∷ Close c.origin.2 ∷ Tells (News.Left c.origin) ∷ [];
+  told = Write c.origin.2 line ∷ Close c.origin.2 ∷ Log (News.Left c.origin) ∷ [];
   orders = orders;
-  all = (g.fits (Write c.origin.2 line) refl, (g.fits (Close c.origin.2) refl, (g.fits (Tells (News.Left c.origin)) refl, tt)));
+  all = (g.fits (Write c.origin.2 line) refl, (g.fits (Close c.origin.2) refl, (g.fits (Log (News.Left c.origin)) refl, tt)));
   good = good;
 }
 

@@ -5,8 +5,8 @@ use Rattle.std.specs.List.{list_any}
 use Rattle.std.proofs.lemmas.List.{append_assoc}
 use Rattle.std.proofs.lemmas.List.Folds.{list_any-append}
 use Rattle.driver.specs.declared.clients.Clients.{Clients}
-use Rattle.driver.specs.declared.desk.Claimed.{Claimed}
-use Rattle.driver.specs.declared.desk.Desk.{Desk}
+use Rattle.driver.specs.declared.node_monitor.Claimed.{Claimed}
+use Rattle.driver.specs.declared.node_monitor.NodeMonitor.{NodeMonitor}
 use Rattle.driver.specs.declared.driver.Driver.{Driver}
 use Rattle.driver.specs.declared.link.Stage.{Stage}
 use Rattle.driver.specs.declared.link.Stage.TheVariants.{Connecting, Idle, Open}
@@ -14,12 +14,12 @@ use Rattle.driver.specs.declared.news.Ending.{Ending}
 use Rattle.driver.specs.declared.order.Order.{Order}
 use Rattle.driver.specs.declared.order.Order.TheVariants as order
 use Rattle.driver.specs.Claiming.{claims}
-use Rattle.driver.specs.Desks.{is_claimed, line_to_claim}
-use Rattle.driver.specs.Driving.{Connects, Ends, LeavesIf, TicksDesk, closed_of, closed_orders, orders_of, tick_orders, ticked}
+use Rattle.driver.specs.Monitors.{is_claimed, line_to_claim}
+use Rattle.driver.specs.Driving.{Connects, Ends, LeavesIf, TicksMonitor, closed_of, closed_orders, orders_of, tick_orders, ticked}
 use Rattle.driver.specs.Links.{ending, may_connect, node_of}
 use Rattle.driver.specs.Telling.{Ordered, ordered}
 use Rattle.driver.proofs.Adding.{Adds, adds_both, nothing_adds, one_adds}
-use Rattle.driver.proofs.Desks.{Ids, Look, changed_same, ids_kept, look_at, ticked_look}
+use Rattle.driver.proofs.Monitors.{Ids, Look, changed_same, ids_kept, look_at, ticked_look}
 use Rattle.driver.proofs.Growing.{AllAre, AllGood, all_append}
 use Rattle.driver.proofs.Quiet.{NoClaim, none_claims, quiet_tick}
 
@@ -27,16 +27,16 @@ use Rattle.driver.proofs.Quiet.{NoClaim, none_claims, quiet_tick}
 abbrev pub Line : Type 0
 Line = (ℕ × ℕ) × ℕ
 
--- each client stands behind calls of its gate, and each desk is that of its node
+-- each client stands behind calls of its gate, and each monitor is that of its node
 pub record Sound (n : ℕ) (driver : Driver) : Type 0 where
   pub good : AllGood (NoClaim n) driver.clients
-  pub ids : Ids driver.desks
+  pub ids : Ids driver.monitors
 
 -- The node was told no claim, and what is known of its last one is as before.
 pub record Keeps (n : ℕ) (old new : Driver) : Type 0 where
   pub adds : Adds (NoClaim n) old.orders new.orders
   pub sound : Sound n new
-  pub same : look_at new.desks (n - 1) ≡ look_at old.desks (n - 1)
+  pub same : look_at new.monitors (n - 1) ≡ look_at old.monitors (n - 1)
 
 -- The node was told the claim of a line, of which none was unsettled.
 pub record IsClaimed (n : ℕ) (old new : Driver) : Type 0 where
@@ -45,14 +45,14 @@ pub record IsClaimed (n : ℕ) (old new : Driver) : Type 0 where
   pub has : list_any (claims n) told ≡ true
   pub sound : Sound n new
   pub before : Look
-  pub is_before : look_at old.desks (n - 1) ≡ Some before
+  pub is_before : look_at old.monitors (n - 1) ≡ Some before
   pub line : Line
   pub is_line : line_to_claim before.status ≡ Some line
   pub wait : ℕ
   pub now : ℕ
   pub is_free : is_claimed before.claimed wait now line.0 line.1 ≡ false
   pub claim : Claimed
-  pub is_claim : look_at new.desks (n - 1) ≡ Some (record { id = before.id; claimed = Some claim; status = before.status })
+  pub is_claim : look_at new.monitors (n - 1) ≡ Some (record { id = before.id; claimed = Some claim; status = before.status })
   pub session : claim.session ≡ line.0
   pub number : claim.number ≡ line.1
   pub unsettled : claim.is_settled ≡ false
@@ -64,7 +64,7 @@ pub same_keeps : (n : ℕ) (old new : Driver) → Sound n old → new ≡ old �
 same_keeps n old new sound same = record {
   adds = nothing_adds (NoClaim n) old.orders new.orders (ap (λ (driver : Driver). driver.orders) same);
   sound = subst (λ (driver : Driver). Sound n driver) (sym same) sound;
-  same = ap (λ (driver : Driver). look_at driver.desks (n - 1)) same;
+  same = ap (λ (driver : Driver). look_at driver.monitors (n - 1)) same;
 }
 
 pub keeps_both : (n : ℕ) (old behind new : Driver) → Keeps n old behind → Keeps n behind new → Keeps n old new
@@ -133,31 +133,31 @@ pub result_keeps : (n : ℕ) (old behind new : Driver) → Result n old behind �
 result_keeps n old behind new r k =
     ⊎_elim (λ first. inl (keeps_both n old behind new first k)) (λ first. inr (claimed_keeps n old behind new first k)) r
 
--- what keeps the desks and the clients
-pub orders_keep : (n : ℕ) (old new : Driver) → Sound n old → new.desks ≡ old.desks → new.clients ≡ old.clients → Adds (NoClaim n) old.orders new.orders → Keeps n old new
-orders_keep n old new sound desks clients adds = record {
+-- what keeps the monitors and the clients
+pub orders_keep : (n : ℕ) (old new : Driver) → Sound n old → new.monitors ≡ old.monitors → new.clients ≡ old.clients → Adds (NoClaim n) old.orders new.orders → Keeps n old new
+orders_keep n old new sound monitors clients adds = record {
   adds = adds;
   sound = record {
     good = subst (λ (clients : Clients). AllGood (NoClaim n) clients) (sym clients) sound.good;
-    ids = subst (λ (desks : List Desk). Ids desks) (sym desks) sound.ids;
+    ids = subst (λ (monitors : List NodeMonitor). Ids monitors) (sym monitors) sound.ids;
   };
-  same = ap (λ (desks : List Desk). look_at desks (n - 1)) desks;
+  same = ap (λ (monitors : List NodeMonitor). look_at monitors (n - 1)) monitors;
 }
 
 -- a node is told what the clock and word of its runs tell it
-pub desk_keeps : (n now node : ℕ) (old new : Driver) → Sound n old → TicksDesk now node old new → Keeps n old new
-desk_keeps n now node old new sound t =
-    let change : Desk → Desk = ticked old.orders old.notices.all old.settings now in
-    let same = λ (j : ℕ). ap (λ (desks : List Desk). look_at desks j) t.desks ∙ changed_same change (ticked_look old.orders old.notices.all old.settings now) old.desks node j in
+pub monitor_keeps : (n now node : ℕ) (old new : Driver) → Sound n old → TicksMonitor now node old new → Keeps n old new
+monitor_keeps n now node old new sound t =
+    let change : NodeMonitor → NodeMonitor = ticked old.orders old.retirements.all old.settings now in
+    let same = λ (j : ℕ). ap (λ (monitors : List NodeMonitor). look_at monitors j) t.monitors ∙ changed_same change (ticked_look old.orders old.retirements.all old.settings now) old.monitors node j in
     record {
       adds = record {
-        told = orders_of (tick_orders old.orders old.notices.all old.settings now) (slice_get old.desks (node - 1));
+        told = orders_of (tick_orders old.orders old.retirements.all old.settings now) (slice_get old.monitors (node - 1));
         orders = t.orders;
-        all = quiet_tick n old.orders old.notices.all old.settings now (slice_get old.desks (node - 1));
+        all = quiet_tick n old.orders old.retirements.all old.settings now (slice_get old.monitors (node - 1));
       };
       sound = record {
         good = subst (λ (clients : Clients). AllGood (NoClaim n) clients) (sym (ap (λ (driver : Driver). driver.clients) t.rest)) sound.good;
-        ids = ids_kept old.desks new.desks same sound.ids;
+        ids = ids_kept old.monitors new.monitors same sound.ids;
       };
       same = same (n - 1);
     }
@@ -176,9 +176,9 @@ closed_quiet n (Some node) = (refl, tt)
 -- the connection to the server is gone
 pub ends_keep : (n now : ℕ) (why : Ending) (old new : Driver) → Sound n old → Ends now why old new → Keeps n old new
 ends_keep n now why old new sound e =
-    let node = closed_of old.desks (node_of old.link.stage) e.lost in
+    let node = closed_of old.monitors (node_of old.link.stage) e.lost in
     orders_keep n old new sound
-    (ap (λ (driver : Driver). driver.desks) e.rest)
+    (ap (λ (driver : Driver). driver.monitors) e.rest)
     (ap (λ (driver : Driver). driver.clients) e.rest)
     (record {
       told = ending old.link.stage why ++ closed_orders node;
@@ -192,7 +192,7 @@ leaves_keep n false now why old new sound same = same_keeps n old new sound same
 leaves_keep n true now why old new sound l =
     let first =
     orders_keep n old l.closed sound
-    (ap (λ (driver : Driver). driver.desks) l.rest)
+    (ap (λ (driver : Driver). driver.monitors) l.rest)
     (ap (λ (driver : Driver). driver.clients) l.rest)
     (one_adds (NoClaim n) order.Disconnect old.orders l.closed.orders l.orders refl)
     in
@@ -207,6 +207,6 @@ connects_add n false before after is = record { told = []; orders = is; all = tt
 pub connects_keep : (n now node : ℕ) (old new : Driver) → Sound n old → Connects now node old new → Keeps n old new
 connects_keep n now node old new sound c =
     orders_keep n old new sound
-    (ap (λ (driver : Driver). driver.desks) c.rest)
+    (ap (λ (driver : Driver). driver.monitors) c.rest)
     (ap (λ (driver : Driver). driver.clients) c.rest)
     (connects_add n (may_connect old.link.stage now) old.orders new.orders c.orders)

@@ -6,70 +6,70 @@ use Rattle.std.proofs.lemmas.List.{get_or-set_same, get_or-set_other, length-set
 use Rattle.std.proofs.lemmas.Option.{slice_get-get_or, slice_get_past, slice_get_within}
 use Rattle.driver.specs.Pacing.{may_go}
 use Rattle.driver.specs.declared.backoff.Backoff.{Backoff}
-use Rattle.driver.specs.declared.desk.Desk.{Desk}
+use Rattle.driver.specs.declared.node_monitor.NodeMonitor.{NodeMonitor}
 use Rattle.driver.specs.declared.driver.Driver.{Driver}
 use Rattle.driver.specs.declared.link.Stage.{Stage}
 use Rattle.driver.specs.declared.link.Stage.TheVariants.{Idle, Connecting, Open}
 use Rattle.driver.specs.declared.news.Ending.TheVariants.{LedNoMore}
-use Rattle.driver.specs.Desks.{claim_due, desk_claimed}
+use Rattle.driver.specs.Monitors.{claim_due, monitor_claimed}
 use Rattle.driver.specs.Driving.{LeavesIf, ServesIf, TickNodes, TicksNode, changed_at, changed_if}
 use Rattle.driver.specs.Leading.{IsLeader, is_older, is_that, term_at, term_in, term_of}
 use Rattle.driver.specs.Led.{IsOf, IsOfLeader, IsOfLeaderHeard, IsOfLeaderTicked}
 use Rattle.driver.specs.Links.{idle_behind, may_connect, node_of}
 use Rattle.driver.specs.Telling.{Ordered}
 
--- one of two desks at the same place leads in the term in which the other leads, where they stand alike
-term_same : (desks : List Desk) (i : ℕ) (d v : Desk) → slice_get desks i ≡ Some d → v.status ≡ d.status → term_in (slice_get (set desks i v) i) ≡ term_in (slice_get desks i)
-term_same desks i d v is same =
-    let within : i < length desks = slice_get_within desks i d is in
-    let inside : i < length (set desks i v) = subst (λ n. i < n) (sym (length-set desks i v)) within in
-    ap term_in (slice_get-get_or (set desks i v) i d inside)
-    ∙ ap (λ (desk : Desk). term_of desk.status) (get_or-set_same desks i v d within)
+-- one of two monitors at the same place leads in the term in which the other leads, where they stand alike
+term_same : (monitors : List NodeMonitor) (i : ℕ) (d v : NodeMonitor) → slice_get monitors i ≡ Some d → v.status ≡ d.status → term_in (slice_get (set monitors i v) i) ≡ term_in (slice_get monitors i)
+term_same monitors i d v is same =
+    let within : i < length monitors = slice_get_within monitors i d is in
+    let inside : i < length (set monitors i v) = subst (λ n. i < n) (sym (length-set monitors i v)) within in
+    ap term_in (slice_get-get_or (set monitors i v) i d inside)
+    ∙ ap (λ (monitor : NodeMonitor). term_of monitor.status) (get_or-set_same monitors i v d within)
     ∙ ap term_of same
     ∙ sym (ap term_in is)
 
 -- and at another place nothing changes
-term_other : (desks : List Desk) (i j : ℕ) (d v : Desk) → (j ≡ i → ⊥) → term_in (slice_get (set desks i v) j) ≡ term_in (slice_get desks j)
-term_other desks i j d v apart =
+term_other : (monitors : List NodeMonitor) (i j : ℕ) (d v : NodeMonitor) → (j ≡ i → ⊥) → term_in (slice_get (set monitors i v) j) ≡ term_in (slice_get monitors j)
+term_other monitors i j d v apart =
     ⊎_elim
     (λ h.
-    let inside : j < length (set desks i v) = subst (λ n. j < n) (sym (length-set desks i v)) h in
-    ap term_in (slice_get-get_or (set desks i v) j d inside)
-    ∙ ap (λ (desk : Desk). term_of desk.status) (get_or-set_other desks i j v d apart)
-    ∙ sym (ap term_in (slice_get-get_or desks j d h)))
+    let inside : j < length (set monitors i v) = subst (λ n. j < n) (sym (length-set monitors i v)) h in
+    ap term_in (slice_get-get_or (set monitors i v) j d inside)
+    ∙ ap (λ (monitor : NodeMonitor). term_of monitor.status) (get_or-set_other monitors i j v d apart)
+    ∙ sym (ap term_in (slice_get-get_or monitors j d h)))
     (λ h.
-    let past : length (set desks i v) ≤ j = subst (λ n. n ≤ j) (sym (length-set desks i v)) h in
-    ap term_in (slice_get_past (set desks i v) j past) ∙ sym (ap term_in (slice_get_past desks j h)))
-    (cases_lt j (length desks))
+    let past : length (set monitors i v) ≤ j = subst (λ n. n ≤ j) (sym (length-set monitors i v)) h in
+    ap term_in (slice_get_past (set monitors i v) j past) ∙ sym (ap term_in (slice_get_past monitors j h)))
+    (cases_lt j (length monitors))
 
-term_kept : (desks : List Desk) (i j : ℕ) (d v : Desk) → slice_get desks i ≡ Some d → v.status ≡ d.status → term_in (slice_get (set desks i v) j) ≡ term_in (slice_get desks j)
-term_kept desks i j d v is same =
+term_kept : (monitors : List NodeMonitor) (i j : ℕ) (d v : NodeMonitor) → slice_get monitors i ≡ Some d → v.status ≡ d.status → term_in (slice_get (set monitors i v) j) ≡ term_in (slice_get monitors j)
+term_kept monitors i j d v is same =
     ⊎_elim
-    (λ h. term_other desks i j d v (λ e. omega (arith, h, e)))
+    (λ h. term_other monitors i j d v (λ e. omega (arith, h, e)))
     (λ le.
     ⊎_elim
-    (λ h. term_other desks i j d v (λ e. omega (arith, h, e)))
+    (λ h. term_other monitors i j d v (λ e. omega (arith, h, e)))
     (λ ge.
     let e : i ≡ j = omega (arith, le, ge) in
-    subst (λ n. term_in (slice_get (set desks i v) n) ≡ term_in (slice_get desks n)) e (term_same desks i d v is same))
+    subst (λ n. term_in (slice_get (set monitors i v) n) ≡ term_in (slice_get monitors n)) e (term_same monitors i d v is same))
     (cases_lt i j))
     (cases_lt j i)
 
 -- a change that keeps how a node stands keeps who leads
-terms_kept : (change : Desk → Desk) → ((desk : Desk) → (change desk).status ≡ desk.status) → (desks : List Desk) (node other : ℕ) (at : Option Desk) → slice_get desks (node - 1) ≡ at → term_in (slice_get (changed_if change desks (node - 1) at) (other - 1)) ≡ term_at desks other
-terms_kept change same desks node other None is = refl
-terms_kept change same desks node other (Some desk) is = term_kept desks (node - 1) (other - 1) desk (change desk) is (same desk)
+terms_kept : (change : NodeMonitor → NodeMonitor) → ((monitor : NodeMonitor) → (change monitor).status ≡ monitor.status) → (monitors : List NodeMonitor) (node other : ℕ) (at : Option NodeMonitor) → slice_get monitors (node - 1) ≡ at → term_in (slice_get (changed_if change monitors (node - 1) at) (other - 1)) ≡ term_at monitors other
+terms_kept change same monitors node other None is = refl
+terms_kept change same monitors node other (Some monitor) is = term_kept monitors (node - 1) (other - 1) monitor (change monitor) is (same monitor)
 
-leader_kept : (desks changed : List Desk) (leader : Option ℕ) → ((other : ℕ) → term_at changed other ≡ term_at desks other) → IsLeader desks leader → IsLeader changed leader
-leader_kept desks changed None same none = λ other low high. same other ∙ none other low high
-leader_kept desks changed (Some node) same (term, is, above) =
+leader_kept : (monitors changed : List NodeMonitor) (leader : Option ℕ) → ((other : ℕ) → term_at changed other ≡ term_at monitors other) → IsLeader monitors leader → IsLeader changed leader
+leader_kept monitors changed None same none = λ other low high. same other ∙ none other low high
+leader_kept monitors changed (Some node) same (term, is, above) =
     (term, same node ∙ is, λ other t low high leads. above other t low high (sym (same other) ∙ leads))
 
 -- a claim keeps how its node stands
-claimed_stands : (orders : Ordered) (now : ℕ) (may : Bool) (due : Option ((ℕ × ℕ) × ℕ)) (desk : Desk) → (desk_claimed orders desk now may due).status ≡ desk.status
-claimed_stands orders now may None desk = refl
-claimed_stands orders now true (Some line) desk = refl
-claimed_stands orders now false (Some line) desk = refl
+claimed_stands : (orders : Ordered) (now : ℕ) (may : Bool) (due : Option ((ℕ × ℕ) × ℕ)) (monitor : NodeMonitor) → (monitor_claimed orders monitor now may due).status ≡ monitor.status
+claimed_stands orders now may None monitor = refl
+claimed_stands orders now true (Some line) monitor = refl
+claimed_stands orders now false (Some line) monitor = refl
 
 -- a connection that is gone is of no node
 pub idle_of_none : (stage : Stage) (backoff : Backoff) (now : ℕ) → node_of (idle_behind stage backoff now) ≡ None
@@ -91,11 +91,11 @@ of_not_older None leader is = tt
 of_not_older (Some node) leader is = that_is leader node (shown (is_that leader node) is)
 
 -- a connection of another node is left
-left_of : (older : Bool) (now : ℕ) (told left : Driver) (leader : Option ℕ) → is_older (node_of told.link.stage) leader ≡ older → LeavesIf older now LedNoMore told left → (left.desks ≡ told.desks) × IsOf (node_of left.link.stage) leader
+left_of : (older : Bool) (now : ℕ) (told left : Driver) (leader : Option ℕ) → is_older (node_of told.link.stage) leader ≡ older → LeavesIf older now LedNoMore told left → (left.monitors ≡ told.monitors) × IsOf (node_of left.link.stage) leader
 left_of false now told left leader is same =
-    (ap (λ (driver : Driver). driver.desks) same, subst (λ (driver : Driver). IsOf (node_of driver.link.stage) leader) (sym same) (of_not_older (node_of told.link.stage) leader is))
+    (ap (λ (driver : Driver). driver.monitors) same, subst (λ (driver : Driver). IsOf (node_of driver.link.stage) leader) (sym same) (of_not_older (node_of told.link.stage) leader is))
 left_of true now told left leader is h = (
-  ap (λ (driver : Driver). driver.desks) h.ends.rest ∙ ap (λ (driver : Driver). driver.desks) h.rest,
+  ap (λ (driver : Driver). driver.monitors) h.ends.rest ∙ ap (λ (driver : Driver). driver.monitors) h.rest,
   subst (λ (own : Option ℕ). IsOf own leader) (sym (ap node_of h.ends.stage ∙ idle_of_none h.closed.link.stage h.closed.link.backoff now)) tt,
 )
 
@@ -104,21 +104,21 @@ connects_of : (may : Bool) (stage : Stage) (node : ℕ) (leader : Option ℕ) �
 connects_of true stage node leader is own = is
 connects_of false stage node leader is own = own
 
-served_of : (serves : Bool) (now node : ℕ) (left new : Driver) (leader : Option ℕ) → is_that leader node ≡ serves → ServesIf serves now node left new → IsLeader left.desks leader → IsOf (node_of left.link.stage) leader → IsOfLeader new
+served_of : (serves : Bool) (now node : ℕ) (left new : Driver) (leader : Option ℕ) → is_that leader node ≡ serves → ServesIf serves now node left new → IsLeader left.monitors leader → IsOf (node_of left.link.stage) leader → IsOfLeader new
 served_of false now node left new leader is same leads own = record {
   leader = leader;
-  is_leader = subst (λ (driver : Driver). IsLeader driver.desks leader) (sym same) leads;
+  is_leader = subst (λ (driver : Driver). IsLeader driver.monitors leader) (sym same) leads;
   is_of = subst (λ (driver : Driver). IsOf (node_of driver.link.stage) leader) (sym same) own;
 }
 served_of true now node left new leader is h leads own =
     let may = may_go left.pace.burst left.pace.line_ms left.pace.free_at now in
-    let claim : Desk → Desk = λ desk. desk_claimed left.orders desk now may (claim_due desk left.settings now) in
-    let desks = ap (λ (driver : Driver). driver.desks) h.connects.rest ∙ h.claims.desks in
+    let claim : NodeMonitor → NodeMonitor = λ monitor. monitor_claimed left.orders monitor now may (claim_due monitor left.settings now) in
+    let monitors = ap (λ (driver : Driver). driver.monitors) h.connects.rest ∙ h.claims.monitors in
     let stage = ap (λ (driver : Driver). driver.link.stage) h.claims.rest in
-    let same = λ (other : ℕ). terms_kept claim (λ desk. claimed_stands left.orders now may (claim_due desk left.settings now) desk) left.desks node other (slice_get left.desks (node - 1)) refl in
+    let same = λ (other : ℕ). terms_kept claim (λ monitor. claimed_stands left.orders now may (claim_due monitor left.settings now) monitor) left.monitors node other (slice_get left.monitors (node - 1)) refl in
     record {
       leader = leader;
-      is_leader = subst (λ (desks : List Desk). IsLeader desks leader) (sym desks) (leader_kept left.desks (changed_at claim left.desks node) leader same leads);
+      is_leader = subst (λ (monitors : List NodeMonitor). IsLeader monitors leader) (sym monitors) (leader_kept left.monitors (changed_at claim left.monitors node) leader same leads);
       is_of =
           subst
           (λ (stage : Stage). IsOf (node_of stage) leader)
@@ -128,8 +128,8 @@ served_of true now node left new leader is h leads own =
 
 node_of_leader : (now node : ℕ) (old new : Driver) → TicksNode now node old new → IsOfLeader new
 node_of_leader now node old new h =
-    let (desks, own) = left_of (is_older (node_of h.told.link.stage) h.leader) now h.told h.left h.leader refl h.leaves in
-    served_of (is_that h.leader node) now node h.left new h.leader refl h.serves (subst (λ (desks : List Desk). IsLeader desks h.leader) (sym desks) h.is_leader) own
+    let (monitors, own) = left_of (is_older (node_of h.told.link.stage) h.leader) now h.told h.left h.leader refl h.leaves in
+    served_of (is_that h.leader node) now node h.left new h.leader refl h.serves (subst (λ (monitors : List NodeMonitor). IsLeader monitors h.leader) (sym monitors) h.is_leader) own
 
 nodes_of_leader : (count now node : ℕ) (old new : Driver) → TickNodes (suc count) now node old new → IsOfLeader new
 unfolding TickNodes

@@ -5,7 +5,7 @@ mod Claiming
 mod Counting
 mod Crowds
 mod Cutting
-mod Desks
+mod Monitors
 mod Dialing
 mod Downtime
 mod Driving

@@ -4,11 +4,11 @@ use Rattle.std.specs.Prelude.{◌||◌}
 use Rattle.std.specs.BTreeMap.{keys}
 use Rattle.std.specs.List.{list_any}
 use Rattle.driver.specs.declared.clients.Clients.{Clients}
-use Rattle.driver.specs.declared.desk.Desk.{Desk}
+use Rattle.driver.specs.declared.node_monitor.NodeMonitor.{NodeMonitor}
 use Rattle.driver.specs.declared.driver.Driver.{Driver}
 use Rattle.driver.specs.declared.order.Order.{Order}
 use Rattle.driver.specs.declared.settings.Settings.{Settings}
-use Rattle.driver.specs.Arriving.{IsNewDriver, new_desks}
+use Rattle.driver.specs.Arriving.{IsNewDriver, new_monitors}
 use Rattle.driver.specs.Calls.{Call, Does, DoesAll, IsTold, Step}
 use Rattle.driver.specs.Calls.{Connect, Connected, End, Hand, Hear, Lose, Notice, Receive, ReceiveLine, Refuse, Take, Tick, Watch}
 use Rattle.driver.specs.Claiming.{Claims, OneClaimWaits, applies_all, claims, tells_claim}
@@ -16,7 +16,7 @@ use Rattle.driver.specs.Links.{is_session_of, node_of}
 use Rattle.driver.specs.Rosters.{client_at}
 use Rattle.driver.proofs.Adding.{all_written_add, sends_add, written_adds}
 use Rattle.driver.proofs.Keeping.{Line, Sound, ends_keep, orders_keep}
-use Rattle.driver.proofs.Desks.{Ids, Look, look_at}
+use Rattle.driver.proofs.Monitors.{Ids, Look, look_at}
 use Rattle.driver.proofs.Growing.{AllGood, Good, none_some}
 use Rattle.driver.proofs.Quiet.{NoClaim}
 use Rattle.driver.proofs.Reporting.{report_outcome, tick_outcome}
@@ -35,7 +35,7 @@ outcome n (Hear now at node status effects progress refused) told old new low so
 outcome n (Tick now at) told old new low sound t is = tick_outcome n now at old new told low sound t is
 outcome n (Connected now) told old new low sound s is =
     outcome_keeps n false old new told
-    (orders_keep n old new sound (ap (λ (driver : Driver). driver.desks) s.rest) (ap (λ (driver : Driver). driver.clients) s.rest) (stands_add (NoClaim n) old.link.stage old.settings now old.orders new.orders new.link.stage (λ bytes. refl) s.stands))
+    (orders_keep n old new sound (ap (λ (driver : Driver). driver.monitors) s.rest) (ap (λ (driver : Driver). driver.clients) s.rest) (stands_add (NoClaim n) old.link.stage old.settings now old.orders new.orders new.link.stage (λ bytes. refl) s.stands))
     is
 outcome n (ReceiveLine now at bytes) told old new low sound t is = outcome_keeps n false old new told (takes_keep n (node_of old.link.stage) now at bytes old new sound t) is
 outcome n (End now why) told old new low sound e is = outcome_keeps n false old new told (ends_keep n now why old new sound e) is
@@ -47,15 +47,15 @@ outcome n (Refuse number) told old new low sound o is =
 outcome n Take told old new low sound o is = record {
   sound = record {
     good = subst (λ (clients : Clients). AllGood (NoClaim n) clients) (sym (ap (λ (driver : Driver). driver.clients) o.rest)) sound.good;
-    ids = subst (λ (desks : List Desk). Ids desks) (sym (ap (λ (driver : Driver). driver.desks) o.rest)) sound.ids;
+    ids = subst (λ (monitors : List NodeMonitor). Ids monitors) (sym (ap (λ (driver : Driver). driver.monitors) o.rest)) sound.ids;
   };
-  quiet = λ _ _ line w. waits_kept n line old new (ap (λ (driver : Driver). look_at driver.desks (n - 1)) o.rest) w;
+  quiet = λ _ _ line w. waits_kept n line old new (ap (λ (driver : Driver). look_at driver.monitors (n - 1)) o.rest) w;
   claim = λ here. true_false (list_any (claims n) told) (Fresh n false old new) here (ap (list_any (claims n)) is);
 }
 
 -- A new driver.
 
-pub new_ids : (settings : Settings) (now i : ℕ) (x : Look) → look_at (new_desks settings now) i ≡ Some x → x.id ≡ i + 1
+pub new_ids : (settings : Settings) (now i : ℕ) (x : Look) → look_at (new_monitors settings now) i ≡ Some x → x.id ≡ i + 1
 new_ids settings now zero x is = ap (λ (y : Look). y.id) (ap (or_status x) (sym is))
 new_ids settings now (suc zero) x is = ap (λ (y : Look). y.id) (ap (or_status x) (sym is))
 new_ids settings now (suc (suc zero)) x is = ap (λ (y : Look). y.id) (ap (or_status x) (sym is))
@@ -68,7 +68,7 @@ new_ids settings now (suc (suc (suc (suc (suc (suc (suc i))))))) x is = absurd (
 pub new_sound : (n : ℕ) (settings : Settings) (now : ℕ) (driver : Driver) → IsNewDriver settings now driver → Sound n driver
 new_sound n settings now driver new = record {
   good = λ number c found. none_some c (Good (NoClaim n) c) (sym (new.clients number) ∙ found);
-  ids = subst (λ (desks : List Desk). Ids desks) (sym new.desks) (new_ids settings now);
+  ids = subst (λ (monitors : List NodeMonitor). Ids monitors) (sym new.monitors) (new_ids settings now);
 }
 
 pub led_sound : (n : ℕ) (steps : List Step) (old new : Driver) → 1 ≤ n → Sound n old → DoesAll steps old new → Sound n new

@@ -11,15 +11,15 @@ use Rattle.node_notes.specs.declared.status.Status.{Status}
 use Rattle.node_notes.specs.Notes.{leads}
 use Rattle.driver.specs.declared.timer.Timer.{Timer}
 use Rattle.wire_bytes.specs.declared.origin.Origin.{Origin}
-use Rattle.driver.specs.declared.desk.Desk.{Desk}
-use Rattle.driver.specs.declared.gone.Notice.{Notice}
+use Rattle.driver.specs.declared.node_monitor.NodeMonitor.{NodeMonitor}
+use Rattle.driver.specs.declared.retirement.Retirement.{Retirement}
 use Rattle.driver.specs.declared.order.Order.{Order}
 use Rattle.driver.specs.declared.order.Order.TheVariants as order
 use Rattle.driver.specs.declared.settings.Settings.{Settings}
 use Rattle.driver.specs.Claiming.{claims, is_claim}
-use Rattle.driver.specs.Desks.{is_over, is_to_beat, note_at, note_for, note_up, patience, told}
+use Rattle.driver.specs.Monitors.{is_over, is_to_beat, note_at, note_for, note_up, patience, told}
 use Rattle.driver.specs.Driving.{clocked, orders_of, tick_orders}
-use Rattle.driver.specs.Gone.{restart_at, restart_if}
+use Rattle.driver.specs.Retiring.{restart_at, restart_if}
 use Rattle.driver.specs.Once.{IsFor}
 use Rattle.driver.specs.Telling.{Ordered}
 use Rattle.driver.proofs.Growing.{AllAre, all_append}
@@ -33,7 +33,7 @@ abbrev pub IsQuiet : Option (Note TowerBody WireLine) → Type 0
 IsQuiet None = Unit {0}
 IsQuiet (Some note) = is_claim note ≡ false
 
-pub quiet_told : (node id : ℕ) (told : Note TowerBody WireLine) → is_claim told ≡ false → NoClaim node (order.Tell id told)
+pub quiet_told : (node id : ℕ) (told : Note TowerBody WireLine) → is_claim told ≡ false → NoClaim node (order.Submit id told)
 quiet_told node id told is = ap (λ (b : Bool). b && nat_eq id node) is
 
 pub quiet_orders : (node id : ℕ) (note : Option (Note TowerBody WireLine)) → IsQuiet note → AllAre (NoClaim node) (told id note)
@@ -49,54 +49,54 @@ quiet_either : (b : Bool) (one other : Option (Note TowerBody WireLine)) → IsQ
 quiet_either true one other first last = first
 quiet_either false one other first last = last
 
-quiet_up : (desk : Desk) (settings : Settings) (now : ℕ) (status : Status) → IsQuiet (note_up desk settings now status)
+quiet_up : (monitor : NodeMonitor) (settings : Settings) (now : ℕ) (status : Status) → IsQuiet (note_up monitor settings now status)
 unfolding note_up
-quiet_up desk settings now status =
+quiet_up monitor settings now status =
     quiet_either (leads status) _ _
-    (quiet_if (is_to_beat desk settings now) note.Beat refl)
-    (quiet_if (is_over desk.led (patience settings desk.id) now) (note.Timeout desk.progress.contacts) refl)
+    (quiet_if (is_to_beat monitor settings now) note.Beat refl)
+    (quiet_if (is_over monitor.last_leader_contact (patience settings monitor.id) now) (note.Timeout monitor.progress.contacts) refl)
 
-quiet_for : (desk : Desk) (settings : Settings) (now : ℕ) (status : Option Status) (down : Option Timer) → IsQuiet (note_for desk settings now status down)
+quiet_for : (monitor : NodeMonitor) (settings : Settings) (now : ℕ) (status : Option Status) (down : Option Timer) → IsQuiet (note_for monitor settings now status down)
 unfolding note_for
-quiet_for desk settings now None down = tt
-quiet_for desk settings now (Some status) (Some since) = quiet_if (is_over since desk.wait_ms now) note.Restart refl
-quiet_for desk settings now (Some status) None = quiet_up desk settings now status
+quiet_for monitor settings now None down = tt
+quiet_for monitor settings now (Some status) (Some since) = quiet_if (is_over since monitor.wait_ms now) note.Restart refl
+quiet_for monitor settings now (Some status) None = quiet_up monitor settings now status
 
-quiet_restart : (desk : Desk) (floor : Option ℕ) → IsQuiet (restart_if desk floor)
-quiet_restart desk None = tt
-quiet_restart desk (Some floor) = quiet_if _ note.Restart refl
+quiet_restart : (monitor : NodeMonitor) (floor : Option ℕ) → IsQuiet (restart_if monitor floor)
+quiet_restart monitor None = tt
+quiet_restart monitor (Some floor) = quiet_if _ note.Restart refl
 
 -- what the clock and word of its runs tell a node
-pub quiet_tick : (node : ℕ) (orders : Ordered) (notices : List (Option Notice)) (settings : Settings) (now : ℕ) (found : Option Desk) → AllAre (NoClaim node) (orders_of (tick_orders orders notices settings now) found)
+pub quiet_tick : (node : ℕ) (orders : Ordered) (retirements : List (Option Retirement)) (settings : Settings) (now : ℕ) (found : Option NodeMonitor) → AllAre (NoClaim node) (orders_of (tick_orders orders retirements settings now) found)
 unfolding AllAre
-quiet_tick node orders notices settings now None = tt
-quiet_tick node orders notices settings now (Some desk) =
-    let behind = clocked orders settings now desk in
-    all_append (NoClaim node) (told desk.id (note_at desk settings now)) (told behind.id (restart_at notices behind))
-    (quiet_orders node desk.id (note_at desk settings now) (quiet_for desk settings now desk.status desk.down))
-    (quiet_orders node behind.id (restart_at notices behind) (quiet_restart behind _))
+quiet_tick node orders retirements settings now None = tt
+quiet_tick node orders retirements settings now (Some monitor) =
+    let behind = clocked orders settings now monitor in
+    all_append (NoClaim node) (told monitor.id (note_at monitor settings now)) (told behind.id (restart_at retirements behind))
+    (quiet_orders node monitor.id (note_at monitor settings now) (quiet_for monitor settings now monitor.status monitor.down))
+    (quiet_orders node behind.id (restart_at retirements behind) (quiet_restart behind _))
 
 -- what a client orders
 pub quiet_client : (node : ℕ) (origin : Origin) (o : Order) → IsFor origin o → NoClaim node o
-quiet_client node origin (order.Tell other (note.Ask (body.Asked from number at action))) is = refl
-quiet_client node origin (order.Tell other (note.Ask (body.Inner c))) (is, own) = absurd own
-quiet_client node origin (order.Tell other (note.Ask body.Blank)) (is, own) = absurd own
-quiet_client node origin (order.Tell other (note.Ask (body.Mark m))) (is, own) = absurd own
-quiet_client node origin (order.Tell other (note.Timeout contacts)) is = refl
-quiet_client node origin (order.Tell other note.Beat) is = refl
-quiet_client node origin (order.Tell other note.Opened) is = refl
-quiet_client node origin (order.Tell other note.Closed) is = refl
-quiet_client node origin (order.Tell other (note.Heard at line)) is = refl
-quiet_client node origin (order.Tell other note.Claim) (is, own) = absurd own
-quiet_client node origin (order.Tell other note.Wake) is = refl
-quiet_client node origin (order.Tell other note.Restart) is = refl
-quiet_client node origin (order.Tell other note.End) is = refl
+quiet_client node origin (order.Submit other (note.Ask (body.Asked from number at action))) is = refl
+quiet_client node origin (order.Submit other (note.Ask (body.Inner c))) (is, own) = absurd own
+quiet_client node origin (order.Submit other (note.Ask body.Blank)) (is, own) = absurd own
+quiet_client node origin (order.Submit other (note.Ask (body.Mark m))) (is, own) = absurd own
+quiet_client node origin (order.Submit other (note.Timeout contacts)) is = refl
+quiet_client node origin (order.Submit other note.Beat) is = refl
+quiet_client node origin (order.Submit other note.Opened) is = refl
+quiet_client node origin (order.Submit other note.Closed) is = refl
+quiet_client node origin (order.Submit other (note.Heard at line)) is = refl
+quiet_client node origin (order.Submit other note.Claim) (is, own) = absurd own
+quiet_client node origin (order.Submit other note.Wake) is = refl
+quiet_client node origin (order.Submit other note.Restart) is = refl
+quiet_client node origin (order.Submit other note.End) is = refl
 quiet_client node origin (order.Write client bytes) is = refl
 quiet_client node origin (order.Close client) is = refl
 quiet_client node origin order.Connect is = refl
 quiet_client node origin (order.Send bytes) is = refl
 quiet_client node origin order.Disconnect is = refl
-quiet_client node origin (order.Tells news) is = refl
+quiet_client node origin (order.Log news) is = refl
 
 -- no order of these is a claim
 pub none_claims : (node : ℕ) (told : List Order) → AllAre (NoClaim node) told → list_any (claims node) told ≡ false

@@ -132,7 +132,7 @@ reach_each : (n now : ℕ) (at : Moment) (node : ℕ) (effects : List GateEffect
 unfolding PassEach ReachEach
 reach_each n now at node [] old new good same = same
 reach_each n now at node (effect ∷ effects) old new good (behind, passes, more) =
-    let (first, desks) = passes_one (NoClaim n) now at node effect old behind (λ bytes. refl) good passes in
+    let (first, monitors) = passes_one (NoClaim n) now at node effect old behind (λ bytes. refl) good passes in
     let learnt = learnt_good (NoClaim n) effect old passes.learnt good passes.learns in
     let nick = nick_in passes.learnt in (
       passes.learnt,

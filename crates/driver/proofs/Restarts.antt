@@ -25,7 +25,7 @@ OnlyRestart true false came = Unit {0}
 OnlyRestart false own came = Unit {0}
 
 abbrev pub Fits : ℕ → Bool → Order → Type 0
-Fits n down (order.Tell other came) = OnlyRestart down (nat_eq other n) came
+Fits n down (order.Submit other came) = OnlyRestart down (nat_eq other n) came
 Fits n down other = Unit {0}
 
 -- whether the node is down behind what an operator is told, and behind an order
@@ -35,7 +35,7 @@ down_said n down (news.Up other boot) = down && not (nat_eq other n)
 down_said n down other = down
 
 abbrev pub down_by : ℕ → Bool → Order → Bool
-down_by n down (order.Tells said) = down_said n down said
+down_by n down (order.Log said) = down_said n down said
 down_by n down other = down
 
 -- all orders fit, and lead from one to the other
@@ -69,7 +69,7 @@ follows_behind n down last [] ys follows = record { down = down; follows = follo
 follows_behind n down last (x ∷ xs) ys (fits, more) = follows_behind n (down_by n down x) last xs ys more
 
 -- a node that was down is down behind an order that does not tell that it is up
-said_still : (n : ℕ) (said : News) → tells_up n (order.Tells said) ≡ false → down_said n true said ≡ true
+said_still : (n : ℕ) (said : News) → tells_up n (order.Log said) ≡ false → down_said n true said ≡ true
 said_still n (news.Attached origin) is = refl
 said_still n (news.Left origin) is = refl
 said_still n (news.Elected node term) is = refl
@@ -82,13 +82,13 @@ said_still n (news.TurnedAway node) is = refl
 said_still n (news.LogFills node level) is = refl
 
 still_down : (n : ℕ) (o : Order) → tells_up n o ≡ false → down_by n true o ≡ true
-still_down n (order.Tell other came) is = refl
+still_down n (order.Submit other came) is = refl
 still_down n (order.Write client bytes) is = refl
 still_down n (order.Close client) is = refl
 still_down n order.Connect is = refl
 still_down n (order.Send bytes) is = refl
 still_down n order.Disconnect is = refl
-still_down n (order.Tells said) is = said_still n said is
+still_down n (order.Log said) is = said_still n said is
 
 first_false : (a b : Bool) → (a || b) ≡ false → a ≡ false
 first_false true b is = is
@@ -111,14 +111,14 @@ or_true true b is = refl
 or_true false b is = is
 
 -- Between the news that a node is down and the next one that it is up, what it is told is to start again.
-pub restarts_between : (n : ℕ) (cause : Cause) (came : Note TowerBody WireLine) (last : Bool) (before between behind : List Order) → Follows n false (before ++ (order.Tells (news.Down n cause) ∷ (between ++ (order.Tell n came ∷ behind)))) last → list_any (tells_up n) between ≡ false → came ≡ note.Restart
+pub restarts_between : (n : ℕ) (cause : Cause) (came : Note TowerBody WireLine) (last : Bool) (before between behind : List Order) → Follows n false (before ++ (order.Log (news.Down n cause) ∷ (between ++ (order.Submit n came ∷ behind)))) last → list_any (tells_up n) between ≡ false → came ≡ note.Restart
 unfolding Follows
 restarts_between n cause came last before between behind follows none =
-    let rest = between ++ (order.Tell n came ∷ behind) in
-    let b = follows_behind n false last before (order.Tells (news.Down n cause) ∷ rest) follows in
+    let rest = between ++ (order.Submit n came ∷ behind) in
+    let b = follows_behind n false last before (order.Log (news.Down n cause) ∷ rest) follows in
     let (fits, more) = b.follows in
     let down : Follows n true rest last = subst (λ (d : Bool). Follows n d rest last) (or_true b.down (nat_eq n n) (same_eq n)) more in
-    let (told, end) = follows_down n last between (order.Tell n came ∷ behind) none down in
+    let (told, end) = follows_down n last between (order.Submit n came ∷ behind) none down in
     subst (λ (own : Bool). OnlyRestart true own came) (same_eq n) told
 
 -- Orders that fit.
@@ -140,7 +140,7 @@ both_false true false up = refl
 both_false false own up = refl
 
 -- an order of a client whose node is up, or another one
-client_news : (n : ℕ) (down : Bool) (origin : Origin) (said : News) → IsFor origin (order.Tells said) → down_said n down said ≡ down
+client_news : (n : ℕ) (down : Bool) (origin : Origin) (said : News) → IsFor origin (order.Log said) → down_said n down said ≡ down
 client_news n down origin (news.Attached other) is = refl
 client_news n down origin (news.Left other) is = refl
 client_news n down origin (news.Elected node term) is = absurd is
@@ -153,14 +153,14 @@ client_news n down origin (news.TurnedAway node) is = absurd is
 client_news n down origin (news.LogFills node level) is = absurd is
 
 pub client_plain : (n : ℕ) (down : Bool) (origin : Origin) (o : Order) → (down && nat_eq origin.0 n) ≡ false → IsFor origin o → Plain n down o
-client_plain n down origin (order.Tell other came) apart (is, own) =
+client_plain n down origin (order.Submit other came) apart (is, own) =
     (told_apart down (nat_eq other n) came (subst (λ (k : ℕ). (down && nat_eq k n) ≡ false) (sym is) apart), refl)
 client_plain n down origin (order.Write client bytes) apart is = (tt, refl)
 client_plain n down origin (order.Close client) apart is = (tt, refl)
 client_plain n down origin order.Connect apart is = absurd is
 client_plain n down origin (order.Send bytes) apart is = absurd is
 client_plain n down origin order.Disconnect apart is = absurd is
-client_plain n down origin (order.Tells said) apart is = (tt, client_news n down origin said is)
+client_plain n down origin (order.Log said) apart is = (tt, client_news n down origin said is)
 
 pub apart_good : (n : ℕ) (down : Bool) (P : Order → Type 0) (c : Client) → (down && nat_eq c.origin.0 n) ≡ false → Good P c → Good (Plain n down) c
 apart_good n down P c apart good = record {

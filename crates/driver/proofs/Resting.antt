@@ -9,14 +9,14 @@ use Rattle.raft_log.specs.declared.role.Role.{Role}
 use Rattle.raft_log.specs.declared.role.Role.TheVariants.{Follower, Candidate, Leader}
 use Rattle.raft_node.specs.declared.node_fault.Cause.{Cause}
 use Rattle.driver.specs.declared.clients.Clients.{Clients}
-use Rattle.driver.specs.declared.desk.Desk.{Desk}
+use Rattle.driver.specs.declared.node_monitor.NodeMonitor.{NodeMonitor}
 use Rattle.driver.specs.declared.driver.Driver.{Driver}
 use Rattle.driver.specs.declared.link.Stage.{Stage}
 use Rattle.driver.specs.declared.link.Stage.TheVariants.{Connecting, Idle, Open}
 use Rattle.driver.specs.declared.news.Ending.{Ending}
 use Rattle.driver.specs.declared.news.Ending.TheVariants.{LedNoMore}
 use Rattle.driver.specs.declared.order.Order.TheVariants as order
-use Rattle.driver.specs.Desks.{claim_due, claim_if, desk_claimed, told}
+use Rattle.driver.specs.Monitors.{claim_due, claim_if, monitor_claimed, told}
 use Rattle.driver.specs.Driving.{Claims, Connects, Ends, LeavesIf, ServesIf, TickNodes, TicksNode, closed_of, closed_orders, orders_of}
 use Rattle.driver.specs.Hearing.{boot_if, boot_up}
 use Rattle.driver.specs.Leading.{IsLeader, is_older, is_that, term_at, term_in, term_of}
@@ -24,12 +24,12 @@ use Rattle.driver.specs.Links.{end_of, ending, may_connect, node_of, status_at, 
 use Rattle.driver.specs.Telling.{Ordered, ordered}
 use Rattle.driver.proofs.Adding.{Adds, one_adds}
 use Rattle.driver.proofs.Claiming.{claim_change, claim_orders, claimed_id, may_claim}
-use Rattle.driver.proofs.Desks.{Ids, ids_changed}
+use Rattle.driver.proofs.Monitors.{Ids, ids_changed}
 use Rattle.driver.proofs.Growing.{AllAre, AllGood, all_append}
 use Rattle.driver.proofs.Keeping.{Line}
 use Rattle.driver.proofs.Led.{that_is}
 use Rattle.driver.proofs.Restarts.{Plain, both_false, told_apart}
-use Rattle.driver.proofs.Staying.{KeepsStanding, StandsAs, Stays, Steady, both_last, changed_as, desk_stays, is_down_so, orders_stay, own_stands, same_stays, stays_both}
+use Rattle.driver.proofs.Staying.{KeepsStanding, StandsAs, Stays, Steady, both_last, changed_as, monitor_stays, is_down_so, orders_stay, own_stands, same_stays, stays_both}
 
 -- a node that is up in some run is not down
 boot_none : (boot : ℕ) (down : Option Cause) → is_some (boot_if boot down) ≡ true → is_some down ≡ false
@@ -40,15 +40,15 @@ up_so : (status : Option Status) → is_some (boot_up status) ≡ true → is_do
 up_so None is = absurd (cc is)
 up_so (Some status) is = boot_none status.boot status.down is
 
-pub up_by : (down : Bool) (found : Option Desk) → StandsAs down found → is_some (boot_up (status_in found)) ≡ true → down ≡ false
+pub up_by : (down : Bool) (found : Option NodeMonitor) → StandsAs down found → is_some (boot_up (status_in found)) ≡ true → down ≡ false
 up_by down None at up = at
 up_by down (Some d) (is, so) up = sym so ∙ up_so d.status up
 
 -- the node itself, where it is up in some run
-pub up_own : (n m : ℕ) (down : Bool) (desks : List Desk) → StandsAs down (slice_get desks (n - 1)) → is_some (boot_up (status_at desks m)) ≡ true → nat_eq m n ≡ true → down ≡ false
-up_own n m down desks at up own =
+pub up_own : (n m : ℕ) (down : Bool) (monitors : List NodeMonitor) → StandsAs down (slice_get monitors (n - 1)) → is_some (boot_up (status_at monitors m)) ≡ true → nat_eq m n ≡ true → down ≡ false
+up_own n m down monitors at up own =
     let same : m ≡ n = eqb-true m n own in
-    up_by down (slice_get desks (n - 1)) at (subst (λ (k : ℕ). is_some (boot_up (status_at desks k)) ≡ true) same up)
+    up_by down (slice_get monitors (n - 1)) at (subst (λ (k : ℕ). is_some (boot_up (status_at monitors k)) ≡ true) same up)
 
 -- and where it leads
 leads_none : (role : Role) (down : Option Cause) → leads_up role down ≡ true → is_some down ≡ false
@@ -65,17 +65,17 @@ pub lead_so : (status : Option Status) (term : ℕ) → term_of status ≡ Some 
 lead_so None term is = absurd (cc is)
 lead_so (Some status) term is = leads_none status.role status.down (leads_if (leads status) status.term term is)
 
-pub lead_by : (down : Bool) (found : Option Desk) (term : ℕ) → StandsAs down found → term_in found ≡ Some term → down ≡ false
+pub lead_by : (down : Bool) (found : Option NodeMonitor) (term : ℕ) → StandsAs down found → term_in found ≡ Some term → down ≡ false
 lead_by down None term at is = at
 lead_by down (Some d) term (here, so) is = sym so ∙ lead_so d.status term is
 
-pub lead_own : (n m : ℕ) (down : Bool) (desks : List Desk) → StandsAs down (slice_get desks (n - 1)) → IsLeader desks (Some m) → m ≡ n → down ≡ false
-lead_own n m down desks at (term, is, above) same =
-    lead_by down (slice_get desks (n - 1)) term at (subst (λ (k : ℕ). term_at desks k ≡ Some term) same is)
+pub lead_own : (n m : ℕ) (down : Bool) (monitors : List NodeMonitor) → StandsAs down (slice_get monitors (n - 1)) → IsLeader monitors (Some m) → m ≡ n → down ≡ false
+lead_own n m down monitors at (term, is, above) same =
+    lead_by down (slice_get monitors (n - 1)) term at (subst (λ (k : ℕ). term_at monitors k ≡ Some term) same is)
 
 -- The end of a session.
 
-end_plain : (n : ℕ) (down given : Bool) (node : ℕ) (why : Ending) → Plain n down (order.Tells (end_of given node why))
+end_plain : (n : ℕ) (down given : Bool) (node : ℕ) (why : Ending) → Plain n down (order.Log (end_of given node why))
 end_plain n down true node why = (tt, refl)
 end_plain n down false node why = (tt, refl)
 
@@ -90,18 +90,18 @@ unfolding AllAre
 closed_by n down m true up = ((told_apart down (nat_eq m n) note.Closed (both_false down (nat_eq m n) (λ own. up refl own)), refl), tt)
 closed_by n down m false up = tt
 
-closed_plain : (n : ℕ) (down : Bool) (desks : List Desk) (node : Option ℕ) (lost : Bool) → StandsAs down (slice_get desks (n - 1)) → AllAre (Plain n down) (closed_orders (closed_of desks node lost))
+closed_plain : (n : ℕ) (down : Bool) (monitors : List NodeMonitor) (node : Option ℕ) (lost : Bool) → StandsAs down (slice_get monitors (n - 1)) → AllAre (Plain n down) (closed_orders (closed_of monitors node lost))
 unfolding AllAre
-closed_plain n down desks None lost at = tt
-closed_plain n down desks (Some m) lost at =
-    closed_by n down m (lost && is_some (boot_up (status_at desks m)))
-    (λ is own. up_own n m down desks at (both_last lost (is_some (boot_up (status_at desks m))) is) own)
+closed_plain n down monitors None lost at = tt
+closed_plain n down monitors (Some m) lost at =
+    closed_by n down m (lost && is_some (boot_up (status_at monitors m)))
+    (λ is own. up_own n m down monitors at (both_last lost (is_some (boot_up (status_at monitors m))) is) own)
 
 pub ends_stay : (n now : ℕ) (down : Bool) (why : Ending) (old new : Driver) → Steady n down old → Ends now why old new → Stays n down old new
 ends_stay n now down why old new steady e =
-    let node = closed_of old.desks (node_of old.link.stage) e.lost in
+    let node = closed_of old.monitors (node_of old.link.stage) e.lost in
     orders_stay n down old new steady
-    (ap (λ (driver : Driver). driver.desks) e.rest)
+    (ap (λ (driver : Driver). driver.monitors) e.rest)
     (ap (λ (driver : Driver). driver.clients) e.rest)
     (record {
       told = ending old.link.stage why ++ closed_orders node;
@@ -109,7 +109,7 @@ ends_stay n now down why old new steady e =
       all =
           all_append (Plain n down) (ending old.link.stage why) (closed_orders node)
           (ending_plain n down old.link.stage why)
-          (closed_plain n down old.desks (node_of old.link.stage) e.lost steady.at);
+          (closed_plain n down old.monitors (node_of old.link.stage) e.lost steady.at);
     })
 
 pub leaves_stay : (n : ℕ) (leaves : Bool) (now : ℕ) (down : Bool) (why : Ending) (old new : Driver) → Steady n down old → LeavesIf leaves now why old new → Stays n down old new
@@ -117,15 +117,15 @@ leaves_stay n false now down why old new steady same = same_stays n down old new
 leaves_stay n true now down why old new steady l =
     let first =
     orders_stay n down old l.closed steady
-    (ap (λ (driver : Driver). driver.desks) l.rest)
+    (ap (λ (driver : Driver). driver.monitors) l.rest)
     (ap (λ (driver : Driver). driver.clients) l.rest)
     (one_adds (Plain n down) order.Disconnect old.orders l.closed.orders l.orders (tt, refl))
     in
     stays_both n down old l.closed new first (ends_stay n now down why l.closed new first.steady l.ends)
 
-pub left_desks : (leaves : Bool) (now : ℕ) (why : Ending) (old new : Driver) → LeavesIf leaves now why old new → new.desks ≡ old.desks
-left_desks false now why old new same = ap (λ (driver : Driver). driver.desks) same
-left_desks true now why old new l = ap (λ (driver : Driver). driver.desks) l.ends.rest ∙ ap (λ (driver : Driver). driver.desks) l.rest
+pub left_monitors : (leaves : Bool) (now : ℕ) (why : Ending) (old new : Driver) → LeavesIf leaves now why old new → new.monitors ≡ old.monitors
+left_monitors false now why old new same = ap (λ (driver : Driver). driver.monitors) same
+left_monitors true now why old new l = ap (λ (driver : Driver). driver.monitors) l.ends.rest ∙ ap (λ (driver : Driver). driver.monitors) l.rest
 
 connects_fit : (n : ℕ) (down may : Bool) (before after : Ordered) → after ≡ ordered before (if may then order.Connect ∷ [] else []) → Adds (Plain n down) before after
 unfolding AllAre
@@ -135,13 +135,13 @@ connects_fit n down false before after is = record { told = []; orders = is; all
 connects_stay : (n now node : ℕ) (down : Bool) (old new : Driver) → Steady n down old → Connects now node old new → Stays n down old new
 connects_stay n now node down old new steady c =
     orders_stay n down old new steady
-    (ap (λ (driver : Driver). driver.desks) c.rest)
+    (ap (λ (driver : Driver). driver.monitors) c.rest)
     (ap (λ (driver : Driver). driver.clients) c.rest)
     (connects_fit n down (may_connect old.link.stage now) old.orders new.orders c.orders)
 
 -- The node that leads claims, and it is up.
 
-claimed_keeps : (orders : Ordered) (now : ℕ) (may : Bool) (due : Option Line) (d : Desk) → (is_some (desk_claimed orders d now may due).down ≡ is_some d.down) × (is_down_so (desk_claimed orders d now may due).status ≡ is_down_so d.status)
+claimed_keeps : (orders : Ordered) (now : ℕ) (may : Bool) (due : Option Line) (d : NodeMonitor) → (is_some (monitor_claimed orders d now may due).down ≡ is_some d.down) × (is_down_so (monitor_claimed orders d now may due).status ≡ is_down_so d.status)
 claimed_keeps orders now may None d = (refl, refl)
 claimed_keeps orders now true (Some line) d = (refl, refl)
 claimed_keeps orders now false (Some line) d = (refl, refl)
@@ -152,50 +152,50 @@ claim_plain n down id may None up = tt
 claim_plain n down id true (Some line) up = ((told_apart down (nat_eq id n) note.Claim (both_false down (nat_eq id n) up), refl), tt)
 claim_plain n down id false (Some line) up = tt
 
-claims_plain : (n now node : ℕ) (down may : Bool) (old : Driver) (found : Option Desk) → 1 ≤ n → Steady n down old → IsLeader old.desks (Some node) → slice_get old.desks (node - 1) ≡ found → AllAre (Plain n down) (orders_of (claim_orders old now may) found)
+claims_plain : (n now node : ℕ) (down may : Bool) (old : Driver) (found : Option NodeMonitor) → 1 ≤ n → Steady n down old → IsLeader old.monitors (Some node) → slice_get old.monitors (node - 1) ≡ found → AllAre (Plain n down) (orders_of (claim_orders old now may) found)
 unfolding AllAre
 claims_plain n now node down may old None low steady leads is = tt
 claims_plain n now node down may old (Some d) low steady (term, leads, above) is =
     claim_plain n down d.id may (claim_due d old.settings now)
-    (λ own. lead_by down (Some d) term (own_stands n node down old.desks d low steady.ids steady.at is own) (subst (λ (found : Option Desk). term_in found ≡ Some term) is leads))
+    (λ own. lead_by down (Some d) term (own_stands n node down old.monitors d low steady.ids steady.at is own) (subst (λ (found : Option NodeMonitor). term_in found ≡ Some term) is leads))
 
-claims_stay : (n now node : ℕ) (down : Bool) (old new : Driver) → 1 ≤ n → Steady n down old → IsLeader old.desks (Some node) → Claims now node old new → Stays n down old new
+claims_stay : (n now node : ℕ) (down : Bool) (old new : Driver) → 1 ≤ n → Steady n down old → IsLeader old.monitors (Some node) → Claims now node old new → Stays n down old new
 claims_stay n now node down old new low steady leads c =
     let may = may_claim old now in
     let change = claim_change old now may in
     let keeps : KeepsStanding change = λ d. claimed_keeps old.orders now may (claim_due d old.settings now) d in
     record {
       adds = record {
-        told = orders_of (claim_orders old now may) (slice_get old.desks (node - 1));
+        told = orders_of (claim_orders old now may) (slice_get old.monitors (node - 1));
         orders = c.orders;
-        all = claims_plain n now node down may old (slice_get old.desks (node - 1)) low steady leads refl;
+        all = claims_plain n now node down may old (slice_get old.monitors (node - 1)) low steady leads refl;
       };
       steady = record {
         good = subst (λ (clients : Clients). AllGood (Plain n down) clients) (sym (ap (λ (driver : Driver). driver.clients) c.rest)) steady.good;
         ids =
-            subst (λ (desks : List Desk). Ids desks) (sym c.desks)
-            (ids_changed change (λ d. claimed_id old.orders now may (claim_due d old.settings now) d) old.desks node steady.ids);
+            subst (λ (monitors : List NodeMonitor). Ids monitors) (sym c.monitors)
+            (ids_changed change (λ d. claimed_id old.orders now may (claim_due d old.settings now) d) old.monitors node steady.ids);
         at =
-            subst (λ (desks : List Desk). StandsAs down (slice_get desks (n - 1))) (sym c.desks)
-            (changed_as n node down change old.desks keeps steady.at);
+            subst (λ (monitors : List NodeMonitor). StandsAs down (slice_get monitors (n - 1))) (sym c.monitors)
+            (changed_as n node down change old.monitors keeps steady.at);
       };
     }
 
-serves_stay : (n : ℕ) (serves : Bool) (now node : ℕ) (down : Bool) (leader : Option ℕ) (old new : Driver) → 1 ≤ n → Steady n down old → IsLeader old.desks leader → is_that leader node ≡ serves → ServesIf serves now node old new → Stays n down old new
+serves_stay : (n : ℕ) (serves : Bool) (now node : ℕ) (down : Bool) (leader : Option ℕ) (old new : Driver) → 1 ≤ n → Steady n down old → IsLeader old.monitors leader → is_that leader node ≡ serves → ServesIf serves now node old new → Stays n down old new
 serves_stay n false now node down leader old new low steady leads is same = same_stays n down old new steady same
 serves_stay n true now node down leader old new low steady leads is s =
-    let own = subst (λ (leader : Option ℕ). IsLeader old.desks leader) (that_is leader node is) leads in
+    let own = subst (λ (leader : Option ℕ). IsLeader old.monitors leader) (that_is leader node is) leads in
     let first = claims_stay n now node down old s.claimed low steady own s.claims in
     stays_both n down old s.claimed new first (connects_stay n now node down s.claimed new first.steady s.connects)
 
 -- A node ticks.
 pub node_stays : (n now node : ℕ) (down : Bool) (old new : Driver) → 1 ≤ n → Steady n down old → TicksNode now node old new → Stays n down old new
 node_stays n now node down old new low steady t =
-    let first = desk_stays n now node down old t.told low steady t.ticks in
+    let first = monitor_stays n now node down old t.told low steady t.ticks in
     let older = is_older (node_of t.told.link.stage) t.leader in
     let left = leaves_stay n older now down LedNoMore t.told t.left first.steady t.leaves in
     let leads =
-    subst (λ (desks : List Desk). IsLeader desks t.leader) (sym (left_desks older now LedNoMore t.told t.left t.leaves)) t.is_leader
+    subst (λ (monitors : List NodeMonitor). IsLeader monitors t.leader) (sym (left_monitors older now LedNoMore t.told t.left t.leaves)) t.is_leader
     in
     let served = serves_stay n (is_that t.leader node) now node down t.leader t.left new low left.steady leads refl t.serves in
     stays_both n down old t.left new (stays_both n down old t.told t.left first left) served

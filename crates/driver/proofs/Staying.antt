@@ -10,16 +10,16 @@ use Rattle.node_notes.specs.declared.status.Status.{Status}
 use Rattle.node_notes.specs.Notes.{leads}
 use Rattle.driver.specs.declared.timer.Timer.{Timer}
 use Rattle.driver.specs.declared.clients.Clients.{Clients}
-use Rattle.driver.specs.declared.desk.Desk.{Desk}
+use Rattle.driver.specs.declared.node_monitor.NodeMonitor.{NodeMonitor}
 use Rattle.driver.specs.declared.driver.Driver.{Driver}
-use Rattle.driver.specs.declared.gone.Notice.{Notice}
+use Rattle.driver.specs.declared.retirement.Retirement.{Retirement}
 use Rattle.driver.specs.declared.settings.Settings.{Settings}
-use Rattle.driver.specs.Desks.{desk_behind, is_over, is_to_beat, note_at, note_for, note_up, patience, told}
-use Rattle.driver.specs.Driving.{TicksDesk, changed_at, changed_if, clock_told, clocked, orders_of, tick_orders, ticked, told_of}
-use Rattle.driver.specs.Gone.{restart_at, restart_behind, restart_if}
+use Rattle.driver.specs.Monitors.{monitor_behind, is_over, is_to_beat, note_at, note_for, note_up, patience, told}
+use Rattle.driver.specs.Driving.{TicksMonitor, changed_at, changed_if, clock_told, clocked, orders_of, tick_orders, ticked, told_of}
+use Rattle.driver.specs.Retiring.{restart_at, restart_behind, restart_if}
 use Rattle.driver.specs.Telling.{Ordered}
 use Rattle.driver.proofs.Adding.{Adds, adds_both, nothing_adds}
-use Rattle.driver.proofs.Desks.{Ids, Look, get_other, get_same, ids_changed, look, look_in, ticked_look}
+use Rattle.driver.proofs.Monitors.{Ids, Look, get_other, get_same, ids_changed, look, look_in, ticked_look}
 use Rattle.driver.proofs.Growing.{AllAre, AllGood, Grows, all_append, by_number}
 use Rattle.driver.proofs.Restarts.{Plain, told_only}
 
@@ -28,16 +28,16 @@ abbrev pub is_down_so : Option Status → Bool
 is_down_so None = false
 is_down_so (Some status) = is_some status.down
 
--- a desk knows that its node is down, or up
-abbrev pub StandsAs : Bool → Option Desk → Type 0
+-- a monitor knows that its node is down, or up
+abbrev pub StandsAs : Bool → Option NodeMonitor → Type 0
 StandsAs down None = down ≡ false
 StandsAs down (Some d) = (is_some d.down ≡ down) × (is_down_so d.status ≡ down)
 
 -- Of a node that is down, or up, the driver knows it, and what each client orders fits.
 pub record Steady (n : ℕ) (down : Bool) (driver : Driver) : Type 0 where
   pub good : AllGood (Plain n down) driver.clients
-  pub ids : Ids driver.desks
-  pub at : StandsAs down (slice_get driver.desks (n - 1))
+  pub ids : Ids driver.monitors
+  pub at : StandsAs down (slice_get driver.monitors (n - 1))
 
 -- What was ordered fits, and the node stands as before.
 pub record Stays (n : ℕ) (down : Bool) (old new : Driver) : Type 0 where
@@ -56,64 +56,64 @@ stays_both n down old behind new first last = record {
   steady = last.steady;
 }
 
--- where the desks and the clients stay
-pub orders_stay : (n : ℕ) (down : Bool) (old new : Driver) → Steady n down old → new.desks ≡ old.desks → new.clients ≡ old.clients → Adds (Plain n down) old.orders new.orders → Stays n down old new
-orders_stay n down old new steady desks clients adds = record {
+-- where the monitors and the clients stay
+pub orders_stay : (n : ℕ) (down : Bool) (old new : Driver) → Steady n down old → new.monitors ≡ old.monitors → new.clients ≡ old.clients → Adds (Plain n down) old.orders new.orders → Stays n down old new
+orders_stay n down old new steady monitors clients adds = record {
   adds = adds;
   steady = record {
     good = subst (λ (clients : Clients). AllGood (Plain n down) clients) (sym clients) steady.good;
-    ids = subst (λ (desks : List Desk). Ids desks) (sym desks) steady.ids;
-    at = subst (λ (desks : List Desk). StandsAs down (slice_get desks (n - 1))) (sym desks) steady.at;
+    ids = subst (λ (monitors : List NodeMonitor). Ids monitors) (sym monitors) steady.ids;
+    at = subst (λ (monitors : List NodeMonitor). StandsAs down (slice_get monitors (n - 1))) (sym monitors) steady.at;
   };
 }
 
--- where the desks stay
-pub grows_stay : (n : ℕ) (down : Bool) (old new : Driver) → Steady n down old → new.desks ≡ old.desks → Grows (Plain n down) (told_of old) (told_of new) → Stays n down old new
-grows_stay n down old new steady desks g = record {
+-- where the monitors stay
+pub grows_stay : (n : ℕ) (down : Bool) (old new : Driver) → Steady n down old → new.monitors ≡ old.monitors → Grows (Plain n down) (told_of old) (told_of new) → Stays n down old new
+grows_stay n down old new steady monitors g = record {
   adds = record { told = g.told; orders = g.orders; all = g.all };
   steady = record {
     good = g.good;
-    ids = subst (λ (desks : List Desk). Ids desks) (sym desks) steady.ids;
-    at = subst (λ (desks : List Desk). StandsAs down (slice_get desks (n - 1))) (sym desks) steady.at;
+    ids = subst (λ (monitors : List NodeMonitor). Ids monitors) (sym monitors) steady.ids;
+    at = subst (λ (monitors : List NodeMonitor). StandsAs down (slice_get monitors (n - 1))) (sym monitors) steady.at;
   };
 }
 
--- A change of one desk.
+-- A change of one monitor.
 
-pub own_changed : (change : Desk → Desk) (desks : List Desk) (i : ℕ) (found : Option Desk) → slice_get desks i ≡ found → slice_get (changed_if change desks i found) i ≡ option_map change found
-own_changed change desks i None is = is
-own_changed change desks i (Some d) is = get_same desks i d (change d) is
+pub own_changed : (change : NodeMonitor → NodeMonitor) (monitors : List NodeMonitor) (i : ℕ) (found : Option NodeMonitor) → slice_get monitors i ≡ found → slice_get (changed_if change monitors i found) i ≡ option_map change found
+own_changed change monitors i None is = is
+own_changed change monitors i (Some d) is = get_same monitors i d (change d) is
 
-pub other_changed : (change : Desk → Desk) (desks : List Desk) (i j : ℕ) (found : Option Desk) → (j ≡ i → ⊥) → slice_get (changed_if change desks i found) j ≡ slice_get desks j
-other_changed change desks i j None apart = refl
-other_changed change desks i j (Some d) apart = get_other desks i j d (change d) apart
+pub other_changed : (change : NodeMonitor → NodeMonitor) (monitors : List NodeMonitor) (i j : ℕ) (found : Option NodeMonitor) → (j ≡ i → ⊥) → slice_get (changed_if change monitors i found) j ≡ slice_get monitors j
+other_changed change monitors i j None apart = refl
+other_changed change monitors i j (Some d) apart = get_other monitors i j d (change d) apart
 
 -- a change that leaves whether the node is down
-abbrev pub KeepsStanding : (Desk → Desk) → Type 0
-KeepsStanding change = (d : Desk) → (is_some (change d).down ≡ is_some d.down) × (is_down_so (change d).status ≡ is_down_so d.status)
+abbrev pub KeepsStanding : (NodeMonitor → NodeMonitor) → Type 0
+KeepsStanding change = (d : NodeMonitor) → (is_some (change d).down ≡ is_some d.down) × (is_down_so (change d).status ≡ is_down_so d.status)
 
-pub as_kept : (down : Bool) (change : Desk → Desk) (found : Option Desk) → KeepsStanding change → StandsAs down found → StandsAs down (option_map change found)
+pub as_kept : (down : Bool) (change : NodeMonitor → NodeMonitor) (found : Option NodeMonitor) → KeepsStanding change → StandsAs down found → StandsAs down (option_map change found)
 as_kept down change None keeps at = at
 as_kept down change (Some d) keeps (is, so) = let (same, also) = keeps d in (same ∙ is, also ∙ so)
 
-pub changed_as : (n node : ℕ) (down : Bool) (change : Desk → Desk) (desks : List Desk) → KeepsStanding change → StandsAs down (slice_get desks (n - 1)) → StandsAs down (slice_get (changed_at change desks node) (n - 1))
-changed_as n node down change desks keeps at =
-    by_number (n - 1) (node - 1) (StandsAs down (slice_get (changed_at change desks node) (n - 1)))
+pub changed_as : (n node : ℕ) (down : Bool) (change : NodeMonitor → NodeMonitor) (monitors : List NodeMonitor) → KeepsStanding change → StandsAs down (slice_get monitors (n - 1)) → StandsAs down (slice_get (changed_at change monitors node) (n - 1))
+changed_as n node down change monitors keeps at =
+    by_number (n - 1) (node - 1) (StandsAs down (slice_get (changed_at change monitors node) (n - 1)))
     (λ same.
-    subst (λ (k : ℕ). StandsAs down (slice_get (changed_at change desks node) k)) (sym same)
-    (subst (λ (found : Option Desk). StandsAs down found) (sym (own_changed change desks (node - 1) (slice_get desks (node - 1)) refl))
-    (as_kept down change (slice_get desks (node - 1)) keeps (subst (λ (k : ℕ). StandsAs down (slice_get desks k)) same at))))
+    subst (λ (k : ℕ). StandsAs down (slice_get (changed_at change monitors node) k)) (sym same)
+    (subst (λ (found : Option NodeMonitor). StandsAs down found) (sym (own_changed change monitors (node - 1) (slice_get monitors (node - 1)) refl))
+    (as_kept down change (slice_get monitors (node - 1)) keeps (subst (λ (k : ℕ). StandsAs down (slice_get monitors k)) same at))))
     (λ apart.
-    subst (λ (found : Option Desk). StandsAs down found)
-    (sym (other_changed change desks (node - 1) (n - 1) (slice_get desks (node - 1)) apart)) at)
+    subst (λ (found : Option NodeMonitor). StandsAs down found)
+    (sym (other_changed change monitors (node - 1) (n - 1) (slice_get monitors (node - 1)) apart)) at)
 
--- the desk of the node itself is known to stand so
-pub own_stands : (n node : ℕ) (down : Bool) (desks : List Desk) (d : Desk) → 1 ≤ n → Ids desks → StandsAs down (slice_get desks (n - 1)) → slice_get desks (node - 1) ≡ Some d → nat_eq d.id n ≡ true → StandsAs down (Some d)
-own_stands n node down desks d low ids at is own =
+-- the monitor of the node itself is known to stand so
+pub own_stands : (n node : ℕ) (down : Bool) (monitors : List NodeMonitor) (d : NodeMonitor) → 1 ≤ n → Ids monitors → StandsAs down (slice_get monitors (n - 1)) → slice_get monitors (node - 1) ≡ Some d → nat_eq d.id n ≡ true → StandsAs down (Some d)
+own_stands n node down monitors d low ids at is own =
     let id : d.id ≡ node - 1 + 1 = ids (node - 1) (look d) (ap look_in is) in
     let same : d.id ≡ n = eqb-true d.id n own in
     let place : node - 1 ≡ n - 1 = omega (arith, id, same) in
-    subst (λ (found : Option Desk). StandsAs down found) (subst (λ (k : ℕ). slice_get desks k ≡ Some d) place is) at
+    subst (λ (found : Option NodeMonitor). StandsAs down found) (subst (λ (k : ℕ). slice_get monitors k ≡ Some d) place is) at
 
 -- What the clock and word of its runs tell a node.
 
@@ -131,11 +131,11 @@ restart_or : (b : Bool) → IsRestart (if b then Some note.Restart else None)
 restart_or true = refl
 restart_or false = tt
 
-outlived_only : (d : Desk) (floor : Option ℕ) → IsRestart (restart_if d floor)
+outlived_only : (d : NodeMonitor) (floor : Option ℕ) → IsRestart (restart_if d floor)
 outlived_only d None = tt
 outlived_only d (Some floor) = restart_or _
 
-clock_only : (d : Desk) (settings : Settings) (now : ℕ) (status : Option Status) (down : Option Timer) → is_some down ≡ true → IsRestart (note_for d settings now status down)
+clock_only : (d : NodeMonitor) (settings : Settings) (now : ℕ) (status : Option Status) (down : Option Timer) → is_some down ≡ true → IsRestart (note_for d settings now status down)
 unfolding note_for
 clock_only d settings now None down is = tt
 clock_only d settings now (Some status) (Some since) is = restart_or (is_over since d.wait_ms now)
@@ -150,64 +150,64 @@ pub both_last : (a b : Bool) → (a && b) ≡ true → b ≡ true
 both_last true b is = is
 both_last false b is = absurd (cc is)
 
-tick_plain : (n : ℕ) (down : Bool) (node : ℕ) (orders : Ordered) (notices : List (Option Notice)) (settings : Settings) (now : ℕ) (desks : List Desk) (found : Option Desk) → 1 ≤ n → Ids desks → StandsAs down (slice_get desks (n - 1)) → slice_get desks (node - 1) ≡ found → AllAre (Plain n down) (orders_of (tick_orders orders notices settings now) found)
+tick_plain : (n : ℕ) (down : Bool) (node : ℕ) (orders : Ordered) (retirements : List (Option Retirement)) (settings : Settings) (now : ℕ) (monitors : List NodeMonitor) (found : Option NodeMonitor) → 1 ≤ n → Ids monitors → StandsAs down (slice_get monitors (n - 1)) → slice_get monitors (node - 1) ≡ found → AllAre (Plain n down) (orders_of (tick_orders orders retirements settings now) found)
 unfolding AllAre
-tick_plain n down node orders notices settings now desks None low ids at is = tt
-tick_plain n down node orders notices settings now desks (Some d) low ids at is =
+tick_plain n down node orders retirements settings now monitors None low ids at is = tt
+tick_plain n down node orders retirements settings now monitors (Some d) low ids at is =
     let behind = clocked orders settings now d in
-    all_append (Plain n down) (told d.id (note_at d settings now)) (told behind.id (restart_at notices behind))
+    all_append (Plain n down) (told d.id (note_at d settings now)) (told behind.id (restart_at retirements behind))
     (note_plain n down d.id (note_at d settings now) (λ both.
-    let (here, so) = own_stands n node down desks d low ids at is (both_last down (nat_eq d.id n) both) in
+    let (here, so) = own_stands n node down monitors d low ids at is (both_last down (nat_eq d.id n) both) in
     clock_only d settings now d.status d.down (here ∙ both_first down (nat_eq d.id n) both)))
-    (note_plain n down behind.id (restart_at notices behind) (λ both. outlived_only behind _))
+    (note_plain n down behind.id (restart_at retirements behind) (λ both. outlived_only behind _))
 
--- what the clock changes of a desk leaves whether its node is down
-restarted_down : (b : Bool) (orders : Ordered) (d : Desk) (now : ℕ) (since : Timer) → d.down ≡ Some since → is_some (desk_behind orders d now (if b then Some note.Restart else None)).down ≡ is_some d.down
-unfolding desk_behind
+-- what the clock changes of a monitor leaves whether its node is down
+restarted_down : (b : Bool) (orders : Ordered) (d : NodeMonitor) (now : ℕ) (since : Timer) → d.down ≡ Some since → is_some (monitor_behind orders d now (if b then Some note.Restart else None)).down ≡ is_some d.down
+unfolding monitor_behind
 restarted_down true orders d now since is = sym (ap (λ (down : Option Timer). is_some down) is)
 restarted_down false orders d now since is = refl
 
-up_down : (leads beats waited : Bool) (orders : Ordered) (d : Desk) (now contacts : ℕ) → is_some (desk_behind orders d now (if leads then (if beats then Some note.Beat else None) else (if waited then Some (note.Timeout contacts) else None))).down ≡ is_some d.down
-unfolding desk_behind
+up_down : (leads beats waited : Bool) (orders : Ordered) (d : NodeMonitor) (now contacts : ℕ) → is_some (monitor_behind orders d now (if leads then (if beats then Some note.Beat else None) else (if waited then Some (note.Timeout contacts) else None))).down ≡ is_some d.down
+unfolding monitor_behind
 up_down true true waited orders d now contacts = refl
 up_down true false waited orders d now contacts = refl
 up_down false beats true orders d now contacts = refl
 up_down false beats false orders d now contacts = refl
 
-clocked_down : (orders : Ordered) (settings : Settings) (now : ℕ) (d : Desk) (status : Option Status) (down : Option Timer) → d.down ≡ down → is_some (desk_behind orders d now (note_for d settings now status down)).down ≡ is_some d.down
-unfolding note_for note_up desk_behind
+clocked_down : (orders : Ordered) (settings : Settings) (now : ℕ) (d : NodeMonitor) (status : Option Status) (down : Option Timer) → d.down ≡ down → is_some (monitor_behind orders d now (note_for d settings now status down)).down ≡ is_some d.down
+unfolding note_for note_up monitor_behind
 clocked_down orders settings now d None down is = refl
 clocked_down orders settings now d (Some status) (Some since) is = restarted_down (is_over since d.wait_ms now) orders d now since is
 clocked_down orders settings now d (Some status) None is =
-    up_down (leads status) (is_to_beat d settings now) (is_over d.led (patience settings d.id) now) orders d now d.progress.contacts
+    up_down (leads status) (is_to_beat d settings now) (is_over d.last_leader_contact (patience settings d.id) now) orders d now d.progress.contacts
 
-outlived_down : (orders : Ordered) (came : Option (Note TowerBody WireLine)) (d : Desk) → is_some (restart_behind orders d came).down ≡ is_some d.down
+outlived_down : (orders : Ordered) (came : Option (Note TowerBody WireLine)) (d : NodeMonitor) → is_some (restart_behind orders d came).down ≡ is_some d.down
 outlived_down orders None d = refl
 outlived_down orders (Some came) d = refl
 
-ticked_keeps : (orders : Ordered) (notices : List (Option Notice)) (settings : Settings) (now : ℕ) → KeepsStanding (ticked orders notices settings now)
-ticked_keeps orders notices settings now d =
+ticked_keeps : (orders : Ordered) (retirements : List (Option Retirement)) (settings : Settings) (now : ℕ) → KeepsStanding (ticked orders retirements settings now)
+ticked_keeps orders retirements settings now d =
     let behind = clocked orders settings now d in (
-      outlived_down (clock_told orders settings now d) (restart_at notices behind) behind ∙ clocked_down orders settings now d d.status d.down refl,
-      ap (λ (x : Look). is_down_so x.status) (ticked_look orders notices settings now d),
+      outlived_down (clock_told orders settings now d) (restart_at retirements behind) behind ∙ clocked_down orders settings now d d.status d.down refl,
+      ap (λ (x : Look). is_down_so x.status) (ticked_look orders retirements settings now d),
     )
 
-pub desk_stays : (n now node : ℕ) (down : Bool) (old new : Driver) → 1 ≤ n → Steady n down old → TicksDesk now node old new → Stays n down old new
-desk_stays n now node down old new low steady t =
-    let change : Desk → Desk = ticked old.orders old.notices.all old.settings now in
+pub monitor_stays : (n now node : ℕ) (down : Bool) (old new : Driver) → 1 ≤ n → Steady n down old → TicksMonitor now node old new → Stays n down old new
+monitor_stays n now node down old new low steady t =
+    let change : NodeMonitor → NodeMonitor = ticked old.orders old.retirements.all old.settings now in
     record {
       adds = record {
-        told = orders_of (tick_orders old.orders old.notices.all old.settings now) (slice_get old.desks (node - 1));
+        told = orders_of (tick_orders old.orders old.retirements.all old.settings now) (slice_get old.monitors (node - 1));
         orders = t.orders;
-        all = tick_plain n down node old.orders old.notices.all old.settings now old.desks (slice_get old.desks (node - 1)) low steady.ids steady.at refl;
+        all = tick_plain n down node old.orders old.retirements.all old.settings now old.monitors (slice_get old.monitors (node - 1)) low steady.ids steady.at refl;
       };
       steady = record {
         good = subst (λ (clients : Clients). AllGood (Plain n down) clients) (sym (ap (λ (driver : Driver). driver.clients) t.rest)) steady.good;
         ids =
-            subst (λ (desks : List Desk). Ids desks) (sym t.desks)
-            (ids_changed change (λ d. ap (λ (x : Look). x.id) (ticked_look old.orders old.notices.all old.settings now d)) old.desks node steady.ids);
+            subst (λ (monitors : List NodeMonitor). Ids monitors) (sym t.monitors)
+            (ids_changed change (λ d. ap (λ (x : Look). x.id) (ticked_look old.orders old.retirements.all old.settings now d)) old.monitors node steady.ids);
         at =
-            subst (λ (desks : List Desk). StandsAs down (slice_get desks (n - 1))) (sym t.desks)
-            (changed_as n node down change old.desks (ticked_keeps old.orders old.notices.all old.settings now) steady.at);
+            subst (λ (monitors : List NodeMonitor). StandsAs down (slice_get monitors (n - 1))) (sym t.monitors)
+            (changed_as n node down change old.monitors (ticked_keeps old.orders old.retirements.all old.settings now) steady.at);
       };
     }

@@ -5,7 +5,7 @@ use Rattle.bouncer_tower.specs.Bodies.{TowerBody}
 use Rattle.buffer_commands.specs.declared.wire_line.WireLine.{WireLine}
 use Rattle.node_notes.specs.declared.note.Note.{Note}
 use Rattle.driver.specs.declared.order.Order.{Order}
-use Rattle.driver.specs.declared.order.Order.TheVariants.{Tell}
+use Rattle.driver.specs.declared.order.Order.TheVariants.{Submit}
 use Rattle.driver.specs.Telling.{Ordered, counted, counts, next_note, ordered, told_to}
 
 -- the last order counts behind those before it
@@ -15,12 +15,12 @@ counts_push told [] order = refl
 counts_push told (item ∷ items) order = counts_push (counted told item) items order
 
 -- a node that is told a note more has the note's number as its count
-pub tell_counts : (told before : List ℕ) (items : List Order) (node : ℕ) (note : Note TowerBody WireLine) (number : ℕ) → told ≡ counts before items → number ≡ next_note (record { before = before; items = items }) node → set told (node - 1) number ≡ counts before (items ++ Tell node note ∷ [])
+pub tell_counts : (told before : List ℕ) (items : List Order) (node : ℕ) (note : Note TowerBody WireLine) (number : ℕ) → told ≡ counts before items → number ≡ next_note (record { before = before; items = items }) node → set told (node - 1) number ≡ counts before (items ++ Submit node note ∷ [])
 unfolding told_to
 tell_counts told before items node note number is next =
     ap (λ (told : List ℕ). set told (node - 1) number) is
     ∙ ap (λ (number : ℕ). set (counts before items) (node - 1) number) next
-    ∙ sym (counts_push before items (Tell node note))
+    ∙ sym (counts_push before items (Submit node note))
 
 -- three orders, one after another
 pub three_ordered : (orders : Ordered) (first second third : Order) → ordered (ordered (ordered orders (first ∷ [])) (second ∷ [])) (third ∷ []) ≡ ordered orders (first ∷ second ∷ third ∷ [])

@@ -6,31 +6,31 @@ use Rattle.std.proofs.lemmas.Bool.Decides.{nat_tests}
 use Rattle.std.proofs.lemmas.List.{append_assoc, append_cancel_left}
 use Rattle.std.proofs.lemmas.List.Folds.{list_any-append}
 use Rattle.machine_laws.specs.Sessions.{same_session}
-use Rattle.driver.specs.declared.desk.Claimed.{Claimed}
-use Rattle.driver.specs.declared.desk.Desk.{Desk}
+use Rattle.driver.specs.declared.node_monitor.Claimed.{Claimed}
+use Rattle.driver.specs.declared.node_monitor.NodeMonitor.{NodeMonitor}
 use Rattle.driver.specs.declared.driver.Driver.{Driver}
 use Rattle.driver.specs.declared.order.Order.{Order}
 use Rattle.driver.specs.Claiming.{claims}
-use Rattle.driver.specs.Desks.{is_claimed, line_to_claim}
+use Rattle.driver.specs.Monitors.{is_claimed, line_to_claim}
 use Rattle.driver.specs.Links.{status_at, status_in}
 use Rattle.driver.specs.Telling.{Ordered, ordered}
 use Rattle.driver.proofs.Adding.{Adds, adds_both, nothing_adds}
 use Rattle.driver.proofs.Claiming.{same_eq}
 use Rattle.driver.proofs.Keeping.{IsClaimed, Keeps, Line, Result, Sound}
-use Rattle.driver.proofs.Desks.{Look, look_at, look_in}
+use Rattle.driver.proofs.Monitors.{Look, look_at, look_in}
 use Rattle.driver.proofs.Quiet.{NoClaim, none_claims}
 
 -- The last claim that a node was told is of this line, and may be in its log.
 pub record Waits (n : ℕ) (line : Line) (driver : Driver) : Type 0 where
   pub at : Look
-  pub is_at : look_at driver.desks (n - 1) ≡ Some at
+  pub is_at : look_at driver.monitors (n - 1) ≡ Some at
   pub claim : Claimed
   pub is_claim : at.claimed ≡ Some claim
   pub session : claim.session ≡ line.0
   pub number : claim.number ≡ line.1
   pub unsettled : claim.is_settled ≡ false
 
-pub waits_kept : (n : ℕ) (line : Line) (old new : Driver) → look_at new.desks (n - 1) ≡ look_at old.desks (n - 1) → Waits n line old → Waits n line new
+pub waits_kept : (n : ℕ) (line : Line) (old new : Driver) → look_at new.monitors (n - 1) ≡ look_at old.monitors (n - 1) → Waits n line old → Waits n line new
 waits_kept n line old new same w = record {
   at = w.at;
   is_at = same ∙ w.is_at;
@@ -46,7 +46,7 @@ or_status x None = x
 or_status x (Some y) = y
 
 -- how a node stands, by what is looked at
-pub status_of : (found : Option Desk) (x : Look) → look_in found ≡ Some x → status_in found ≡ x.status
+pub status_of : (found : Option NodeMonitor) (x : Look) → look_in found ≡ Some x → status_in found ≡ x.status
 status_of None x is = absurd (cc is)
 status_of (Some d) x is = ap (λ (y : Look). y.status) (ap (or_status x) is)
 
@@ -54,7 +54,7 @@ status_of (Some d) x is = ap (λ (y : Look). y.status) (ap (or_status x) is)
 -- no claim of that line waited before.
 pub record Fresh (n : ℕ) (applied : Bool) (old new : Driver) : Type 0 where
   pub line : Line
-  pub is_line : line_to_claim (status_at new.desks n) ≡ Some line
+  pub is_line : line_to_claim (status_at new.monitors n) ≡ Some line
   pub waits : Waits n line new
   pub none_before : applied ≡ false → Waits n line old → ⊥
 
@@ -90,7 +90,7 @@ or_claim c None = c
 or_claim c (Some d) = d
 
 -- where the last claim of a line may be in the log, that line is not free
-pub not_free : (n : ℕ) (line : Line) (driver : Driver) (before : Look) (wait now : ℕ) → Waits n line driver → look_at driver.desks (n - 1) ≡ Some before → is_claimed before.claimed wait now line.0 line.1 ≡ false → ⊥
+pub not_free : (n : ℕ) (line : Line) (driver : Driver) (before : Look) (wait now : ℕ) → Waits n line driver → look_at driver.monitors (n - 1) ≡ Some before → is_claimed before.claimed wait now line.0 line.1 ≡ false → ⊥
 not_free n line driver before wait now w is free =
     let same : w.at ≡ before = ap (or_status w.at) (sym w.is_at ∙ is) in
     let held = held_back before.claimed w.claim wait now line (subst (λ (x : Look). x.claimed ≡ Some w.claim) same w.is_claim) w.session w.number w.unsettled in
@@ -137,7 +137,7 @@ outcome_claimed n applied old mid new told adds waits c is =
       quiet = λ not_so. true_false (list_any (claims n) told) (applied ≡ false → (line : Line) → Waits n line old → Waits n line new) has not_so;
       claim = λ _. record {
         line = c.line;
-        is_line = ap line_to_claim (status_of (slice_get new.desks (n - 1)) (record { id = c.before.id; claimed = Some c.claim; status = c.before.status }) c.is_claim) ∙ c.is_line;
+        is_line = ap line_to_claim (status_of (slice_get new.monitors (n - 1)) (record { id = c.before.id; claimed = Some c.claim; status = c.before.status }) c.is_claim) ∙ c.is_line;
         waits = claimed_waits n mid new c;
         none_before = λ not_applied w. not_free n c.line mid c.before c.wait c.now (waits not_applied c.line w) c.is_before c.is_free;
       };

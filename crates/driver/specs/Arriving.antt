@@ -5,37 +5,37 @@ use Rattle.client_gate.specs.Made.{made}
 use Rattle.wire_bytes.specs.declared.origin.Origin.{Origin}
 use Rattle.driver.specs.declared.client.Client.{Client}
 use Rattle.driver.specs.declared.clients.Clients.{Clients}
-use Rattle.driver.specs.declared.desk.Desk.{Desk}
+use Rattle.driver.specs.declared.node_monitor.NodeMonitor.{NodeMonitor}
 use Rattle.driver.specs.declared.driver.Driver.{Driver}
 use Rattle.driver.specs.declared.level.Level.TheVariants.{Roomy}
 use Rattle.driver.specs.declared.link.Stage.TheVariants.{Idle}
 use Rattle.driver.specs.declared.order.Order.{Order}
 use Rattle.driver.specs.declared.settings.Settings.{Settings}
-use Rattle.driver.specs.Desks.{at, new_desk}
+use Rattle.driver.specs.Monitors.{at, new_monitor}
 use Rattle.driver.specs.Driving.{changed_at, orders_at}
-use Rattle.driver.specs.Gone.{no_notices, with_seen}
+use Rattle.driver.specs.Retiring.{no_retirements, with_seen}
 use Rattle.driver.specs.Hearing.{boot_up, turned_away, turned_away_news}
 use Rattle.driver.specs.Links.{first_backoff, status_at}
 use Rattle.driver.specs.Rosters.{IsNew, client_at}
 use Rattle.driver.specs.Telling.{none_told}
 
--- a new desk for each of the seven nodes, in order
-abbrev pub new_desks : Settings → ℕ → List Desk
-new_desks settings now =
-    new_desk settings now 1
-    ∷ new_desk settings now 2
-    ∷ new_desk settings now 3
-    ∷ new_desk settings now 4
-    ∷ new_desk settings now 5
-    ∷ new_desk settings now 6
-    ∷ new_desk settings now 7
+-- a new monitor for each of the seven nodes, in order
+abbrev pub new_monitors : Settings → ℕ → List NodeMonitor
+new_monitors settings now =
+    new_monitor settings now 1
+    ∷ new_monitor settings now 2
+    ∷ new_monitor settings now 3
+    ∷ new_monitor settings now 4
+    ∷ new_monitor settings now 5
+    ∷ new_monitor settings now 6
+    ∷ new_monitor settings now 7
     ∷ []
 
 -- A new driver: nothing is known of any node, there is no client and no connection, and nothing is ordered.
 pub record IsNewDriver (settings : Settings) (now : ℕ) (new : Driver) : Type 0 where
   pub settings_are : new.settings ≡ settings
-  pub desks : new.desks ≡ new_desks settings now
-  pub notices : new.notices.all ≡ no_notices
+  pub monitors : new.monitors ≡ new_monitors settings now
+  pub retirements : new.retirements.all ≡ no_retirements
   pub clients : (number : ℕ) → client_at new.clients number ≡ None
   pub numbered : new.numbered ≡ 0
   pub stage : new.link.stage ≡ Idle (at now) 0
@@ -47,8 +47,8 @@ pub record IsNewDriver (settings : Settings) (now : ℕ) (new : Driver) : Type 0
   pub orders : new.orders ≡ none_told
 
 -- the run in which a node is up, if it is
-abbrev pub boot_at : List Desk → ℕ → Option ℕ
-boot_at desks node = boot_up (status_at desks node)
+abbrev pub boot_at : List NodeMonitor → ℕ → Option ℕ
+boot_at monitors node = boot_up (status_at monitors node)
 
 -- the number of a client that connects to a node with this run: one more than the last, where numbers are left
 abbrev pub number_if : Option ℕ → ℕ → Option ℕ
@@ -56,8 +56,8 @@ number_if None last = None
 number_if (Some boot) last = if nat_lt last (2 ^ 60) then Some (last + 1) else None
 
 -- the number of a client that connects to this node: none where the node is not up, or where no number is left
-abbrev pub next_number : List Desk → ℕ → ℕ → Option ℕ
-next_number desks node last = number_if (boot_at desks node) last
+abbrev pub next_number : List NodeMonitor → ℕ → ℕ → Option ℕ
+next_number monitors node last = number_if (boot_at monitors node) last
 
 -- the number of the last client then
 abbrev pub last_number : ℕ → Option ℕ → ℕ
@@ -79,24 +79,24 @@ ArrivesBy (Some boot) None node password nick now old new = new ≡ old
 ArrivesBy (Some boot) (Some number) node password nick now old new = Arrives (node, boot, number) password nick now new
 
 -- a client has connected to this node, if it was given a number; where the node is not up nobody has
-abbrev pub ArrivesIf : List Desk → Option ℕ → ℕ → List ℕ → List ℕ → ℕ → Clients → Clients → Type 0
-ArrivesIf desks number node password nick now old new = ArrivesBy (boot_at desks node) number node password nick now old new
+abbrev pub ArrivesIf : List NodeMonitor → Option ℕ → ℕ → List ℕ → List ℕ → ℕ → Clients → Clients → Type 0
+ArrivesIf monitors number node password nick now old new = ArrivesBy (boot_at monitors node) number node password nick now old new
 
--- the desks where a client connected to a node with this run, if it is up: the run was seen, where the client was taken; where the
+-- the monitors where a client connected to a node with this run, if it is up: the run was seen, where the client was taken; where the
 -- node is not up, the client was turned away
-abbrev pub visited : Option ℕ → Bool → List Desk → ℕ → List Desk
-visited None taken desks node = changed_at turned_away desks node
-visited (Some boot) taken desks node = if taken then changed_at (with_seen boot) desks node else desks
+abbrev pub visited : Option ℕ → Bool → List NodeMonitor → ℕ → List NodeMonitor
+visited None taken monitors node = changed_at turned_away monitors node
+visited (Some boot) taken monitors node = if taken then changed_at (with_seen boot) monitors node else monitors
 
--- the desks where a client connected to this node, and so many clients had been numbered before it
-abbrev pub desks_behind : List Desk → ℕ → ℕ → List Desk
-desks_behind desks node numbered = visited (boot_at desks node) (nat_lt numbered (2 ^ 60)) desks node
+-- the monitors where a client connected to this node, and so many clients had been numbered before it
+abbrev pub monitors_behind : List NodeMonitor → ℕ → ℕ → List NodeMonitor
+monitors_behind monitors node numbered = visited (boot_at monitors node) (nat_lt numbered (2 ^ 60)) monitors node
 
 -- an operator is told of the first client that was turned away since the node was up
-abbrev pub turned_away_by : Option ℕ → List Desk → ℕ → List Order
-turned_away_by None desks node = orders_at turned_away_news desks node
-turned_away_by (Some boot) desks node = []
+abbrev pub turned_away_by : Option ℕ → List NodeMonitor → ℕ → List Order
+turned_away_by None monitors node = orders_at turned_away_news monitors node
+turned_away_by (Some boot) monitors node = []
 
 -- what an operator is told where a client connects to this node: that it was turned away, if it is the first that was
-abbrev pub turned_away_at : List Desk → ℕ → List Order
-turned_away_at desks node = turned_away_by (boot_at desks node) desks node
+abbrev pub turned_away_at : List NodeMonitor → ℕ → List Order
+turned_away_at monitors node = turned_away_by (boot_at monitors node) monitors node

@@ -9,7 +9,7 @@ use Rattle.wire_bytes.specs.declared.moment.Moment.{Moment}
 use Rattle.driver.specs.declared.client.Asked.{Asked}
 use Rattle.driver.specs.declared.client.Client.{Client}
 use Rattle.driver.specs.Clients.{asks_of}
-use Rattle.driver.specs.Desks.{at, is_over}
+use Rattle.driver.specs.Monitors.{at, is_over}
 use Rattle.driver.specs.Telling.{Ordered, next_note, ordered}
 
 -- by which note of its node, and when, a request of a client is told that it is told next, now

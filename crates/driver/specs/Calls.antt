@@ -10,7 +10,7 @@ use Rattle.driver.specs.declared.level.Level.TheVariants.{Full}
 use Rattle.driver.specs.declared.news.Ending.{Ending}
 use Rattle.driver.specs.declared.order.Order.{Order}
 use Rattle.driver.specs.declared.settings.Settings.{Settings}
-use Rattle.driver.specs.Arriving.{ArrivesIf, IsNewDriver, desks_behind, next_number, turned_away_at}
+use Rattle.driver.specs.Arriving.{ArrivesIf, IsNewDriver, monitors_behind, next_number, turned_away_at}
 use Rattle.driver.specs.Coming.{Comes}
 use Rattle.driver.specs.Driving.{Ends, Ticks}
 use Rattle.driver.specs.Filling.{Watches, words_of}
@@ -42,11 +42,11 @@ pub data Call : Type 0 where
 
 -- A client connects to a node.
 pub record ConnectsTo (now node : ℕ) (old new : Driver) : Type 0 where
-  pub arrived : ArrivesIf old.desks (next_number old.desks node old.numbered) node old.settings.password.items (nick_in old) now old.clients new.clients
-  pub others : IfSome (next_number old.desks node old.numbered) (λ number. AreOthersSame number old.clients new.clients)
-  pub desks : new.desks ≡ desks_behind old.desks node old.numbered
-  pub orders : new.orders ≡ ordered old.orders (turned_away_at old.desks node)
-  pub rest : new ≡ record old { desks = new.desks; clients = new.clients; numbered = new.numbered; orders = new.orders }
+  pub arrived : ArrivesIf old.monitors (next_number old.monitors node old.numbered) node old.settings.password.items (nick_in old) now old.clients new.clients
+  pub others : IfSome (next_number old.monitors node old.numbered) (λ number. AreOthersSame number old.clients new.clients)
+  pub monitors : new.monitors ≡ monitors_behind old.monitors node old.numbered
+  pub orders : new.orders ≡ ordered old.orders (turned_away_at old.monitors node)
+  pub rest : new ≡ record old { monitors = new.monitors; clients = new.clients; numbered = new.numbered; orders = new.orders }
 
 -- Bytes of a client come.
 pub record Speaks (bytes : List ℕ) (now : ℕ) (at : Moment) (number : ℕ) (old new : Driver) : Type 0 where

@@ -7,9 +7,9 @@ use Rattle.node_notes.specs.declared.note.Note.{Note}
 use Rattle.node_notes.specs.declared.note.Note.TheVariants.{Claim}
 use Rattle.driver.specs.declared.driver.Driver.{Driver}
 use Rattle.driver.specs.declared.order.Order.{Order}
-use Rattle.driver.specs.declared.order.Order.TheVariants.{Tell}
+use Rattle.driver.specs.declared.order.Order.TheVariants.{Submit}
 use Rattle.driver.specs.Calls.{Call, DoesAll, DoesStep, Hear, Led, Step}
-use Rattle.driver.specs.Desks.{line_to_claim}
+use Rattle.driver.specs.Monitors.{line_to_claim}
 use Rattle.driver.specs.Links.{status_at}
 
 -- a note tells its node to claim a line
@@ -19,7 +19,7 @@ is_claim note = false
 
 -- an order tells this node to claim
 abbrev pub claims : ℕ → Order → Bool
-claims node (Tell other note) = is_claim note && nat_eq other node
+claims node (Submit other note) = is_claim note && nat_eq other node
 claims node order = false
 
 -- a call tells this node to claim
@@ -36,7 +36,7 @@ pub record Claims (node : ℕ) (line : (ℕ × ℕ) × ℕ) (step : Step) (old n
   pub low : 1 ≤ node
   pub does : DoesStep step old new
   pub told : tells_claim node step ≡ true
-  pub is_line : line_to_claim (status_at new.desks node) ≡ Some line
+  pub is_line : line_to_claim (status_at new.monitors node) ≡ Some line
 
 -- Over every list of calls of a new driver: where a node is told to claim a line, and the next claim that it is told is of the same line,
 -- it told in between that it has applied all of its log, so that the claim is not in its log, or was refused.

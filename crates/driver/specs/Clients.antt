@@ -13,7 +13,7 @@ use Rattle.node_notes.specs.declared.note.Note.TheVariants.{Ask}
 use Rattle.driver.specs.declared.client.Client.{Client}
 use Rattle.driver.specs.declared.news.News.TheVariants.{Attached, Left}
 use Rattle.driver.specs.declared.order.Order.{Order}
-use Rattle.driver.specs.declared.order.Order.TheVariants.{Tell, Tells, Close, Write}
+use Rattle.driver.specs.declared.order.Order.TheVariants.{Submit, Log, Close, Write}
 
 -- a request under the client's own origin and its own number
 abbrev pub note_of : Origin → Moment → Request → Note TowerBody WireLine
@@ -21,7 +21,7 @@ note_of origin at request = Ask (Asked origin request.number at request.action)
 
 -- a request goes to its client's own node
 abbrev pub ask_of : Origin → Moment → Request → Order
-ask_of origin at request = Tell origin.0 (note_of origin at request)
+ask_of origin at request = Submit origin.0 (note_of origin at request)
 
 -- each request, in order
 unfoldable pub asks_of : Origin → Moment → List Request → List Order
@@ -31,7 +31,7 @@ asks_of origin at (request ∷ requests) = ask_of origin at request ∷ asks_of 
 -- an operator is told of a client by its first request
 abbrev pub welcome : Bool → Origin → List Order
 welcome true origin = []
-welcome false origin = Tells (Attached origin) ∷ []
+welcome false origin = Log (Attached origin) ∷ []
 
 -- what comes of requests of a client that asked before, or did not
 unfoldable pub asked_all : Bool → Origin → Moment → List Request → List Order
@@ -50,7 +50,7 @@ last_asks origin at (Some request) = ask_of origin at request ∷ []
 
 -- a client's connection is closed, an operator is told, and its last request goes to its node
 abbrev pub parting : Origin → Moment → Option Request → List Order
-parting origin at request = (Close origin.2 ∷ Tells (Left origin) ∷ []) ++ last_asks origin at request
+parting origin at request = (Close origin.2 ∷ Log (Left origin) ∷ []) ++ last_asks origin at request
 
 -- nothing comes of it where the connection is gone already
 unfoldable pub parting_unless : Bool → Origin → Moment → Option Request → List Order

@@ -2,13 +2,13 @@
 use Rattle.std.specs.Prelude.{◌≡◌, ◌≤◌, ◌+◌, ◌-◌, ◌^◌, ℕ, min, nat_eq, if◌then◌else◌, List, [], ◌∷◌, ◌++◌}
 use Rattle.driver.specs.declared.driver.Driver.{Driver}
 use Rattle.driver.specs.declared.order.Order.{Order}
-use Rattle.driver.specs.declared.order.Order.TheVariants.{Tell}
+use Rattle.driver.specs.declared.order.Order.TheVariants.{Submit}
 use Rattle.driver.specs.Calls.{Led, Step}
 use Rattle.driver.specs.Telling.{told_to}
 
 -- an order tells this node a note, or none; nodes count from 1
 abbrev pub notes_in : ℕ → Order → ℕ
-notes_in node (Tell other note) = if nat_eq (other - 1) (node - 1) then 1 else 0
+notes_in node (Submit other note) = if nat_eq (other - 1) (node - 1) then 1 else 0
 notes_in node order = 0
 
 -- how many notes orders tell this node

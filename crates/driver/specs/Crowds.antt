@@ -7,7 +7,7 @@ use Rattle.wire_bytes.specs.declared.moment.Moment.{Moment}
 use Rattle.wire_bytes.specs.declared.origin.Origin.{Origin}
 use Rattle.driver.specs.declared.client.Client.{Client}
 use Rattle.driver.specs.declared.clients.Clients.{Clients}
-use Rattle.driver.specs.declared.desk.Desk.{Desk}
+use Rattle.driver.specs.declared.node_monitor.NodeMonitor.{NodeMonitor}
 use Rattle.driver.specs.Asking.{HearsNode}
 use Rattle.driver.specs.Clients.{parting_unless}
 use Rattle.driver.specs.Outages.{IsToldDown}
@@ -30,9 +30,9 @@ pub record Ticks (reads : Bool) (timeout now : ℕ) (at : Moment) (s : Settings)
   pub kept : is_too_slow (waited reads now old) now ≡ false → IsKept timeout now at s calls (waited reads now old) before new after
 
 -- A client is read or not, and time brings it what it brings.
-pub record TicksRead (timeout now : ℕ) (at : Moment) (desks : List Desk) (s : Settings) (calls : List Call) (old : Client) (before : Ordered) (new : Client) (after : Ordered) : Type 0 where
+pub record TicksRead (timeout now : ℕ) (at : Moment) (monitors : List NodeMonitor) (s : Settings) (calls : List Call) (old : Client) (before : Ordered) (new : Client) (after : Ordered) : Type 0 where
   pub reads : Bool
-  pub is_read : IsReadOf reads before desks (Some old)
+  pub is_read : IsReadOf reads before monitors (Some old)
   pub ticks : Ticks reads timeout now at s calls old before new after
 
 -- Nothing changed for the clients, and nothing was ordered.
@@ -40,20 +40,20 @@ abbrev pub IsSame : Told → Told → Type 0
 IsSame old new = (new.clients ≡ old.clients) × (new.orders ≡ old.orders)
 
 -- Time passed for the client of this number, where there is one; all others are as they were.
-pub record TicksClient (at : Moment) (timeout now : ℕ) (desks : List Desk) (number : ℕ) (old new : Told) : Type 0 where
+pub record TicksClient (at : Moment) (timeout now : ℕ) (monitors : List NodeMonitor) (number : ℕ) (old new : Told) : Type 0 where
   pub others : AreOthersSame number old.clients new.clients
   pub nobody : client_at old.clients number ≡ None → IsSame old new
   pub served :
       Serves
       (λ c. client_at old.clients number ≡ Some c)
-      (λ s calls c client. TicksRead timeout now at desks s calls c old.orders client new.orders)
+      (λ s calls c client. TicksRead timeout now at monitors s calls c old.orders client new.orders)
       number new.clients
 
 -- time passes for the clients of these numbers, in this order
-unfoldable pub TickEach : Moment → ℕ → ℕ → List Desk → List ℕ → Told → Told → Type 0
-TickEach at timeout now desks [] old new = new ≡ old
-TickEach at timeout now desks (number ∷ numbers) old new =
-    (behind : Told) × TicksClient at timeout now desks number old behind × TickEach at timeout now desks numbers behind new
+unfoldable pub TickEach : Moment → ℕ → ℕ → List NodeMonitor → List ℕ → Told → Told → Type 0
+TickEach at timeout now monitors [] old new = new ≡ old
+TickEach at timeout now monitors (number ∷ numbers) old new =
+    (behind : Told) × TicksClient at timeout now monitors number old behind × TickEach at timeout now monitors numbers behind new
 
 -- a client of a run of this node below this boot
 abbrev pub is_below : Origin → ℕ → ℕ → Bool

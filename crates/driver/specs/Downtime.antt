@@ -9,13 +9,13 @@ use Rattle.raft_node.specs.declared.node_fault.Cause.{Cause}
 use Rattle.driver.specs.declared.driver.Driver.{Driver}
 use Rattle.driver.specs.declared.news.News.TheVariants.{Down, Up}
 use Rattle.driver.specs.declared.order.Order.{Order}
-use Rattle.driver.specs.declared.order.Order.TheVariants.{Tell, Tells}
+use Rattle.driver.specs.declared.order.Order.TheVariants.{Submit, Log}
 use Rattle.driver.specs.Calls.{Led, Step}
 use Rattle.driver.specs.Counting.{all_told}
 
 -- by this order an operator is told that a node is up
 abbrev pub tells_up : ℕ → Order → Bool
-tells_up node (Tells (Up other boot)) = nat_eq other node
+tells_up node (Log (Up other boot)) = nat_eq other node
 tells_up node order = false
 
 -- Over every list of calls of a new driver: where an operator was told that a node is down, and not since that it is up, whatever the node
@@ -24,6 +24,6 @@ abbrev pub DownIsOnlyRestarted : Type 0
 DownIsOnlyRestarted =
     (node : ℕ) (cause : Cause) (came : Note TowerBody WireLine) (steps : List Step) (driver : Driver) (before between behind : List Order)
     → 1 ≤ node → Led steps driver
-    → all_told steps ≡ before ++ (Tells (Down node cause) ∷ (between ++ (Tell node came ∷ behind)))
+    → all_told steps ≡ before ++ (Log (Down node cause) ∷ (between ++ (Submit node came ∷ behind)))
     → list_any (tells_up node) between ≡ false
     → came ≡ Restart

@@ -4,18 +4,18 @@ use Rattle.std.specs.BTreeMap.{keys}
 use Rattle.std.specs.Option.{is_some}
 use Rattle.wire_bytes.specs.declared.moment.Moment.{Moment}
 use Rattle.node_notes.specs.declared.note.Note.TheVariants as note
-use Rattle.driver.specs.declared.desk.Desk.{Desk}
+use Rattle.driver.specs.declared.node_monitor.NodeMonitor.{NodeMonitor}
 use Rattle.driver.specs.declared.driver.Driver.{Driver}
-use Rattle.driver.specs.declared.gone.Notice.{Notice}
+use Rattle.driver.specs.declared.retirement.Retirement.{Retirement}
 use Rattle.driver.specs.declared.news.Ending.{Ending}
 use Rattle.driver.specs.declared.news.Ending.TheVariants.{LedNoMore, Silent}
 use Rattle.driver.specs.declared.order.Order.{Order}
-use Rattle.driver.specs.declared.order.Order.TheVariants.{Connect, Disconnect, Tell}
+use Rattle.driver.specs.declared.order.Order.TheVariants.{Connect, Disconnect, Submit}
 use Rattle.driver.specs.declared.settings.Settings.{Settings}
 use Rattle.driver.specs.declared.link.Stage.TheVariants.{Connecting}
 use Rattle.driver.specs.Crowds.{TickEach, Told, told as crowd}
-use Rattle.driver.specs.Desks.{claim_at, claim_due, desk_behind, desk_claimed, note_at, told}
-use Rattle.driver.specs.Gone.{restart_at, restart_behind}
+use Rattle.driver.specs.Monitors.{claim_at, claim_due, monitor_behind, monitor_claimed, note_at, told}
+use Rattle.driver.specs.Retiring.{restart_at, restart_behind}
 use Rattle.driver.specs.Leading.{IsLeader, is_older, is_that}
 use Rattle.driver.specs.Hearing.{boot_up}
 use Rattle.driver.specs.Links.{IsLost, backoff_behind, ending, idle_behind, is_silent, may_connect, node_of, status_at}
@@ -24,67 +24,67 @@ use Rattle.driver.specs.Telling.{Ordered, ordered}
 use Rattle.driver.specs.Waking.{awake}
 use Rattle.driver.specs.Pacing.{may_go}
 
--- the desks, that of this node changed
-abbrev pub changed_if : (Desk → Desk) → List Desk → ℕ → Option Desk → List Desk
-changed_if change desks index None = desks
-changed_if change desks index (Some desk) = slice_set desks index (change desk)
+-- the monitors, that of this node changed
+abbrev pub changed_if : (NodeMonitor → NodeMonitor) → List NodeMonitor → ℕ → Option NodeMonitor → List NodeMonitor
+changed_if change monitors index None = monitors
+changed_if change monitors index (Some monitor) = slice_set monitors index (change monitor)
 
--- the desks, that of this node changed, if there is one; nodes count from 1
-abbrev pub changed_at : (Desk → Desk) → List Desk → ℕ → List Desk
-changed_at change desks node = changed_if change desks (node - 1) (slice_get desks (node - 1))
+-- the monitors, that of this node changed, if there is one; nodes count from 1
+abbrev pub changed_at : (NodeMonitor → NodeMonitor) → List NodeMonitor → ℕ → List NodeMonitor
+changed_at change monitors node = changed_if change monitors (node - 1) (slice_get monitors (node - 1))
 
--- what is ordered of a desk, if there is one
-abbrev pub orders_of : (Desk → List Order) → Option Desk → List Order
+-- what is ordered of a monitor, if there is one
+abbrev pub orders_of : (NodeMonitor → List Order) → Option NodeMonitor → List Order
 orders_of orders None = []
-orders_of orders (Some desk) = orders desk
+orders_of orders (Some monitor) = orders monitor
 
--- what is ordered of this node's desk, if there is one; nodes count from 1
-abbrev pub orders_at : (Desk → List Order) → List Desk → ℕ → List Order
-orders_at orders desks node = orders_of orders (slice_get desks (node - 1))
+-- what is ordered of this node's monitor, if there is one; nodes count from 1
+abbrev pub orders_at : (NodeMonitor → List Order) → List NodeMonitor → ℕ → List Order
+orders_at orders monitors node = orders_of orders (slice_get monitors (node - 1))
 
--- a node's desk behind what the clock told it
-abbrev pub clocked : Ordered → Settings → ℕ → Desk → Desk
-clocked orders settings now desk = desk_behind orders desk now (note_at desk settings now)
+-- a node's monitor behind what the clock told it
+abbrev pub clocked : Ordered → Settings → ℕ → NodeMonitor → NodeMonitor
+clocked orders settings now monitor = monitor_behind orders monitor now (note_at monitor settings now)
 
 -- what was ordered then
-abbrev pub clock_told : Ordered → Settings → ℕ → Desk → Ordered
-clock_told orders settings now desk = ordered orders (told desk.id (note_at desk settings now))
+abbrev pub clock_told : Ordered → Settings → ℕ → NodeMonitor → Ordered
+clock_told orders settings now monitor = ordered orders (told monitor.id (note_at monitor settings now))
 
--- and behind what word of its earlier runs told it
-abbrev pub ticked : Ordered → List (Option Notice) → Settings → ℕ → Desk → Desk
-ticked orders notices settings now desk =
-    let behind = clocked orders settings now desk in
-    restart_behind (clock_told orders settings now desk) behind (restart_at notices behind)
+-- and behind what the retirement of its earlier runs told it
+abbrev pub ticked : Ordered → List (Option Retirement) → Settings → ℕ → NodeMonitor → NodeMonitor
+ticked orders retirements settings now monitor =
+    let behind = clocked orders settings now monitor in
+    restart_behind (clock_told orders settings now monitor) behind (restart_at retirements behind)
 
 -- what both told it
-abbrev pub tick_orders : Ordered → List (Option Notice) → Settings → ℕ → Desk → List Order
-tick_orders orders notices settings now desk =
-    let behind = clocked orders settings now desk in
-    told desk.id (note_at desk settings now) ++ told behind.id (restart_at notices behind)
+abbrev pub tick_orders : Ordered → List (Option Retirement) → Settings → ℕ → NodeMonitor → List Order
+tick_orders orders retirements settings now monitor =
+    let behind = clocked orders settings now monitor in
+    told monitor.id (note_at monitor settings now) ++ told behind.id (restart_at retirements behind)
 
--- A node was told by the clock to send, to ask for votes or to start again, and to start again where word says that it lives on
--- in a run that is gone; where it was not told so just before.
-pub record TicksDesk (now node : ℕ) (old new : Driver) : Type 0 where
-  pub desks : new.desks ≡ changed_at (ticked old.orders old.notices.all old.settings now) old.desks node
-  pub orders : new.orders ≡ ordered old.orders (orders_at (tick_orders old.orders old.notices.all old.settings now) old.desks node)
-  pub rest : new ≡ record old { desks = new.desks; orders = new.orders }
+-- A node was told by the clock to send, to ask for votes or to start again, and to start again where it lives on
+-- in a run that is retired, and was not told so just before.
+pub record TicksMonitor (now node : ℕ) (old new : Driver) : Type 0 where
+  pub monitors : new.monitors ≡ changed_at (ticked old.orders old.retirements.all old.settings now) old.monitors node
+  pub orders : new.orders ≡ ordered old.orders (orders_at (tick_orders old.orders old.retirements.all old.settings now) old.monitors node)
+  pub rest : new ≡ record old { monitors = new.monitors; orders = new.orders }
 
 -- the node of a connection is told of its end, where its uplink gave the end, and the node is up
-abbrev pub closed_of : List Desk → Option ℕ → Bool → Option ℕ
-closed_of desks None lost = None
-closed_of desks (Some node) lost = if lost && is_some (boot_up (status_at desks node)) then Some node else None
+abbrev pub closed_of : List NodeMonitor → Option ℕ → Bool → Option ℕ
+closed_of monitors None lost = None
+closed_of monitors (Some node) lost = if lost && is_some (boot_up (status_at monitors node)) then Some node else None
 
 -- the node that is to be told, if one is, is told that the session closed
 abbrev pub closed_orders : Option ℕ → List Order
 closed_orders None = []
-closed_orders (Some node) = Tell node note.Closed ∷ []
+closed_orders (Some node) = Submit node note.Closed ∷ []
 
 -- The connection to the server is gone: an operator is told why, and its node is told where it had a session and is up.
 pub record Ends (now : ℕ) (why : Ending) (old new : Driver) : Type 0 where
   pub lost : Bool
   pub is_lost : IsLost old.link.stage lost
   pub orders :
-      new.orders ≡ ordered old.orders (ending old.link.stage why ++ closed_orders (closed_of old.desks (node_of old.link.stage) lost))
+      new.orders ≡ ordered old.orders (ending old.link.stage why ++ closed_orders (closed_of old.monitors (node_of old.link.stage) lost))
   pub stage : new.link.stage ≡ idle_behind old.link.stage old.link.backoff now
   pub backoff : new.link.backoff ≡ backoff_behind old.link.stage old.link.backoff now
   pub rest : new ≡ record old { orders = new.orders; link = new.link }
@@ -103,11 +103,11 @@ LeavesIf true now why old new = Leaves now why old new
 
 -- The node that leads in the greatest term claims its next line, where the pace allows it.
 pub record Claims (now node : ℕ) (old new : Driver) : Type 0 where
-  pub desks :
-      new.desks
-      ≡ changed_at (λ desk. desk_claimed old.orders desk now (may_go old.pace.burst old.pace.line_ms old.pace.free_at now) (claim_due desk old.settings now)) old.desks node
-  pub orders : new.orders ≡ ordered old.orders (orders_at (λ desk. told desk.id (claim_at desk old.settings now old.pace)) old.desks node)
-  pub rest : new ≡ record old { desks = new.desks; orders = new.orders; pace = new.pace }
+  pub monitors :
+      new.monitors
+      ≡ changed_at (λ monitor. monitor_claimed old.orders monitor now (may_go old.pace.burst old.pace.line_ms old.pace.free_at now) (claim_due monitor old.settings now)) old.monitors node
+  pub orders : new.orders ≡ ordered old.orders (orders_at (λ monitor. told monitor.id (claim_at monitor old.settings now old.pace)) old.monitors node)
+  pub rest : new ≡ record old { monitors = new.monitors; orders = new.orders; pace = new.pace }
 
 -- The server is connected to for a node, where there is no connection and one may be tried.
 pub record Connects (now node : ℕ) (old new : Driver) : Type 0 where
@@ -130,9 +130,9 @@ ServesIf true now node old new = Serves now node old new
 -- where it is of another node than the one that leads in the greatest term; and where this node is that one, it is served.
 pub record TicksNode (now node : ℕ) (old new : Driver) : Type 0 where
   pub told : Driver
-  pub ticks : TicksDesk now node old told
+  pub ticks : TicksMonitor now node old told
   pub leader : Option ℕ
-  pub is_leader : IsLeader told.desks leader
+  pub is_leader : IsLeader told.monitors leader
   pub left : Driver
   pub leaves : LeavesIf (is_older (node_of told.link.stage) leader) now LedNoMore told left
   pub serves : ServesIf (is_that leader node) now node left new
@@ -143,23 +143,23 @@ TickNodes zero now node old new = new ≡ old
 TickNodes (suc count) now node old new =
     (behind : Driver) × TicksNode now node old behind × TickNodes count now (node + 1) behind new
 
--- the word that goes round of all nodes, and the orders, as a driver has them
+-- the retirements of all nodes, and the orders, as a driver has them
 abbrev pub round_of : Driver → Round
-round_of driver = round driver.notices.all driver.orders
+round_of driver = round driver.retirements.all driver.orders
 
 -- the clients, and what was ordered, as a driver has them
 abbrev pub told_of : Driver → Told
 told_of driver = crowd driver.clients driver.orders
 
 -- What time brings. The driver is awake, and the connection to a server that is silent is left; then each client ticks,
--- in the order of their numbers, and then each node; what comes last is word of earlier runs.
+-- in the order of their numbers, and then each node; what comes last is retirements.
 pub record Ticks (now : ℕ) (at : Moment) (old new : Driver) : Type 0 where
   pub left : Driver
   pub leaves : LeavesIf (is_silent old.link.stage now) now Silent (awake now old) left
   pub served : Driver
-  pub clients : TickEach at left.settings.timeout_ms now left.desks (keys left.clients.all) (told_of left) (told_of served)
+  pub clients : TickEach at left.settings.timeout_ms now left.monitors (keys left.clients.all) (told_of left) (told_of served)
   pub is_served : served ≡ record left { clients = served.clients; orders = served.orders }
   pub asked : Driver
   pub nodes : TickNodes 7 now 1 served asked
-  pub word : GoesRound asked.settings now asked.desks (round_of asked) (round_of new)
-  pub rest : new ≡ record asked { notices = new.notices; orders = new.orders }
+  pub retired : GoesRound asked.settings now asked.monitors (round_of asked) (round_of new)
+  pub rest : new ≡ record asked { retirements = new.retirements; orders = new.orders }

@@ -5,12 +5,12 @@ use Rattle.buffer_commands.specs.declared.wire_line.WireLine.{WireLine}
 use Rattle.node_notes.specs.declared.note.Note.{Note}
 use Rattle.node_notes.specs.declared.note.Note.TheVariants as note
 use Rattle.node_notes.specs.declared.status.Status.{Status}
-use Rattle.driver.specs.declared.desk.Desk.{Desk}
+use Rattle.driver.specs.declared.node_monitor.NodeMonitor.{NodeMonitor}
 use Rattle.driver.specs.declared.driver.Driver.{Driver}
 use Rattle.driver.specs.declared.level.Level.{Level}
 use Rattle.driver.specs.declared.level.Level.TheVariants.{Roomy, Filling, NearlyFull, Full}
 use Rattle.driver.specs.declared.news.News.TheVariants.{LogFills}
-use Rattle.driver.specs.declared.order.Order.TheVariants.{Tells}
+use Rattle.driver.specs.declared.order.Order.TheVariants.{Log}
 use Rattle.driver.specs.Leading.{IsLeader}
 use Rattle.driver.specs.Nicks.{AllAreWritten, nick_in, notice}
 use Rattle.driver.specs.Rosters.{client_at, is_attached_in}
@@ -40,14 +40,14 @@ abbrev pub last_of : Option Status → ℕ
 last_of None = 0
 last_of (Some status) = status.last
 
--- how many entries this desk's node has, as far as is known; 0 where there is no desk
-abbrev pub last_in : Option Desk → ℕ
+-- how many entries this monitor's node has, as far as is known; 0 where there is no monitor
+abbrev pub last_in : Option NodeMonitor → ℕ
 last_in None = 0
-last_in (Some desk) = last_of desk.status
+last_in (Some monitor) = last_of monitor.status
 
 -- People are told of a level once: the operator, and each client that is attached.
 pub record TellsLevel (node : ℕ) (level : Level) (old new : Driver) : Type 0 where
-  pub written : AllAreWritten old.clients (notice (nick_in old) (words_of level)) (ordered old.orders (Tells (LogFills node level) ∷ [])) new.orders
+  pub written : AllAreWritten old.clients (notice (nick_in old) (words_of level)) (ordered old.orders (Log (LogFills node level) ∷ [])) new.orders
   pub rest : new ≡ record old { orders = new.orders; level = level }
 
 -- people are told of a level where this is so, and else nothing changes
@@ -59,13 +59,13 @@ TellsLevelIf true node level old new = TellsLevel node level old new
 abbrev pub WatchesFor : Option ℕ → Driver → Driver → Type 0
 WatchesFor None old new = new ≡ old
 WatchesFor (Some node) old new =
-    let level = level_of (last_in (slice_get old.desks (node - 1))) in
+    let level = level_of (last_in (slice_get old.monitors (node - 1))) in
     TellsLevelIf (nat_lt (rank old.level) (rank level)) node level old new
 
 -- The log of the leader is looked at, if one leads, and people are told where its level rose above what they know.
 pub record Watches (old new : Driver) : Type 0 where
   pub leader : Option ℕ
-  pub is_leader : IsLeader old.desks leader
+  pub is_leader : IsLeader old.monitors leader
   pub watches : WatchesFor leader old new
 
 -- nothing new is taken of a client that registered, nor of the server, where the log is full

@@ -2,7 +2,7 @@
 use Rattle.std.specs.Prelude.{◌≡◌, ◌≤◌, ◌<◌, ℕ, ◌-◌, Bool, false, nat_eq, nat_lt, not, if◌then◌else◌, List, Option, Some, None, slice_get}
 use Rattle.node_notes.specs.declared.status.Status.{Status}
 use Rattle.node_notes.specs.Notes.{leads}
-use Rattle.driver.specs.declared.desk.Desk.{Desk}
+use Rattle.driver.specs.declared.node_monitor.NodeMonitor.{NodeMonitor}
 use Rattle.driver.specs.declared.leader.Leader.{Leader}
 
 -- the term in which a node leads that stands so, if it is up and leads
@@ -10,23 +10,23 @@ abbrev pub term_of : Option Status → Option ℕ
 term_of None = None
 term_of (Some status) = if leads status then Some status.term else None
 
--- the term in which this desk's node leads, if there is a desk and its node leads
-abbrev pub term_in : Option Desk → Option ℕ
+-- the term in which this monitor's node leads, if there is a monitor and its node leads
+abbrev pub term_in : Option NodeMonitor → Option ℕ
 term_in None = None
-term_in (Some desk) = term_of desk.status
+term_in (Some monitor) = term_of monitor.status
 
 -- the term in which this node leads, if it does
-abbrev pub term_at : List Desk → ℕ → Option ℕ
-term_at desks node = term_in (slice_get desks (node - 1))
+abbrev pub term_at : List NodeMonitor → ℕ → Option ℕ
+term_at monitors node = term_in (slice_get monitors (node - 1))
 
 -- Of the nodes below this one, those that lead do so in this term or before it.
-abbrev pub NoneLeadsAbove : List Desk → ℕ → ℕ → Type 0
-NoneLeadsAbove desks below term = (other t : ℕ) → 1 ≤ other → other < below → term_at desks other ≡ Some t → t ≤ term
+abbrev pub NoneLeadsAbove : List NodeMonitor → ℕ → ℕ → Type 0
+NoneLeadsAbove monitors below term = (other t : ℕ) → 1 ≤ other → other < below → term_at monitors other ≡ Some t → t ≤ term
 
 -- Of the nodes below this one, this is the one that leads in the greatest term, and that is the term; none leads where there is none.
-abbrev pub IsBest : List Desk → ℕ → Option Leader → Type 0
-IsBest desks below None = (other : ℕ) → 1 ≤ other → other < below → term_at desks other ≡ None
-IsBest desks below (Some best) = (term_at desks best.node ≡ Some best.term) × NoneLeadsAbove desks below best.term
+abbrev pub IsBest : List NodeMonitor → ℕ → Option Leader → Type 0
+IsBest monitors below None = (other : ℕ) → 1 ≤ other → other < below → term_at monitors other ≡ None
+IsBest monitors below (Some best) = (term_at monitors best.node ≡ Some best.term) × NoneLeadsAbove monitors below best.term
 
 -- a node that leads in a greater term than the best so far, or the first one that leads, is the best
 abbrev pub better : Option Leader → ℕ → Option ℕ → Option Leader
@@ -35,9 +35,9 @@ better None node (Some term) = Some (record { node = node; term = term })
 better (Some best) node (Some term) = if nat_lt best.term term then Some (record { node = node; term = term }) else Some best
 
 -- This node leads in the greatest term; none of the seven leads where there is none.
-abbrev pub IsLeader : List Desk → Option ℕ → Type 0
-IsLeader desks None = (other : ℕ) → 1 ≤ other → other ≤ 7 → term_at desks other ≡ None
-IsLeader desks (Some node) = (term : ℕ) × (term_at desks node ≡ Some term) × NoneLeadsAbove desks 8 term
+abbrev pub IsLeader : List NodeMonitor → Option ℕ → Type 0
+IsLeader monitors None = (other : ℕ) → 1 ≤ other → other ≤ 7 → term_at monitors other ≡ None
+IsLeader monitors (Some node) = (term : ℕ) × (term_at monitors node ≡ Some term) × NoneLeadsAbove monitors 8 term
 
 -- this is that node
 abbrev pub is_that : Option ℕ → ℕ → Bool

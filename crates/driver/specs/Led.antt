@@ -18,7 +18,7 @@ IsOf (Some node) leader = leader ≡ Some node
 -- The connection to the server is of the node that leads in the greatest term, as far as the driver knows, or there is none.
 pub record IsOfLeader (driver : Driver) : Type 0 where
   pub leader : Option ℕ
-  pub is_leader : IsLeader driver.desks leader
+  pub is_leader : IsLeader driver.monitors leader
   pub is_of : IsOf (node_of driver.link.stage) leader
 
 -- Behind each report of a worker it is so.

@@ -6,11 +6,11 @@ pub mod Clients
 pub mod Coming
 pub mod Counting
 pub mod Crowds
-pub mod Desks
+pub mod Monitors
 pub mod Downtime
 pub mod Driving
 pub mod Filling
-pub mod Gone
+pub mod Retiring
 pub mod Hearing
 pub mod Kicks
 pub mod Leading

@@ -16,7 +16,7 @@ use Rattle.uplink.specs.Sending.{first_bytes}
 use Rattle.node_notes.specs.declared.status.Status.{Status}
 use Rattle.driver.specs.declared.backoff.Backoff.{Backoff}
 use Rattle.driver.specs.Pacing.{doubled}
-use Rattle.driver.specs.declared.desk.Desk.{Desk}
+use Rattle.driver.specs.declared.node_monitor.NodeMonitor.{NodeMonitor}
 use Rattle.driver.specs.declared.link.Session.{Session}
 use Rattle.driver.specs.declared.link.Stage.{Stage}
 use Rattle.driver.specs.declared.link.Stage.TheVariants.{Idle, Connecting, Open}
@@ -24,9 +24,9 @@ use Rattle.driver.specs.declared.news.Ending.{Ending}
 use Rattle.driver.specs.declared.news.News.{News}
 use Rattle.driver.specs.declared.news.News.TheVariants.{Closed, Unopened}
 use Rattle.driver.specs.declared.order.Order.{Order}
-use Rattle.driver.specs.declared.order.Order.TheVariants.{Send, Tells}
+use Rattle.driver.specs.declared.order.Order.TheVariants.{Send, Log}
 use Rattle.driver.specs.declared.settings.Settings.{Settings}
-use Rattle.driver.specs.Desks.{at, is_over}
+use Rattle.driver.specs.Monitors.{at, is_over}
 use Rattle.driver.specs.Telling.{Ordered, ordered}
 
 -- the node that a connection is of, if there is one
@@ -58,8 +58,8 @@ end_of was_given node why = if was_given then Closed node why else Unopened node
 -- what an operator is told of a connection that is gone
 abbrev pub ending : Stage → Ending → List Order
 ending (Idle since wait) why = []
-ending (Connecting node) why = Tells (Unopened node why) ∷ []
-ending (Open session) why = Tells (end_of session.is_opened session.node why) ∷ []
+ending (Connecting node) why = Log (Unopened node why) ∷ []
+ending (Open session) why = Log (end_of session.is_opened session.node why) ∷ []
 
 -- a connection that stands, of which the server gave the session
 abbrev pub opened : Stage → Stage
@@ -91,14 +91,14 @@ is_open (Idle since wait) = false
 is_open (Connecting node) = false
 is_open (Open session) = true
 
--- how a desk's node stood when it was last heard of
-abbrev pub status_in : Option Desk → Option Status
+-- how a monitor's node stood when it was last heard of
+abbrev pub status_in : Option NodeMonitor → Option Status
 status_in None = None
-status_in (Some desk) = desk.status
+status_in (Some monitor) = monitor.status
 
 -- how a node stood when it was last heard of
-abbrev pub status_at : List Desk → ℕ → Option Status
-status_at desks node = status_in (slice_get desks (node - 1))
+abbrev pub status_at : List NodeMonitor → ℕ → Option Status
+status_at monitors node = status_in (slice_get monitors (node - 1))
 
 -- A session begins, of a connection that stands: the server is sent its first bytes.
 pub record HasBegun (settings : Settings) (now node : ℕ) (before : Ordered) (session : Session) (after : Ordered) : Type 0 where

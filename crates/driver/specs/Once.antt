@@ -16,7 +16,7 @@ use Rattle.driver.specs.declared.client.Client.{Client}
 use Rattle.driver.specs.declared.news.News.{News}
 use Rattle.driver.specs.declared.news.News.TheVariants.{Attached, Left}
 use Rattle.driver.specs.declared.order.Order.{Order}
-use Rattle.driver.specs.declared.order.Order.TheVariants.{Close, Tell, Tells, Write}
+use Rattle.driver.specs.declared.order.Order.TheVariants.{Close, Submit, Log, Write}
 use Rattle.driver.specs.Asking.{HearsNode, is_stuck, may_be_lost}
 use Rattle.driver.specs.Crowds.{Ticks}
 use Rattle.driver.specs.Serving.{Hears, IsLost, Receives}
@@ -29,7 +29,7 @@ number_in note = []
 
 -- the number of the request that an order tells a node, if it does
 abbrev pub number_told : Order → List ℕ
-number_told (Tell node note) = number_in note
+number_told (Submit node note) = number_in note
 number_told order = []
 
 -- the numbers of all requests that orders tell, in order
@@ -116,10 +116,10 @@ IsNewsOf origin news = ⊥
 
 -- an order is of this client: its node is told a request of it, it is written to or closed, or an operator is told of it
 abbrev pub IsFor : Origin → Order → Type 0
-IsFor origin (Tell node note) = (node ≡ origin.0) × IsAskOf origin note
+IsFor origin (Submit node note) = (node ≡ origin.0) × IsAskOf origin note
 IsFor origin (Write client bytes) = client ≡ origin.2
 IsFor origin (Close client) = client ≡ origin.2
-IsFor origin (Tells news) = IsNewsOf origin news
+IsFor origin (Log news) = IsNewsOf origin news
 IsFor origin order = ⊥
 
 -- all orders are of this client

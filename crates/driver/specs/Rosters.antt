@@ -8,8 +8,8 @@ use Rattle.machine_laws.specs.Origins.{same_origin}
 use Rattle.wire_bytes.specs.declared.origin.Origin.{Origin}
 use Rattle.driver.specs.declared.client.Client.{Client}
 use Rattle.driver.specs.declared.clients.Clients.{Clients}
-use Rattle.driver.specs.declared.desk.Desk.{Desk}
-use Rattle.driver.specs.Desks.{at, is_full}
+use Rattle.driver.specs.declared.node_monitor.NodeMonitor.{NodeMonitor}
+use Rattle.driver.specs.Monitors.{at, is_full}
 use Rattle.driver.specs.Asking.{is_idle}
 use Rattle.driver.specs.Telling.{Ordered, told_to}
 
@@ -33,14 +33,14 @@ is_attached_in None = false
 is_attached_in (Some client) = client.is_attached
 
 -- bytes are read that may bring notes to a node of which this is known: not while as many as may wait already
-abbrev pub takes_notes : Ordered → Option Desk → Bool
+abbrev pub takes_notes : Ordered → Option NodeMonitor → Bool
 takes_notes orders None = true
-takes_notes orders (Some desk) = not (is_full (told_to orders desk.id) desk.progress)
+takes_notes orders (Some monitor) = not (is_full (told_to orders monitor.id) monitor.progress)
 
 -- bytes are read that may bring notes to this node, if they are for one
-abbrev pub is_read_for : Ordered → List Desk → Option ℕ → Bool
-is_read_for orders desks None = true
-is_read_for orders desks (Some node) = takes_notes orders (slice_get desks (node - 1))
+abbrev pub is_read_for : Ordered → List NodeMonitor → Option ℕ → Bool
+is_read_for orders monitors None = true
+is_read_for orders monitors (Some node) = takes_notes orders (slice_get monitors (node - 1))
 
 -- As many requests of a client wait at its gate, behind whatever calls of it, as may while more is read.
 abbrev pub IsFullIn : Bool → Option Client → Type 0
@@ -48,9 +48,9 @@ IsFullIn full None = full ≡ false
 IsFullIn full (Some c) = (s : Settings) (calls : List Call) → Stands s calls c.gate → full ≡ nat_le 48 (length (gate s calls).waiting)
 
 -- Bytes are read of a client, if there is one: not while as many notes of its node wait as may, or as many of its requests.
-abbrev pub IsReadOf : Bool → Ordered → List Desk → Option Client → Type 0
-IsReadOf reads orders desks client =
-    (full : Bool) × IsFullIn full client × (reads ≡ (is_read_for orders desks (node_in client) && not full))
+abbrev pub IsReadOf : Bool → Ordered → List NodeMonitor → Option Client → Type 0
+IsReadOf reads orders monitors client =
+    (full : Bool) × IsFullIn full client × (reads ≡ (is_read_for orders monitors (node_in client) && not full))
 
 -- all other numbers have the clients that they had
 abbrev pub AreOthersSame : ℕ → Clients → Clients → Type 0

@@ -1,88 +1,88 @@
--- What becomes of the word that goes round of all nodes.
+-- What becomes of the retirements of all nodes.
 use Rattle.std.specs.Prelude.{◌≡◌, ℕ, zero, suc, ◌+◌, ◌-◌, if◌then◌else◌, List, [], Option, Some, None, slice_get, slice_set}
 use Rattle.node_notes.specs.declared.note.Note.TheVariants.{Ask}
-use Rattle.driver.specs.declared.desk.Desk.{Desk}
-use Rattle.driver.specs.declared.gone.Notice.{Notice}
+use Rattle.driver.specs.declared.node_monitor.NodeMonitor.{NodeMonitor}
+use Rattle.driver.specs.declared.retirement.Retirement.{Retirement}
 use Rattle.driver.specs.declared.order.Order.{Order}
 use Rattle.driver.specs.declared.settings.Settings.{Settings}
-use Rattle.driver.specs.Desks.{told}
-use Rattle.driver.specs.Gone.{asked_at, dead_below, fresh, gone_body, is_due, is_news, notice_at}
+use Rattle.driver.specs.Monitors.{told}
+use Rattle.driver.specs.Retiring.{asked_at, dead_below, fresh, gone_body, is_due, is_news, retirement_at}
 use Rattle.driver.specs.Leading.{IsLeader}
 use Rattle.driver.specs.Telling.{Ordered, ordered}
 
--- what is ordered where word is asked for at a desk
-abbrev pub word_told : Notice → Desk → List Order
-word_told notice desk = told desk.id (Some (Ask (gone_body notice.node notice.floor)))
+-- what is ordered where a retirement is asked for at a monitor's node
+abbrev pub retirement_told : Retirement → NodeMonitor → List Order
+retirement_told retirement monitor = told monitor.id (Some (Ask (gone_body retirement.node retirement.floor)))
 
--- a run of this desk's node began, with this boot: word that its earlier ones are gone stands at its place, and was asked for there
-abbrev pub begun_all : Ordered → List (Option Notice) → ℕ → ℕ → Desk → List (Option Notice)
-begun_all orders all now boot desk = slice_set all (desk.id - 1) (Some (asked_at orders (fresh desk.id boot) now desk))
+-- a run of this monitor's node began, with this boot: the retirement of its earlier ones stands at its place, and was asked for there
+abbrev pub begun_all : Ordered → List (Option Retirement) → ℕ → ℕ → NodeMonitor → List (Option Retirement)
+begun_all orders all now boot monitor = slice_set all (monitor.id - 1) (Some (asked_at orders (fresh monitor.id boot) now monitor))
 
--- the word that goes round behind the start of a run with this boot at a desk
-abbrev pub word_begun : Ordered → ℕ → ℕ → Option Desk → List (Option Notice) → List (Option Notice)
-word_begun orders now boot None all = all
-word_begun orders now boot (Some desk) all = begun_all orders all now boot desk
+-- the retirements behind the start of a run with this boot at a monitor's node
+abbrev pub retirement_begun : Ordered → ℕ → ℕ → Option NodeMonitor → List (Option Retirement) → List (Option Retirement)
+retirement_begun orders now boot None all = all
+retirement_begun orders now boot (Some monitor) all = begun_all orders all now boot monitor
 
--- where runs of a node are over, word goes round of them, if that says more than what went round before
-abbrev pub buried_by : Option ℕ → ℕ → Option Notice → Option Notice
-buried_by None node place = place
-buried_by (Some floor) node place = if is_news place floor then Some (fresh node floor) else place
+-- where runs of a node are over, they are retired, if that says more than the retirement before
+abbrev pub retired_by : Option ℕ → ℕ → Option Retirement → Option Retirement
+retired_by None node place = place
+retired_by (Some floor) node place = if is_news place floor then Some (fresh node floor) else place
 
--- the word at a node's place now: that runs of it are over, where that says more than what stood there
-abbrev pub buried : Settings → ℕ → Desk → Option Notice → Option Notice
-buried settings now desk place = buried_by (dead_below desk settings.timeout_ms now) desk.id place
+-- the retirement at a node's place now: of the runs of it that are over, where that says more than what stood there
+abbrev pub retired : Settings → ℕ → NodeMonitor → Option Retirement → Option Retirement
+retired settings now monitor place = retired_by (dead_below monitor settings.timeout_ms now) monitor.id place
 
--- the word at a place that is to be asked for, if there is some
-abbrev pub word_due : Settings → ℕ → Option Notice → Option Notice
-word_due settings now None = None
-word_due settings now (Some notice) = if is_due notice settings.timeout_ms now then Some notice else None
+-- the retirement at a place, if it is to be asked for
+abbrev pub retirement_due : Settings → ℕ → Option Retirement → Option Retirement
+retirement_due settings now None = None
+retirement_due settings now (Some retirement) = if is_due retirement settings.timeout_ms now then Some retirement else None
 
--- what becomes of a place of which this word is asked for at a desk, if any is
-abbrev pub place_asked : Ordered → Option Notice → ℕ → Desk → Option Notice → Option Notice
-place_asked orders None now desk place = place
-place_asked orders (Some notice) now desk place = Some (asked_at orders notice now desk)
+-- what becomes of a place of which this retirement is asked for at a monitor's node, if any is
+abbrev pub place_asked : Ordered → Option Retirement → ℕ → NodeMonitor → Option Retirement → Option Retirement
+place_asked orders None now monitor place = place
+place_asked orders (Some retirement) now monitor place = Some (asked_at orders retirement now monitor)
 
--- what is ordered of the desk
-abbrev pub ask_orders : Option Notice → Desk → List Order
-ask_orders None desk = []
-ask_orders (Some notice) desk = word_told notice desk
+-- what is ordered of the monitor
+abbrev pub ask_orders : Option Retirement → NodeMonitor → List Order
+ask_orders None monitor = []
+ask_orders (Some retirement) monitor = retirement_told retirement monitor
 
--- the word of all nodes, and what was ordered
+-- the retirements of all nodes, and what was ordered
 pub record Round : Type 0 where
-  pub notices : List (Option Notice)
+  pub retirements : List (Option Retirement)
   pub orders : Ordered
 
--- this word of all nodes and these orders, as one
-abbrev pub round : List (Option Notice) → Ordered → Round
-round notices orders = record { notices = notices; orders = orders }
+-- these retirements of all nodes and these orders, as one
+abbrev pub round : List (Option Retirement) → Ordered → Round
+round retirements orders = record { retirements = retirements; orders = orders }
 
--- A node's turn: where runs of it are over, word goes round of them; and word of it that is due is asked for at the node that leads.
-pub record Spreads (settings : Settings) (now leader node : ℕ) (desks : List Desk) (old new : Round) : Type 0 where
-  pub own : Desk
-  pub is_own : slice_get desks (node - 1) ≡ Some own
-  pub via : Desk
-  pub is_via : slice_get desks (leader - 1) ≡ Some via
-  pub notices :
-      let place = buried settings now own (notice_at old.notices node) in
-      new.notices ≡ slice_set old.notices (node - 1) (place_asked old.orders (word_due settings now place) now via place)
+-- A node's turn: where runs of it are over, they are retired; and a retirement that is due is asked for at the node that leads.
+pub record Spreads (settings : Settings) (now leader node : ℕ) (monitors : List NodeMonitor) (old new : Round) : Type 0 where
+  pub own : NodeMonitor
+  pub is_own : slice_get monitors (node - 1) ≡ Some own
+  pub via : NodeMonitor
+  pub is_via : slice_get monitors (leader - 1) ≡ Some via
+  pub retirements :
+      let place = retired settings now own (retirement_at old.retirements node) in
+      new.retirements ≡ slice_set old.retirements (node - 1) (place_asked old.orders (retirement_due settings now place) now via place)
   pub orders :
-      let due = word_due settings now (buried settings now own (notice_at old.notices node)) in
+      let due = retirement_due settings now (retired settings now own (retirement_at old.retirements node)) in
       new.orders ≡ ordered old.orders (ask_orders due via)
 
 -- Nodes have their turns in order, so many from this one on.
-unfoldable pub SpreadsAll : ℕ → Settings → ℕ → ℕ → ℕ → List Desk → Round → Round → Type 0
-SpreadsAll zero settings now leader node desks old new = new ≡ old
-SpreadsAll (suc count) settings now leader node desks old new =
+unfoldable pub SpreadsAll : ℕ → Settings → ℕ → ℕ → ℕ → List NodeMonitor → Round → Round → Type 0
+SpreadsAll zero settings now leader node monitors old new = new ≡ old
+SpreadsAll (suc count) settings now leader node monitors old new =
     (behind : Round)
-    × Spreads settings now leader node desks old behind × SpreadsAll count settings now leader (node + 1) desks behind new
+    × Spreads settings now leader node monitors old behind × SpreadsAll count settings now leader (node + 1) monitors behind new
 
 -- where no node leads nothing changes
-abbrev pub SpreadsBy : Option ℕ → Settings → ℕ → List Desk → Round → Round → Type 0
-SpreadsBy None settings now desks old new = new ≡ old
-SpreadsBy (Some leader) settings now desks old new = SpreadsAll 7 settings now leader 1 desks old new
+abbrev pub SpreadsBy : Option ℕ → Settings → ℕ → List NodeMonitor → Round → Round → Type 0
+SpreadsBy None settings now monitors old new = new ≡ old
+SpreadsBy (Some leader) settings now monitors old new = SpreadsAll 7 settings now leader 1 monitors old new
 
--- What time brings to word of earlier runs: each of the seven nodes has its turn, where one leads in the greatest term.
-pub record GoesRound (settings : Settings) (now : ℕ) (desks : List Desk) (old new : Round) : Type 0 where
+-- What time brings to retirements: each of the seven nodes has its turn, where one leads in the greatest term.
+pub record GoesRound (settings : Settings) (now : ℕ) (monitors : List NodeMonitor) (old new : Round) : Type 0 where
   pub leader : Option ℕ
-  pub is_leader : IsLeader desks leader
-  pub spreads : SpreadsBy leader settings now desks old new
+  pub is_leader : IsLeader monitors leader
+  pub spreads : SpreadsBy leader settings now monitors old new

@@ -11,7 +11,7 @@ use Rattle.driver.specs.declared.client.Asked.{Asked}
 use Rattle.driver.specs.declared.client.Client.{Client}
 use Rattle.driver.specs.Asking.{begun, held_behind, now_asked}
 use Rattle.driver.specs.Clients.{behind_fed, parting_unless, passed}
-use Rattle.driver.specs.Desks.{at}
+use Rattle.driver.specs.Monitors.{at}
 use Rattle.driver.specs.Opening.{open_behind}
 use Rattle.driver.specs.Telling.{Ordered, ordered}
 

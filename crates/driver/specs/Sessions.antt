@@ -8,7 +8,7 @@ use Rattle.node_notes.specs.declared.note.Note.TheVariants as note
 use Rattle.driver.specs.declared.driver.Driver.{Driver}
 use Rattle.driver.specs.declared.news.News.TheVariants.{Opened}
 use Rattle.driver.specs.declared.order.Order.{Order}
-use Rattle.driver.specs.declared.order.Order.TheVariants.{Tell, Tells}
+use Rattle.driver.specs.declared.order.Order.TheVariants.{Submit, Log}
 use Rattle.driver.specs.declared.link.Link.{Link}
 use Rattle.driver.specs.Links.{Receives, opened as opened_stage}
 use Rattle.driver.specs.Filling.{is_left_out}
@@ -17,7 +17,7 @@ use Rattle.driver.specs.Telling.{ordered}
 
 -- an operator is told that the server gave a session, where a note says so
 abbrev pub opened_of : ℕ → Note TowerBody WireLine → List Order
-opened_of node note.Opened = Tells (Opened node) ∷ []
+opened_of node note.Opened = Log (Opened node) ∷ []
 opened_of node other = []
 
 -- the connection behind what came: the server gave its session where a note says so
@@ -36,7 +36,7 @@ pub record TellsOf (node : ℕ) (came : Note TowerBody WireLine) (old new : Driv
   pub nick : HearsNick came old named
   pub opened : Driver
   pub opens : OpensBy node came named opened
-  pub orders : new.orders ≡ ordered opened.orders (Tell node came ∷ [])
+  pub orders : new.orders ≡ ordered opened.orders (Submit node came ∷ [])
   pub rest : new ≡ record opened { orders = new.orders }
 
 -- A note that is left out changes nothing.

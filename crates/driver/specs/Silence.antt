@@ -8,7 +8,7 @@ use Rattle.driver.specs.declared.client.Client.{Client}
 use Rattle.driver.specs.declared.order.Order.{Order}
 use Rattle.driver.specs.declared.order.Order.TheVariants.{Write}
 use Rattle.driver.specs.Asking.{anew_if, asks_if, is_stuck, now_asked}
-use Rattle.driver.specs.Desks.{at, is_over}
+use Rattle.driver.specs.Monitors.{at, is_over}
 use Rattle.driver.specs.Serving.{IsLost}
 use Rattle.driver.specs.Telling.{Ordered, ordered}
 

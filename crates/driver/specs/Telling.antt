@@ -1,7 +1,7 @@
 -- What was ordered, and how many notes each node was told.
 use Rattle.std.specs.Prelude.{ℕ, ◌+◌, ◌-◌, ◌^◌, min, List, [], ◌∷◌, ◌++◌, slice_index, slice_set}
 use Rattle.driver.specs.declared.order.Order.{Order}
-use Rattle.driver.specs.declared.order.Order.TheVariants.{Tell}
+use Rattle.driver.specs.declared.order.Order.TheVariants.{Submit}
 
 -- the orders that were not taken yet, and how many notes each node was told before these, node 1's count first
 pub record Ordered : Type 0 where
@@ -14,7 +14,7 @@ one_more count = min (count + 1) (2 ^ 64 - 1)
 
 -- the counts behind an order: a note counts for the node that is told it, and nothing else counts
 abbrev pub counted : List ℕ → Order → List ℕ
-counted told (Tell node note) = slice_set told (node - 1) (one_more (slice_index told (node - 1)))
+counted told (Submit node note) = slice_set told (node - 1) (one_more (slice_index told (node - 1)))
 counted told order = told
 
 -- the counts behind these orders

@@ -1,9 +1,9 @@
 -- How long nodes were silent: only while their driver ran.
 use Rattle.std.specs.Prelude.{ℕ, ◌+◌, ◌-◌, ◌/◌, ◌^◌, min, map}
 use Rattle.driver.specs.declared.timer.Timer.{Timer}
-use Rattle.driver.specs.declared.desk.Desk.{Desk}
+use Rattle.driver.specs.declared.node_monitor.NodeMonitor.{NodeMonitor}
 use Rattle.driver.specs.declared.driver.Driver.{Driver}
-use Rattle.driver.specs.Desks.{at}
+use Rattle.driver.specs.Monitors.{at}
 
 -- how much of the time since the driver last ran counts as no silence: what is more than half a timeout, since the process was
 -- stopped then, or had no processor
@@ -15,12 +15,12 @@ abbrev pub later : ℕ → Timer → Timer
 later ms timer = at (min (timer.since + ms) (2 ^ 64 - 1))
 
 -- a node counts as heard of so much later, and so does the leader that it heard of
-abbrev pub waited_longer : ℕ → Desk → Desk
-waited_longer ms desk = record desk { heard = later ms desk.heard; led = later ms desk.led }
+abbrev pub waited_longer : ℕ → NodeMonitor → NodeMonitor
+waited_longer ms monitor = record monitor { last_report = later ms monitor.last_report; last_leader_contact = later ms monitor.last_leader_contact }
 
 -- the driver once it runs at this moment
 abbrev pub awake : ℕ → Driver → Driver
 awake now driver = record driver {
   ran = at now;
-  desks = map (waited_longer (slept driver.ran driver.settings.timeout_ms now)) driver.desks;
+  monitors = map (waited_longer (slept driver.ran driver.settings.timeout_ms now)) driver.monitors;
 }

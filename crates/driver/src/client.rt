@@ -230,9 +230,9 @@ impl Client {
         }
         self.is_gone = true;
         orders.close(self.origin.client())?;
-        orders.announce(News::Left(self.origin))?;
+        orders.log(News::Left(self.origin))?;
         if let Some(request) = self.gate.end() {
-            orders.tell(self.node(), asks(self.origin, now, request))?;
+            orders.submit(self.node(), asks(self.origin, now, request))?;
         }
         Ok(())
     }

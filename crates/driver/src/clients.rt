@@ -15,7 +15,7 @@ mod news;
 mod writing;
 
 use crate::client::Client;
-use crate::desk::Desk;
+use crate::node_monitor::NodeMonitor;
 use crate::order::Now;
 use crate::orders::Orders;
 use bouncer_tower::TowerEffect;
@@ -188,15 +188,15 @@ impl Clients {
         &mut self,
         now: &Now,
         timeout_ms: u16,
-        desks: &[Desk; MOST_NODES],
+        monitors: &[NodeMonitor; MOST_NODES],
         orders: &mut Orders,
     ) -> Result<(), AllocError>
-        ensures { OnOk result (TickEach now.now.at timeout_ms now.now.ms desks.now (keys self.old.all)
+        ensures { OnOk result (TickEach now.now.at timeout_ms now.now.ms monitors.now (keys self.old.all)
             (told self.old orders.old) (told self.new orders.new)) }
     {
         let numbers = self.numbers()?;
         for number in numbers {
-            self.tick_client(now, timeout_ms, desks, number, orders)?;
+            self.tick_client(now, timeout_ms, monitors, number, orders)?;
         }
         Ok(())
     }
@@ -206,7 +206,7 @@ impl Clients {
         &mut self,
         now: &Now,
         timeout_ms: u16,
-        desks: &[Desk; MOST_NODES],
+        monitors: &[NodeMonitor; MOST_NODES],
         number: u64,
         orders: &mut Orders,
     ) -> Result<(), AllocError>
@@ -214,13 +214,13 @@ impl Clients {
         ensures nobody { client_at self.old number ≡ None →
             (self.new ≡ self.old) × (orders.new ≡ orders.old) }
         ensures served { OnOk result (Serves (λ c. client_at self.old number ≡ Some c)
-            (λ s calls c new. TicksRead timeout_ms now.now.ms now.now.at desks.now s calls c
+            (λ s calls c new. TicksRead timeout_ms now.now.ms now.now.at monitors.now s calls c
             orders.old new orders.new) number self.new) }
     {
         let Some(client) = self.all.get_mut(&number) else {
             return Ok(());
         };
-        let is_read = client.is_read(desks, orders);
+        let is_read = client.is_read(monitors, orders);
         client.tick(now, timeout_ms, is_read, orders)?;
         self.forget_if_over(number);
         Ok(())

@@ -1,10 +1,10 @@
 //! The driver: what happened is told to it, and it gives orders.
 ghost use Rattle.std.specs.Prelude.{◌≡◌, IfOk, IfSome, None, OnErr, OnOk};
-ghost use Rattle.driver.specs.Arriving.{Arrives, ArrivesIf, IsNewDriver, boot_at, desks_behind};
-ghost use Rattle.driver.specs.Arriving.{last_number, new_desks, next_number, turned_away_at};
+ghost use Rattle.driver.specs.Arriving.{Arrives, ArrivesIf, IsNewDriver, boot_at, monitors_behind};
+ghost use Rattle.driver.specs.Arriving.{last_number, new_monitors, next_number, turned_away_at};
 ghost use Rattle.driver.specs.Coming.{Comes};
 ghost use Rattle.driver.specs.Driving.{changed_at, orders_at};
-ghost use Rattle.driver.specs.Gone.{with_seen};
+ghost use Rattle.driver.specs.Retiring.{with_seen};
 ghost use Rattle.driver.specs.Hearing.{turned_away, turned_away_news};
 ghost use Rattle.driver.specs.Links.{Sends};
 ghost use Rattle.driver.specs.Nicks.{nick_in};
@@ -22,13 +22,13 @@ mod ticking;
 
 use crate::client::Client;
 use crate::clients::Clients;
-use crate::desk::Desk;
 use crate::level::Level;
 use crate::link::Link;
-use crate::notices::Notices;
+use crate::node_monitor::NodeMonitor;
 use crate::order::{Now, Order};
 use crate::orders::Orders;
 use crate::pace::Pace;
+use crate::retirements::Retirements;
 use crate::settings::Settings;
 use crate::timer::Timer;
 use client_gate::ClientGate;
@@ -49,8 +49,8 @@ pub struct Driver {
     alloc: Global,
     settings: Settings,
     /// Node 1's first, also of nodes that there are not: of these nothing is heard.
-    desks: [Desk; MOST_NODES],
-    notices: Notices,
+    monitors: [NodeMonitor; MOST_NODES],
+    retirements: Retirements,
     clients: Clients,
     /// The number of the last client.
     numbered: u64,
@@ -71,12 +71,12 @@ impl Driver {
         ensures { IsNewDriver settings now.now.ms result }
     {
         let pace = Pace::new(settings.flood_burst, settings.flood_ms);
-        let desks = desks_of(&settings, now);
+        let monitors = monitors_of(&settings, now);
         Driver {
             alloc,
             settings,
-            desks,
-            notices: Notices::new(),
+            monitors,
+            retirements: Retirements::new(),
             clients: Clients::new(alloc),
             numbered: 0,
             link: Link::new(alloc, now),
@@ -101,21 +101,21 @@ impl Driver {
     /// away since the node was up.
     pub fn connect(&mut self, now: &Now, node: NodeId) -> Result<Option<u64>, AllocError>
         ensures number { IfOk result (λ number.
-            number ≡ next_number self.old.desks node self.old.numbered) }
+            number ≡ next_number self.old.monitors node self.old.numbered) }
         ensures last { OnOk result (self.new.numbered ≡ last_number self.old.numbered
-            (next_number self.old.desks node self.old.numbered)) }
+            (next_number self.old.monitors node self.old.numbered)) }
         ensures kept { OnErr result (self.new.numbered ≡ self.old.numbered) }
-        ensures arrived { IfOk result (λ number. ArrivesIf self.old.desks number
+        ensures arrived { IfOk result (λ number. ArrivesIf self.old.monitors number
             node self.old.settings.password.items (nick_in self.old) now.now.ms
             self.old.clients self.new.clients) }
         ensures others { IfOk result (λ number. IfSome number (λ number.
             AreOthersSame number self.old.clients self.new.clients)) }
-        ensures desks { OnOk result (self.new.desks
-            ≡ desks_behind self.old.desks node self.old.numbered) }
+        ensures monitors { OnOk result (self.new.monitors
+            ≡ monitors_behind self.old.monitors node self.old.numbered) }
         ensures told { OnOk result (self.new.orders
-            ≡ ordered self.old.orders (turned_away_at self.old.desks node)) }
+            ≡ ordered self.old.orders (turned_away_at self.old.monitors node)) }
         ensures rest { OnOk result (self.new ≡ record self.old {
-          desks = self.new.desks;
+          monitors = self.new.monitors;
           clients = self.new.clients;
           numbered = self.new.numbered;
           orders = self.new.orders;
@@ -138,30 +138,30 @@ impl Driver {
 
     /// The run in which a node is up, if it is.
     pub(crate) fn boot_of(&self, node: NodeId) -> Option<Number>
-        ensures { result ≡ boot_at self.now.desks node }
+        ensures { result ≡ boot_at self.now.monitors node }
     {
-        let desk = self.desks.get(node.value() as usize - 1)?;
-        desk.boot()
+        let monitor = self.monitors.get(node.value() as usize - 1)?;
+        monitor.boot()
     }
 
     /// A client connected to a node that is not up.
     fn turn_away(&mut self, node: NodeId) -> Result<(), AllocError>
-        ensures desks { OnOk result
-            (self.new.desks ≡ changed_at turned_away self.old.desks node) }
+        ensures monitors { OnOk result
+            (self.new.monitors ≡ changed_at turned_away self.old.monitors node) }
         ensures told { OnOk result (self.new.orders
-            ≡ ordered self.old.orders (orders_at turned_away_news self.old.desks node)) }
+            ≡ ordered self.old.orders (orders_at turned_away_news self.old.monitors node)) }
         ensures rest { self.new ≡ record self.old
-            { desks = self.new.desks; orders = self.new.orders } }
+            { monitors = self.new.monitors; orders = self.new.orders } }
     {
-        self.desks[node.value() as usize - 1].turn_away(&mut self.orders)
+        self.monitors[node.value() as usize - 1].turn_away(&mut self.orders)
     }
 
     /// A client of this run of a node connected.
     fn see(&mut self, node: NodeId, boot: Number)
         ensures { self.new ≡ record self.old
-            { desks = changed_at (with_seen boot) self.old.desks node } }
+            { monitors = changed_at (with_seen boot) self.old.monitors node } }
     {
-        self.desks[node.value() as usize - 1].see(boot);
+        self.monitors[node.value() as usize - 1].see(boot);
     }
 
     /// A client of this origin has connected.
@@ -229,17 +229,17 @@ impl Driver {
     }
 }
 
-/// A desk for each node that there may be.
-fn desks_of(settings: &Settings, now: &Now) -> [Desk; MOST_NODES]
-    ensures { result ≡ new_desks settings.now now.now.ms }
+/// A monitor for each node that there may be.
+fn monitors_of(settings: &Settings, now: &Now) -> [NodeMonitor; MOST_NODES]
+    ensures { result ≡ new_monitors settings.now now.now.ms }
 {
     [
-        Desk::new(NodeId::new(1), settings, now),
-        Desk::new(NodeId::new(2), settings, now),
-        Desk::new(NodeId::new(3), settings, now),
-        Desk::new(NodeId::new(4), settings, now),
-        Desk::new(NodeId::new(5), settings, now),
-        Desk::new(NodeId::new(6), settings, now),
-        Desk::new(NodeId::new(7), settings, now),
+        NodeMonitor::new(NodeId::new(1), settings, now),
+        NodeMonitor::new(NodeId::new(2), settings, now),
+        NodeMonitor::new(NodeId::new(3), settings, now),
+        NodeMonitor::new(NodeId::new(4), settings, now),
+        NodeMonitor::new(NodeId::new(5), settings, now),
+        NodeMonitor::new(NodeId::new(6), settings, now),
+        NodeMonitor::new(NodeId::new(7), settings, now),
     ]
 }

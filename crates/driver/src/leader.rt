@@ -2,7 +2,7 @@
 ghost use Rattle.std.specs.Prelude.{◌≡◌};
 ghost use Rattle.driver.specs.Leading.{IsLeader, better};
 
-use crate::desk::Desk;
+use crate::node_monitor::NodeMonitor;
 use raft_log::NodeId;
 use wire_bytes::Number;
 
@@ -17,12 +17,12 @@ struct Leader {
 }
 
 /// The node that leads in the greatest term, where one leads.
-pub fn leader_of(desks: &[Desk; MOST_NODES]) -> Option<NodeId>
-    ensures { IsLeader desks.now result }
+pub fn leader_of(monitors: &[NodeMonitor; MOST_NODES]) -> Option<NodeId>
+    ensures { IsLeader monitors.now result }
 {
     let mut best = None;
     for id in 1..MOST_NODES as u8 + 1 {
-        let term = desks[id as usize - 1].leading();
+        let term = monitors[id as usize - 1].leading();
         best = better(best, NodeId::new(id), term);
     }
     let best = best?;

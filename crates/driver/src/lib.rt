@@ -7,19 +7,19 @@
 mod backoff;
 mod client;
 mod clients;
-mod desk;
 mod driver;
-mod gone;
 pub mod laws;
 mod leader;
 mod level;
 mod lines;
 mod link;
 mod news;
-mod notices;
+mod node_monitor;
 mod order;
 mod orders;
 mod pace;
+mod retirement;
+mod retirements;
 mod settings;
 mod timer;
 

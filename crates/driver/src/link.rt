@@ -7,7 +7,7 @@ ghost use Rattle.driver.specs.declared.order.Order.TheVariants.{Connect};
 ghost use Rattle.driver.specs.Links.{Connects, HasBegun, HasReceived, IsLost, Receives, Sends};
 ghost use Rattle.driver.specs.Links.{backoff_behind, ending, idle_behind, is_session_of, is_silent, may_connect, node_of, opened};
 ghost use Rattle.driver.specs.Links.{first_backoff, notes_of, send_some};
-ghost use Rattle.driver.specs.Desks.{at};
+ghost use Rattle.driver.specs.Monitors.{at};
 ghost use Rattle.driver.specs.Telling.{ordered};
 
 mod notes;
@@ -174,7 +174,7 @@ impl Link {
         let lost = match &mut self.stage {
             Stage::Idle(_, _) => return Ok(false),
             Stage::Connecting(node) => {
-                orders.announce(News::Unopened(*node, why))?;
+                orders.log(News::Unopened(*node, why))?;
                 false
             }
             Stage::Open(session) => {
@@ -182,7 +182,7 @@ impl Link {
                     self.backoff.reset();
                 }
                 let news = News::of_end(session.is_opened, session.node, why);
-                orders.announce(news)?;
+                orders.log(news)?;
                 end(&mut session.uplink)
             }
         };

@@ -23,7 +23,7 @@ pub struct Now {
 #[derive(Drop)]
 pub enum Order {
     /// A node's worker is told this.
-    Tell(NodeId, TowerNote),
+    Submit(NodeId, TowerNote),
     /// These bytes go to the client of this number.
     Write(u64, Vec<u8>),
     /// The connection of the client of this number is closed, behind what was written.
@@ -35,5 +35,5 @@ pub enum Order {
     /// The connection to the server is closed, behind what was sent.
     Disconnect,
     /// An operator is told.
-    Tells(News),
+    Log(News),
 }

@@ -1,7 +1,7 @@
 //! What is ordered, and how many notes each node was told.
 ghost use Rattle.std.specs.Prelude.{◌≡◌, ◌∷◌, [], IfOk, OnErr, OnOk, zero};
 ghost use Rattle.std.specs.Global.{Vec};
-ghost use Rattle.driver.specs.declared.order.Order.TheVariants.{Close, Connect, Disconnect, Send, Tell, Tells, Write};
+ghost use Rattle.driver.specs.declared.order.Order.TheVariants.{Close, Connect, Disconnect, Send, Submit, Log, Write};
 ghost use Rattle.driver.specs.Telling.{emptied, next_note, none_told, ordered, told_to};
 
 use crate::news::News;
@@ -69,12 +69,12 @@ impl Orders {
 
     /// A node is told this. The number of the note.
     #[tactic(auto, unfolding(crate::specs::Telling::told_to))]
-    pub fn tell(&mut self, node: NodeId, note: TowerNote) -> Result<u64, AllocError>
-        ensures told { OnOk result (self.new ≡ ordered self.old (Tell node note ∷ [])) }
+    pub fn submit(&mut self, node: NodeId, note: TowerNote) -> Result<u64, AllocError>
+        ensures told { OnOk result (self.new ≡ ordered self.old (Submit node note ∷ [])) }
         ensures number { IfOk result (λ number. number ≡ next_note self.old node) }
     {
         let number = self.next(node);
-        self.list.push(Order::Tell(node, note))?;
+        self.list.push(Order::Submit(node, note))?;
         self.told[node.value() as usize - 1] = number;
         Ok(number)
     }
@@ -126,10 +126,10 @@ impl Orders {
 
     /// An operator is told.
     #[tactic(auto, using(crate::proofs::Telling::counts_push))]
-    pub fn announce(&mut self, news: News) -> Result<(), AllocError>
-        ensures { OnOk result (self.new ≡ ordered self.old (Tells news ∷ [])) }
+    pub fn log(&mut self, news: News) -> Result<(), AllocError>
+        ensures { OnOk result (self.new ≡ ordered self.old (Log news ∷ [])) }
     {
-        self.list.push(Order::Tells(news))?;
+        self.list.push(Order::Log(news))?;
         Ok(())
     }
 

@@ -59,7 +59,7 @@ impl Client {
         }
         if !self.is_attached {
             self.is_attached = true;
-            orders.announce(News::Attached(self.origin))?;
+            orders.log(News::Attached(self.origin))?;
         }
         ask_each(self.origin, now, requests, orders)
     }
@@ -90,7 +90,7 @@ fn ask_each(
         (orders.new ≡ ordered orders.old (asks_of origin now.now.at requests.items)) }
 {
     for request in requests {
-        orders.tell(NodeId::new(origin.node()), asks(origin, now, request))?;
+        orders.submit(NodeId::new(origin.node()), asks(origin, now, request))?;
     }
     Ok(())
 }

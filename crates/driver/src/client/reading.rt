@@ -3,7 +3,7 @@ ghost use Rattle.driver.specs.Rosters.{IsReadOf};
 ghost use Rattle.std.specs.Prelude.{Some};
 
 use crate::client::Client;
-use crate::desk::{Desk, reads_for};
+use crate::node_monitor::{NodeMonitor, reads_for};
 use crate::orders::Orders;
 
 /// The most nodes that there may be.
@@ -11,10 +11,10 @@ const MOST_NODES: usize = 7;
 
 impl Client {
     /// Whether it is read: not while as many notes of its node wait as may, or as many of its requests.
-    pub fn is_read(&self, desks: &[Desk; MOST_NODES], orders: &Orders) -> bool
-        ensures { IsReadOf result orders.now desks.now (Some self.now) }
+    pub fn is_read(&self, monitors: &[NodeMonitor; MOST_NODES], orders: &Orders) -> bool
+        ensures { IsReadOf result orders.now monitors.now (Some self.now) }
     {
         let is_full = self.is_full();
-        !is_full && reads_for(desks, orders, Some(self.node()))
+        !is_full && reads_for(monitors, orders, Some(self.node()))
     }
 }

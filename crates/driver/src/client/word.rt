@@ -46,7 +46,7 @@ impl Client {
         error.extend_from_slice(b" is down\r\n")?;
         orders.write(self.origin.client(), error)?;
         orders.close(self.origin.client())?;
-        orders.announce(News::Left(self.origin))?;
+        orders.log(News::Left(self.origin))?;
         Ok(())
     }
 }

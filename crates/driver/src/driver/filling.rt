@@ -21,7 +21,7 @@ impl Driver {
     pub fn watch_log(&mut self) -> Result<(), AllocError>
         ensures { OnOk result (Watches self.old self.new) }
     {
-        let Some(node) = leader_of(&self.desks) else {
+        let Some(node) = leader_of(&self.monitors) else {
             return Ok(());
         };
         self.watch_log_of(node)
@@ -40,12 +40,12 @@ impl Driver {
 
     /// How many entries this node has, as far as is known.
     fn last_of(&self, node: NodeId) -> u64
-        ensures { result ≡ last_in (slice_get self.now.desks (node - 1)) }
+        ensures { result ≡ last_in (slice_get self.now.monitors (node - 1)) }
     {
-        let Some(desk) = self.desks.get(node.value() as usize - 1) else {
+        let Some(monitor) = self.monitors.get(node.value() as usize - 1) else {
             return 0;
         };
-        match desk.status() {
+        match monitor.status() {
             Some(status) => status.last.value(),
             None => 0,
         }
@@ -84,7 +84,7 @@ impl Driver {
         ensures { OnOk result (TellsLevel node level self.old self.new) }
     {
         self.level = level;
-        self.orders.announce(News::LogFills(node, level))?;
+        self.orders.log(News::LogFills(node, level))?;
         self.notice(level.words())
     }
 }

@@ -3,16 +3,16 @@ ghost use Rattle.std.specs.Prelude.{◌≡◌, ◌-◌, is_some, slice_get, IfOk
 ghost use Rattle.bouncer_tower.specs.Hosting.{class_of};
 ghost use Rattle.driver.specs.Passing.{PassEach, Passes, PassesBy};
 ghost use Rattle.driver.specs.Driving.{changed_at, orders_at, told_of};
-ghost use Rattle.driver.specs.Gone.{fresh};
-ghost use Rattle.driver.specs.Rounds.{word_begun, word_told};
+ghost use Rattle.driver.specs.Retiring.{fresh};
+ghost use Rattle.driver.specs.Rounds.{retirement_begun, retirement_told};
 ghost use Rattle.driver.specs.Nicks.{nick_in};
 ghost use Rattle.driver.specs.Hearing.{heard_behind, heard_news, heard_of};
 ghost use Rattle.driver.specs.Reports.{Begins, BeginsIf, Hears, Stands, WordsBy, heard_at};
 ghost use Rattle.driver.specs.Telling.{ordered, told_to};
 
-use crate::desk::Heard;
 use crate::driver::Driver;
 use crate::driver::nick::nick_by;
+use crate::node_monitor::Heard;
 use crate::order::{Now, TowerReport};
 use bouncer_tower::{Tower, TowerEffect};
 use machine_laws::{Class, Hosted};
@@ -59,10 +59,10 @@ impl Driver {
         ensures stands { OnOk result
             (Stands now.now.ms node status.now progress.now is_refused self.old self.new) }
     {
-        let desk = &mut self.desks[node.value() as usize - 1];
-        let heard = desk.hear(now, status, progress, &mut self.orders)?;
-        let done = desk.progress().done;
-        self.notices.hear(node, status, done, is_refused);
+        let monitor = &mut self.monitors[node.value() as usize - 1];
+        let heard = monitor.hear(now, status, progress, &mut self.orders)?;
+        let done = monitor.progress().done;
+        self.retirements.hear(node, status, done, is_refused);
         Ok(heard)
     }
 
@@ -87,7 +87,7 @@ impl Driver {
         if !is_refused && !heard.has_lost {
             return Ok(());
         }
-        let lost = self.desks[node.value() as usize - 1].progress().lost;
+        let lost = self.monitors[node.value() as usize - 1].progress().lost;
         self.clients
             .hear_node(now, node, lost, is_refused, &mut self.orders)
     }
@@ -138,7 +138,7 @@ impl Driver {
         Ok(())
     }
 
-    /// Where a run of a node began, word goes round that its earlier runs are gone.
+    /// Where a run of a node began, its earlier runs are retired.
     fn begin_if(
         &mut self,
         is_new: bool,
@@ -154,26 +154,26 @@ impl Driver {
         self.begin(now, node, boot)
     }
 
-    /// A run of a node began: its earlier runs' clients are left, and word goes round that these are gone.
+    /// A run of a node began: its earlier runs' clients are left, and these runs are retired.
     fn begin(&mut self, now: &Now, node: NodeId, boot: Number) -> Result<(), AllocError>
         ensures { OnOk result (Begins now.now.ms now.now.at node boot self.old self.new) }
     {
         self.clients
             .leave_runs_below(now, node.value(), boot.value(), &mut self.orders)?;
-        self.spread_word(now, node, boot)?;
+        self.retire_earlier(now, node, boot)?;
         Ok(())
     }
 
-    /// A node is asked for word that its runs below this boot are gone.
-    fn spread_word(&mut self, now: &Now, node: NodeId, boot: Number) -> Result<(), AllocError>
-        ensures word { OnOk result (self.new.notices.all ≡ word_begun self.old.orders
-            now.now.ms boot (slice_get self.old.desks (node - 1)) self.old.notices.all) }
+    /// A node is asked to retire its runs below this boot.
+    fn retire_earlier(&mut self, now: &Now, node: NodeId, boot: Number) -> Result<(), AllocError>
+        ensures retired { OnOk result (self.new.retirements.all ≡ retirement_begun self.old.orders
+            now.now.ms boot (slice_get self.old.monitors (node - 1)) self.old.retirements.all) }
         ensures told { OnOk result (self.new.orders ≡ ordered self.old.orders
-            (orders_at (λ desk. word_told (fresh desk.id boot) desk) self.old.desks node)) }
+            (orders_at (λ monitor. retirement_told (fresh monitor.id boot) monitor) self.old.monitors node)) }
         ensures rest { self.new ≡ record self.old
-            { notices = self.new.notices; orders = self.new.orders } }
+            { retirements = self.new.retirements; orders = self.new.orders } }
     {
-        self.notices
-            .begin(now, &self.desks, node, boot, &mut self.orders)
+        self.retirements
+            .begin(now, &self.monitors, node, boot, &mut self.orders)
     }
 }

@@ -59,7 +59,7 @@ impl Driver {
         }
         self.hear_nick(&note)?;
         self.open_by(node, &note)?;
-        self.orders.tell(node, note)?;
+        self.orders.submit(node, note)?;
         Ok(())
     }
 
@@ -70,7 +70,7 @@ impl Driver {
         match note {
             Note::Opened => {
                 self.link.open();
-                self.orders.announce(News::Opened(node))
+                self.orders.log(News::Opened(node))
             }
             _ => Ok(()),
         }
@@ -93,7 +93,7 @@ impl Driver {
         };
         let is_lost = self.link.lose(now, why, &mut self.orders)?;
         if is_lost && self.boot_of(node).is_some() {
-            self.orders.tell(node, Note::Closed)?;
+            self.orders.submit(node, Note::Closed)?;
         }
         Ok(())
     }

@@ -1,13 +1,13 @@
 //! What time brings, and how the nodes stand.
 ghost use Rattle.std.specs.Prelude.{◌≡◌, OnOk, map};
-ghost use Rattle.driver.specs.Driving.{Claims, Serves, ServesIf, Ticks, TicksDesk, TicksNode, TickNodes};
+ghost use Rattle.driver.specs.Driving.{Claims, Serves, ServesIf, Ticks, TicksMonitor, TicksNode, TickNodes};
 ghost use Rattle.driver.specs.Leading.{IsLeader, is_that};
 ghost use Rattle.driver.specs.Waking.{awake, slept, waited_longer};
 
-use crate::desk::Desk;
 use crate::driver::session::is_that;
 use crate::driver::{Driver, MOST_NODES};
 use crate::leader::leader_of;
+use crate::node_monitor::NodeMonitor;
 use crate::order::Now;
 use crate::timer::Timer;
 use raft_log::NodeId;
@@ -22,10 +22,10 @@ impl Driver {
         self.leave_silent(now)?;
         let timeout = self.settings.timeout_ms;
         self.clients
-            .tick(now, timeout, &self.desks, &mut self.orders)?;
+            .tick(now, timeout, &self.monitors, &mut self.orders)?;
         self.tick_nodes(now)?;
-        self.notices
-            .tick(now, &self.settings, &self.desks, &mut self.orders)?;
+        self.retirements
+            .tick(now, &self.settings, &self.monitors, &mut self.orders)?;
         Ok(())
     }
 
@@ -36,7 +36,7 @@ impl Driver {
     {
         let slept = self.slept(now);
         self.ran = Timer::from(now.ms);
-        wait_longer(self.desks.as_mut_slice(), slept);
+        wait_longer(self.monitors.as_mut_slice(), slept);
     }
 
     /// How much of the time since it last ran counts as no silence.
@@ -61,27 +61,27 @@ impl Driver {
     pub fn tick_node(&mut self, now: &Now, node: NodeId) -> Result<(), AllocError>
         ensures { OnOk result (TicksNode now.now.ms node self.old self.new) }
     {
-        self.tick_desk(now, node)?;
+        self.tick_monitor(now, node)?;
         let leader = self.leader();
         self.leave_older(now, &leader)?;
         self.serve_if(&leader, now, node)?;
         Ok(())
     }
 
-    /// What a node is told by the clock, and by word that its run is gone.
-    fn tick_desk(&mut self, now: &Now, node: NodeId) -> Result<(), AllocError>
-        ensures { OnOk result (TicksDesk now.now.ms node self.old self.new) }
+    /// What a node is told by the clock, and by the retirement of its run.
+    fn tick_monitor(&mut self, now: &Now, node: NodeId) -> Result<(), AllocError>
+        ensures { OnOk result (TicksMonitor now.now.ms node self.old self.new) }
     {
-        let desk = &mut self.desks[node.value() as usize - 1];
-        self.notices
-            .tick_desk(now, &self.settings, desk, &mut self.orders)
+        let monitor = &mut self.monitors[node.value() as usize - 1];
+        self.retirements
+            .tick_monitor(now, &self.settings, monitor, &mut self.orders)
     }
 
     /// The node that leads in the greatest term, where one leads.
     fn leader(&self) -> Option<NodeId>
-        ensures { IsLeader self.now.desks result }
+        ensures { IsLeader self.now.monitors result }
     {
-        leader_of(&self.desks)
+        leader_of(&self.monitors)
     }
 
     /// Where this node is the one that leads in the greatest term, it is served.
@@ -113,17 +113,17 @@ impl Driver {
     fn claim(&mut self, now: &Now, node: NodeId) -> Result<(), AllocError>
         ensures { OnOk result (Claims now.now.ms node self.old self.new) }
     {
-        let desk = &mut self.desks[node.value() as usize - 1];
-        desk.claim(now, &self.settings, &mut self.pace, &mut self.orders)?;
+        let monitor = &mut self.monitors[node.value() as usize - 1];
+        monitor.claim(now, &self.settings, &mut self.pace, &mut self.orders)?;
         Ok(())
     }
 }
 
 /// So much of the time that passed counts as no silence of any node.
-fn wait_longer(desks: &mut [Desk], ms: u64)
-    ensures { desks.new ≡ map (waited_longer ms) desks.old }
+fn wait_longer(monitors: &mut [NodeMonitor], ms: u64)
+    ensures { monitors.new ≡ map (waited_longer ms) monitors.old }
 {
-    for desk in desks.iter_mut() {
-        desk.wait_longer(ms);
+    for monitor in monitors.iter_mut() {
+        monitor.wait_longer(ms);
     }
 }

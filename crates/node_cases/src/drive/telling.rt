@@ -155,7 +155,7 @@ pub fn told(alloc: Global, driver: &mut Driver) -> Result<Vec<u8>, Fail> {
 
 fn tell(alloc: Global, out: &mut Vec<u8>, order: &Order) -> Result<(), Fail> {
     match order {
-        Order::Tell(node, note) => {
+        Order::Submit(node, note) => {
             let node = node.value();
             let word = word_of(note);
             out.extend_from_slice(format!(in alloc; "{word}@{node} ")?.as_bytes())?;
@@ -173,7 +173,7 @@ fn tell(alloc: Global, out: &mut Vec<u8>, order: &Order) -> Result<(), Fail> {
             out.extend_from_slice(bytes.as_slice())?;
         }
         Order::Disconnect => out.extend_from_slice(b"disconnect ")?,
-        Order::Tells(news) => {
+        Order::Log(news) => {
             let node = news.node();
             out.extend_from_slice(format!(in alloc; "news@{node} [{news}] ")?.as_bytes())?;
         }

@@ -13,7 +13,7 @@ loop-store-preserved g c =
     one_more (λ store. IsHonest (g.S.Stable.condition store) → Covers node c.loop-store.earlier (g.S.Stable.saved store))
     (λ store. IsHonest (g.S.Stable.condition store) → Covers node after (g.S.Stable.saved store))
     c.args.stores.now c.loop-store.store-index c.store-item.result c.loop-store-test.true
-    (λ store covers honest. covers_later node c.loop-store.earlier after (g.S.Stable.saved store) c.with-earlier.ensures.run c.with-earlier.ensures.term (covers honest))
+    (λ store covers honest. covers_later node c.loop-store.earlier after (g.S.Stable.saved store) c.with-earlier.ensures.boot c.with-earlier.ensures.term (covers honest))
     c.loop-store.invariant
     (subst (λ (store : g.row.S.Denot). IsHonest (g.S.Stable.condition store) → Covers node after (g.S.Stable.saved store)) c.store-item.is
     (λ honest. subst (λ (saved : Saved TowerBody). Covers node after saved) (c.in_ok-read.ensures.ok honest) c.with-earlier.ensures.covers))

@@ -3,4 +3,4 @@ use Rattle.driver.proofs.leader.leader_of.Given as goal
 
 -- the best of the nodes before this one
 abbrev pub invariant-loop-id : goal.invariant-loop-id
-invariant-loop-id l = IsBest l.desks l.id l.best
+invariant-loop-id l = IsBest l.monitors l.id l.best

@@ -1,7 +1,7 @@
 use Rattle.std.proofs.Common.{rules, ◌≡◌, ◌∷◌, false, sym, subst, inl}
 use Rattle.client_gate.specs.Calls.{Feed, Stands, fed_answer}
 use Rattle.driver.specs.declared.client.Client.{Client}
-use Rattle.driver.specs.Desks.{at}
+use Rattle.driver.specs.Monitors.{at}
 use Rattle.driver.specs.Serving.{HasPassed}
 use Rattle.driver.proofs.client.Client.receive.Goals as goal
 

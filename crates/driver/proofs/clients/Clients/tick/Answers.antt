@@ -10,14 +10,14 @@ loop-number-preserved c new more =
     let old = told c.loop-number.self c.loop-number.orders in
     let behind = told c.tick_client.new.self c.tick_client.new.orders in
     let always = c.tick_client.ensures in
-    let does : TicksClient c.args.now.now.at c.args.timeout_ms c.args.now.now.ms c.args.desks.now c.in-Some.number old behind =
+    let does : TicksClient c.args.now.now.at c.args.timeout_ms c.args.now.now.ms c.args.monitors.now c.in-Some.number old behind =
     record { others = always.others; nobody = always.nobody; served = c.in_ok-tick_client.ensures.served } in
     c.loop-number.invariant new
-    (tick_more c.args.now.now.at c.args.timeout_ms c.args.now.now.ms c.args.desks.now c.in-Some.number (into_iter_items c.loop-number.number-iterator) (into_iter_items c.next.new.self) old behind new c.in-Some.ensures.steps.0 does more)
+    (tick_more c.args.now.now.at c.args.timeout_ms c.args.now.now.ms c.args.monitors.now c.in-Some.number (into_iter_items c.loop-number.number-iterator) (into_iter_items c.next.new.self) old behind new c.in-Some.ensures.steps.0 does more)
 
 pub returns : goal.returns
 returns c =
     let left = into_iter_items c.loop-number.number-iterator in
     let last = told c.loop-number.self c.loop-number.orders in
     let none : left ≡ [] = nil_from_length left (sym c.loop-number.number-iterator.rest.ok.0 ∙ c.in-None.ensures.steps.0) in
-    c.loop-number.invariant last (tick_none c.args.now.now.at c.args.timeout_ms c.args.now.now.ms c.args.desks.now left last none)
+    c.loop-number.invariant last (tick_none c.args.now.now.at c.args.timeout_ms c.args.now.now.ms c.args.monitors.now left last none)

@@ -6,5 +6,5 @@ use Rattle.driver.proofs.clients.Clients.tick.Given as goal
 -- once it comes to what is left, it came to all
 abbrev pub invariant-loop-number : goal.invariant-loop-number
 invariant-loop-number l =
-    (new : Told) → TickEach l.now.at l.timeout_ms l.now.ms l.desks (into_iter_items l.number-iterator) (told l.self l.orders) new
-    → TickEach l.now.at l.timeout_ms l.now.ms l.desks (keys l.initial.self.all) (told l.initial.self l.initial.orders) new
+    (new : Told) → TickEach l.now.at l.timeout_ms l.now.ms l.monitors (into_iter_items l.number-iterator) (told l.self l.orders) new
+    → TickEach l.now.at l.timeout_ms l.now.ms l.monitors (keys l.initial.self.all) (told l.initial.self l.initial.orders) new

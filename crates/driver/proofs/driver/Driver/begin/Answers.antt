@@ -9,6 +9,6 @@ returns c =
       leaves = search rules;
       clients = search rules;
       orders = search rules;
-      word = search rules;
+      retired = search rules;
       rest = search rules;
     }

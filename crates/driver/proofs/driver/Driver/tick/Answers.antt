@@ -17,6 +17,6 @@ returns c =
       is_served = refl;
       asked = c.tick_nodes.new.self;
       nodes = c.in_ok-tick_nodes.ensures;
-      word = c.in_ok-tick-2.ensures;
+      retired = c.in_ok-tick-2.ensures;
       rest = refl;
     }

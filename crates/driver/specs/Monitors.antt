@@ -1,0 +1,154 @@
+-- What a node is told by the clock and by how it stands, and when.
+use Rattle.std.specs.Prelude.{ℕ, ◌+◌, ◌*◌, ◌-◌, ◌&&◌, Bool, false, not, nat_eq, nat_le, if◌then◌else◌, List, [], ◌∷◌, Option, Some, None}
+use Rattle.bouncer_tower.specs.Bodies.{TowerBody}
+use Rattle.buffer_commands.specs.declared.wire_line.WireLine.{WireLine}
+use Rattle.node_notes.specs.declared.note.Note.{Note}
+use Rattle.node_notes.specs.declared.note.Note.TheVariants.{Timeout, Beat, Restart, Claim}
+use Rattle.node_notes.specs.declared.progress.Progress.{Progress}
+use Rattle.node_notes.specs.declared.status.Status.{Status}
+use Rattle.node_notes.specs.Notes.{leads}
+use Rattle.machine_laws.specs.Sessions.{same_session}
+use Rattle.driver.specs.declared.timer.Timer.{Timer}
+use Rattle.driver.specs.declared.pace.Pace.{Pace}
+use Rattle.driver.specs.Pacing.{doubled, free_after, may_go}
+use Rattle.driver.specs.declared.node_monitor.NodeMonitor.{NodeMonitor}
+use Rattle.driver.specs.declared.node_monitor.Claimed.{Claimed}
+use Rattle.driver.specs.declared.order.Order.{Order}
+use Rattle.driver.specs.declared.order.Order.TheVariants.{Submit}
+use Rattle.driver.specs.declared.settings.Settings.{Settings}
+use Rattle.driver.specs.Telling.{Ordered, next_note}
+
+-- so many milliseconds have passed since then; before that moment none have
+abbrev pub is_over : Timer → ℕ → ℕ → Bool
+is_over timer wait now = nat_le wait (now - timer.since)
+
+-- how long a node waits for a leader: each next one 50 ms longer
+abbrev pub patience : Settings → ℕ → ℕ
+patience settings id = settings.timeout_ms + 50 * id
+
+-- a leader sends where it was not told to for a while, and its last such note is done
+abbrev pub is_to_beat : NodeMonitor → Settings → ℕ → Bool
+is_to_beat monitor settings now = is_over monitor.beat settings.beat_ms now && nat_le monitor.beat_note monitor.progress.done
+
+-- what a node is told that is up: a leader to send, and any other, where it heard of no leader for too long, to ask for votes,
+-- unless it heard of one more often than is known
+unfoldable pub note_up : NodeMonitor → Settings → ℕ → Status → Option (Note TowerBody WireLine)
+note_up monitor settings now status =
+    if leads status
+    then (if is_to_beat monitor settings now then Some Beat else None)
+    else (if is_over monitor.last_leader_contact (patience settings monitor.id) now then Some (Timeout monitor.progress.contacts) else None)
+
+-- what a node is told of which this is known: nothing where it never was heard of, and where it is down, to start again once
+-- it waited long enough
+unfoldable pub note_for : NodeMonitor → Settings → ℕ → Option Status → Option Timer → Option (Note TowerBody WireLine)
+note_for monitor settings now None down = None
+note_for monitor settings now (Some status) (Some since) = if is_over since monitor.wait_ms now then Some Restart else None
+note_for monitor settings now (Some status) None = note_up monitor settings now status
+
+-- what the clock tells a node at this moment, if anything
+abbrev pub note_at : NodeMonitor → Settings → ℕ → Option (Note TowerBody WireLine)
+note_at monitor settings now = note_for monitor settings now monitor.status monitor.down
+
+-- as many notes of a node wait as may: 32 of those that it was told are not done, or are requests that wait for a leader
+abbrev pub is_full : ℕ → Progress → Bool
+is_full told progress = nat_le 32 ((told - progress.done) + progress.waiting)
+
+-- a note as orders to the node
+abbrev pub told : ℕ → Option (Note TowerBody WireLine) → List Order
+told id None = []
+told id (Some note) = Submit id note ∷ []
+
+-- a timer from this moment
+abbrev pub at : ℕ → Timer
+at now = record { since = now }
+
+-- a leader that was told to send: when, and by which note
+abbrev pub beaten_at : Ordered → NodeMonitor → ℕ → NodeMonitor
+beaten_at orders monitor now = record monitor { beat = at now; beat_note = next_note orders monitor.id }
+
+-- a node that was told to start again waits twice as long as before until it is told next, up to a limit
+abbrev pub restarted_at : NodeMonitor → ℕ → NodeMonitor
+restarted_at monitor now = record monitor {
+  down = Some (at now);
+  wait_ms = monitor.backoff.next;
+  backoff = record monitor.backoff { next = doubled monitor.backoff.most monitor.backoff.next };
+}
+
+-- the monitor behind what the clock told the node, if anything
+unfoldable pub monitor_behind : Ordered → NodeMonitor → ℕ → Option (Note TowerBody WireLine) → NodeMonitor
+monitor_behind orders monitor now (Some Beat) = beaten_at orders monitor now
+monitor_behind orders monitor now (Some (Timeout contacts)) = record monitor { last_leader_contact = at now; has_yielded = false }
+monitor_behind orders monitor now (Some Restart) = restarted_at monitor now
+monitor_behind orders monitor now _ = monitor
+
+-- the monitor of a node that was just started: nothing is known of it, and its first wait is a timeout
+abbrev pub new_monitor : Settings → ℕ → ℕ → NodeMonitor
+new_monitor settings now id = record {
+  id = id;
+  status = None;
+  progress = record { done = 0; waiting = 0; lost = 0; contacts = 0 };
+  last_leader_contact = at now;
+  has_yielded = false;
+  beat = at now;
+  beat_note = 0;
+  claimed = None;
+  down = None;
+  wait_ms = settings.timeout_ms;
+  backoff = record { first = settings.timeout_ms; most = 60_000; next = settings.timeout_ms };
+  last_report = at now;
+  up = at now;
+  seen = None;
+  restart_note = 0;
+  has_turned_away = false;
+}
+
+-- the line that is to be claimed next: its session, where the node holds one, and its number, where there is one
+abbrev pub line_in : Option (ℕ × ℕ) → Option ℕ → Option ((ℕ × ℕ) × ℕ)
+line_in (Some session) (Some number) = Some (session, number)
+line_in (Some session) None = None
+line_in None number = None
+
+-- the line that a node would claim next, by how it stood when it was last heard of
+abbrev pub line_to_claim : Option Status → Option ((ℕ × ℕ) × ℕ)
+line_to_claim (Some status) = line_in status.session status.next_claim
+line_to_claim None = None
+
+-- this line was claimed last, and the claim may be in the log, or was told not so long ago
+abbrev pub is_claimed : Option Claimed → ℕ → ℕ → (ℕ × ℕ) → ℕ → Bool
+is_claimed None wait now session number = false
+is_claimed (Some last) wait now session number =
+    same_session last.session session && nat_eq last.number number && not (last.is_settled && is_over last.at wait now)
+
+-- the line that is to be claimed, but for one whose claim may still stand
+abbrev pub unless_claimed : NodeMonitor → ℕ → ℕ → Option ((ℕ × ℕ) × ℕ) → Option ((ℕ × ℕ) × ℕ)
+unless_claimed monitor wait now None = None
+unless_claimed monitor wait now (Some line) = if is_claimed monitor.claimed wait now line.0 line.1 then None else Some line
+
+-- the line that a node is to claim now, if there is one: none while the last claim of the same line may still stand
+unfoldable pub claim_due : NodeMonitor → Settings → ℕ → Option ((ℕ × ℕ) × ℕ)
+claim_due monitor settings now = unless_claimed monitor settings.timeout_ms now (line_to_claim monitor.status)
+
+-- a claim goes to the node where one is due and the pace allows it
+abbrev pub claim_if : Bool → Option ((ℕ × ℕ) × ℕ) → Option (Note TowerBody WireLine)
+claim_if may None = None
+claim_if may (Some line) = if may then Some Claim else None
+
+-- the note that tells a node to claim, where a line is due and the pace allows it
+abbrev pub claim_at : NodeMonitor → Settings → ℕ → Pace → Option (Note TowerBody WireLine)
+claim_at monitor settings now pace =
+    claim_if (may_go pace.burst pace.line_ms pace.free_at now) (claim_due monitor settings now)
+
+-- the pace behind it
+abbrev pub paced : Pace → ℕ → Option ((ℕ × ℕ) × ℕ) → Pace
+paced pace now None = pace
+paced pace now (Some line) = record pace { free_at = free_after pace.burst pace.line_ms pace.free_at now }
+
+-- the claim of a line, which the node is told now, by its next note
+abbrev pub claim_told : Ordered → NodeMonitor → ℕ → ((ℕ × ℕ) × ℕ) → Claimed
+claim_told orders monitor now line =
+    record { session = line.0; number = line.1; at = at now; note = next_note orders monitor.id; is_settled = false }
+
+-- the monitor behind it: it knows which line was claimed, when, and by which note
+abbrev pub monitor_claimed : Ordered → NodeMonitor → ℕ → Bool → Option ((ℕ × ℕ) × ℕ) → NodeMonitor
+monitor_claimed orders monitor now may None = monitor
+monitor_claimed orders monitor now may (Some line) = if may then record monitor { claimed = Some (claim_told orders monitor now line) } else monitor

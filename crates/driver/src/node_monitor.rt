@@ -1,0 +1,259 @@
+//! What the driver knows of one node.
+ghost use Rattle.std.specs.Prelude.{◌≡◌, ◌++◌, OnOk, Some, None};
+ghost use Rattle.driver.specs.Monitors.{is_full, new_monitor, told};
+ghost use Rattle.driver.specs.Retiring.{dead_below, dead_boot, greatest, is_to_restart, restart_behind, restart_if, with_seen};
+ghost use Rattle.driver.specs.Leading.{term_of};
+ghost use Rattle.driver.specs.Hearing.{boot_up, turned_away, turned_away_news};
+ghost use Rattle.driver.specs.Telling.{ordered, told_to};
+ghost use Rattle.driver.specs.Waking.{waited_longer};
+
+mod clock;
+mod hearing;
+mod reading;
+
+use crate::backoff::Backoff;
+use crate::news::News;
+use crate::order::Now;
+use crate::orders::Orders;
+use crate::pace::Pace;
+use crate::settings::Settings;
+use crate::timer::Timer;
+pub use hearing::Heard;
+use node_notes::{Note, Progress, Status};
+use raft_log::NodeId;
+pub use reading::reads_for;
+use std::alloc::AllocError;
+use wire_bytes::{Number, SessionId};
+
+/// The longest wait before a node that is down is started again, in milliseconds.
+const LONGEST: u32 = 60_000;
+
+/// After how many timeouts without an answer a node counts as dead.
+const DEAD: u64 = 10;
+
+/// While so many notes of a node are not done, nothing more is read for it: else its beats would wait
+/// behind all that was read, and the other nodes would choose another leader. A note may take some
+/// milliseconds, where a disk is slow.
+const MOST_WAITING: u64 = 32;
+
+/// The largest boot.
+const MOST_BOOT: u64 = 1 << 60;
+
+/// The last claim that the node was told.
+#[derive(Clone, Copy)]
+struct Claimed {
+    session: SessionId,
+    number: Number,
+    /// When, and by which of the node's notes.
+    at: Timer,
+    note: u64,
+    /// Its note is done, and all of the node's log was applied since: it is applied, or it is not in the log.
+    is_settled: bool,
+}
+
+/// What the driver knows of one node, and what the node is told by the clock.
+#[derive(Drop)]
+pub struct NodeMonitor {
+    id: NodeId,
+    status: Option<Status>,
+    /// How far its worker is.
+    progress: Progress,
+    /// When it last heard of a leader, or asked for votes.
+    last_leader_contact: Timer,
+    /// It waited anew for a node that asks for votes, since it last heard of a leader or asked itself.
+    has_yielded: bool,
+    /// When it was last told to send as a leader, and by which of its notes.
+    beat: Timer,
+    beat_note: u64,
+    claimed: Option<Claimed>,
+    /// Since when it is down, if it is, and how long until it is started again.
+    down: Option<Timer>,
+    wait_ms: u32,
+    backoff: Backoff,
+    /// When it last told that it is up, and when it last came up.
+    last_report: Timer,
+    up: Timer,
+    /// The greatest boot in the origin of a client of it, if it had one.
+    seen: Option<Number>,
+    /// By which of its notes it was last told to start again though it was up.
+    restart_note: u64,
+    /// An operator was told that a client was turned away, since it was last up.
+    has_turned_away: bool,
+}
+
+impl NodeMonitor {
+    /// The monitor of a node that was just started.
+    pub fn new(id: NodeId, settings: &Settings, now: &Now) -> NodeMonitor
+        ensures { result ≡ new_monitor settings.now now.now.ms id }
+    {
+        let first = settings.timeout_ms as u32;
+        NodeMonitor {
+            id,
+            status: None,
+            progress: Progress {
+                done: 0,
+                waiting: 0,
+                lost: 0,
+                contacts: 0,
+            },
+            last_leader_contact: Timer::from(now.ms),
+            has_yielded: false,
+            beat: Timer::from(now.ms),
+            beat_note: 0,
+            claimed: None,
+            down: None,
+            wait_ms: first,
+            backoff: Backoff::new(first, LONGEST),
+            last_report: Timer::from(now.ms),
+            up: Timer::from(now.ms),
+            seen: None,
+            restart_note: 0,
+            has_turned_away: false,
+        }
+    }
+
+    pub fn id(&self) -> NodeId
+        ensures { result ≡ self.now.id }
+    {
+        self.id
+    }
+
+    /// How far its worker is.
+    pub fn progress(&self) -> Progress
+        ensures { result ≡ self.now.progress }
+    {
+        self.progress
+    }
+
+    /// Whether as many of its notes wait as may.
+    pub fn is_full(&self, orders: &Orders) -> bool
+        ensures { result ≡ is_full (told_to orders.now self.now.id) self.now.progress }
+    {
+        let told = orders.told_to(self.id);
+        let begun = self.progress.waiting;
+        told.saturating_sub(self.progress.done)
+            .saturating_add(begun)
+            >= MOST_WAITING
+    }
+
+    /// The run in which it is up, if it is.
+    pub fn boot(&self) -> Option<Number>
+        ensures { result ≡ boot_up self.now.status }
+    {
+        let Some(status) = &self.status else {
+            return None;
+        };
+        match status.down {
+            Some(_) => None,
+            None => Some(status.boot),
+        }
+    }
+
+    /// A client of it has an origin with this boot.
+    pub fn see(&mut self, boot: Number)
+        ensures { self.new ≡ with_seen boot self.old }
+    {
+        self.seen = Some(self.greatest_seen(boot));
+    }
+
+    /// The greater of this boot and the greatest in the origin of a client of it.
+    fn greatest_seen(&self, boot: Number) -> Number
+        ensures { result ≡ greatest self.now.seen boot }
+    {
+        match self.seen {
+            Some(seen) if boot.value() <= seen.value() => seen,
+            _ => boot,
+        }
+    }
+
+    /// A client connected though it is not up: an operator is told, once until it is up again.
+    pub fn turn_away(&mut self, orders: &mut Orders) -> Result<(), AllocError>
+        ensures told { OnOk result (orders.new ≡ ordered orders.old (turned_away_news self.old)) }
+        ensures monitor { OnOk result (self.new ≡ turned_away self.old) }
+    {
+        if !self.has_turned_away {
+            self.has_turned_away = true;
+            orders.log(News::TurnedAway(self.id))?;
+        }
+        Ok(())
+    }
+
+    /// The runs below this boot are to be retired: where the node is down, those up to the greatest boot
+    /// known of it; where it answered nothing for ten timeouts, those up to the greatest boot seen in an
+    /// origin, where one was.
+    pub fn dead_below(&self, now: &Now, settings: &Settings) -> Option<Number>
+        ensures { result ≡ dead_below self.now settings.now.timeout_ms now.now.ms }
+    {
+        let boot = self.dead_boot(now, settings)?;
+        if boot.value() >= MOST_BOOT {
+            return None;
+        }
+        Some(Number::new(boot.value() + 1))
+    }
+
+    /// The last of its runs that is over, as far as is known.
+    fn dead_boot(&self, now: &Now, settings: &Settings) -> Option<Number>
+        ensures { result ≡ dead_boot self.now settings.now.timeout_ms now.now.ms }
+    {
+        let silence = DEAD * settings.timeout_ms as u64;
+        match (self.down, self.status) {
+            (Some(_), Some(status)) => Some(self.greatest_seen(status.boot)),
+            _ if self.last_report.has_passed(silence, now.ms) => self.seen,
+            _ => None,
+        }
+    }
+
+    /// The runs of the node below this one are gone for all nodes: where it is up in one of them it is told
+    /// to start again, so that it gets a run whose clients count. At most one such note waits.
+    pub fn restart_below(&mut self, floor: Number, orders: &mut Orders) -> Result<(), AllocError>
+        ensures told { OnOk result (orders.new
+            ≡ ordered orders.old (told self.old.id (restart_if self.old (Some floor)))) }
+        ensures monitor { OnOk result (self.new
+            ≡ restart_behind orders.old self.old (restart_if self.old (Some floor))) }
+    {
+        if self.is_to_restart(floor) {
+            self.restart_note = orders.submit(self.id, Note::Restart)?;
+        }
+        Ok(())
+    }
+
+    /// Whether it is up in a run below this one, and was not told to start again just before.
+    fn is_to_restart(&self, floor: Number) -> bool
+        ensures { result ≡ is_to_restart self.now floor }
+    {
+        let Some(boot) = self.boot() else {
+            return false;
+        };
+        boot.value() < floor.value() && self.restart_note <= self.progress.done
+    }
+
+    /// How the node stood when it was last heard of.
+    pub fn status(&self) -> Option<Status>
+        ensures { result ≡ self.now.status }
+    {
+        self.status
+    }
+
+    /// The term in which it leads, if it is up and leads.
+    pub fn leading(&self) -> Option<Number>
+        ensures { result ≡ term_of self.now.status }
+    {
+        let Some(status) = &self.status else {
+            return None;
+        };
+        if status.leads() {
+            Some(status.term)
+        } else {
+            None
+        }
+    }
+
+    /// So much of the time that passed does not count as silence: not of the node, and not of the leader
+    /// that it heard of.
+    pub fn wait_longer(&mut self, ms: u64)
+        ensures { self.new ≡ waited_longer ms self.old }
+    {
+        self.last_report = Timer::from(self.last_report.since.saturating_add(ms));
+        self.last_leader_contact = Timer::from(self.last_leader_contact.since.saturating_add(ms));
+    }
+}

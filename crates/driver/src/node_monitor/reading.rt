@@ -1,0 +1,27 @@
+//! Whether more is read that is for a node.
+ghost use Rattle.std.specs.Prelude.{◌≡◌};
+ghost use Rattle.driver.specs.Rosters.{is_read_for};
+
+use crate::node_monitor::NodeMonitor;
+use crate::orders::Orders;
+use raft_log::NodeId;
+
+/// The most nodes that there may be.
+const MOST_NODES: usize = 7;
+
+/// Whether fewer notes of a node wait than may, if it is for one.
+pub fn reads_for(
+    monitors: &[NodeMonitor; MOST_NODES],
+    orders: &Orders,
+    node: Option<NodeId>,
+) -> bool
+    ensures { result ≡ is_read_for orders.now monitors.now node }
+{
+    let Some(node) = node else {
+        return true;
+    };
+    match monitors.get(node.value() as usize - 1) {
+        Some(monitor) => !monitor.is_full(orders),
+        None => true,
+    }
+}
