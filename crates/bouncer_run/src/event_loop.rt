@@ -15,6 +15,7 @@ use std::net::Net;
 use std::rt::Clock;
 use std::sync::Wait;
 use std::time::Duration;
+use std::vec::IntoIter;
 use thiserror::Error;
 
 /// How many sockets are told of at once.
@@ -148,14 +149,34 @@ fn carry_out_all<R: Net + Wait, N: Nodes, O: Operator>(
         if orders.is_empty() && !sockets.flush_all(now, driver)? {
             break;
         }
-        for order in orders {
-            carry_out(rt, now, driver, sockets, nodes, operator, order)?;
-        }
+        carry_out_each(rt, now, driver, sockets, nodes, operator, orders)?;
     }
     Ok(())
 }
 
-/// Does what the driver orders.
+/// Does these orders, in turn. What is written to one client by orders that follow each other is written
+/// at once.
+fn carry_out_each<R: Net + Wait, N: Nodes, O: Operator>(
+    rt: &R,
+    now: &Now,
+    driver: &mut Driver,
+    sockets: &mut Sockets,
+    nodes: &N,
+    operator: &mut O,
+    orders: Vec<Order>,
+) -> Result<(), LoopFault> {
+    let mut rest = orders.into_iter();
+    let mut next = rest.next();
+    for _ in 0..u64::MAX {
+        let Some(order) = next else {
+            break;
+        };
+        next = carry_out(rt, now, driver, sockets, nodes, operator, order, &mut rest)?;
+    }
+    Ok(())
+}
+
+/// Does what the driver orders. The next order, of those that are left.
 fn carry_out<R: Net + Wait, N: Nodes, O: Operator>(
     rt: &R,
     now: &Now,
@@ -164,23 +185,34 @@ fn carry_out<R: Net + Wait, N: Nodes, O: Operator>(
     nodes: &N,
     operator: &mut O,
     order: Order,
-) -> Result<(), LoopFault> {
+    rest: &mut IntoIter<Order, Global>,
+) -> Result<Option<Order>, LoopFault> {
     match order {
         Order::Submit(node, note) => if !nodes.tell(rt, node, note) {
             return Err(LoopFault::Memory);
         },
-        Order::Log(news) => {
-            tell_clients(driver, &news)?;
-            if let News::Attached(origin) = news {
-                sockets.register(origin.client());
-            }
-            operator.hear(now, news);
-            if let News::Opened(node) = news {
-                let nick = driver.nick().copy(sockets.alloc)?;
-                operator.hear_edge(now, EdgeNews::Nick(node, nick));
-            }
-        }
-        other => sockets.carry_out(rt, now, driver, other)?,
+        Order::Log(news) => log(now, driver, sockets, operator, news)?,
+        other => return sockets.carry_out(rt, now, driver, other, rest),
+    }
+    Ok(rest.next())
+}
+
+/// An operator is told of news, and so are clients whom they concern.
+fn log<O: Operator>(
+    now: &Now,
+    driver: &mut Driver,
+    sockets: &mut Sockets,
+    operator: &mut O,
+    news: News,
+) -> Result<(), LoopFault> {
+    tell_clients(driver, &news)?;
+    if let News::Attached(origin) = news {
+        sockets.register(origin.client());
+    }
+    operator.hear(now, news);
+    if let News::Opened(node) = news {
+        let nick = driver.nick().copy(sockets.alloc)?;
+        operator.hear_edge(now, EdgeNews::Nick(node, nick));
     }
     Ok(())
 }

@@ -6,7 +6,7 @@ use crate::connection::Connection;
 use crate::edge_news::EdgeNews;
 use mio::net::TcpStream;
 use raft_log::NodeId;
-use std::alloc::Global;
+use std::alloc::{AllocError, Global};
 use std::net::SocketAddr;
 
 /// What a client is answered that came with a wrong password, or with none.
@@ -42,11 +42,12 @@ impl Guest {
         }
     }
 
-    /// It is written these bytes.
-    pub fn note(&mut self, bytes: &[u8]) {
+    /// It is written these bytes. Whether its connection still stands.
+    pub fn write(&mut self, bytes: &[u8]) -> Result<bool, AllocError> {
         if self.stage == Stage::Arriving && bytes.ends_with(REFUSAL) {
             self.stage = Stage::Refused;
         }
+        self.connection.write(bytes)
     }
 
     /// What an operator is told where the client of this number goes and did not register.

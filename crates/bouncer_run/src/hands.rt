@@ -14,7 +14,8 @@ use std::mem::replace;
 use std::snapshot::Snapshot;
 use std::sync::Wait;
 
-/// Tells the loop the lines that a node hands out.
+/// Tells the loop the lines that a node hands out. The report of the same turn has each of them too, among
+/// its effects, where the driver passes it over: a line counts as handed by what the loop is told here.
 #[derive(Drop)]
 pub struct Hands<R: Wait + Drop> {
     rt: R,

@@ -3,55 +3,63 @@ use crate::connection::ending_of;
 use crate::event_loop::LoopFault;
 use crate::sockets::Sockets;
 use driver::{Driver, Ending, Now, Order};
+use std::alloc::Global;
 use std::net::Net;
+use std::vec::IntoIter;
 
 /// What the server is told at the end.
 const QUIT: &[u8] = b"QUIT\r\n";
 
 impl Sockets {
-    /// Does what the driver orders at a socket.
+    /// Does what the driver orders at a socket. The next order, of those that are left.
     pub fn carry_out(
         &mut self,
         net: &impl Net,
         now: &Now,
         driver: &mut Driver,
         order: Order,
-    ) -> Result<(), LoopFault> {
+        rest: &mut IntoIter<Order, Global>,
+    ) -> Result<Option<Order>, LoopFault> {
         match order {
-            Order::Write(number, bytes) => self.write(now, driver, number, bytes.as_slice()),
-            Order::Close(number) => {
-                self.close(now, number);
-                Ok(())
+            Order::Write(number, bytes) => {
+                return self.write(now, driver, number, bytes, rest);
             }
-            Order::Connect => match self.connect(net) {
-                Ok(()) => Ok(()),
-                Err(error) => self.drop_server(now, driver, ending_of(error.kind())),
+            Order::Close(number) => self.close(now, number),
+            Order::Connect => if let Err(error) = self.connect(net) {
+                self.drop_server(now, driver, ending_of(error.kind()))?;
             },
-            Order::Send(bytes) => self.send(now, driver, bytes.as_slice()),
-            Order::Disconnect => {
-                self.disconnect(now);
-                Ok(())
-            }
-            Order::Submit(_, _) | Order::Log(_) => Ok(()),
+            Order::Send(bytes) => self.send(now, driver, bytes.as_slice())?,
+            Order::Disconnect => self.disconnect(now),
+            Order::Submit(_, _) | Order::Log(_) => {}
         }
+        Ok(rest.next())
     }
 
-    /// Bytes go to a client.
+    /// Bytes go to a client, and so do those of the orders behind, up to the first that is none for it: its
+    /// connection is looked up once for all of them. The next order, of those that are left.
     fn write(
         &mut self,
         now: &Now,
         driver: &mut Driver,
         number: u64,
-        bytes: &[u8],
-    ) -> Result<(), LoopFault> {
+        bytes: Vec<u8>,
+        rest: &mut IntoIter<Order, Global>,
+    ) -> Result<Option<Order>, LoopFault> {
         let Some(guest) = self.clients.get_mut(&number) else {
-            return Ok(());
+            return Ok(rest.next());
         };
-        guest.note(bytes);
-        if guest.connection.write(bytes)? {
-            return Ok(());
+        let mut bytes = bytes;
+        for _ in 0..u64::MAX {
+            if !guest.write(bytes.as_slice())? {
+                self.drop_client(now, driver, number)?;
+                return Ok(rest.next());
+            }
+            bytes = match rest.next() {
+                Some(Order::Write(other, more)) if other == number => more,
+                next => return Ok(next),
+            };
         }
-        self.drop_client(now, driver, number)
+        Ok(None)
     }
 
     /// Bytes go to the server.
