@@ -84,7 +84,7 @@ away_quiet n false id = (refl, tt)
 pub turned_quiet : (n : ℕ) (found : Option NodeMonitor) → AllAre (NoClaim n) (orders_of turned_away_news found)
 unfolding AllAre
 turned_quiet n None = tt
-turned_quiet n (Some d) = away_quiet n d.has_turned_away d.id
+turned_quiet n (Some d) = away_quiet n d.visitors.has_turned_away d.id
 
 pub turned_by : (n : ℕ) (boot : Option ℕ) (monitors : List NodeMonitor) (node : ℕ) → AllAre (NoClaim n) (turned_away_by boot monitors node)
 unfolding AllAre

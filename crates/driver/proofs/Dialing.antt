@@ -74,7 +74,7 @@ away_fits n down false id = ((tt, refl), tt)
 turned_fits : (n : ℕ) (down : Bool) (found : Option NodeMonitor) → AllAre (Plain n down) (orders_of turned_away_news found)
 unfolding AllAre
 turned_fits n down None = tt
-turned_fits n down (Some d) = away_fits n down d.has_turned_away d.id
+turned_fits n down (Some d) = away_fits n down d.visitors.has_turned_away d.id
 
 turned_by : (n : ℕ) (down : Bool) (boot : Option ℕ) (monitors : List NodeMonitor) (node : ℕ) → AllAre (Plain n down) (turned_away_by boot monitors node)
 unfolding AllAre

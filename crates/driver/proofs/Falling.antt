@@ -7,7 +7,7 @@ use Rattle.client_gate.specs.Gates.{GateEffect}
 use Rattle.node_notes.specs.declared.progress.Progress.{Progress}
 use Rattle.node_notes.specs.declared.status.Status.{Status}
 use Rattle.raft_node.specs.declared.node_fault.Cause.{Cause}
-use Rattle.driver.specs.declared.timer.Timer.{Timer}
+use Rattle.driver.specs.declared.node_monitor.standing.Outage.{Outage}
 use Rattle.driver.specs.declared.clients.Clients.{Clients}
 use Rattle.driver.specs.declared.node_monitor.NodeMonitor.{NodeMonitor}
 use Rattle.driver.specs.declared.driver.Driver.{Driver}
@@ -89,7 +89,7 @@ unfolding AllAre
 up_other n down id boot true apart = tt
 up_other n down id boot false apart = ((tt, said_up down (nat_eq id n) apart), tt)
 
-down_other : (n : ℕ) (down : Bool) (id : ℕ) (cause : Cause) (since : Option Timer) → nat_eq id n ≡ false → AllAre (Plain n down) (down_news id cause since)
+down_other : (n : ℕ) (down : Bool) (id : ℕ) (cause : Cause) (since : Option Outage) → nat_eq id n ≡ false → AllAre (Plain n down) (down_news id cause since)
 unfolding AllAre
 down_other n down id cause None apart = ((tt, said_down down (nat_eq id n) apart), tt)
 down_other n down id cause (Some since) apart = tt
@@ -164,7 +164,7 @@ begun_down : (down own : Bool) → own ≡ true → (down || own) ≡ true
 begun_down true own is = refl
 begun_down false own is = is
 
-down_own : (n : ℕ) (down : Bool) (id : ℕ) (cause : Cause) (since : Option Timer) → nat_eq id n ≡ true → is_some since ≡ down → Follows n down (down_news id cause since) true
+down_own : (n : ℕ) (down : Bool) (id : ℕ) (cause : Cause) (since : Option Outage) → nat_eq id n ≡ true → is_some since ≡ down → Follows n down (down_news id cause since) true
 unfolding Follows
 down_own n down id cause None own is = (tt, begun_down down (nat_eq id n) own)
 down_own n down id cause (Some since) own is = sym is
@@ -177,9 +177,9 @@ up_stands : (d : NodeMonitor) (now : ℕ) (up : Bool) → is_some (up_behind d n
 up_stands d now true = refl
 up_stands d now false = refl
 
-down_stands : (d : NodeMonitor) (now : ℕ) (down : Option Timer) → d.down ≡ down → is_some (down_behind d now down).down ≡ true
+down_stands : (d : NodeMonitor) (now : ℕ) (down : Option Outage) → d.down ≡ down → is_some (down_behind d now down).down ≡ true
 down_stands d now None is = refl
-down_stands d now (Some since) is = ap (λ (down : Option Timer). is_some down) is
+down_stands d now (Some since) is = ap (λ (down : Option Outage). is_some down) is
 
 stood_stands : (d : NodeMonitor) (now : ℕ) (up : Bool) (cause : Option Cause) → is_some (stood_behind d now up cause).down ≡ is_some cause
 stood_stands d now up None = up_stands d now up

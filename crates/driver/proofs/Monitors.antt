@@ -9,7 +9,7 @@ use Rattle.node_notes.specs.declared.status.Status.{Status}
 use Rattle.bouncer_tower.specs.Bodies.{TowerBody}
 use Rattle.buffer_commands.specs.declared.wire_line.WireLine.{WireLine}
 use Rattle.node_notes.specs.declared.note.Note.{Note}
-use Rattle.driver.specs.declared.node_monitor.Claimed.{Claimed}
+use Rattle.driver.specs.declared.node_monitor.standing.Claimed.{Claimed}
 use Rattle.driver.specs.declared.node_monitor.NodeMonitor.{NodeMonitor}
 use Rattle.driver.specs.declared.retirement.Retirement.{Retirement}
 use Rattle.driver.specs.declared.settings.Settings.{Settings}

@@ -9,7 +9,7 @@ use Rattle.node_notes.specs.declared.note.Note.{Note}
 use Rattle.node_notes.specs.declared.note.Note.TheVariants as note
 use Rattle.node_notes.specs.declared.status.Status.{Status}
 use Rattle.node_notes.specs.Notes.{leads}
-use Rattle.driver.specs.declared.timer.Timer.{Timer}
+use Rattle.driver.specs.declared.node_monitor.standing.Outage.{Outage}
 use Rattle.wire_bytes.specs.declared.origin.Origin.{Origin}
 use Rattle.driver.specs.declared.node_monitor.NodeMonitor.{NodeMonitor}
 use Rattle.driver.specs.declared.retirement.Retirement.{Retirement}
@@ -54,12 +54,12 @@ unfolding note_up
 quiet_up monitor settings now status =
     quiet_either (leads status) _ _
     (quiet_if (is_to_beat monitor settings now) note.Beat refl)
-    (quiet_if (is_over monitor.last_leader_contact (patience settings monitor.id) now) (note.Timeout monitor.progress.contacts) refl)
+    (quiet_if (is_over monitor.following.last_leader_contact (patience settings monitor.id) now) (note.Timeout monitor.progress.contacts) refl)
 
-quiet_for : (monitor : NodeMonitor) (settings : Settings) (now : ℕ) (status : Option Status) (down : Option Timer) → IsQuiet (note_for monitor settings now status down)
+quiet_for : (monitor : NodeMonitor) (settings : Settings) (now : ℕ) (status : Option Status) (down : Option Outage) → IsQuiet (note_for monitor settings now status down)
 unfolding note_for
 quiet_for monitor settings now None down = tt
-quiet_for monitor settings now (Some status) (Some since) = quiet_if (is_over since monitor.wait_ms now) note.Restart refl
+quiet_for monitor settings now (Some status) (Some outage) = quiet_if (is_over outage.since outage.wait_ms now) note.Restart refl
 quiet_for monitor settings now (Some status) None = quiet_up monitor settings now status
 
 quiet_restart : (monitor : NodeMonitor) (floor : Option ℕ) → IsQuiet (restart_if monitor floor)

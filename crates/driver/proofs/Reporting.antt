@@ -7,9 +7,9 @@ use Rattle.client_gate.specs.Gates.{GateEffect}
 use Rattle.node_notes.specs.declared.progress.Progress.{Progress}
 use Rattle.node_notes.specs.declared.status.Status.{Status}
 use Rattle.raft_node.specs.declared.node_fault.Cause.{Cause}
-use Rattle.driver.specs.declared.timer.Timer.{Timer}
+use Rattle.driver.specs.declared.node_monitor.standing.Outage.{Outage}
 use Rattle.driver.specs.declared.clients.Clients.{Clients}
-use Rattle.driver.specs.declared.node_monitor.Claimed.{Claimed}
+use Rattle.driver.specs.declared.node_monitor.standing.Claimed.{Claimed}
 use Rattle.driver.specs.declared.node_monitor.NodeMonitor.{NodeMonitor}
 use Rattle.driver.specs.declared.driver.Driver.{Driver}
 use Rattle.driver.specs.declared.retirement.Retirement.{Retirement}
@@ -38,7 +38,7 @@ use Rattle.driver.proofs.Waiting.{Outcome, Waits, or_status, outcome_of, waits_k
 
 -- What is known of a node behind a report of it.
 
-pub down_look : (d : NodeMonitor) (now : ℕ) (down : Option Timer) → look (down_behind d now down) ≡ look d
+pub down_look : (d : NodeMonitor) (now : ℕ) (down : Option Outage) → look (down_behind d now down) ≡ look d
 down_look d now None = refl
 down_look d now (Some since) = refl
 
@@ -104,7 +104,7 @@ unfolding AllAre
 up_quiet n id boot true = tt
 up_quiet n id boot false = (refl, tt)
 
-pub down_quiet : (n id : ℕ) (cause : Cause) (down : Option Timer) → AllAre (NoClaim n) (down_news id cause down)
+pub down_quiet : (n id : ℕ) (cause : Cause) (down : Option Outage) → AllAre (NoClaim n) (down_news id cause down)
 unfolding AllAre
 down_quiet n id cause None = (refl, tt)
 down_quiet n id cause (Some since) = tt

@@ -8,7 +8,7 @@ use Rattle.node_notes.specs.declared.note.Note.{Note}
 use Rattle.node_notes.specs.declared.note.Note.TheVariants as note
 use Rattle.node_notes.specs.declared.status.Status.{Status}
 use Rattle.node_notes.specs.Notes.{leads}
-use Rattle.driver.specs.declared.timer.Timer.{Timer}
+use Rattle.driver.specs.declared.node_monitor.standing.Outage.{Outage}
 use Rattle.driver.specs.declared.clients.Clients.{Clients}
 use Rattle.driver.specs.declared.node_monitor.NodeMonitor.{NodeMonitor}
 use Rattle.driver.specs.declared.driver.Driver.{Driver}
@@ -135,10 +135,10 @@ outlived_only : (d : NodeMonitor) (floor : Option ℕ) → IsRestart (restart_if
 outlived_only d None = tt
 outlived_only d (Some floor) = restart_or _
 
-clock_only : (d : NodeMonitor) (settings : Settings) (now : ℕ) (status : Option Status) (down : Option Timer) → is_some down ≡ true → IsRestart (note_for d settings now status down)
+clock_only : (d : NodeMonitor) (settings : Settings) (now : ℕ) (status : Option Status) (down : Option Outage) → is_some down ≡ true → IsRestart (note_for d settings now status down)
 unfolding note_for
 clock_only d settings now None down is = tt
-clock_only d settings now (Some status) (Some since) is = restart_or (is_over since d.wait_ms now)
+clock_only d settings now (Some status) (Some outage) is = restart_or (is_over outage.since outage.wait_ms now)
 clock_only d settings now (Some status) None is = absurd (cc is)
 
 -- where two things are so, each is
@@ -162,10 +162,10 @@ tick_plain n down node orders retirements settings now monitors (Some d) low ids
     (note_plain n down behind.id (restart_at retirements behind) (λ both. outlived_only behind _))
 
 -- what the clock changes of a monitor leaves whether its node is down
-restarted_down : (b : Bool) (orders : Ordered) (d : NodeMonitor) (now : ℕ) (since : Timer) → d.down ≡ Some since → is_some (monitor_behind orders d now (if b then Some note.Restart else None)).down ≡ is_some d.down
+restarted_down : (b : Bool) (orders : Ordered) (d : NodeMonitor) (now : ℕ) (outage : Outage) → d.down ≡ Some outage → is_some (monitor_behind orders d now (if b then Some note.Restart else None)).down ≡ is_some d.down
 unfolding monitor_behind
-restarted_down true orders d now since is = sym (ap (λ (down : Option Timer). is_some down) is)
-restarted_down false orders d now since is = refl
+restarted_down true orders d now outage is = sym (ap (λ (down : Option Outage). is_some down) is)
+restarted_down false orders d now outage is = refl
 
 up_down : (leads beats waited : Bool) (orders : Ordered) (d : NodeMonitor) (now contacts : ℕ) → is_some (monitor_behind orders d now (if leads then (if beats then Some note.Beat else None) else (if waited then Some (note.Timeout contacts) else None))).down ≡ is_some d.down
 unfolding monitor_behind
@@ -174,12 +174,12 @@ up_down true false waited orders d now contacts = refl
 up_down false beats true orders d now contacts = refl
 up_down false beats false orders d now contacts = refl
 
-clocked_down : (orders : Ordered) (settings : Settings) (now : ℕ) (d : NodeMonitor) (status : Option Status) (down : Option Timer) → d.down ≡ down → is_some (monitor_behind orders d now (note_for d settings now status down)).down ≡ is_some d.down
+clocked_down : (orders : Ordered) (settings : Settings) (now : ℕ) (d : NodeMonitor) (status : Option Status) (down : Option Outage) → d.down ≡ down → is_some (monitor_behind orders d now (note_for d settings now status down)).down ≡ is_some d.down
 unfolding note_for note_up monitor_behind
 clocked_down orders settings now d None down is = refl
-clocked_down orders settings now d (Some status) (Some since) is = restarted_down (is_over since d.wait_ms now) orders d now since is
+clocked_down orders settings now d (Some status) (Some outage) is = restarted_down (is_over outage.since outage.wait_ms now) orders d now outage is
 clocked_down orders settings now d (Some status) None is =
-    up_down (leads status) (is_to_beat d settings now) (is_over d.last_leader_contact (patience settings d.id) now) orders d now d.progress.contacts
+    up_down (leads status) (is_to_beat d settings now) (is_over d.following.last_leader_contact (patience settings d.id) now) orders d now d.progress.contacts
 
 outlived_down : (orders : Ordered) (came : Option (Note TowerBody WireLine)) (d : NodeMonitor) → is_some (restart_behind orders d came).down ≡ is_some d.down
 outlived_down orders None d = refl

@@ -3,18 +3,18 @@ use Rattle.std.specs.Prelude.{ℕ, ◌&&◌, ◌||◌, Bool, true, false, not, m
 use Rattle.node_notes.specs.declared.progress.Progress.{Progress}
 use Rattle.node_notes.specs.declared.status.Status.{Status}
 use Rattle.node_notes.specs.Notes.{leads}
-use Rattle.driver.specs.declared.timer.Timer.{Timer}
 use Rattle.driver.specs.Pacing.{doubled}
 use Rattle.raft_log.specs.declared.role.Role.{Role}
 use Rattle.raft_log.specs.declared.role.Role.TheVariants.{Follower, Candidate, Leader}
 use Rattle.raft_node.specs.declared.node_fault.Cause.{Cause}
-use Rattle.driver.specs.declared.node_monitor.Claimed.{Claimed}
+use Rattle.driver.specs.declared.node_monitor.standing.Claimed.{Claimed}
+use Rattle.driver.specs.declared.node_monitor.standing.Outage.{Outage}
 use Rattle.driver.specs.declared.node_monitor.NodeMonitor.{NodeMonitor}
 use Rattle.driver.specs.declared.node_monitor.hearing.Heard.{Heard}
 use Rattle.driver.specs.declared.news.News.TheVariants.{Down, Elected, TurnedAway, Up}
 use Rattle.driver.specs.declared.order.Order.{Order}
 use Rattle.driver.specs.declared.order.Order.TheVariants.{Log}
-use Rattle.driver.specs.Monitors.{at, is_over}
+use Rattle.driver.specs.Monitors.{at, is_over, outage}
 
 -- this is of another run than what was heard before
 abbrev pub is_new_run : Option Status → Status → Bool
@@ -45,19 +45,18 @@ abbrev pub elected_news : NodeMonitor → Status → List Order
 elected_news monitor status = if is_elected monitor status then Log (Elected monitor.id status.term) ∷ [] else []
 
 -- the first word that a node is down, since it was up
-abbrev pub down_news : ℕ → Cause → Option Timer → List Order
+abbrev pub down_news : ℕ → Cause → Option Outage → List Order
 down_news id cause None = Log (Down id cause) ∷ []
 down_news id cause (Some since) = []
 
 -- how long is waited: the first wait again where the node was up for a minute
 abbrev pub wait_behind : NodeMonitor → ℕ → ℕ
-wait_behind monitor now = if is_over monitor.up 60_000 now then monitor.backoff.first else monitor.backoff.next
+wait_behind monitor now = if is_over monitor.presence.up 60_000 now then monitor.backoff.first else monitor.backoff.next
 
 -- it is started again behind that wait, which is twice as long the next time, up to a limit
-abbrev pub down_behind : NodeMonitor → ℕ → Option Timer → NodeMonitor
+abbrev pub down_behind : NodeMonitor → ℕ → Option Outage → NodeMonitor
 down_behind monitor now None = record monitor {
-  down = Some (at now);
-  wait_ms = wait_behind monitor now;
+  down = Some (outage now (wait_behind monitor now));
   backoff = record monitor.backoff { next = doubled monitor.backoff.most (wait_behind monitor now) };
 }
 down_behind monitor now (Some since) = monitor
@@ -69,8 +68,17 @@ up_news id boot false = Log (Up id boot) ∷ []
 
 -- a node that came up waits for a leader from now on
 abbrev pub up_behind : NodeMonitor → ℕ → Bool → NodeMonitor
-up_behind monitor now true = record monitor { down = None; last_report = at now; has_turned_away = false }
-up_behind monitor now false = record monitor { down = None; last_report = at now; has_turned_away = false; last_leader_contact = at now; up = at now }
+up_behind monitor now true = record monitor {
+  down = None;
+  presence = record monitor.presence { last_report = at now };
+  visitors = record monitor.visitors { has_turned_away = false };
+}
+up_behind monitor now false = record monitor {
+  following = record monitor.following { last_leader_contact = at now };
+  down = None;
+  presence = record { last_report = at now; up = at now };
+  visitors = record monitor.visitors { has_turned_away = false };
+}
 
 -- a node of this role follows: it neither leads nor asks for votes
 abbrev pub is_follower : Role → Bool
@@ -91,8 +99,11 @@ waiting_behind monitor now status led =
     let is_led = led || leads status in
     let raised = is_raised monitor.status status in
     record monitor {
-      last_leader_contact = (if is_led || raised && not monitor.has_yielded then at now else monitor.last_leader_contact);
-      has_yielded = not is_led && (monitor.has_yielded || raised);
+      following = record {
+        last_leader_contact =
+            (if is_led || raised && not monitor.following.has_yielded then at now else monitor.following.last_leader_contact);
+        has_yielded = not is_led && (monitor.following.has_yielded || raised);
+      };
     }
 
 -- How far a worker is that was told so many notes, by what was known of it and what it tells: it never goes back, and is never
@@ -165,8 +176,8 @@ boot_up (Some status) = boot_if status.boot status.down
 
 -- an operator is told of a client that was turned away, once until the node is up again
 abbrev pub turned_away_news : NodeMonitor → List Order
-turned_away_news monitor = if monitor.has_turned_away then [] else Log (TurnedAway monitor.id) ∷ []
+turned_away_news monitor = if monitor.visitors.has_turned_away then [] else Log (TurnedAway monitor.id) ∷ []
 
 -- the monitor of a node from which a client was turned away
 abbrev pub turned_away : NodeMonitor → NodeMonitor
-turned_away monitor = record monitor { has_turned_away = true }
+turned_away monitor = record monitor { visitors = record monitor.visitors { has_turned_away = true } }

@@ -12,7 +12,8 @@ use Rattle.driver.specs.declared.timer.Timer.{Timer}
 use Rattle.driver.specs.declared.pace.Pace.{Pace}
 use Rattle.driver.specs.Pacing.{doubled, free_after, may_go}
 use Rattle.driver.specs.declared.node_monitor.NodeMonitor.{NodeMonitor}
-use Rattle.driver.specs.declared.node_monitor.Claimed.{Claimed}
+use Rattle.driver.specs.declared.node_monitor.standing.Claimed.{Claimed}
+use Rattle.driver.specs.declared.node_monitor.standing.Outage.{Outage}
 use Rattle.driver.specs.declared.order.Order.{Order}
 use Rattle.driver.specs.declared.order.Order.TheVariants.{Submit}
 use Rattle.driver.specs.declared.settings.Settings.{Settings}
@@ -28,7 +29,7 @@ patience settings id = settings.timeout_ms + 50 * id
 
 -- a leader sends where it was not told to for a while, and its last such note is done
 abbrev pub is_to_beat : NodeMonitor → Settings → ℕ → Bool
-is_to_beat monitor settings now = is_over monitor.beat settings.beat_ms now && nat_le monitor.beat_note monitor.progress.done
+is_to_beat monitor settings now = is_over monitor.beat.at settings.beat_ms now && nat_le monitor.beat.note monitor.progress.done
 
 -- what a node is told that is up: a leader to send, and any other, where it heard of no leader for too long, to ask for votes,
 -- unless it heard of one more often than is known
@@ -36,13 +37,13 @@ unfoldable pub note_up : NodeMonitor → Settings → ℕ → Status → Option 
 note_up monitor settings now status =
     if leads status
     then (if is_to_beat monitor settings now then Some Beat else None)
-    else (if is_over monitor.last_leader_contact (patience settings monitor.id) now then Some (Timeout monitor.progress.contacts) else None)
+    else (if is_over monitor.following.last_leader_contact (patience settings monitor.id) now then Some (Timeout monitor.progress.contacts) else None)
 
 -- what a node is told of which this is known: nothing where it never was heard of, and where it is down, to start again once
 -- it waited long enough
-unfoldable pub note_for : NodeMonitor → Settings → ℕ → Option Status → Option Timer → Option (Note TowerBody WireLine)
+unfoldable pub note_for : NodeMonitor → Settings → ℕ → Option Status → Option Outage → Option (Note TowerBody WireLine)
 note_for monitor settings now None down = None
-note_for monitor settings now (Some status) (Some since) = if is_over since monitor.wait_ms now then Some Restart else None
+note_for monitor settings now (Some status) (Some outage) = if is_over outage.since outage.wait_ms now then Some Restart else None
 note_for monitor settings now (Some status) None = note_up monitor settings now status
 
 -- what the clock tells a node at this moment, if anything
@@ -64,20 +65,23 @@ at now = record { since = now }
 
 -- a leader that was told to send: when, and by which note
 abbrev pub beaten_at : Ordered → NodeMonitor → ℕ → NodeMonitor
-beaten_at orders monitor now = record monitor { beat = at now; beat_note = next_note orders monitor.id }
+beaten_at orders monitor now = record monitor { beat = record { at = at now; note = next_note orders monitor.id } }
+
+-- a node is down from this moment on, until it is told to start again so many milliseconds from then
+abbrev pub outage : ℕ → ℕ → Outage
+outage now wait = record { since = at now; wait_ms = wait }
 
 -- a node that was told to start again waits twice as long as before until it is told next, up to a limit
 abbrev pub restarted_at : NodeMonitor → ℕ → NodeMonitor
 restarted_at monitor now = record monitor {
-  down = Some (at now);
-  wait_ms = monitor.backoff.next;
+  down = Some (outage now monitor.backoff.next);
   backoff = record monitor.backoff { next = doubled monitor.backoff.most monitor.backoff.next };
 }
 
 -- the monitor behind what the clock told the node, if anything
 unfoldable pub monitor_behind : Ordered → NodeMonitor → ℕ → Option (Note TowerBody WireLine) → NodeMonitor
 monitor_behind orders monitor now (Some Beat) = beaten_at orders monitor now
-monitor_behind orders monitor now (Some (Timeout contacts)) = record monitor { last_leader_contact = at now; has_yielded = false }
+monitor_behind orders monitor now (Some (Timeout contacts)) = record monitor { following = record { last_leader_contact = at now; has_yielded = false } }
 monitor_behind orders monitor now (Some Restart) = restarted_at monitor now
 monitor_behind orders monitor now _ = monitor
 
@@ -87,19 +91,14 @@ new_monitor settings now id = record {
   id = id;
   status = None;
   progress = record { done = 0; waiting = 0; lost = 0; contacts = 0 };
-  last_leader_contact = at now;
-  has_yielded = false;
-  beat = at now;
-  beat_note = 0;
+  following = record { last_leader_contact = at now; has_yielded = false };
+  beat = record { at = at now; note = 0 };
   claimed = None;
   down = None;
-  wait_ms = settings.timeout_ms;
   backoff = record { first = settings.timeout_ms; most = 60_000; next = settings.timeout_ms };
-  last_report = at now;
-  up = at now;
-  seen = None;
   restart_note = 0;
-  has_turned_away = false;
+  presence = record { last_report = at now; up = at now };
+  visitors = record { greatest_boot = None; has_turned_away = false };
 }
 
 -- the line that is to be claimed next: its session, where the node holds one, and its number, where there is one

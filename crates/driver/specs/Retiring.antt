@@ -5,7 +5,7 @@ use Rattle.bouncer_tower.specs.Hosting.{of_buffers}
 use Rattle.buffer_commands.specs.declared.command.Command.TheVariants.{NodeGone}
 use Rattle.buffer_commands.specs.declared.wire_line.WireLine.{WireLine}
 use Rattle.node_notes.specs.Notes.{leads}
-use Rattle.driver.specs.declared.timer.Timer.{Timer}
+use Rattle.driver.specs.declared.node_monitor.standing.Outage.{Outage}
 use Rattle.node_notes.specs.declared.note.Note.{Note}
 use Rattle.node_notes.specs.declared.note.Note.TheVariants.{Restart}
 use Rattle.node_notes.specs.declared.status.Status.{Status}
@@ -95,7 +95,7 @@ greatest (Some seen) boot = if nat_le boot seen then seen else boot
 
 -- a monitor of which a client has an origin with this boot
 abbrev pub with_seen : ℕ → NodeMonitor → NodeMonitor
-with_seen boot monitor = record monitor { seen = Some (greatest monitor.seen boot) }
+with_seen boot monitor = record monitor { visitors = record monitor.visitors { greatest_boot = Some (greatest monitor.visitors.greatest_boot boot) } }
 
 -- the runs up to this boot are gone
 abbrev pub gone_below : Option ℕ → Option ℕ
@@ -104,14 +104,14 @@ gone_below (Some boot) = if nat_lt boot (2 ^ 60) then Some (boot + 1) else None
 
 -- the last run of a node that is over: where it is down, that in which it was last heard of; where it answered nothing for ten
 -- waits, the last one of which a boot was seen
-abbrev pub boot_over : Option Timer → Option Status → Option ℕ → Bool → Option ℕ
+abbrev pub boot_over : Option Outage → Option Status → Option ℕ → Bool → Option ℕ
 boot_over (Some since) (Some status) seen silent = Some (greatest seen status.boot)
 boot_over (Some since) None seen silent = if silent then seen else None
 boot_over None status seen silent = if silent then seen else None
 
 -- the last run of a node that is over now, if one is: the node is down, or answered nothing for ten waits
 abbrev pub dead_boot : NodeMonitor → ℕ → ℕ → Option ℕ
-dead_boot monitor wait now = boot_over monitor.down monitor.status monitor.seen (is_over monitor.last_report (10 * wait) now)
+dead_boot monitor wait now = boot_over monitor.down monitor.status monitor.visitors.greatest_boot (is_over monitor.presence.last_report (10 * wait) now)
 
 -- the boot below which the runs of a node are over now, if some are
 abbrev pub dead_below : NodeMonitor → ℕ → ℕ → Option ℕ

@@ -16,7 +16,10 @@ later ms timer = at (min (timer.since + ms) (2 ^ 64 - 1))
 
 -- a node counts as heard of so much later, and so does the leader that it heard of
 abbrev pub waited_longer : ℕ → NodeMonitor → NodeMonitor
-waited_longer ms monitor = record monitor { last_report = later ms monitor.last_report; last_leader_contact = later ms monitor.last_leader_contact }
+waited_longer ms monitor = record monitor {
+  following = record monitor.following { last_leader_contact = later ms monitor.following.last_leader_contact };
+  presence = record monitor.presence { last_report = later ms monitor.presence.last_report };
+}
 
 -- the driver once it runs at this moment
 abbrev pub awake : ℕ → Driver → Driver

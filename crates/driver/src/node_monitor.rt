@@ -10,6 +10,7 @@ ghost use Rattle.driver.specs.Waking.{waited_longer};
 mod clock;
 mod hearing;
 mod reading;
+mod standing;
 
 use crate::backoff::Backoff;
 use crate::news::News;
@@ -22,8 +23,9 @@ pub use hearing::Heard;
 use node_notes::{Note, Progress, Status};
 use raft_log::NodeId;
 pub use reading::reads_for;
+use standing::{Claimed, Following, LastBeat, Outage, Presence, Visitors};
 use std::alloc::AllocError;
-use wire_bytes::{Number, SessionId};
+use wire_bytes::Number;
 
 /// The longest wait before a node that is down is started again, in milliseconds.
 const LONGEST: u32 = 60_000;
@@ -39,18 +41,6 @@ const MOST_WAITING: u64 = 32;
 /// The largest boot.
 const MOST_BOOT: u64 = 1 << 60;
 
-/// The last claim that the node was told.
-#[derive(Clone, Copy)]
-struct Claimed {
-    session: SessionId,
-    number: Number,
-    /// When, and by which of the node's notes.
-    at: Timer,
-    note: u64,
-    /// Its note is done, and all of the node's log was applied since: it is applied, or it is not in the log.
-    is_settled: bool,
-}
-
 /// What the driver knows of one node, and what the node is told by the clock.
 #[derive(Drop)]
 pub struct NodeMonitor {
@@ -58,27 +48,17 @@ pub struct NodeMonitor {
     status: Option<Status>,
     /// How far its worker is.
     progress: Progress,
-    /// When it last heard of a leader, or asked for votes.
-    last_leader_contact: Timer,
-    /// It waited anew for a node that asks for votes, since it last heard of a leader or asked itself.
-    has_yielded: bool,
-    /// When it was last told to send as a leader, and by which of its notes.
-    beat: Timer,
-    beat_note: u64,
+    following: Following,
+    beat: LastBeat,
     claimed: Option<Claimed>,
-    /// Since when it is down, if it is, and how long until it is started again.
-    down: Option<Timer>,
-    wait_ms: u32,
+    /// Where it is down.
+    down: Option<Outage>,
+    /// How long it waits the next time until it is started again.
     backoff: Backoff,
-    /// When it last told that it is up, and when it last came up.
-    last_report: Timer,
-    up: Timer,
-    /// The greatest boot in the origin of a client of it, if it had one.
-    seen: Option<Number>,
     /// By which of its notes it was last told to start again though it was up.
     restart_note: u64,
-    /// An operator was told that a client was turned away, since it was last up.
-    has_turned_away: bool,
+    presence: Presence,
+    visitors: Visitors,
 }
 
 impl NodeMonitor {
@@ -86,7 +66,6 @@ impl NodeMonitor {
     pub fn new(id: NodeId, settings: &Settings, now: &Now) -> NodeMonitor
         ensures { result ≡ new_monitor settings.now now.now.ms id }
     {
-        let first = settings.timeout_ms as u32;
         NodeMonitor {
             id,
             status: None,
@@ -96,19 +75,26 @@ impl NodeMonitor {
                 lost: 0,
                 contacts: 0,
             },
-            last_leader_contact: Timer::from(now.ms),
-            has_yielded: false,
-            beat: Timer::from(now.ms),
-            beat_note: 0,
+            following: Following {
+                last_leader_contact: Timer::from(now.ms),
+                has_yielded: false,
+            },
+            beat: LastBeat {
+                at: Timer::from(now.ms),
+                note: 0,
+            },
             claimed: None,
             down: None,
-            wait_ms: first,
-            backoff: Backoff::new(first, LONGEST),
-            last_report: Timer::from(now.ms),
-            up: Timer::from(now.ms),
-            seen: None,
+            backoff: Backoff::new(settings.timeout_ms as u32, LONGEST),
             restart_note: 0,
-            has_turned_away: false,
+            presence: Presence {
+                last_report: Timer::from(now.ms),
+                up: Timer::from(now.ms),
+            },
+            visitors: Visitors {
+                greatest_boot: None,
+                has_turned_away: false,
+            },
         }
     }
 
@@ -153,14 +139,14 @@ impl NodeMonitor {
     pub fn see(&mut self, boot: Number)
         ensures { self.new ≡ with_seen boot self.old }
     {
-        self.seen = Some(self.greatest_seen(boot));
+        self.visitors.greatest_boot = Some(self.greatest_seen(boot));
     }
 
     /// The greater of this boot and the greatest in the origin of a client of it.
     fn greatest_seen(&self, boot: Number) -> Number
-        ensures { result ≡ greatest self.now.seen boot }
+        ensures { result ≡ greatest self.now.visitors.greatest_boot boot }
     {
-        match self.seen {
+        match self.visitors.greatest_boot {
             Some(seen) if boot.value() <= seen.value() => seen,
             _ => boot,
         }
@@ -171,8 +157,8 @@ impl NodeMonitor {
         ensures told { OnOk result (orders.new ≡ ordered orders.old (turned_away_news self.old)) }
         ensures monitor { OnOk result (self.new ≡ turned_away self.old) }
     {
-        if !self.has_turned_away {
-            self.has_turned_away = true;
+        if !self.visitors.has_turned_away {
+            self.visitors.has_turned_away = true;
             orders.log(News::TurnedAway(self.id))?;
         }
         Ok(())
@@ -198,7 +184,9 @@ impl NodeMonitor {
         let silence = DEAD * settings.timeout_ms as u64;
         match (self.down, self.status) {
             (Some(_), Some(status)) => Some(self.greatest_seen(status.boot)),
-            _ if self.last_report.has_passed(silence, now.ms) => self.seen,
+            _ if self.presence.last_report.has_passed(silence, now.ms) => self
+                .visitors
+                .greatest_boot,
             _ => None,
         }
     }
@@ -253,7 +241,9 @@ impl NodeMonitor {
     pub fn wait_longer(&mut self, ms: u64)
         ensures { self.new ≡ waited_longer ms self.old }
     {
-        self.last_report = Timer::from(self.last_report.since.saturating_add(ms));
-        self.last_leader_contact = Timer::from(self.last_leader_contact.since.saturating_add(ms));
+        self.presence.last_report = Timer::from(self.presence.last_report.since.saturating_add(ms));
+        self.following.last_leader_contact = Timer::from(
+            self.following.last_leader_contact.since.saturating_add(ms),
+        );
     }
 }

@@ -6,7 +6,8 @@ ghost use Rattle.driver.specs.Monitors.{is_claimed, is_to_beat, line_to_claim, n
 ghost use Rattle.driver.specs.Telling.{ordered};
 ghost use Rattle.driver.specs.Pacing.{may_go};
 
-use crate::node_monitor::{Claimed, NodeMonitor};
+use crate::node_monitor::NodeMonitor;
+use crate::node_monitor::standing::{Claimed, Following, LastBeat, Outage};
 use crate::order::Now;
 use crate::orders::Orders;
 use crate::pace::Pace;
@@ -37,10 +38,9 @@ impl NodeMonitor {
         let Some(status) = self.status else {
             return Ok(());
         };
-        if let Some(since) = self.down {
-            if since.has_passed(self.wait_ms as u64, now.ms) {
-                self.down = Some(Timer::from(now.ms));
-                self.wait_ms = self.backoff.fail();
+        if let Some(outage) = self.down {
+            if outage.has_waited(now.ms) {
+                self.down = Some(Outage::from(now.ms, self.backoff.fail()));
                 orders.submit(self.id, Note::Restart)?;
             }
             return Ok(());
@@ -49,9 +49,11 @@ impl NodeMonitor {
             return self.tick_leader(now, settings, orders);
         }
         let wait = settings.timeout_ms as u64 + APART * self.id.value() as u64;
-        if self.last_leader_contact.has_passed(wait, now.ms) {
-            self.last_leader_contact = Timer::from(now.ms);
-            self.has_yielded = false;
+        if self.following.last_leader_contact.has_passed(wait, now.ms) {
+            self.following = Following {
+                last_leader_contact: Timer::from(now.ms),
+                has_yielded: false,
+            };
             orders.submit(self.id, Note::Timeout(self.progress.contacts))?;
         }
         Ok(())
@@ -73,8 +75,11 @@ impl NodeMonitor {
         if !self.is_to_beat(now, settings) {
             return Ok(());
         }
-        self.beat = Timer::from(now.ms);
-        self.beat_note = orders.submit(self.id, Note::Beat)?;
+        let note = orders.submit(self.id, Note::Beat)?;
+        self.beat = LastBeat {
+            at: Timer::from(now.ms),
+            note,
+        };
         Ok(())
     }
 
@@ -82,8 +87,8 @@ impl NodeMonitor {
     fn is_to_beat(&self, now: &Now, settings: &Settings) -> bool
         ensures { result ≡ is_to_beat self.now settings.now now.now.ms }
     {
-        self.beat.has_passed(settings.beat_ms as u64, now.ms)
-            && self.beat_note <= self.progress.done
+        self.beat.at.has_passed(settings.beat_ms as u64, now.ms)
+            && self.beat.note <= self.progress.done
     }
 
     /// The next line is claimed for the session, where the node has one, and where the pace allows it.

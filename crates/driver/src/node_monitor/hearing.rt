@@ -6,7 +6,8 @@ ghost use Rattle.driver.specs.Hearing.{progressed, settled, waiting_behind, was_
 ghost use Rattle.driver.specs.Telling.{ordered, told_to};
 
 use crate::news::News;
-use crate::node_monitor::{Claimed, NodeMonitor};
+use crate::node_monitor::NodeMonitor;
+use crate::node_monitor::standing::{Claimed, Outage};
 use crate::order::Now;
 use crate::orders::Orders;
 use crate::timer::Timer;
@@ -69,10 +70,10 @@ impl NodeMonitor {
     {
         let is_raised = self.is_raised(status);
         let is_led = led || status.leads();
-        if is_led || is_raised && !self.has_yielded {
-            self.last_leader_contact = Timer::from(now.ms);
+        if is_led || is_raised && !self.following.has_yielded {
+            self.following.last_leader_contact = Timer::from(now.ms);
         }
-        self.has_yielded = !is_led && (self.has_yielded || is_raised);
+        self.following.has_yielded = !is_led && (self.following.has_yielded || is_raised);
     }
 
     /// Whether it follows, and its term rose.
@@ -139,11 +140,10 @@ impl NodeMonitor {
         if self.down.is_some() {
             return Ok(());
         }
-        if self.up.has_passed(GOOD_RUN, now.ms) {
+        if self.presence.up.has_passed(GOOD_RUN, now.ms) {
             self.backoff.reset();
         }
-        self.down = Some(Timer::from(now.ms));
-        self.wait_ms = self.backoff.fail();
+        self.down = Some(Outage::from(now.ms, self.backoff.fail()));
         orders.log(News::Down(self.id, cause))
     }
 
@@ -160,11 +160,11 @@ impl NodeMonitor {
         ensures monitor { OnOk result (self.new ≡ up_behind self.old now.now.ms was_up) }
     {
         self.down = None;
-        self.last_report = Timer::from(now.ms);
-        self.has_turned_away = false;
+        self.presence.last_report = Timer::from(now.ms);
+        self.visitors.has_turned_away = false;
         if !was_up {
-            self.last_leader_contact = Timer::from(now.ms);
-            self.up = Timer::from(now.ms);
+            self.following.last_leader_contact = Timer::from(now.ms);
+            self.presence.up = Timer::from(now.ms);
             orders.log(News::Up(self.id, boot))?;
         }
         Ok(())
