@@ -50,9 +50,9 @@ note_for monitor settings now (Some status) None = note_up monitor settings now 
 abbrev pub note_at : NodeMonitor → Settings → ℕ → Option (Note TowerBody WireLine)
 note_at monitor settings now = note_for monitor settings now monitor.status monitor.down
 
--- as many notes of a node wait as may: 32 of those that it was told are not done, or are requests that wait for a leader
+-- as many notes of a node wait as may: 256 of those that it was told are not done, or are requests that wait for a leader
 abbrev pub is_full : ℕ → Progress → Bool
-is_full told progress = nat_le 32 ((told - progress.done) + progress.waiting)
+is_full told progress = nat_le 256 ((told - progress.done) + progress.waiting)
 
 -- a note as orders to the node
 abbrev pub told : ℕ → Option (Note TowerBody WireLine) → List Order

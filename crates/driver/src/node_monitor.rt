@@ -34,9 +34,9 @@ const LONGEST: u32 = 60_000;
 const DEAD: u64 = 10;
 
 /// While so many notes of a node are not done, nothing more is read for it: else its beats would wait
-/// behind all that was read, and the other nodes would choose another leader. A note may take some
-/// milliseconds, where a disk is slow.
-const MOST_WAITING: u64 = 32;
+/// behind all that was read, and the other nodes would choose another leader. A leader saves as many
+/// by one save, which may take some milliseconds, where a disk is slow.
+const MOST_WAITING: u64 = 256;
 
 /// The largest boot.
 const MOST_BOOT: u64 = 1 << 60;
