@@ -51,23 +51,42 @@ fn what_waits_is_asked_each_timeout_once_a_turn_was_refused(rt: HostRuntime) -> 
     follow(&rt, rt.alloc(), &registered(), &story)
 }
 
+/// What a client sends to register, and a line that it says.
+const REGISTERS: &[u8] = b"PASS pw\r\nNICK n\r\nUSER u 0 * :r\r\n";
+const SAYS: &[u8] = b"PRIVMSG #c :x\r\n";
+
 #[test]
-fn a_client_is_not_read_while_32_notes_of_its_node_wait_or_48_requests_of_it(
+fn a_client_is_not_read_while_256_notes_of_its_node_wait_or_48_requests_of_it(
     rt: HostRuntime,
 ) -> Result<(), Fail> {
     let node = NodeId::new(1);
     let story = [
         Step::Connects(0, node, Some(2)),
-        Step::Says(1, 1, b"PRIVMSG #c :x\r\n", 29),
+        Step::Sends(0, 2, REGISTERS),
+        Step::Connects(0, node, Some(3)),
+        Step::Sends(0, 3, REGISTERS),
+        Step::Connects(0, node, Some(4)),
+        Step::Sends(0, 4, REGISTERS),
+        Step::Connects(0, node, Some(5)),
+        Step::Sends(0, 5, REGISTERS),
+        Step::Connects(0, node, Some(6)),
+        Step::Sends(0, 6, REGISTERS),
+        Step::Says(1, 1, SAYS, 41),
+        Step::Says(1, 2, SAYS, 41),
+        Step::Says(1, 3, SAYS, 41),
+        Step::Says(1, 4, SAYS, 41),
+        Step::Says(1, 5, SAYS, 41),
+        Step::Says(1, 6, SAYS, 41),
+        Step::Says(1, 1, SAYS, 2),
         Step::ReadsClient(1, true),
-        Step::Says(1, 1, b"PRIVMSG #c :x\r\n", 1),
+        Step::Says(1, 1, SAYS, 1),
         Step::ReadsClient(1, false),
         Step::ReadsClient(2, false),
-        Step::Stands(2, node, standing(Role::Leader, 0), 32),
+        Step::Stands(2, node, standing(Role::Leader, 0), 256),
         Step::ReadsClient(1, true),
-        Step::Says(3, 1, b"PRIVMSG #c :x\r\n", 16),
+        Step::Says(3, 1, SAYS, 2),
         Step::ReadsClient(1, true),
-        Step::Says(3, 1, b"PRIVMSG #c :x\r\n", 1),
+        Step::Says(3, 1, SAYS, 1),
         Step::ReadsClient(1, false),
         Step::ReadsClient(2, true),
     ];
