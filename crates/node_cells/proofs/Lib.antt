@@ -10,3 +10,6 @@ pub mod Looking
 pub mod Restarting
 pub mod Started
 pub mod Gathered
+pub mod Appending
+pub mod Noting
+pub mod Together

@@ -158,7 +158,7 @@ module _ (M : Machine) where
   unfolding own_out
   restart_out n i s = refl
 
-  turns-append : (v : ViewOf M) (xs ys : List (TurnOf M)) → after_turns M v (xs ++ ys) ≡ after_turns M (after_turns M v xs) ys
+  pub turns-append : (v : ViewOf M) (xs ys : List (TurnOf M)) → after_turns M v (xs ++ ys) ≡ after_turns M (after_turns M v xs) ys
   turns-append v [] ys = refl
   turns-append v (t ∷ xs) ys = turns-append (after_event M v t.0 t.1) xs ys
 

@@ -78,6 +78,7 @@ module _ (M : Machine) {Setup Hosted Store : Type 0} (k : Keeper Store M.Body) w
           honest = ap (λ (v : ViewOf M). v.honest) as_new;
           leader = none_known b.ether.size (seen n.state []).leader (ap (λ (s : Node M.Body). s.leader) (first.begins.2 []));
           heard = λ m e. absurd (cc e);
+          together = tt;
           up = λ p. first.is_up;
           refused = λ p. refl;
           counted = λ honest. sent ∙ ap (λ (s : Node M.Body). length s.sent) (sym state_is);
@@ -101,6 +102,7 @@ module _ (M : Machine) {Setup Hosted Store : Type 0} (k : Keeper Store M.Body) w
         honest = tk.honest ∙ h.honest;
         leader = subst (λ (z : EtherParts Setup). KnowsOneOf z.size (seen q.state [])) (sym ether) h.leader;
         heard = tk.heard (brought p) h.heard;
+        together = h.together;
         up = h.up;
         refused = h.refused;
         counted = λ is. sent ∙ h.counted (sym tk.honest ∙ is) ∙ ap (λ (s : Node M.Body). length s.sent) (sym tk.state);

@@ -1,9 +1,9 @@
 -- A cell after a restart: the view's state is the node's again.
-use Rattle.std.proofs.Common.{◌≡◌, ℕ, suc, ◌+◌, ◌-◌, ◌≤◌, ◌⊎◌, inl, inr, ⊎_elim, Bool, true, false, List, [], ◌∷◌, length, None, refl, sym, ap, ◌∙◌, subst, arith}
-use Rattle.std.specs.Prelude.{◌↔◌, IsTrue, min}
+use Rattle.std.proofs.Common.{◌≡◌, ℕ, suc, ◌+◌, ◌-◌, ◌≤◌, ◌⊎◌, inl, inr, ⊎_elim, Bool, true, false, List, [], ◌∷◌, ◌++◌, map, length, None, Ok, refl, sym, ap, ◌∙◌, subst, arith}
+use Rattle.std.specs.Prelude.{◌↔◌, ◌||◌, not, IsTrue, min}
 use Rattle.std.proofs.Math.Nat.{min-eq_left}
 use Rattle.raft_log.specs.declared.message.Message.{Message}
-use Rattle.raft_log.specs.Node.{Node}
+use Rattle.raft_log.specs.Node.{Node, is_leader}
 use Rattle.raft_log.specs.Seen.{seen}
 use Rattle.stable_store.specs.declared.saved.Saved.{Saved}
 use Rattle.stable_store.specs.Stores.{IsHonest, Serves}
@@ -16,12 +16,16 @@ use Rattle.raft_node.specs.Steps as steps
 use Rattle.world_views.specs.declared.node_event.NodeEvent.TheVariants.{Does, Restart, StopIn}
 use Rattle.world_views.specs.declared.node_event.NodeInput.{NodeInput}
 use Rattle.world_views.specs.Own.{EventOf, TurnOf, act_of, own_out, own_state, run}
+use Rattle.world_views.proofs.Runs.{run-append}
 use Rattle.node_cells.specs.declared.phase.Phase.{Phase}
-use Rattle.node_cells.specs.declared.phase.Phase.TheVariants.{Up, DownInTurn, DownInRestart}
-use Rattle.node_cells.specs.Cells.{IsCell, IsIn, IsLater, Shows, Stands, after_input, view_in}
-use Rattle.node_cells.specs.Restarts.{AreRestarts, first_of}
+use Rattle.node_cells.specs.declared.phase.Phase.TheVariants.{Up, DownInTurn, DownInTurns, DownInRestart}
+use Rattle.node_cells.specs.Books.{NotedOf, turn_in}
+use Rattle.node_cells.specs.Cells.{AreTogether, IsCell, IsIn, IsLater, Shows, Stands, after_input, after_inputs, view_in}
+use Rattle.node_cells.specs.Inputs.{Answer, OnlyAppend}
+use Rattle.node_cells.specs.Restarts.{AreNoted, AreRestarts, IsAlone, firsts_of, stops_after, stops_before}
 use Rattle.node_cells.specs.Sending.{terms_of}
 use Rattle.node_cells.specs.Turns.{CellOf}
+use Rattle.node_cells.proofs.Appending.{all_append, appended_tells, one_appends}
 use Rattle.node_cells.proofs.Showing.{Inner, acted_here, saved_after}
 
 module _ {B : Type 0} where
@@ -64,12 +68,42 @@ module _ (M : Machine) where
       ∙ restarts_run n i (record v { boot = suc v.boot }) sent ts h.1
       ∙ ap (λ (b : ℕ). begins_at n (record v { boot = b }) sent) z
 
+  the_event : (e f : EventOf M) (a b : Answer) → (e, a) ∷ [] ≡ (f, b) ∷ [] → e ≡ f
+  the_event e f a b h = cc h
+
   -- nothing comes out of what a restart publishes
-  pub first_out : (n i : ℕ) (s : Node M.Body) (p : Phase M.Body M.Line) (same : Bool) → steps.Quiet ≡ own_out M n i s (first_of p same)
+  pub first_out : (n i : ℕ) (s : Node M.Body) (p : Phase M.Body M.Line) (same : Bool) (e : EventOf M) → IsAlone p → firsts_of p same ≡ (e, Ok tt) ∷ [] → steps.Quiet ≡ own_out M n i s e
   unfolding own_out
-  first_out n i s Up same = refl
-  first_out n i s (DownInTurn x done) same = refl
-  first_out n i s DownInRestart same = refl
+  first_out n i s Up same e alone h = ap (λ (f : EventOf M). own_out M n i s f) (the_event Restart e (Ok tt) (Ok tt) h)
+  first_out n i s (DownInTurn x done) same e alone h = ap (λ (f : EventOf M). own_out M n i s f) (the_event (StopIn x (done || not same)) e (Ok tt) (Ok tt) h)
+  first_out n i s (DownInTurns inputs answers) same e alone h = absurd alone
+  first_out n i s DownInRestart same e alone h = ap (λ (f : EventOf M). own_out M n i s f) (the_event Restart e (Ok tt) (Ok tt) h)
+
+  -- one event alone
+  one_run : (n i : ℕ) (s : Node M.Body) (e : EventOf M) (a : Answer) (first : List (NotedOf M)) → AreNoted M ((e, a) ∷ []) first → run M n i s (map (turn_in M) first) ≡ own_state M n i s e
+  one_run n i s e a [] h = absurd h
+  one_run n i s e a (t ∷ []) h = ap (λ (f : EventOf M). own_state M n i s f) h.0
+  one_run n i s e a (t ∷ u ∷ first) h = absurd h.2
+
+  -- a stop in the first of some inputs, before that was saved
+  before_run : (n i : ℕ) (s : Node M.Body) (xs : List (NodeInput M.Body M.Line)) (first : List (NotedOf M)) → 1 ≤ length xs → AreNoted M (stops_before xs) first
+      → run M n i s (map (turn_in M) first) ≡ begins_at n (saved_by s) s.sent
+  before_run n i s [] first some h = absurd (omega some)
+  before_run n i s (x ∷ xs) first some h = one_run n i s (StopIn x false) (Ok tt) first h ∙ before_state n i s x
+
+  -- a stop in the last of some inputs that only append, after all were saved
+  after_run : (n i : ℕ) (s : Node M.Body) (xs : List (NodeInput M.Body M.Line)) (answers : List Answer) (first : List (NotedOf M)) → is_leader s.role ≡ true → OnlyAppend xs → 1 ≤ length xs
+      → length answers ≡ length xs → AreNoted M (stops_after xs answers) first → run M n i s (map (turn_in M) first) ≡ begins_at n (saved_by (after_inputs M n i s xs)) s.sent
+  after_run n i s [] answers first leads appends some many h = absurd (omega some)
+  after_run n i s (x ∷ xs) [] first leads appends some many h = absurd (cc many)
+  after_run n i s (x ∷ []) (a ∷ answers) first leads appends some many h = one_run n i s (StopIn x true) (Ok tt) first h ∙ after_state n i s x
+  after_run n i s (x ∷ y ∷ xs) (a ∷ answers) [] leads appends some many h = absurd h
+  after_run n i s (x ∷ y ∷ xs) (a ∷ answers) (t ∷ first) leads appends some many h =
+      let s' : Node M.Body = after_input M n i s x in
+      let one = one_appends M n i s x leads (appends.0, tt) in
+      ap (λ (e : EventOf M). run M n i (own_state M n i s e) (map (turn_in M) first)) h.0
+      ∙ after_run n i s' (y ∷ xs) answers first one.leads appends.1 (omega arith) (let e : suc (length answers) ≡ suc (length (y ∷ xs)) = many in omega (arith, e)) h.2
+      ∙ ap (λ (l : List (Message M.Body)). begins_at n (saved_by (after_inputs M n i s' (y ∷ xs))) l) one.sent
 
 -- of what stood, the run that is left begins with this; the memory had the same boot
 record Starts {B : Type 0} (n : ℕ) (first : Node B) (sent : List (Message B)) (boot : ℕ) (v : Saved B) (r : ℕ) : Type 0 where
@@ -95,7 +129,7 @@ module _ (M : Machine) {Setup Hosted Store U : Type 0} (k : Keeper Store M.Body)
     is_honest = sym h.honest ∙ honest
 
     -- what may stand in the store of a node that is up is what is saved of it
-    up_stands : c.node.down ≡ None → IsIn c.node.state s → Stands k c.node.store 0 (saved_by s)
+    pub up_stands : c.node.down ≡ None → IsIn c.node.state s → Stands k c.node.store 0 (saved_by s)
     up_stands up here w stands =
         let held = holds up is_honest in
         let is : w ≡ saved_by s = (sure c.node.store w held.0).0 stands ∙ held.1 ∙ ap saved_by here in
@@ -116,8 +150,8 @@ module _ (M : Machine) {Setup Hosted Store U : Type 0} (k : Keeper Store M.Body)
     Told same v =
         IsTrue same ↔ (c.node.state.standing.term ≡ v.term) × (c.node.state.standing.vote ≡ v.vote) × (terms_of c.node.state.log ≡ terms_of v.log)
 
-    abbrev StartsAt : Phase M.Body M.Line → Bool → Saved M.Body → Type 0
-    StartsAt p same v = Starts n (own_state M n i s (first_of p same)) s.sent c.node.state.standing.boot v c.refused
+    abbrev StartsAt : List (NotedOf M) → Saved M.Body → Type 0
+    StartsAt first v = Starts n (run M n i s (map (turn_in M) first)) s.sent c.node.state.standing.boot v c.refused
 
     -- what was saved before the turn, where the store has the terms of the memory
     as_before : IsIn c.node.state s → (x : NodeInput M.Body M.Line) (v : Saved M.Body) → (c.node.state.standing.term ≡ v.term) × (c.node.state.standing.vote ≡ v.vote) × (terms_of c.node.state.log ≡ terms_of v.log)
@@ -137,52 +171,92 @@ module _ (M : Machine) {Setup Hosted Store U : Type 0} (k : Keeper Store M.Body)
           high = let b = l.high in omega (arith, b, boot);
         }
 
-    starts : (p : Phase M.Body M.Line) (same : Bool) (v : Saved M.Body) → Shows M k n i s p c.refused c.node → (p ≡ Up → c.refused ≡ 0) → k.may_stand c.node.store v → Told same v → StartsAt p same v
-    starts Up same v shows none stands told =
+    -- what was saved before turns that only appended, so too
+    all_as_before : IsIn c.node.state s → is_leader s.role ≡ true → (xs : List (NodeInput M.Body M.Line)) → OnlyAppend xs → (v : Saved M.Body)
+        → (c.node.state.standing.term ≡ v.term) × (c.node.state.standing.vote ≡ v.vote) × (terms_of c.node.state.log ≡ terms_of v.log)
+        → IsLater c.refused (saved_by s) v ⊎ IsLater c.refused (saved_by (after_inputs M n i s xs)) v → IsLater c.refused (saved_by s) v
+    all_as_before here leads xs appends v told (inl l) = l
+    all_as_before here leads xs appends v told (inr l) =
+        let a = all_append M n i xs s leads appends in
+        let terms : terms_of (after_inputs M n i s xs).log ≡ terms_of s.log = ap terms_of (sym l.log) ∙ sym told.2 ∙ ap (λ (z : Node M.Body). terms_of z.log) here in
+        let boot : (after_inputs M n i s xs).boot ≡ s.boot = a.boot in
+        record {
+          term = sym told.0 ∙ ap (λ (z : Node M.Body). z.term) here;
+          vote = sym told.1 ∙ ap (λ (z : Node M.Body). z.vote) here;
+          log = l.log ∙ appended_tells s (after_inputs M n i s xs) a terms;
+          low = let b = l.low in omega (arith, b, boot);
+          high = let b = l.high in omega (arith, b, boot);
+        }
+
+    -- the store does not hold what the node had in memory
+    differs : IsIn c.node.state s → (v : Saved M.Body) → Told false v → IsLater c.refused (saved_by s) v → ⊥
+    differs here v told old =
+        let t : false ≡ true = told.1 (
+          ap (λ (z : Node M.Body). z.term) here ∙ sym old.term,
+          ap (λ (z : Node M.Body). z.vote) here ∙ sym old.vote,
+          ap (λ (z : Node M.Body). terms_of z.log) here ∙ ap terms_of (sym old.log),
+        ) in
+        cc t
+
+    starts : (p : Phase M.Body M.Line) (same : Bool) (v : Saved M.Body) (first : List (NotedOf M)) → Shows M k n i s p c.refused c.node → AreTogether p → (p ≡ Up → c.refused ≡ 0) → k.may_stand c.node.store v → Told same v
+        → AreNoted M (firsts_of p same) first → StartsAt first v
+    starts Up same v first shows all none stands told noted =
         record {
           k = saved_by s;
-          is = first_state M n i s;
+          is = one_run M n i s Restart (Ok tt) first noted ∙ first_state M n i s;
           later = subst (λ (r : ℕ). IsLater r (saved_by s) v) (sym (none refl)) (up_stands shows.1 shows.0 v stands);
           from = sym (ap (λ (z : Node M.Body). z.boot) shows.0);
         }
-    starts DownInRestart same v shows none stands told =
-        record { k = saved_by s; is = first_state M n i s; later = shows.1 v stands; from = sym (ap (λ (z : Node M.Body). z.boot) shows.0) }
-    starts (DownInTurn x true) same v shows none stands told =
+    starts DownInRestart same v first shows all none stands told noted =
         record {
-          k = saved_by (after_input M n i s x);
-          is = after_state M n i s x;
+          k = saved_by s;
+          is = one_run M n i s Restart (Ok tt) first noted ∙ first_state M n i s;
           later = shows.1 v stands;
           from = sym (ap (λ (z : Node M.Body). z.boot) shows.0);
         }
-    starts (DownInTurn x false) true v shows none stands told =
+    starts (DownInTurn x true) same v first shows all none stands told noted =
+        record {
+          k = saved_by (after_input M n i s x);
+          is = one_run M n i s (StopIn x true) (Ok tt) first noted ∙ after_state M n i s x;
+          later = shows.1 v stands;
+          from = sym (ap (λ (z : Node M.Body). z.boot) shows.0);
+        }
+    starts (DownInTurn x false) true v first shows all none stands told noted =
         record {
           k = saved_by s;
-          is = before_state M n i s x;
+          is = one_run M n i s (StopIn x false) (Ok tt) first noted ∙ before_state M n i s x;
           later = as_before shows.0 x v (told.0 refl) (shows.1 v stands);
           from = sym (ap (λ (z : Node M.Body). z.boot) shows.0);
         }
-    starts (DownInTurn x false) false v shows none stands told =
+    starts (DownInTurn x false) false v first shows all none stands told noted =
         record {
           k = saved_by (after_input M n i s x);
-          is = after_state M n i s x;
-          later = ⊎_elim
-              (λ (old : IsLater c.refused (saved_by s) v). absurd (let t : false ≡ true = told.1 (
-                ap (λ (z : Node M.Body). z.term) shows.0 ∙ sym old.term,
-                ap (λ (z : Node M.Body). z.vote) shows.0 ∙ sym old.vote,
-                ap (λ (z : Node M.Body). terms_of z.log) shows.0 ∙ ap terms_of (sym old.log),
-              ) in cc t))
-              (λ new. new)
-              (shows.1 v stands);
+          is = one_run M n i s (StopIn x true) (Ok tt) first noted ∙ after_state M n i s x;
+          later = ⊎_elim (λ (old : IsLater c.refused (saved_by s) v). absurd (differs shows.0 v told old)) (λ new. new) (shows.1 v stands);
           from = same_boot shows.0 x;
         }
+    starts (DownInTurns inputs answers) true v first shows all none stands told noted =
+        record {
+          k = saved_by s;
+          is = before_run M n i s inputs.items first all.0 noted;
+          later = all_as_before shows.0 shows.2 inputs.items all.2 v (told.0 refl) (shows.1 v stands);
+          from = sym (ap (λ (z : Node M.Body). z.boot) shows.0);
+        }
+    starts (DownInTurns inputs answers) false v first shows all none stands told noted =
+        record {
+          k = saved_by (after_inputs M n i s inputs.items);
+          is = after_run M n i s inputs.items answers.items first shows.2 all.2 all.0 all.1 noted;
+          later = ⊎_elim (λ (old : IsLater c.refused (saved_by s) v). absurd (differs shows.0 v told old)) (λ new. new) (shows.1 v stands);
+          from = (all_append M n i inputs.items s shows.2 all.2).boot ∙ sym (ap (λ (z : Node M.Body). z.boot) shows.0);
+        }
 
-    -- After the first event, and so many restarts more as runs were begun besides, the view's state is the node's.
-    pub restart_shows : (q : Inner M Setup Hosted Store) (same : Bool) (ts : List (TurnOf M)) → (b : Begins (size_of c.node.state) (MayHaveStood k c.node.store) q.state) → AreRestarts ts
-        → length ts ≡ min (q.state.standing.boot - c.node.state.standing.boot - 1) c.refused → Told same b.0
-        → (let t : Node M.Body = run M n i (own_state M n i s (first_of c.phase same)) ts in IsIn q.state t × (t.sent ≡ s.sent))
-    restart_shows q same ts b all long told =
+    -- After the first events, and so many restarts more as runs were begun besides, the view's state is the node's.
+    pub restart_shows : (q : Inner M Setup Hosted Store) (same : Bool) (first : List (NotedOf M)) (ts : List (TurnOf M)) → (b : Begins (size_of c.node.state) (MayHaveStood k c.node.store) q.state)
+        → AreNoted M (firsts_of c.phase same) first → AreRestarts ts → length ts ≡ min (q.state.standing.boot - c.node.state.standing.boot - 1) c.refused → Told same b.0
+        → (let t : Node M.Body = run M n i s (map (turn_in M) first ++ ts) in IsIn q.state t × (t.sent ≡ s.sent))
+    restart_shows q same first ts b noted all long told =
         let v : Saved M.Body = b.0 in
-        let st = starts c.phase same v (h.shows honest) h.refused (b.1 is_honest) told in
+        let st = starts c.phase same v first (h.shows honest) h.together h.refused (b.1 is_honest) told noted in
         let now : seen q.state s.sent ≡ begun (size_of c.node.state) v s.sent = b.2 s.sent in
         let boot : q.state.standing.boot ≡ suc v.boot = ap (λ (z : Node M.Body). z.boot) now in
         let low = st.later.low in
@@ -190,9 +264,10 @@ module _ (M : Machine) {Setup Hosted Store U : Type 0} (k : Keeper Store M.Body)
         let from = st.from in
         let many : length ts ≡ v.boot - st.k.boot = long ∙ (let e : q.state.standing.boot - c.node.state.standing.boot - 1 ≤ c.refused = omega arith in min-eq_left e ∙ omega arith) in
         let sum : v.boot ≡ st.k.boot + length ts = omega arith in
-        let is : run M n i (own_state M n i s (first_of c.phase same)) ts ≡ begins_at n v s.sent =
-        ap (λ (a : Node M.Body). run M n i a ts) st.is ∙ restarts_run M n i st.k s.sent ts all
+        let is : run M n i s (map (turn_in M) first ++ ts) ≡ begins_at n v s.sent =
+        run-append M n i s (map (turn_in M) first) ts
+        ∙ ap (λ (a : Node M.Body). run M n i a ts) st.is ∙ restarts_run M n i st.k s.sent ts all
         ∙ ap (λ (z : Saved M.Body). begins_at n z s.sent) (stands_as st.k v (length ts) st.later.term st.later.vote st.later.log sum) in
         let size : n ≡ size_of c.node.state = h.book.opened.0.many ∙ sym h.size in
-        let whole : run M n i (own_state M n i s (first_of c.phase same)) ts ≡ seen q.state s.sent = is ∙ ap (λ (m : ℕ). begins_at m v s.sent) size ∙ sym now in
+        let whole : run M n i s (map (turn_in M) first ++ ts) ≡ seen q.state s.sent = is ∙ ap (λ (m : ℕ). begins_at m v s.sent) size ∙ sym now in
         (subst (λ (z : Node M.Body). IsIn q.state z) (sym whole) refl, ap (λ (z : Node M.Body). z.sent) whole)

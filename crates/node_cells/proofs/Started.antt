@@ -1,6 +1,6 @@
 -- A cell after a restart, and after one that failed.
-use Rattle.std.proofs.Common.{◌≡◌, ℕ, suc, ◌+◌, ◌-◌, ◌⊎◌, inl, inr, ⊎_elim, Bool, true, false, List, [], ◌∷◌, ◌++◌, map, length, None, refl, sym, ap, ◌∙◌, subst, arith, append_assoc}
-use Rattle.std.specs.Prelude.{◌↔◌, IsTrue, min}
+use Rattle.std.proofs.Common.{◌≡◌, ℕ, suc, ◌+◌, ◌-◌, ◌⊎◌, inl, inr, ⊎_elim, Bool, true, false, List, [], ◌∷◌, ◌++◌, map, length, None, Ok, refl, sym, ap, ◌∙◌, subst, arith, append_assoc}
+use Rattle.std.specs.Prelude.{◌↔◌, ◌||◌, not, IsTrue, min}
 use Rattle.std.proofs.Math.Nat.{min-le_right}
 use Rattle.raft_log.specs.declared.node_state.NodeState.{NodeState}
 use Rattle.raft_log.specs.Node.{Node}
@@ -13,19 +13,22 @@ use Rattle.raft_node.specs.Machine.{Machine}
 use Rattle.raft_node.specs.Parts.{Holds, Keeper, saved_by, size_of}
 use Rattle.raft_node.specs.Starting.{Begins, BeganWith, MayBegin, MayHaveStood, begun}
 use Rattle.raft_node.specs.Stepping.{IsSameNode}
-use Rattle.world_run.specs.declared.outcome.Outcome.TheVariants.{Quiet}
+use Rattle.world_views.specs.declared.node_event.NodeEvent.{NodeEvent}
+use Rattle.world_views.specs.declared.node_event.NodeEvent.TheVariants.{Restart, StopIn}
 use Rattle.world_views.specs.Own.{TurnOf, ViewOf, run}
 use Rattle.world_views.specs.Views.{View}
 use Rattle.ether.specs.Passes.{EtherParts, IsHeard, view_of}
 use Rattle.ether.specs.Plays.{after_event}
 use Rattle.node_cells.specs.declared.phase.Phase.{Phase}
-use Rattle.node_cells.specs.declared.phase.Phase.TheVariants.{Up, DownInTurn, DownInRestart}
+use Rattle.node_cells.specs.declared.phase.Phase.TheVariants.{Up, DownInTurn, DownInTurns, DownInRestart}
 use Rattle.node_cells.specs.declared.remembered.Remembered.{Remembered}
-use Rattle.node_cells.specs.Books.{HasNoted, IsBook, NotedOf, noted, recorded_by}
-use Rattle.node_cells.specs.Cells.{HasHeard, IsCell, IsIn, IsLater, Shows, Stands, StandsEither, after_input, brought, cell_of}
+use Rattle.node_cells.specs.Books.{IsBook, NotedOf, recorded_by, turn_in}
+use Rattle.node_cells.specs.Cells.{AreTogether, HasHeard, IsCell, IsIn, IsLater, Shows, Stands, StandsEither, after_input, brought, cell_of}
 use Rattle.node_cells.specs.Remembering.{Remembers}
-use Rattle.node_cells.specs.Restarts.{HasRestarts, IsRefusedRestart, IsRestart, after_turns, fallen, first_of, silent}
+use Rattle.node_cells.specs.Inputs.{Answer}
+use Rattle.node_cells.specs.Restarts.{HasNotedAll, HasRestarts, IsAlone, IsRefusedRestart, IsRestart, after_turns, fallen, firsts_of, silent}
 use Rattle.node_cells.specs.Sending.{KnowsOneOf, terms_of}
+use Rattle.node_cells.proofs.Looping.{turns-append}
 use Rattle.node_cells.proofs.Recorded.{Book, recorded-append}
 use Rattle.node_cells.proofs.Restarting.{restart_shows}
 use Rattle.node_cells.proofs.Sending.{none_known}
@@ -33,11 +36,15 @@ use Rattle.node_cells.proofs.Showing.{Inner}
 use Rattle.node_cells.proofs.Turning.{with_room}
 
 module _ {B L T : Type 0} where
+  is_heard_by : (v : View B L T) (e f : NodeEvent B L T) → (e, Ok tt) ∷ [] ≡ (f, Ok tt) ∷ [] → IsHeard v e → IsHeard v f
+  is_heard_by v e f h heard = let is : e ≡ f = (let a : Answer = Ok tt in let z : (e, a) ∷ [] ≡ (f, a) ∷ [] = h in cc z) in subst (λ (z : NodeEvent B L T). IsHeard v z) is heard
+
   -- what the first event of a restart brings was heard
-  pub heard_first : (v : View B L T) (p : Phase B L) (same : Bool) → HasHeard v (brought p) → IsHeard v (first_of p same)
-  heard_first v Up same h = h
-  heard_first v (DownInTurn x done) same h = h
-  heard_first v DownInRestart same h = h
+  pub heard_first : (v : View B L T) (p : Phase B L) (same : Bool) (e : NodeEvent B L T) → IsAlone p → HasHeard v (brought p) → firsts_of p same ≡ (e, Ok tt) ∷ [] → IsHeard v e
+  heard_first v Up same e alone h is = is_heard_by v Restart e is h
+  heard_first v (DownInTurn x done) same e alone h is = is_heard_by v (StopIn x (done || not same)) e is h
+  heard_first v (DownInTurns inputs answers) same e alone h is = absurd alone
+  heard_first v DownInRestart same e alone h is = is_heard_by v Restart e is h
 
 module _ (M : Machine) where
   -- what turns leave of a view
@@ -47,7 +54,7 @@ module _ (M : Machine) where
     pub honest : w.honest ≡ v.honest
     pub state : w.state ≡ run M v.size (suc v.node) v.state ts
 
-  ran : (v : ViewOf M) (ts : List (TurnOf M)) → Ran v (after_turns M v ts) ts
+  pub ran : (v : ViewOf M) (ts : List (TurnOf M)) → Ran v (after_turns M v ts) ts
   ran v [] = record { size = refl; node = refl; honest = refl; state = refl }
   ran v (t ∷ ts) = let r = ran (after_event M v t.0 t.1) ts in record { size = r.size; node = r.node; honest = r.honest; state = r.state }
 
@@ -112,12 +119,20 @@ module _ (M : Machine) where
   never_up : (p : Phase M.Body M.Line) → fallen p ≡ Up → ⊥
   never_up Up h = cc h
   never_up (DownInTurn x done) h = cc h
+  never_up (DownInTurns inputs answers) h = cc h
   never_up DownInRestart h = cc h
 
   fallen_brings : (v : ViewOf M) (p : Phase M.Body M.Line) → HasHeard v (brought p) → HasHeard v (brought (fallen p))
   fallen_brings v Up h = h
   fallen_brings v (DownInTurn x done) h = h
+  fallen_brings v (DownInTurns inputs answers) h = h
   fallen_brings v DownInRestart h = h
+
+  fallen_together : (p : Phase M.Body M.Line) → AreTogether p → AreTogether (fallen p)
+  fallen_together Up h = tt
+  fallen_together (DownInTurn x done) h = tt
+  fallen_together (DownInTurns inputs answers) h = h
+  fallen_together DownInRestart h = tt
 
 module _ (M : Machine) {Setup Hosted Store U : Type 0} (k : Keeper Store M.Body) where
   module _ (b0 : Book M Setup) (q q' : Inner M Setup Hosted Store) (u : U) (p : Phase M.Body M.Line) (r : ℕ) (line : NodeFields) (h : IsCell M k (cell_of b0 q u p r line))
@@ -148,6 +163,7 @@ module _ (M : Machine) {Setup Hosted Store U : Type 0} (k : Keeper Store M.Body)
       )
       falls (DownInTurn x false) honest shows none = (still_in v.state shows.0, either_more k q.store q'.store (size_of q.state) begin honest r _ _ shows.1)
       falls (DownInTurn x true) honest shows none = (still_in (after_input M v.size (suc v.node) v.state x) shows.0, stands_more k q.store q'.store (size_of q.state) begin honest r _ shows.1)
+      falls (DownInTurns inputs answers) honest shows none = (still_in v.state shows.0, either_more k q.store q'.store (size_of q.state) begin honest r _ _ shows.1, shows.2, shows.3)
       falls DownInRestart honest shows none = (still_in v.state shows.0, stands_more k q.store q'.store (size_of q.state) begin honest r _ shows.1)
 
       pub refused_cell : IsCell M k (cell_of b0 q' u (fallen p) (r + 1) line)
@@ -160,6 +176,7 @@ module _ (M : Machine) {Setup Hosted Store U : Type 0} (k : Keeper Store M.Body)
             honest = h.honest ∙ sym same.honest;
             leader = subst (λ (z : NodeState M.Body). KnowsOneOf b0.ether.size (seen z [])) (sym state) h.leader;
             heard = fallen_brings M v p h.heard;
+            together = fallen_together M p h.together;
             up = λ e. absurd (never_up M p e);
             refused = λ e. absurd (never_up M p e);
             counted = h.counted;
@@ -173,19 +190,19 @@ module _ (M : Machine) {Setup Hosted Store U : Type 0} (k : Keeper Store M.Body)
     -- ---- a restart
     module _ (up : q'.down ≡ None) (b : Begins (size_of q.state) (MayHaveStood k q.store) q'.state) (told : Bool)
         (is_told : IsTrue told ↔ (q.state.standing.term ≡ b.0.term) × (q.state.standing.vote ≡ b.0.vote) × (terms_of q.state.log ≡ terms_of b.0.log))
-        (b1 b2 : Book M Setup) (first : HasNoted M b0 (first_of p told) Quiet b1) (count : ℕ) (many : count ≡ min (q'.state.standing.boot - q.state.standing.boot - 1) r) (rest : HasRestarts M b1 count b2) where
-      view_2 : view_of b2.pass ≡ after_turns M (after_event M v first.ticket (first_of p told)) rest.more
-      view_2 = rest.view ∙ ap (λ (w : ViewOf M). after_turns M w rest.more) first.view
+        (b1 b2 : Book M Setup) (first : HasNotedAll M b0 (firsts_of p told) b1) (count : ℕ) (many : count ≡ min (q'.state.standing.boot - q.state.standing.boot - 1) r) (rest : HasRestarts M b1 count b2) where
+      view_2 : view_of b2.pass ≡ after_turns M v (map (turn_in M) first.first ++ rest.more)
+      view_2 = rest.view ∙ ap (λ (w : ViewOf M). after_turns M w rest.more) first.view ∙ sym (turns-append M v (map (turn_in M) first.first) rest.more)
 
-      ran_2 : Ran M (after_event M v first.ticket (first_of p told)) (view_of b2.pass) rest.more
-      ran_2 = subst (λ (w : ViewOf M). Ran M (after_event M v first.ticket (first_of p told)) w rest.more) (sym view_2) (ran M (after_event M v first.ticket (first_of p told)) rest.more)
+      ran_2 : Ran M v (view_of b2.pass) (map (turn_in M) first.first ++ rest.more)
+      ran_2 = subst (λ (w : ViewOf M). Ran M v w (map (turn_in M) first.first ++ rest.more)) (sym view_2) (ran M v (map (turn_in M) first.first ++ rest.more))
 
       ether_2 : b2.ether ≡ b0.ether
       ether_2 = rest.ether ∙ first.ether
 
       shown_2 : v.honest ≡ true → IsIn q'.state (view_of b2.pass).state × ((view_of b2.pass).state.sent ≡ v.state.sent)
       shown_2 honest =
-          let so = restart_shows M k (cell_of b0 q u p r line) h sure holds honest q' told rest.more b rest.restarts (rest.long ∙ many) is_told in
+          let so = restart_shows M k (cell_of b0 q u p r line) h sure holds honest q' told first.first rest.more b first.are rest.restarts (rest.long ∙ many) is_told in
           (subst (λ (s : Node M.Body). IsIn q'.state s) (sym ran_2.state) so.0, ap (λ (s : Node M.Body). s.sent) ran_2.state ∙ so.1)
 
       pub started_cell : IsBook M b2 → (line' : NodeFields) → line' ≡ fields_of (seen q'.state []) → IsCell M k (cell_of b2 q' u Up 0 line')
@@ -198,6 +215,7 @@ module _ (M : Machine) {Setup Hosted Store U : Type 0} (k : Keeper Store M.Body)
             honest = ran_2.honest ∙ h.honest ∙ sym same.honest;
             leader = none_known b2.ether.size (seen q'.state []).leader (ap (λ (s : Node M.Body). s.leader) (b.2 []));
             heard = λ m e. absurd (cc e);
+            together = tt;
             up = λ z. up;
             refused = λ z. refl;
             counted = λ is. let honest : v.honest ≡ true = sym ran_2.honest ∙ is in rest.sent ∙ first.sent ∙ h.counted honest ∙ ap length (sym (shown_2 honest).1);
@@ -208,16 +226,17 @@ module _ (M : Machine) {Setup Hosted Store U : Type 0} (k : Keeper Store M.Body)
       pub started_is : (line' : NodeFields) → IsRestart M (cell_of b0 q u p r line) (cell_of b2 q' u Up 0 line')
       started_is line' =
           record {
-            ticket = first.ticket;
+            first = first.first;
             same = told;
+            first_are = first.are;
             more = rest.more;
             restarts = rest.restarts;
             few = let few = min-le_right (q'.state.standing.boot - q.state.standing.boot - 1) r in let long = rest.long in omega (arith, few, long, many);
             view = view_2;
             recording = rest.recording ∙ first.recording;
             turns = rest.turns ∙ (λ i. first.turns i ++ recorded_by (first.recording i) (map (silent M) rest.more))
-                ∙ append_assoc b0.turns (recorded_by b0.recording (noted M first.ticket (first_of p told) Quiet ∷ [])) (recorded_by b0.recording (map (silent M) rest.more))
-                ∙ ap (λ (l : List (NotedOf M)). b0.turns ++ l) (sym (recorded-append b0.recording (noted M first.ticket (first_of p told) Quiet ∷ []) (map (silent M) rest.more)));
+                ∙ append_assoc b0.turns (recorded_by b0.recording first.first) (recorded_by b0.recording (map (silent M) rest.more))
+                ∙ ap (λ (l : List (NotedOf M)). b0.turns ++ l) (sym (recorded-append b0.recording first.first (map (silent M) rest.more)));
             sent = rest.sent ∙ first.sent;
             ether = ether_2;
             upstream = refl;

@@ -29,7 +29,7 @@ use Rattle.node_cells.specs.declared.phase.Phase.{Phase}
 use Rattle.node_cells.specs.declared.phase.Phase.TheVariants.{Up, DownInTurn}
 use Rattle.node_cells.specs.declared.record.TurnOutput.{TurnOutput}
 use Rattle.node_cells.specs.Books.{HasNoted, HasPosted, IsBook, OutcomeOf}
-use Rattle.node_cells.specs.Cells.{HasHeard, IsCell, IsIn, Shows, after_input, brought, cell_of}
+use Rattle.node_cells.specs.Cells.{AreTogether, HasHeard, IsCell, IsIn, Shows, after_input, brought, cell_of}
 use Rattle.node_cells.specs.Sending.{AreWithin, KnowsOneOf, StandFrom, to_of}
 use Rattle.node_cells.specs.Turns.{CellOf, FallsInTurn, IsEvent, IsGiven, IsTurn}
 use Rattle.node_cells.specs.Upstreams.{HandsOut, Tally}
@@ -55,8 +55,13 @@ module _ (M : Machine) where
 
 module _ (M : Machine) where
   -- a node that is up went down in no turn
-  up_brings_none : (v : ViewOf M) (p : Phase M.Body M.Line) → p ≡ Up → HasHeard v (brought p)
+  pub up_brings_none : (v : ViewOf M) (p : Phase M.Body M.Line) → p ≡ Up → HasHeard v (brought p)
   up_brings_none v p up = subst (λ (z : Phase M.Body M.Line). HasHeard v (brought z)) (sym up) (λ m e. absurd (cc e))
+
+module _ {B L : Type 0} where
+  -- nor were inputs saved together
+  pub up_is_together : (p : Phase B L) → p ≡ Up → AreTogether p
+  up_is_together p up = subst (λ (z : Phase B L). AreTogether z) (sym up) tt
 
 module _ (M : Machine) {Setup : Type 0} where
   -- a book is one whatever room it has
@@ -153,6 +158,7 @@ module _ (M : Machine) {Setup Hosted Store U : Type 0} (k : Keeper Store M.Body)
                   honest = honest_2 ∙ h.honest ∙ sym same.honest;
                   leader = subst (λ (z : EtherParts Setup). KnowsOneOf z.size (seen q'.state [])) (sym ether_2) facts.leader;
                   heard = up_brings_none M (view_of b2.pass) p up;
+                  together = up_is_together p up;
                   up = λ z. done.is_up;
                   refused = h.refused;
                   counted = λ is. counted_2 (sym honest_2 ∙ is);
@@ -206,6 +212,7 @@ module _ (M : Machine) {Setup Hosted Store U : Type 0} (k : Keeper Store M.Body)
             honest = h.honest ∙ sym same.honest;
             leader = facts.leader;
             heard = heard;
+            together = tt;
             up = λ z. absurd (cc z);
             refused = λ z. absurd (cc z);
             counted = h.counted;
@@ -239,6 +246,7 @@ module _ (M : Machine) {Setup Hosted Store U : Type 0} (k : Keeper Store M.Body)
             honest = h.honest ∙ sym same.honest;
             leader = subst (λ (s : NodeState M.Body). KnowsOneOf b0.ether.size (seen s [])) (sym falls.same) h.leader;
             heard = heard;
+            together = tt;
             up = λ z. absurd (cc z);
             refused = λ z. absurd (cc z);
             counted = h.counted;
@@ -278,6 +286,7 @@ module _ (M : Machine) {Setup Hosted Store U : Type 0} (k : Keeper Store M.Body)
             honest = honest_still ∙ h.honest;
             leader = subst (λ (z : EtherParts Setup). KnowsOneOf z.size (seen q.state [])) (sym noted.ether) h.leader;
             heard = up_brings_none M (view_of b1.pass) p up;
+            together = up_is_together p up;
             up = h.up;
             refused = h.refused;
             counted = λ is. counted_still (sym honest_still ∙ is);

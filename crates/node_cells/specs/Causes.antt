@@ -9,7 +9,7 @@ use Rattle.raft_node.specs.Starting.{MayFail}
 use Rattle.node_cells.specs.declared.cell_fault.CellFault.{CellFault}
 use Rattle.node_cells.specs.declared.cell_fault.CellFault.TheVariants.{Memory, Spent, Node as OfNode}
 use Rattle.node_cells.specs.declared.phase.Phase.{Phase}
-use Rattle.node_cells.specs.declared.phase.Phase.TheVariants.{Up, DownInTurn, DownInRestart}
+use Rattle.node_cells.specs.declared.phase.Phase.TheVariants.{Up, DownInTurn, DownInTurns, DownInRestart}
 use Rattle.node_cells.specs.Cells.{CellParts}
 
 -- why a cell is down whose node is down by this: by that, or where the node itself is up, for want of memory
@@ -21,6 +21,7 @@ own_cause (Some cause) = cause
 abbrev pub told_down : {B L : Type 0} → Phase B L → Option Cause → Option Cause
 told_down Up own = None
 told_down (DownInTurn x done) own = Some (own_cause own)
+told_down (DownInTurns inputs answers) own = Some (own_cause own)
 told_down DownInRestart own = Some (own_cause own)
 
 module _ {Setup Hosted Store B L T E P U : Type 0} where

@@ -1,27 +1,29 @@
 -- A node with its book, and what holds of it.
-use Rattle.std.specs.Prelude.{◌≡◌, ◌⊎◌, ◌+◌, ◌^◌, ◌<◌, ◌≤◌, ℕ, suc, true, false, List, [], length, Option, Some, None, Result, Ok, Err}
+use Rattle.std.specs.Prelude.{◌≡◌, ◌⊎◌, ◌+◌, ◌^◌, ◌<◌, ◌≤◌, ℕ, suc, true, false, List, [], ◌∷◌, length, Option, Some, None, Result, Ok, Err}
 use Rattle.raft_log.specs.declared.node_state.NodeState.{NodeState}
-use Rattle.raft_log.specs.Node.{Node}
+use Rattle.raft_log.specs.Node.{Node, is_leader}
 use Rattle.raft_log.specs.Seen.{seen}
 use Rattle.raft_node.specs.Machine.{Machine}
 use Rattle.raft_node.specs.Parts.{Keeper, Parts, saved_by, size_of}
+use Rattle.raft_node.specs.SteppingTogether.{out_of}
 use Rattle.recorder.specs.declared.node_line.NodeFields.{NodeFields}
 use Rattle.recorder.specs.NodeLines.{fields_of}
 use Rattle.stable_store.specs.declared.saved.Saved.{Saved}
 use Rattle.world_views.specs.declared.envelope.Envelope.{Envelope}
 use Rattle.world_views.specs.declared.node_event.NodeEvent.TheVariants.{Does}
 use Rattle.world_views.specs.declared.node_event.NodeInput.{NodeInput}
-use Rattle.world_views.specs.Own.{own_state}
+use Rattle.world_views.specs.Own.{own_out, own_state}
 use Rattle.world_views.specs.Views.{IsAt, View, carries}
 use Rattle.ether.specs.declared.pass.Pass.{Pass}
 use Rattle.ether.specs.Passes.{EtherParts, view_of}
 use Rattle.node_cells.specs.declared.cell_fault.CellFault.{CellFault}
 use Rattle.node_cells.specs.declared.cell_fault.CellFault.TheVariants.{Memory, Spent, Node as OfNode}
 use Rattle.node_cells.specs.declared.phase.Phase.{Phase}
-use Rattle.node_cells.specs.declared.phase.Phase.TheVariants.{Up, DownInTurn, DownInRestart}
+use Rattle.node_cells.specs.declared.phase.Phase.TheVariants.{Up, DownInTurn, DownInTurns, DownInRestart}
 use Rattle.node_cells.specs.declared.record.NodeTurn.{NodeTurn}
 use Rattle.node_cells.specs.declared.record.Recording.{Recording}
 use Rattle.node_cells.specs.Books.{BookParts, IsBook, room_for}
+use Rattle.node_cells.specs.Inputs.{Answer, OnlyAppend}
 use Rattle.node_cells.specs.Sending.{KnowsOneOf}
 
 -- its book, its node and where its lines go; whether the node is up, how many restarts were refused since it was, and the line of
@@ -103,7 +105,15 @@ module _ {B L : Type 0} where
   abbrev pub brought : Phase B L → Option (Envelope B)
   brought Up = None
   brought (DownInTurn x done) = carries x
+  brought (DownInTurns inputs answers) = None
   brought DownInRestart = None
+
+  -- Inputs that were saved together are one at least, the node only appends by them, and each has an answer.
+  abbrev pub AreTogether : Phase B L → Type 0
+  AreTogether Up = Unit {0}
+  AreTogether (DownInTurn x done) = Unit {0}
+  AreTogether (DownInTurns inputs answers) = (1 ≤ length inputs.items) × (length answers.items ≡ length inputs.items) × OnlyAppend inputs.items
+  AreTogether DownInRestart = Unit {0}
 
 module _ {B L T : Type 0} where
   -- what is brought, if something is, was heard
@@ -115,15 +125,30 @@ module _ (M : Machine) where
   abbrev pub after_input : ℕ → ℕ → Node M.Body → NodeInput M.Body M.Line → Node M.Body
   after_input n i s x = own_state M n i s (Does x)
 
+  -- the state after these inputs, one after the other
+  abbrev pub after_inputs : ℕ → ℕ → Node M.Body → List (NodeInput M.Body M.Line) → Node M.Body
+  after_inputs n i s [] = s
+  after_inputs n i s (x ∷ inputs) = after_inputs n i (after_input n i s x) inputs
+
+  -- These answers say what comes out of the inputs, one after the other. There may be more answers.
+  abbrev pub AreAnswered : ℕ → ℕ → Node M.Body → List (NodeInput M.Body M.Line) → List Answer → Type 0
+  AreAnswered n i s [] answers = Unit {0}
+  AreAnswered n i s (x ∷ inputs) [] = ⊥
+  AreAnswered n i s (x ∷ inputs) (a ∷ answers) = (own_out M n i s (Does x) ≡ out_of M a) × AreAnswered n i (after_input n i s x) inputs answers
+
 module _ (M : Machine) {Setup Hosted Store : Type 0} (k : Keeper Store M.Body) where
   -- How a node shows the view's state s. While it is up it is in this state. Once it is down, s is the state from before the turn, or before the
-  -- refused restart, in which it went down; its store may hold that, or what the turn made of it, and r restarts were refused since.
+  -- refused restart, in which it went down; its store may hold that, or what the turn made of it, and r restarts were refused since. Of turns that
+  -- were saved together it holds what all made of it, or none.
   abbrev pub Shows : ℕ → ℕ → Node M.Body → Phase M.Body M.Line → ℕ → Parts Setup Hosted Store M.Body → Type 0
   Shows n i s Up r q = IsIn q.state s × (q.down ≡ None)
   Shows n i s (DownInTurn x false) r q =
       IsIn q.state s × StandsEither k q.store r (saved_by s) (saved_by (after_input M n i s x))
   Shows n i s (DownInTurn x true) r q =
       IsIn q.state (after_input M n i s x) × Stands k q.store r (saved_by (after_input M n i s x))
+  Shows n i s (DownInTurns inputs answers) r q =
+      IsIn q.state s × StandsEither k q.store r (saved_by s) (saved_by (after_inputs M n i s inputs.items))
+      × (is_leader s.role ≡ true) × AreAnswered M n i s inputs.items answers.items
   Shows n i s DownInRestart r q = IsIn q.state s × Stands k q.store r (saved_by s)
 
   -- A cell: its book is kept, and its node is that of its pass, with the ether's setup. Over an honest store the node shows the view's state, as
@@ -136,6 +161,7 @@ module _ (M : Machine) {Setup Hosted Store : Type 0} (k : Keeper Store M.Body) w
     pub honest : (view_in c).honest ≡ (k.condition c.node.store).honest
     pub leader : KnowsOneOf c.ether.size (seen c.node.state [])
     pub heard : HasHeard (view_in c) (brought c.phase)
+    pub together : AreTogether c.phase
     pub up : c.phase ≡ Up → c.node.down ≡ None
     pub refused : c.phase ≡ Up → c.refused ≡ 0
     pub counted : (view_in c).honest ≡ true → c.sent ≡ length (view_in c).state.sent

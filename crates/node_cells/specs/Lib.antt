@@ -3,9 +3,11 @@ pub mod Remembering
 pub mod Upstreams
 pub mod Posts
 pub mod Books
+pub mod Inputs
 pub mod Cells
 pub mod Causes
 pub mod Turns
 pub mod Restarts
+pub mod Together
 pub mod Openings
 pub mod Groups

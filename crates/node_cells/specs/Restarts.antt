@@ -1,20 +1,24 @@
 -- What a restart of a cell publishes, and what stands after it.
-use Rattle.std.specs.Prelude.{◌≡◌, ◌≤◌, ◌||◌, not, ◌+◌, ◌<◌, ◌^◌, ℕ, suc, Bool, List, [], ◌∷◌, ◌++◌, length, map, Result, Ok, Err}
+use Rattle.std.specs.Prelude.{◌≡◌, ◌≤◌, ◌||◌, not, ◌+◌, ◌<◌, ◌^◌, ℕ, true, false, Bool, List, [], ◌∷◌, ◌++◌, length, map, Result, Ok, Err}
 use Rattle.stable_store.specs.declared.saved.Saved.{Saved}
+use Rattle.raft_log.specs.Node.{Node}
 use Rattle.raft_node.specs.Machine.{Machine}
-use Rattle.world_run.specs.declared.outcome.Outcome.TheVariants.{Quiet}
+use Rattle.world_run.specs.declared.outcome.Outcome.{Outcome}
+use Rattle.world_run.specs.declared.outcome.Outcome.TheVariants.{Quiet, Refused}
 use Rattle.world_views.specs.declared.node_event.NodeEvent.{NodeEvent}
-use Rattle.world_views.specs.declared.node_event.NodeEvent.TheVariants.{Restart, StopIn}
-use Rattle.world_views.specs.Own.{TurnOf, ViewOf}
+use Rattle.world_views.specs.declared.node_event.NodeEvent.TheVariants.{Does, Restart, StopIn}
+use Rattle.world_views.specs.declared.node_event.NodeInput.{NodeInput}
+use Rattle.world_views.specs.Own.{EventOf, TurnOf, ViewOf}
 use Rattle.world_views.specs.Views.{Ticketed}
 use Rattle.ether.specs.Plays.{after_event}
 use Rattle.node_cells.specs.declared.cell_fault.CellFault.{CellFault}
 use Rattle.node_cells.specs.declared.cell_fault.CellFault.TheVariants.{Memory, Spent, Node as OfNode}
 use Rattle.node_cells.specs.declared.phase.Phase.{Phase}
-use Rattle.node_cells.specs.declared.phase.Phase.TheVariants.{Up, DownInTurn, DownInRestart}
+use Rattle.node_cells.specs.declared.phase.Phase.TheVariants.{Up, DownInTurn, DownInTurns, DownInRestart}
 use Rattle.ether.specs.Passes.{view_of}
-use Rattle.node_cells.specs.Books.{BookParts, NotedOf, noted, recorded_by}
-use Rattle.node_cells.specs.Cells.{CellParts, view_in}
+use Rattle.node_cells.specs.Books.{BookParts, NotedOf, noted, recorded_by, room_for, turn_in}
+use Rattle.node_cells.specs.Cells.{AreAnswered, CellParts, view_in}
+use Rattle.node_cells.specs.Inputs.{Answer}
 use Rattle.node_cells.specs.Sending.{terms_of}
 use Rattle.node_cells.specs.Turns.{IsDownAs}
 
@@ -24,12 +28,38 @@ module _ {B : Type 0} where
   HasSameTerms s t = (s.term ≡ t.term) × (s.vote ≡ t.vote) × (terms_of s.log ≡ terms_of t.log)
 
 module _ {B L T : Type 0} where
-  -- What a restart publishes first: that the node was started again, or where it had gone down in a turn, that it stopped in that, before or
-  -- after it was saved. It was saved where its step was done, or where the store does not hold what the node had in memory.
-  abbrev pub first_of : Phase B L → Bool → NodeEvent B L T
-  first_of Up same = Restart
-  first_of (DownInTurn x done) same = StopIn x (done || not same)
-  first_of DownInRestart same = Restart
+  -- of inputs that were not saved, that the node stopped in the first of them, before that was saved: the others never happened
+  abbrev pub stops_before : List (NodeInput B L) → List (NodeEvent B L T × Answer)
+  stops_before [] = []
+  stops_before (x ∷ inputs) = (StopIn x false, Ok tt) ∷ []
+
+  -- of inputs that were all saved, that each but the last was done, and that the node stopped in the last, after that was saved
+  abbrev pub stops_after : List (NodeInput B L) → List Answer → List (NodeEvent B L T × Answer)
+  stops_after [] answers = []
+  stops_after (x ∷ inputs) [] = []
+  stops_after (x ∷ []) (a ∷ answers) = (StopIn x true, Ok tt) ∷ []
+  stops_after (x ∷ y ∷ inputs) (a ∷ answers) = (Does x, a) ∷ stops_after (y ∷ inputs) answers
+
+  -- of inputs that were saved together: all were saved, or where the store holds what the node had in memory, none
+  abbrev pub stops_in : Bool → List (NodeInput B L) → List Answer → List (NodeEvent B L T × Answer)
+  stops_in true inputs answers = stops_before inputs
+  stops_in false inputs answers = stops_after inputs answers
+
+  -- What a restart publishes first, each event with its answer: that the node was started again, or where it had gone down in a turn, that it
+  -- stopped in that, before or after it was saved. It was saved where its step was done, or where the store does not hold what the node had in
+  -- memory.
+  abbrev pub firsts_of : Phase B L → Bool → List (NodeEvent B L T × Answer)
+  firsts_of Up same = (Restart, Ok tt) ∷ []
+  firsts_of (DownInTurn x done) same = (StopIn x (done || not same), Ok tt) ∷ []
+  firsts_of (DownInTurns inputs answers) same = stops_in same inputs.items answers.items
+  firsts_of DownInRestart same = (Restart, Ok tt) ∷ []
+
+  -- how many of these there are at most
+  abbrev pub firsts_at_most : Phase B L → ℕ
+  firsts_at_most Up = 1
+  firsts_at_most (DownInTurn x done) = 1
+  firsts_at_most (DownInTurns inputs answers) = length inputs.items
+  firsts_at_most DownInRestart = 1
 
   -- so many restarts
   abbrev pub AreRestarts : List (Ticketed B L T) → Type 0
@@ -37,11 +67,24 @@ module _ {B L T : Type 0} where
   AreRestarts (t ∷ turns) = (t.1 ≡ Restart) × AreRestarts turns
 
 module _ {B L : Type 0} where
+  -- it is not that inputs were saved together
+  abbrev pub IsAlone : Phase B L → Type 0
+  IsAlone Up = Unit {0}
+  IsAlone (DownInTurn x done) = Unit {0}
+  IsAlone (DownInTurns inputs answers) = ⊥
+  IsAlone DownInRestart = Unit {0}
+
   -- a node that is up goes down in a refused restart; one that was down stays so
   abbrev pub fallen : Phase B L → Phase B L
   fallen Up = DownInRestart
   fallen (DownInTurn x done) = DownInTurn x done
+  fallen (DownInTurns inputs answers) = DownInTurns inputs answers
   fallen DownInRestart = DownInRestart
+
+-- what an answer is in the record
+abbrev pub outcome_by : {E P : Type 0} → Answer → Outcome E P
+outcome_by (Ok done) = Quiet
+outcome_by (Err refusal) = Refused refusal
 
 module _ (M : Machine) where
   -- the view after these turns
@@ -49,22 +92,37 @@ module _ (M : Machine) where
   after_turns v [] = v
   after_turns v (t ∷ turns) = after_turns (after_event M v t.0 t.1) turns
 
+  -- where inputs were saved together, these are their answers, from this state on
+  abbrev pub TellsAnswers : ℕ → ℕ → Node M.Body → Phase M.Body M.Line → Type 0
+  TellsAnswers n i s Up = Unit {0}
+  TellsAnswers n i s (DownInTurn x done) = Unit {0}
+  TellsAnswers n i s (DownInTurns inputs answers) = AreAnswered M n i s inputs.items answers.items
+  TellsAnswers n i s DownInRestart = Unit {0}
+
+  -- these turns are of these events, in order, each with its answer
+  abbrev pub AreNoted : List (EventOf M × Answer) → List (NotedOf M) → Type 0
+  AreNoted [] [] = Unit {0}
+  AreNoted [] (t ∷ turns) = ⊥
+  AreNoted (e ∷ events) [] = ⊥
+  AreNoted (e ∷ events) (t ∷ turns) = (t.event ≡ e.0) × (t.outcome ≡ outcome_by e.1) × AreNoted events turns
+
   -- a turn out of which nothing comes
   abbrev pub silent : TurnOf M → NotedOf M
   silent t = noted M t.0 t.1 Quiet
 
   module _ {Setup Hosted Store U : Type 0} where
-    -- A restart: the one event that the store shows, and a Restart more for each earlier start that failed after it saved its run. Nothing is sent or
+    -- A restart: the events that the store shows, and a Restart more for each earlier start that failed after it saved its run. Nothing is sent or
     -- handed out by it.
     pub record IsRestart (c d : CellParts Setup Hosted Store M.Body M.Line M.Target M.Effect M.Played U) : Type 0 where
-      pub ticket : ℕ
+      pub first : List (NotedOf M)
       pub same : Bool
+      pub first_are : AreNoted M (firsts_of c.phase same) first
       pub more : List (TurnOf M)
       pub restarts : AreRestarts more
       pub few : length more ≤ c.refused
-      pub view : view_in d ≡ after_turns (after_event M (view_in c) ticket (first_of c.phase same)) more
+      pub view : view_in d ≡ after_turns (view_in c) (map (turn_in M) first ++ more)
       pub recording : d.recording ≡ c.recording
-      pub turns : d.turns ≡ c.turns ++ recorded_by c.recording (noted M ticket (first_of c.phase same) Quiet ∷ map silent more)
+      pub turns : d.turns ≡ c.turns ++ recorded_by c.recording (first ++ map silent more)
       pub sent : d.sent ≡ c.sent
       pub ether : d.ether ≡ c.ether
       pub upstream : d.upstream ≡ c.upstream
@@ -80,7 +138,7 @@ module _ (M : Machine) where
     abbrev pub IsNoRestart : CellParts Setup Hosted Store M.Body M.Line M.Target M.Effect M.Played U → CellFault
         → CellParts Setup Hosted Store M.Body M.Line M.Target M.Effect M.Played U → Type 0
     IsNoRestart c Memory d = d ≡ c
-    IsNoRestart c Spent d = (d ≡ c) × (2 ^ 60 < length (view_in c).turns + suc c.refused)
+    IsNoRestart c Spent d = (d ≡ c) × (2 ^ 60 < length (view_in c).turns + (firsts_at_most c.phase + c.refused))
     IsNoRestart c (OfNode fault) d = IsRefusedRestart c d
 
     -- by what a restart answers
@@ -90,6 +148,19 @@ module _ (M : Machine) where
     HasRestarted c (Err fault) d = IsNoRestart c fault d
 
   module _ {Setup : Type 0} where
+    -- These events were ticked, in order, and recorded with their answers where turns are recorded.
+    pub record HasNotedAll (old : BookParts Setup M.Body M.Line M.Target M.Effect M.Played) (events : List (EventOf M × Answer))
+        (new : BookParts Setup M.Body M.Line M.Target M.Effect M.Played) : Type 0 where
+      pub first : List (NotedOf M)
+      pub are : AreNoted events first
+      pub view : view_of new.pass ≡ after_turns (view_of old.pass) (map (turn_in M) first)
+      pub recording : new.recording ≡ old.recording
+      pub turns : new.turns ≡ old.turns ++ recorded_by old.recording first
+      pub ether : new.ether ≡ old.ether
+      pub node : new.pass.node ≡ old.pass.node
+      pub sent : new.sent ≡ old.sent
+      pub room : new.room + room_for old.recording (length events) ≡ old.room
+
     -- So many restarts were ticked, and recorded where turns are recorded.
     pub record HasRestarts (old : BookParts Setup M.Body M.Line M.Target M.Effect M.Played) (count : ℕ)
         (new : BookParts Setup M.Body M.Line M.Target M.Effect M.Played) : Type 0 where

@@ -1,7 +1,5 @@
 -- What a turn of a cell, a look and the other calls answer, and what stands after them.
 use Rattle.std.specs.Prelude.{Option, None, Some, ◌≡◌, ◌⊎◌, ◌+◌, ◌<◌, ◌≤◌, ◌^◌, ℕ, suc, Bool, true, List, [], ◌∷◌, ◌++◌, drop, length, map, Result, Ok, Err}
-use Rattle.raft_node.specs.declared.input.Input.{Input}
-use Rattle.raft_node.specs.declared.input.Input.TheVariants as input
 use Rattle.raft_node.specs.declared.node_fault.Cause.TheVariants.{Memory as NoMemory}
 use Rattle.raft_node.specs.declared.node_fault.NodeFault.TheVariants.{Down, Refused as Declined}
 use Rattle.raft_node.specs.Machine.{Machine}
@@ -15,7 +13,7 @@ use Rattle.world_run.specs.Told.{out_of}
 use Rattle.world_run.specs.World.{hands}
 use Rattle.world_views.specs.declared.node_event.NodeEvent.TheVariants.{Does, Look}
 use Rattle.world_views.specs.declared.node_event.NodeInput.{NodeInput}
-use Rattle.world_views.specs.declared.node_event.NodeInput.TheVariants.{Timeout, Beat, Deliver, Ask, Opened, Closed, Heard, Claim, Apply}
+use Rattle.world_views.specs.declared.node_event.NodeInput.TheVariants.{Deliver}
 use Rattle.world_views.specs.Own.{EventOf, own_out}
 use Rattle.ether.specs.Plays.{after_event}
 use Rattle.node_cells.specs.declared.cell_fault.CellFault.{CellFault}
@@ -29,19 +27,6 @@ use Rattle.node_cells.specs.Cells.{CellParts, view_in}
 use Rattle.node_cells.specs.Posts.{GaveBack, posts_from}
 use Rattle.node_cells.specs.Sending.{to_of}
 use Rattle.node_cells.specs.Upstreams.{HandsOut, Tally}
-
-module _ {B L : Type 0} where
-  -- the input as the node takes it
-  abbrev pub input_of : NodeInput B L → Input B L
-  input_of Timeout = input.Timeout
-  input_of Beat = input.Beat
-  input_of (Deliver e) = input.Deliver e.message
-  input_of (Ask body) = input.Ask body
-  input_of Opened = input.Opened
-  input_of Closed = input.Closed
-  input_of (Heard at line) = input.Heard at line
-  input_of Claim = input.Claim
-  input_of Apply = input.Apply
 
 module _ {E P : Type 0} where
   -- where a place was applied, it and the effects that leave come out, else nothing

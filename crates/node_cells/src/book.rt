@@ -23,6 +23,8 @@ use std::sync::Arc;
 use world_run::Outcome;
 use world_views::{Envelope, NodeEvent};
 
+mod together;
+
 /// A node's pass at its ether, and the record of its turns.
 #[derive(Drop)]
 pub struct Book<M: Hosted> {

@@ -35,6 +35,7 @@ mod playing;
 mod reading;
 mod restart;
 mod starting;
+mod together;
 
 /// A turn sends at most one message to each node, of which there are at most 7.
 const MOST_SENT: usize = 7;

@@ -1,8 +1,11 @@
 //! Copies for the record.
 ghost use Rattle.std.specs.Prelude.{◌≡◌, IfOk, map};
 ghost use Rattle.node_cells.specs.Sending.{to_of};
-ghost use Rattle.node_cells.specs.Turns.{IsGiven, input_of};
+ghost use Rattle.node_cells.specs.Inputs.{input_of};
+ghost use Rattle.node_cells.specs.Restarts.{outcome_by};
+ghost use Rattle.node_cells.specs.Turns.{IsGiven};
 
+use node_steps::Refusal;
 use raft_log::Message;
 use raft_node::Input;
 use std::alloc::{AllocError, Global};
@@ -50,6 +53,34 @@ pub fn input_of<B: Wire, L>(input: NodeInput<B, L>) -> Input<B, L>
     }
 }
 
+/// The same inputs, in order.
+pub fn copied_inputs<B: Wire, L: Wire>(
+    alloc: Global,
+    inputs: &[NodeInput<B, L>],
+) -> Result<Vec<NodeInput<B, L>>, AllocError>
+    ensures { IfOk result (λ copies. copies.items ≡ inputs.now) }
+{
+    let mut copies = Vec::with_capacity(alloc, inputs.len())?;
+    for input in inputs {
+        copies.push(copied_input(alloc, input)?)?;
+    }
+    Ok(copies)
+}
+
+/// The inputs as a node takes them, in order.
+pub fn inputs_of<B: Wire, L: Drop>(
+    alloc: Global,
+    inputs: Vec<NodeInput<B, L>>,
+) -> Result<Vec<Input<B, L>>, AllocError>
+    ensures { IfOk result (λ taken. taken.items ≡ map input_of inputs.items) }
+{
+    let mut taken = Vec::with_capacity(alloc, inputs.len())?;
+    for input in inputs {
+        taken.push(input_of(input))?;
+    }
+    Ok(taken)
+}
+
 /// What comes out where a place was applied, or none, and these effects leave.
 pub fn outcome_of<E: Copied, P>(
     alloc: Global,
@@ -63,6 +94,16 @@ pub fn outcome_of<E: Copied, P>(
     }
     let effects = copied_all(alloc, effects)?;
     Ok(Outcome::Left { place, effects })
+}
+
+/// What an answer is in the record.
+pub fn outcome_by<E, P>(answer: &Result<(), Refusal>) -> Outcome<E, P>
+    ensures { result ≡ outcome_by answer.now }
+{
+    match answer {
+        Ok(()) => Outcome::Quiet,
+        Err(refusal) => Outcome::Refused(*refusal),
+    }
 }
 
 /// To whom these messages are, in order.

@@ -1,7 +1,9 @@
 //! Whether the node of a cell runs.
-ghost use Rattle.std.specs.Prelude.{◌≡◌};
-ghost use Rattle.node_cells.specs.Restarts.{fallen, first_of};
+ghost use Rattle.std.specs.Prelude.{◌≡◌, ◌≤◌, [], ◌∷◌, Ok, length};
+ghost use Rattle.node_cells.specs.Restarts.{IsAlone, fallen, firsts_at_most, firsts_of};
+ghost use Rattle.node_cells.specs.Together.{IsDownInFirst};
 
+use node_steps::Refusal;
 use wire_bytes::Wire;
 use world_views::{NodeEvent, NodeInput};
 
@@ -11,6 +13,9 @@ pub enum Phase<B: Wire, L> {
     Up,
     /// In a turn of this input, and whether its step was done.
     DownInTurn(NodeInput<B, L>, bool),
+    /// As these inputs were saved together, one at least: none of them may have been saved, or all. The
+    /// answer of each once they are.
+    DownInTurns(Vec<NodeInput<B, L>>, Vec<Result<(), Refusal>>),
     /// In a restart of a node that was up.
     DownInRestart,
 }
@@ -25,13 +30,37 @@ pub fn fallen<B: Wire, L>(phase: Phase<B, L>) -> Phase<B, L>
     }
 }
 
-/// The event of a restart: where the node went down in a turn, that turn is part of it, saved where its
-/// step was done, or where the store does not hold what the node had in memory.
-pub fn first_event<B: Wire, L, T>(phase: Phase<B, L>, same: bool) -> NodeEvent<B, L, T>
-    ensures { result ≡ first_of phase same }
+impl<B: Wire, L> Phase<B, L> {
+    /// How many events a restart publishes at most, beside a Restart for each earlier one that failed.
+    pub fn most_events(&self) -> u64
+        ensures { result ≡ firsts_at_most self.now }
+    {
+        match self {
+            Phase::DownInTurns(inputs, _) => inputs.len() as u64,
+            _ => 1,
+        }
+    }
+}
+
+/// What it is where there was no memory to save inputs together: down in the first of them, before that
+/// was saved.
+pub fn first_alone<B: Wire, L: Drop>(mut inputs: Vec<NodeInput<B, L>>) -> Phase<B, L>
+    requires { 1 ≤ length inputs.items }
+    ensures { IsDownInFirst inputs.items result }
+{
+    Phase::DownInTurn(inputs.remove(0), false)
+}
+
+/// The first event of a restart, where no inputs were saved together: where the node went down in a turn,
+/// that turn is part of it, saved where its step was done, or where the store does not hold what the node
+/// had in memory.
+pub fn first_event<B: Wire, L: Drop, T>(phase: Phase<B, L>, same: bool) -> NodeEvent<B, L, T>
+    requires { IsAlone phase }
+    ensures { firsts_of phase same ≡ (result, Ok tt) ∷ [] }
 {
     match phase {
         Phase::DownInTurn(input, done) => NodeEvent::StopIn(input, done || !same),
-        _ => NodeEvent::Restart,
+        Phase::DownInTurns(_, _) => unreachable!(),
+        Phase::Up | Phase::DownInRestart => NodeEvent::Restart,
     }
 }

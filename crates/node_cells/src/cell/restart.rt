@@ -5,11 +5,11 @@ ghost use Rattle.raft_node.specs.Parts.{keeper};
 ghost use Rattle.node_cells.specs.Causes.{MayNotRestart};
 ghost use Rattle.node_cells.specs.Cells.{view_in};
 ghost use Rattle.node_cells.specs.Remembering.{Remembers};
-ghost use Rattle.node_cells.specs.Restarts.{HasRestarted};
+ghost use Rattle.node_cells.specs.Restarts.{HasRestarted, firsts_at_most};
 
 use crate::cell::NodeCell;
 use crate::cell_fault::CellFault;
-use crate::phase::{Phase, fallen, first_event};
+use crate::phase::{Phase, fallen};
 use crate::remembered::Remembered;
 use crate::upstream::Upstream;
 use machine_laws::{Hosted, Machine};
@@ -17,19 +17,19 @@ use raft_node::Described;
 use recorder::NodeFields;
 use stable_store::Stable;
 use std::mem::replace;
-use world_run::Outcome;
 
 impl<M: Hosted, S: Stable<M::Command>, U: Upstream> NodeCell<M, S, U> {
-    /// The node stops, and is started again over its store: one event, and one more for each earlier
-    /// start that failed after it saved its run. What it had in memory tells whether the store kept
-    /// the turn in which it went down.
+    /// The node stops, and is started again over its store: one event, or one for each input of those that
+    /// were saved together, and one more for each earlier start that failed after it saved its run. What it
+    /// had in memory tells whether the store kept the turns in which it went down.
     pub fn restart(&mut self) -> Result<(), CellFault>
         ensures restart { HasRestarted (⟦<M as Described>⟧.machine self.old.parts.ether.setup)
             self.old.parts result self.new.parts }
         ensures cause { MayNotRestart (keeper S.saved S.may_stand S.condition) self.old.parts result
             self.new.parts }
     {
-        self.make_room(self.refused)?;
+        let more = self.phase.most_events() - 1;
+        self.make_room(more.saturating_add(self.refused))?;
         let Ok(before) = Remembered::of(self.alloc, self.node.state()) else {
             return Err(CellFault::Memory);
         };
@@ -39,9 +39,10 @@ impl<M: Hosted, S: Stable<M::Command>, U: Upstream> NodeCell<M, S, U> {
     /// The node is started again, where there is room for what that may publish.
     fn start_again(&mut self, before: &Remembered) -> Result<(), CellFault>
         requires before { Remembers before.now self.old.parts.node.state }
-        requires room { (room_for self.old.parts.recording (self.old.parts.refused + 1)
-            ≤ self.old.room)
-            × (length (view_in self.old.parts).turns + (self.old.parts.refused + 1) ≤ 2 ^ 60) }
+        requires room { (room_for self.old.parts.recording
+            (firsts_at_most self.old.parts.phase + self.old.parts.refused) ≤ self.old.room)
+            × (length (view_in self.old.parts).turns
+            + (firsts_at_most self.old.parts.phase + self.old.parts.refused) ≤ 2 ^ 60) }
         ensures restart { HasRestarted (⟦<M as Described>⟧.machine self.old.parts.ether.setup)
             self.old.parts result self.new.parts }
         ensures cause { MayNotRestart (keeper S.saved S.may_stand S.condition) self.old.parts result
@@ -56,7 +57,7 @@ impl<M: Hosted, S: Stable<M::Command>, U: Upstream> NodeCell<M, S, U> {
         let same = before.is_in(self.node.state());
         let more = before.runs_until(self.node.state(), self.refused);
         let phase = replace(&mut self.phase, Phase::Up);
-        self.book.note(first_event(phase, same), Outcome::Quiet);
+        self.book.note_first(phase, same);
         self.book.note_restarts(more);
         self.refused = 0;
         self.shown = NodeFields::of(self.node.state());

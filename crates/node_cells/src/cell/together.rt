@@ -1,0 +1,102 @@
+//! How a cell's node that leads does several inputs by one save.
+ghost use Rattle.std.specs.Prelude.{◌≡◌, ◌≤◌, ◌+◌, ◌^◌, IfErr, IfOk, length, map, true};
+ghost use Rattle.raft_log.specs.Node.{is_leader};
+ghost use Rattle.raft_log.specs.Positions.{role_of};
+ghost use Rattle.raft_node.specs.Parts.{keeper};
+ghost use Rattle.node_cells.specs.declared.phase.Phase.TheVariants.{Up};
+ghost use Rattle.node_cells.specs.Books.{room_for};
+ghost use Rattle.node_cells.specs.Causes.{HasCause};
+ghost use Rattle.node_cells.specs.Cells.{view_in};
+ghost use Rattle.node_cells.specs.Inputs.{OnlyAppend, input_of};
+ghost use Rattle.node_cells.specs.Together.{AreNoTurns, AreTurned};
+
+use crate::cell::NodeCell;
+use crate::cell_fault::CellFault;
+use crate::copying::{copied_inputs, inputs_of};
+use crate::phase::{Phase, first_alone};
+use crate::upstream::Upstream;
+use machine_laws::{Hosted, Machine};
+use node_steps::Refusal;
+use raft_node::{Described, Input, NodeFault, Unsaved};
+use recorder::NodeFields;
+use stable_store::Stable;
+use world_views::NodeInput;
+
+impl<M: Hosted, S: Stable<M::Command>, U: Upstream> NodeCell<M, S, U> {
+    /// Inputs that only append, one after the other at a node that leads, saved at once: an event for
+    /// each, with its own ticket and its own answer. Nothing is posted and nothing handed out.
+    ///
+    /// Room in the record and tickets are settled for all of them first, and then a copy of each is
+    /// made: where that is refused, the cell is as it was.
+    pub fn turn_all(
+        &mut self,
+        inputs: Vec<NodeInput<M::Command, M::Line>>,
+    ) -> Result<Vec<Result<(), Refusal>>, CellFault>
+        requires leads { self.old.parts.phase ≡ Up
+            → is_leader (role_of self.old.parts.node.state.standing.position) ≡ true }
+        requires appends { OnlyAppend inputs.items }
+        requires some { 1 ≤ length inputs.items }
+        requires few { length inputs.items ≤ 256 }
+        ensures done { IfOk result (λ answers. AreTurned
+            (⟦<M as Described>⟧.machine self.old.parts.ether.setup) self.old.parts inputs.items
+            answers.items self.new.parts) }
+        ensures failed { IfErr result (λ fault. AreNoTurns
+            (⟦<M as Described>⟧.machine self.old.parts.ether.setup) self.old.parts inputs.items fault
+            self.new.parts) }
+        ensures cause { HasCause (keeper S.saved S.may_stand S.condition) self.old.parts result
+            self.new.parts }
+    {
+        if let Some(cause) = self.down() {
+            return Err(CellFault::Node(NodeFault::Down(cause)));
+        }
+        self.make_room(inputs.len() as u64 - 1)?;
+        let Ok(copies) = copied_inputs(self.alloc, &inputs) else {
+            return Err(CellFault::Memory);
+        };
+        let Ok(taken) = inputs_of(self.alloc, inputs) else {
+            return Err(CellFault::Memory);
+        };
+        self.run_all(copies, taken)
+    }
+
+    /// Inputs of a node that is up and leads, where there is room for them. The copies are for the record.
+    fn run_all(
+        &mut self,
+        copies: Vec<NodeInput<M::Command, M::Line>>,
+        taken: Vec<Input<M::Command, M::Line>>,
+    ) -> Result<Vec<Result<(), Refusal>>, CellFault>
+        requires up { self.old.parts.phase ≡ Up }
+        requires leads {
+            is_leader (role_of self.old.parts.node.state.standing.position) ≡ true }
+        requires appends { OnlyAppend copies.items }
+        requires some { 1 ≤ length copies.items }
+        requires few { length copies.items ≤ 256 }
+        requires room { (room_for self.old.parts.recording (length copies.items) ≤ self.old.room)
+            × (length (view_in self.old.parts).turns + length copies.items ≤ 2 ^ 60) }
+        requires taken { taken.items ≡ map input_of copies.items }
+        ensures done { IfOk result (λ answers. AreTurned
+            (⟦<M as Described>⟧.machine self.old.parts.ether.setup) self.old.parts copies.items
+            answers.items self.new.parts) }
+        ensures failed { IfErr result (λ fault. AreNoTurns
+            (⟦<M as Described>⟧.machine self.old.parts.ether.setup) self.old.parts copies.items fault
+            self.new.parts) }
+        ensures cause { HasCause (keeper S.saved S.may_stand S.condition) self.old.parts result
+            self.new.parts }
+    {
+        self.node.is_whole();
+        match self.node.step_all(taken) {
+            Ok(answers) => {
+                self.book.note_all(copies, &answers);
+                self.shown = NodeFields::of(self.node.state());
+                Ok(answers)
+            }
+            Err(Unsaved { cause, answers }) => {
+                self.phase = match answers {
+                    Some(answers) => Phase::DownInTurns(copies, answers),
+                    None => first_alone(copies),
+                };
+                Err(CellFault::Node(NodeFault::Down(cause)))
+            }
+        }
+    }
+}
