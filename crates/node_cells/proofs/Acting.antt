@@ -1,5 +1,5 @@
 -- What a step of a node is to its cell, by what it answers.
-use Rattle.std.proofs.Common.{◌≡◌, ⊎_elim, Some, None, Result, Err, refl, sym, ap, ◌∙◌, subst}
+use Rattle.std.proofs.Common.{◌≡◌, ℕ, zero, suc, List, [], arith, ⊎_elim, Some, None, Result, Err, refl, sym, ap, ◌∙◌, subst}
 use Rattle.node_steps.specs.declared.refusal.Refusal.{Refusal}
 use Rattle.raft_node.specs.declared.input.Input.{Input}
 use Rattle.raft_node.specs.declared.input.Output.{Output}
@@ -9,12 +9,17 @@ use Rattle.raft_node.specs.declared.node_fault.NodeFault.TheVariants.{Down, Refu
 use Rattle.raft_node.specs.Inputs as inputs
 use Rattle.raft_node.specs.Machine.{Machine}
 use Rattle.raft_node.specs.Parts.{Keeper}
-use Rattle.raft_node.specs.Stepping.{IsActed, IsDeclined, IsDowned}
-use Rattle.raft_node.specs.Steps.{Act}
+use Rattle.raft_node.specs.Stepping.{IsActed, IsDeclined, IsDowned, given}
+use Rattle.raft_node.specs.Steps.{Act, Out, effects_of}
+use Rattle.raft_node.specs.Steps as steps
+use Rattle.world_run.specs.declared.outcome.Outcome.TheVariants as outcome
+use Rattle.world_run.specs.Told.{out_of}
 use Rattle.world_views.specs.declared.node_event.NodeInput.{NodeInput}
 use Rattle.world_views.specs.declared.node_event.NodeInput.TheVariants.{Timeout, Beat, Deliver, Ask, Opened, Closed, Heard, Claim, Apply}
 use Rattle.world_views.specs.Own.{act_of}
-use Rattle.node_cells.specs.Turns.{input_of}
+use Rattle.node_cells.specs.Books.{OutcomeOf}
+use Rattle.node_cells.specs.Inputs.{input_of}
+use Rattle.node_cells.specs.Turns.{IsGiven}
 use Rattle.node_cells.proofs.Showing.{Inner}
 
 module _ (M : Machine) where
@@ -44,3 +49,18 @@ module _ (M : Machine) where
     down_case (Refused refusal) other up h = absurd (other refusal refl)
     down_case (Down cause) other up h =
         ⊎_elim (λ (d : IsDowned M k a q cause q'). (cause, d)) (λ e. absurd (let z : None ≡ Some cause = sym up ∙ e.0 in cc z)) h
+
+module _ (M : Machine) where
+  -- what is given is what comes out
+  pub given_out : (place : ℕ) (effects : List M.Effect) (o : OutcomeOf M) → IsGiven place effects o → out_of M o ≡ given {M = M} place effects
+  given_out zero effects outcome.Quiet h = refl
+  given_out (suc place) effects outcome.Quiet h = absurd (cc h)
+  given_out zero effects (outcome.Left p left) h = absurd (let lt = h.1 in omega arith)
+  given_out (suc place) effects (outcome.Left p left) h = λ d. steps.Left (h.0 d) (h.2 d)
+  given_out place effects (outcome.Looked p lines) h = absurd h
+  given_out place effects (outcome.Refused refusal) h = absurd h
+  given_out place effects outcome.Missing h = absurd h
+
+  pub given_effects : (place : ℕ) (effects : List M.Effect) → (place ≡ 0 → effects ≡ []) → effects_of (given {M = M} place effects) ≡ effects
+  given_effects zero effects h = sym (h refl)
+  given_effects (suc place) effects h = refl

@@ -1,5 +1,5 @@
 -- What a node that leads becomes by inputs that only append, and what a stop within them leaves.
-use Rattle.std.proofs.Common.{◌≡◌, ℕ, suc, Bool, true, false, ◌&&◌, ◌||◌, not, ltb, leb, List, [], ◌∷◌, ◌++◌, map, Option, Some, None, Result, Ok, Err, length, refl, sym, ap, ◌∙◌, subst, append-nil, append_assoc}
+use Rattle.std.proofs.Common.{◌≡◌, ℕ, suc, true, false, ◌&&◌, ltb, leb, List, [], ◌∷◌, ◌++◌, map, Option, Some, None, length, refl, sym, ap, ◌∙◌, subst, append-nil, append_assoc}
 use Rattle.std.specs.Prelude.{◌^◌}
 use Rattle.std.proofs.lemmas.Bool.{cond_both}
 use Rattle.raft_log.specs.declared.entry.Entry.{Entry}
@@ -20,10 +20,9 @@ use Rattle.raft_node.specs.Steps.{Act, Acts, Out, Turn, quiet, refused, applied_
 use Rattle.raft_node.specs.SteppingTogether.{out_of}
 use Rattle.raft_node.specs.Together.{outs, turned_all}
 use Rattle.raft_node.proofs.Unread.{sent_is_not_read}
-use Rattle.world_views.specs.declared.node_event.NodeEvent.TheVariants.{Does}
 use Rattle.world_views.specs.declared.node_event.NodeInput.{NodeInput}
 use Rattle.world_views.specs.declared.node_event.NodeInput.TheVariants.{Timeout, Beat, Deliver, Ask, Opened, Closed, Heard, Claim, Apply}
-use Rattle.world_views.specs.Own.{act_of, own_out, own_state}
+use Rattle.world_views.specs.Own.{act_of}
 use Rattle.node_cells.specs.Cells.{AreAnswered, after_input, after_inputs}
 use Rattle.node_cells.specs.Inputs.{Answer, OnlyAppend, input_of}
 use Rattle.node_cells.proofs.Acting.{act_same}

@@ -12,4 +12,5 @@ pub mod Started
 pub mod Gathered
 pub mod Appending
 pub mod Noting
+pub mod Stopping
 pub mod Together

@@ -1,12 +1,9 @@
 -- Several events of a book, one after the other.
-use Rattle.std.proofs.Common.{◌≡◌, ℕ, zero, suc, ◌+◌, ◌<◌, ◌≤◌, ◌^◌, Bool, true, false, List, [], ◌∷◌, ◌++◌, Option, Some, None, Ok, Err, map, drop, length, refl, sym, ap, ◌∙◌, subst, arith, append-nil, append_assoc, length-append}
+use Rattle.std.proofs.Common.{◌≡◌, ℕ, suc, ◌+◌, ◌<◌, ◌≤◌, ◌^◌, Bool, true, List, [], ◌∷◌, ◌++◌, Option, Some, None, Ok, Err, map, drop, length, refl, sym, ap, ◌∙◌, subst, arith, append-nil, append_assoc, length-append}
 use Rattle.std.specs.Prelude.{get_or}
 use Rattle.std.proofs.lemmas.List.{map-append, drop_more}
-use Rattle.raft_log.specs.Node.{Node}
 use Rattle.raft_node.specs.Machine.{Machine}
-use Rattle.raft_node.specs.Steps.{Quiet}
 use Rattle.raft_node.specs.SteppingTogether as together
-use Rattle.world_run.specs.declared.outcome.Outcome.TheVariants as outcome
 use Rattle.world_run.specs.Told.{out_of}
 use Rattle.world_views.specs.declared.envelope.Envelope.{Envelope}
 use Rattle.world_views.specs.declared.node_event.NodeEvent.TheVariants.{Does, StopIn}
@@ -14,14 +11,13 @@ use Rattle.world_views.specs.declared.node_event.NodeInput.{NodeInput}
 use Rattle.world_views.specs.declared.node_event.NodeInput.TheVariants.{Timeout, Beat, Deliver, Ask, Opened, Closed, Heard, Claim, Apply}
 use Rattle.world_views.specs.Own.{EventOf, TurnOf, ViewOf, own_out}
 use Rattle.world_views.specs.Views.{View, carries}
-use Rattle.ether.specs.Passes.{EtherParts, IsHeard, view_of}
-use Rattle.ether.specs.Plays.{after_event}
+use Rattle.ether.specs.Passes.{IsHeard, view_of}
 use Rattle.node_cells.specs.declared.record.Recording.{Recording}
 use Rattle.node_cells.specs.declared.record.Recording.TheVariants.{On, Off}
 use Rattle.node_cells.specs.Books.{HasNoted, IsBook, NotedOf, noted, recorded_by, room_for, turn_in}
-use Rattle.node_cells.specs.Cells.{AreAnswered, after_input}
+use Rattle.node_cells.specs.Cells.{AreAnswered}
 use Rattle.node_cells.specs.Inputs.{Answer, OnlyAppend}
-use Rattle.node_cells.specs.Restarts.{AreNoted, HasNotedAll, after_turns, outcome_by, stops_after}
+use Rattle.node_cells.specs.Restarts.{AreNoted, HasNotedAll, after_turns, outcome_by}
 use Rattle.node_cells.specs.Together.{all_done}
 use Rattle.node_cells.proofs.Looping.{turns-append, turns_length}
 use Rattle.node_cells.proofs.Recorded.{Book, recorded-append, recorded-nil}
@@ -40,17 +36,9 @@ room_behind : (r : Recording) (n room0 room1 : ℕ) → room1 + room_for r 1 ≡
 room_behind On n room0 room1 one h = omega (arith, one, h)
 room_behind Off n room0 room1 one h = omega arith
 
-pub room_last : (r : Recording) (n m room0 room1 : ℕ) → room1 + room_for r n ≡ room0 → room_for r m ≤ room0 → n + 1 ≤ m → room_for r 1 ≤ room1
-room_last On n m room0 room1 done h more = omega (arith, done, h, more)
-room_last Off n m room0 room1 done h more = omega arith
-
-pub room_few : (r : Recording) (n room : ℕ) (m : ℕ) → room_for r m ≤ room → n ≤ m → room_for r n ≤ room
-room_few On n room m h few = omega (arith, h, few)
-room_few Off n room m h few = omega arith
-
 -- ---- inputs that only append
 
-module _ {B L T : Type 0} where
+module _ {B L : Type 0} where
   -- they bring nothing
   pub brings_none : (x : NodeInput B L) → OnlyAppend (x ∷ []) → carries x ≡ None
   brings_none Timeout h = refl
@@ -63,6 +51,15 @@ module _ {B L T : Type 0} where
   brings_none Claim h = refl
   brings_none Apply h = refl
 
+  pub front_appends : (xs : List (NodeInput B L)) (x : NodeInput B L) → OnlyAppend (xs ++ x ∷ []) → OnlyAppend xs
+  front_appends [] x h = tt
+  front_appends (y ∷ xs) x h = (h.0, front_appends xs x h.1)
+
+  pub last_appends : (xs : List (NodeInput B L)) (x : NodeInput B L) → OnlyAppend (xs ++ x ∷ []) → OnlyAppend (x ∷ [])
+  last_appends [] x h = h
+  last_appends (y ∷ xs) x h = last_appends xs x h.1
+
+module _ {B L T : Type 0} where
   none_is_heard : (v : View B L T) (o : Option (Envelope B)) → o ≡ None → (m : Envelope B) → o ≡ Some m → ⊥
   none_is_heard v o none m e = let z : None ≡ Some m = sym none ∙ e in cc z
 
@@ -72,29 +69,11 @@ module _ {B L T : Type 0} where
   pub heard_stopped : (v : View B L T) (x : NodeInput B L) (after : Bool) → OnlyAppend (x ∷ []) → IsHeard v (StopIn x after)
   heard_stopped v x after h m e = absurd (none_is_heard v (carries x) (brings_none x h) m e)
 
-  pub front_appends : (xs : List (NodeInput B L)) (x : NodeInput B L) → OnlyAppend (xs ++ x ∷ []) → OnlyAppend xs
-  front_appends [] x h = tt
-  front_appends (y ∷ xs) x h = (h.0, front_appends xs x h.1)
-
-  pub last_appends : (xs : List (NodeInput B L)) (x : NodeInput B L) → OnlyAppend (xs ++ x ∷ []) → OnlyAppend (x ∷ [])
-  last_appends [] x h = h
-  last_appends (y ∷ xs) x h = last_appends xs x h.1
-
-  -- all but the last are done, and the node stopped in the last
-  pub stops_last : (xs : List (NodeInput B L)) (x : NodeInput B L) (answers : List Answer) → length answers ≡ length (xs ++ x ∷ [])
-      → stops_after {T = T} (xs ++ x ∷ []) answers ≡ all_done xs answers ++ (StopIn x true, Ok tt) ∷ []
-  stops_last [] x [] h = absurd (cc h)
-  stops_last [] x (a ∷ answers) h = refl
-  stops_last (y ∷ xs) x [] h = absurd (cc h)
-  stops_last (y ∷ []) x (a ∷ []) h = absurd (cc h)
-  stops_last (y ∷ []) x (a ∷ b ∷ answers) h = refl
-  stops_last (y ∷ z ∷ xs) x (a ∷ answers) h =
-      ap (λ l. (Does y, a) ∷ l) (stops_last (z ∷ xs) x answers (let e : suc (length answers) ≡ suc (length ((z ∷ xs) ++ x ∷ [])) = h in omega (arith, e)))
-
-  pub length_done : (xs : List (NodeInput B L)) (answers : List Answer) → length xs ≤ length answers → length (all_done {T = T} xs answers) ≡ length xs
-  length_done [] answers h = refl
-  length_done (x ∷ xs) [] h = absurd (omega h)
-  length_done (x ∷ xs) (a ∷ answers) h = ap suc (length_done xs answers (omega (arith, h)))
+-- as many events as inputs
+pub length_done : {B L : Type 0} (T : Type 0) (xs : List (NodeInput B L)) (answers : List Answer) → length xs ≤ length answers → length (all_done {T = T} xs answers) ≡ length xs
+length_done T [] answers h = refl
+length_done T (x ∷ xs) [] h = absurd (omega (arith, h))
+length_done T (x ∷ xs) (a ∷ answers) h = ap suc (length_done T xs answers (omega (arith, h)))
 
 -- ---- events of a book
 
@@ -103,11 +82,6 @@ module _ (M : Machine) where
   pub out_by : (a : Answer) → out_of M (outcome_by a) ≡ together.out_of M a
   out_by (Ok done) = refl
   out_by (Err refusal) = refl
-
-  -- nothing comes out of a stop
-  pub stop_out : (n i : ℕ) (s : Node M.Body) (x : NodeInput M.Body M.Line) (after : Bool) → Quiet ≡ own_out M n i s (StopIn x after)
-  unfolding own_out
-  stop_out n i s x after = refl
 
   noted_append : (es fs : List (EventOf M × Answer)) (xs ys : List (NotedOf M)) → AreNoted M es xs → AreNoted M fs ys → AreNoted M (es ++ fs) (xs ++ ys)
   noted_append [] fs [] ys h k = k
@@ -120,11 +94,6 @@ module _ (M : Machine) where
   noted_length [] (x ∷ xs) h = absurd h
   noted_length (e ∷ es) [] h = absurd h
   noted_length (e ∷ es) (x ∷ xs) h = ap suc (noted_length es xs h.2)
-
-  pub answered_front : (n i : ℕ) (s : Node M.Body) (xs : List (NodeInput M.Body M.Line)) (x : NodeInput M.Body M.Line) (answers : List Answer) → AreAnswered M n i s (xs ++ x ∷ []) answers → AreAnswered M n i s xs answers
-  answered_front n i s [] x answers h = tt
-  answered_front n i s (y ∷ xs) x [] h = absurd h
-  answered_front n i s (y ∷ xs) x (a ∷ answers) h = (h.0, answered_front n i (after_input M n i s y) xs x answers h.1)
 
   module _ {Setup : Type 0} where
     pub none_noted : (b : Book M Setup) → HasNotedAll M b [] b
@@ -207,7 +176,7 @@ module _ (M : Machine) where
         → length (view_of b.pass).turns + length all ≤ 2 ^ 60
         → ((view_of b.pass).honest ≡ true → AreAnswered M (view_of b.pass).size (suc (view_of b.pass).node) (view_of b.pass).state all answers) → Noting b b all all answers 0
     noting_first b all answers book appends enough room tickets answered =
-        record { book = book; ether = refl; appends = appends; enough = enough; room = room; tickets = tickets; answered = answered; leads = λ d h. h }
+        record { book = book; ether = refl; appends = appends; enough = omega (arith, enough); room = room; tickets = tickets; answered = answered; leads = λ d h. h }
 
     module _ (b0 b : Book M Setup) (all : List (NodeInput M.Body M.Line)) (x : NodeInput M.Body M.Line) (rest : List (NodeInput M.Body M.Line)) (answers : List Answer) (done : ℕ)
         (h : Noting b0 b all (x ∷ rest) answers done) where

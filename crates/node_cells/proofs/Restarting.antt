@@ -41,6 +41,10 @@ module _ {B : Type 0} where
   unfolding up_by
   stands_as v w r term vote log boot = λ d. record { boot = sym boot d; term = sym term d; vote = sym vote d; log = sym log d }
 
+-- lists of one item
+pub same_item : {A : Type 0} (x y : A) → x ∷ [] ≡ y ∷ [] → x ≡ y
+same_item x y h = cc h
+
 module _ (M : Machine) where
   first_state : (n i : ℕ) (s : Node M.Body) → own_state M n i s Restart ≡ begins_at n (saved_by s) s.sent
   unfolding own_state
@@ -68,8 +72,8 @@ module _ (M : Machine) where
       ∙ restarts_run n i (record v { boot = suc v.boot }) sent ts h.1
       ∙ ap (λ (b : ℕ). begins_at n (record v { boot = b }) sent) z
 
-  the_event : (e f : EventOf M) (a b : Answer) → (e, a) ∷ [] ≡ (f, b) ∷ [] → e ≡ f
-  the_event e f a b h = cc h
+  the_event : (e f : EventOf M) (a b : Answer) → ◌≡◌ {A = List (EventOf M × Answer)} ((e, a) ∷ []) ((f, b) ∷ []) → e ≡ f
+  the_event e f a b h = let p : EventOf M × Answer = (e, a) in let q : EventOf M × Answer = (f, b) in ap (λ (z : EventOf M × Answer). z.0) (same_item p q h)
 
   -- nothing comes out of what a restart publishes
   pub first_out : (n i : ℕ) (s : Node M.Body) (p : Phase M.Body M.Line) (same : Bool) (e : EventOf M) → IsAlone p → firsts_of p same ≡ (e, Ok tt) ∷ [] → steps.Quiet ≡ own_out M n i s e
@@ -88,13 +92,13 @@ module _ (M : Machine) where
   -- a stop in the first of some inputs, before that was saved
   before_run : (n i : ℕ) (s : Node M.Body) (xs : List (NodeInput M.Body M.Line)) (first : List (NotedOf M)) → 1 ≤ length xs → AreNoted M (stops_before xs) first
       → run M n i s (map (turn_in M) first) ≡ begins_at n (saved_by s) s.sent
-  before_run n i s [] first some h = absurd (omega some)
+  before_run n i s [] first some h = absurd (omega (arith, some))
   before_run n i s (x ∷ xs) first some h = one_run n i s (StopIn x false) (Ok tt) first h ∙ before_state n i s x
 
   -- a stop in the last of some inputs that only append, after all were saved
   after_run : (n i : ℕ) (s : Node M.Body) (xs : List (NodeInput M.Body M.Line)) (answers : List Answer) (first : List (NotedOf M)) → is_leader s.role ≡ true → OnlyAppend xs → 1 ≤ length xs
       → length answers ≡ length xs → AreNoted M (stops_after xs answers) first → run M n i s (map (turn_in M) first) ≡ begins_at n (saved_by (after_inputs M n i s xs)) s.sent
-  after_run n i s [] answers first leads appends some many h = absurd (omega some)
+  after_run n i s [] answers first leads appends some many h = absurd (omega (arith, some))
   after_run n i s (x ∷ xs) [] first leads appends some many h = absurd (cc many)
   after_run n i s (x ∷ []) (a ∷ answers) first leads appends some many h = one_run n i s (StopIn x true) (Ok tt) first h ∙ after_state n i s x
   after_run n i s (x ∷ y ∷ xs) (a ∷ answers) [] leads appends some many h = absurd h

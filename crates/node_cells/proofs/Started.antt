@@ -1,5 +1,6 @@
 -- A cell after a restart, and after one that failed.
 use Rattle.std.proofs.Common.{◌≡◌, ℕ, suc, ◌+◌, ◌-◌, ◌⊎◌, inl, inr, ⊎_elim, Bool, true, false, List, [], ◌∷◌, ◌++◌, map, length, None, Ok, refl, sym, ap, ◌∙◌, subst, arith, append_assoc}
+use Rattle.std.specs.Global.{Vec}
 use Rattle.std.specs.Prelude.{◌↔◌, ◌||◌, not, IsTrue, min}
 use Rattle.std.proofs.Math.Nat.{min-le_right}
 use Rattle.raft_log.specs.declared.node_state.NodeState.{NodeState}
@@ -15,6 +16,7 @@ use Rattle.raft_node.specs.Starting.{Begins, BeganWith, MayBegin, MayHaveStood, 
 use Rattle.raft_node.specs.Stepping.{IsSameNode}
 use Rattle.world_views.specs.declared.node_event.NodeEvent.{NodeEvent}
 use Rattle.world_views.specs.declared.node_event.NodeEvent.TheVariants.{Restart, StopIn}
+use Rattle.world_views.specs.declared.node_event.NodeInput.{NodeInput}
 use Rattle.world_views.specs.Own.{TurnOf, ViewOf, run}
 use Rattle.world_views.specs.Views.{View}
 use Rattle.ether.specs.Passes.{EtherParts, IsHeard, view_of}
@@ -26,18 +28,35 @@ use Rattle.node_cells.specs.Books.{IsBook, NotedOf, recorded_by, turn_in}
 use Rattle.node_cells.specs.Cells.{AreTogether, HasHeard, IsCell, IsIn, IsLater, Shows, Stands, StandsEither, after_input, brought, cell_of}
 use Rattle.node_cells.specs.Remembering.{Remembers}
 use Rattle.node_cells.specs.Inputs.{Answer}
-use Rattle.node_cells.specs.Restarts.{HasNotedAll, HasRestarts, IsAlone, IsRefusedRestart, IsRestart, after_turns, fallen, firsts_of, silent}
+use Rattle.node_cells.specs.Restarts.{HasNotedAll, HasRestarts, IsAlone, IsRefusedRestart, IsRestart, after_turns, fallen, firsts_at_most, firsts_of, silent}
 use Rattle.node_cells.specs.Sending.{KnowsOneOf, terms_of}
 use Rattle.node_cells.proofs.Looping.{turns-append}
 use Rattle.node_cells.proofs.Recorded.{Book, recorded-append}
-use Rattle.node_cells.proofs.Restarting.{restart_shows}
+use Rattle.node_cells.proofs.Restarting.{restart_shows, same_item}
 use Rattle.node_cells.proofs.Sending.{none_known}
 use Rattle.node_cells.proofs.Showing.{Inner}
 use Rattle.node_cells.proofs.Turning.{with_room}
 
+module _ {B L : Type 0} where
+  -- where it did not go down as inputs were saved together, it went down alone, if at all
+  pub not_together : (p : Phase B L) → ((inputs : Vec (NodeInput B L)) (answers : Vec Answer) → p ≡ DownInTurns inputs answers → ⊥) → IsAlone p
+  not_together Up h = tt
+  not_together (DownInTurn x done) h = tt
+  not_together (DownInTurns inputs answers) h = h inputs answers refl
+  not_together DownInRestart h = tt
+
+  pub first_alone : (p : Phase B L) → IsAlone p → firsts_at_most p ≡ 1
+  first_alone Up h = refl
+  first_alone (DownInTurn x done) h = refl
+  first_alone (DownInTurns inputs answers) h = absurd h
+  first_alone DownInRestart h = refl
+
 module _ {B L T : Type 0} where
-  is_heard_by : (v : View B L T) (e f : NodeEvent B L T) → (e, Ok tt) ∷ [] ≡ (f, Ok tt) ∷ [] → IsHeard v e → IsHeard v f
-  is_heard_by v e f h heard = let is : e ≡ f = (let a : Answer = Ok tt in let z : (e, a) ∷ [] ≡ (f, a) ∷ [] = h in cc z) in subst (λ (z : NodeEvent B L T). IsHeard v z) is heard
+  is_heard_by : (v : View B L T) (e f : NodeEvent B L T) → ◌≡◌ {A = List (NodeEvent B L T × Answer)} ((e, Ok tt) ∷ []) ((f, Ok tt) ∷ []) → IsHeard v e → IsHeard v f
+  is_heard_by v e f h heard =
+      let p : NodeEvent B L T × Answer = (e, Ok tt) in
+      let q : NodeEvent B L T × Answer = (f, Ok tt) in
+      subst (λ (z : NodeEvent B L T × Answer). IsHeard v z.0) (same_item p q h) heard
 
   -- what the first event of a restart brings was heard
   pub heard_first : (v : View B L T) (p : Phase B L) (same : Bool) (e : NodeEvent B L T) → IsAlone p → HasHeard v (brought p) → firsts_of p same ≡ (e, Ok tt) ∷ [] → IsHeard v e

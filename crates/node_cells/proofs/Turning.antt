@@ -1,5 +1,5 @@
 -- A cell after a turn.
-use Rattle.std.proofs.Common.{◌≡◌, ℕ, zero, suc, ◌+◌, ◌*◌, ◌≤◌, ◌↔◌, Bool, true, false, List, [], ◌∷◌, ◌++◌, map, length, drop, refl, sym, ap, ◌∙◌, subst, arith, length-append}
+use Rattle.std.proofs.Common.{◌≡◌, ℕ, suc, ◌+◌, ◌*◌, ◌≤◌, ◌↔◌, Bool, true, false, List, [], ◌∷◌, ◌++◌, map, length, drop, refl, sym, ap, ◌∙◌, subst, arith, length-append}
 use Rattle.std.proofs.Math.Seq.{drop-append_seam}
 use Rattle.raft_log.specs.declared.message.Message.{Message}
 use Rattle.raft_log.specs.declared.node_state.NodeState.{NodeState}
@@ -14,9 +14,7 @@ use Rattle.raft_node.specs.declared.node_fault.Cause.{Cause}
 use Rattle.raft_node.specs.Machine.{Machine}
 use Rattle.raft_node.specs.Parts.{Keeper, saved_by}
 use Rattle.raft_node.specs.Stepping.{IsDone, IsDowned, IsSameNode, given}
-use Rattle.raft_node.specs.Steps.{Act, Out, Quiet, effects_of}
-use Rattle.raft_node.specs.Steps as steps
-use Rattle.world_run.specs.declared.outcome.Outcome.TheVariants as outcome
+use Rattle.raft_node.specs.Steps.{Out, effects_of}
 use Rattle.world_run.specs.Told.{out_of}
 use Rattle.world_run.specs.World.{hands}
 use Rattle.world_views.specs.declared.node_event.NodeEvent.TheVariants.{Does}
@@ -34,24 +32,10 @@ use Rattle.node_cells.specs.Sending.{AreWithin, KnowsOneOf, StandFrom, to_of}
 use Rattle.node_cells.specs.Turns.{CellOf, FallsInTurn, IsEvent, IsGiven, IsTurn}
 use Rattle.node_cells.specs.Upstreams.{HandsOut, Tally}
 use Rattle.node_cells.specs.Posts.{GaveBack, posts_from}
+use Rattle.node_cells.proofs.Acting.{given_effects, given_out}
 use Rattle.node_cells.proofs.Looping.{gave_behind}
 use Rattle.node_cells.proofs.Recorded.{Book, posts_are}
 use Rattle.node_cells.proofs.Showing.{Inner, Stepped, Still, downed, is_up, stepped, stand_behind}
-
-module _ (M : Machine) where
-  -- what is given is what comes out
-  pub given_out : (place : ℕ) (effects : List M.Effect) (o : OutcomeOf M) → IsGiven place effects o → out_of M o ≡ given {M = M} place effects
-  given_out zero effects outcome.Quiet h = refl
-  given_out (suc place) effects outcome.Quiet h = absurd (cc h)
-  given_out zero effects (outcome.Left p left) h = absurd (let lt = h.1 in omega arith)
-  given_out (suc place) effects (outcome.Left p left) h = λ d. steps.Left (h.0 d) (h.2 d)
-  given_out place effects (outcome.Looked p lines) h = absurd h
-  given_out place effects (outcome.Refused refusal) h = absurd h
-  given_out place effects outcome.Missing h = absurd h
-
-  given_effects : (place : ℕ) (effects : List M.Effect) → (place ≡ 0 → effects ≡ []) → effects_of (given {M = M} place effects) ≡ effects
-  given_effects zero effects h = sym (h refl)
-  given_effects (suc place) effects h = refl
 
 module _ (M : Machine) where
   -- a node that is up went down in no turn

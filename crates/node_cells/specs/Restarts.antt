@@ -1,5 +1,5 @@
 -- What a restart of a cell publishes, and what stands after it.
-use Rattle.std.specs.Prelude.{◌≡◌, ◌≤◌, ◌||◌, not, ◌+◌, ◌<◌, ◌^◌, ℕ, true, false, Bool, List, [], ◌∷◌, ◌++◌, length, map, Result, Ok, Err}
+use Rattle.std.specs.Prelude.{◌≡◌, ◌≤◌, ◌||◌, not, ◌+◌, ◌<◌, ◌^◌, ℕ, suc, true, false, Bool, List, [], ◌∷◌, ◌++◌, length, map, Result, Ok, Err}
 use Rattle.stable_store.specs.declared.saved.Saved.{Saved}
 use Rattle.raft_log.specs.Node.{Node}
 use Rattle.raft_node.specs.Machine.{Machine}
@@ -54,19 +54,19 @@ module _ {B L T : Type 0} where
   firsts_of (DownInTurns inputs answers) same = stops_in same inputs.items answers.items
   firsts_of DownInRestart same = (Restart, Ok tt) ∷ []
 
-  -- how many of these there are at most
-  abbrev pub firsts_at_most : Phase B L → ℕ
-  firsts_at_most Up = 1
-  firsts_at_most (DownInTurn x done) = 1
-  firsts_at_most (DownInTurns inputs answers) = length inputs.items
-  firsts_at_most DownInRestart = 1
-
   -- so many restarts
   abbrev pub AreRestarts : List (Ticketed B L T) → Type 0
   AreRestarts [] = Unit {0}
   AreRestarts (t ∷ turns) = (t.1 ≡ Restart) × AreRestarts turns
 
 module _ {B L : Type 0} where
+  -- how many events a restart publishes first, at most
+  abbrev pub firsts_at_most : Phase B L → ℕ
+  firsts_at_most Up = 1
+  firsts_at_most (DownInTurn x done) = 1
+  firsts_at_most (DownInTurns inputs answers) = length inputs.items
+  firsts_at_most DownInRestart = 1
+
   -- it is not that inputs were saved together
   abbrev pub IsAlone : Phase B L → Type 0
   IsAlone Up = Unit {0}
@@ -116,7 +116,7 @@ module _ (M : Machine) where
     pub record IsRestart (c d : CellParts Setup Hosted Store M.Body M.Line M.Target M.Effect M.Played U) : Type 0 where
       pub first : List (NotedOf M)
       pub same : Bool
-      pub first_are : AreNoted M (firsts_of c.phase same) first
+      pub first_are : AreNoted (firsts_of c.phase same) first
       pub more : List (TurnOf M)
       pub restarts : AreRestarts more
       pub few : length more ≤ c.refused

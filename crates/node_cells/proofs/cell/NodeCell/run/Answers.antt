@@ -23,7 +23,8 @@ use Rattle.node_cells.specs.declared.record.TurnOutput.{TurnOutput}
 use Rattle.node_cells.specs.Books.{HasPosted, IsBook}
 use Rattle.node_cells.specs.Cells.{CellRoom, HasHeard, IsCell, cell_of}
 use Rattle.node_cells.specs.Sending.{to_of}
-use Rattle.node_cells.specs.Turns.{FallsInTurn, IsEvent, IsGiven, IsNoTurn, IsTurn, input_of}
+use Rattle.node_cells.specs.Inputs.{input_of}
+use Rattle.node_cells.specs.Turns.{FallsInTurn, IsEvent, IsGiven, IsNoTurn, IsTurn}
 use Rattle.node_cells.specs.Upstreams.{HandsOut}
 use Rattle.node_cells.proofs.Acting.{down_case, refused_case, same_act}
 use Rattle.node_cells.proofs.Turning.{comes_out, done_cell, fallen_cell, falls_in, few_posts, few_sent, goes_within, may_post, still_cell, still_event, turn_is, turned_cell}

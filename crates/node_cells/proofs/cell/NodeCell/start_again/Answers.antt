@@ -1,4 +1,5 @@
-use Rattle.std.proofs.Common.{◌≡◌, ◌+◌, ◌-◌, suc, [], sym, ap, ◌∙◌, subst}
+use Rattle.std.proofs.Common.{◌≡◌, ◌≤◌, ◌+◌, ◌-◌, ◌^◌, ℕ, [], length, sym, ap, ◌∙◌, subst}
+use Rattle.std.proofs.Math.Nat.{min-le_right}
 use Rattle.std.specs.Prelude.{◌↔◌, IsTrue, min}
 use Rattle.raft_log.specs.declared.node_state.NodeState.{NodeState}
 use Rattle.raft_log.specs.Seen.{seen}
@@ -6,16 +7,14 @@ use Rattle.recorder.specs.NodeLines.{fields_of}
 use Rattle.raft_node.specs.Hosts.{hosted}
 use Rattle.raft_node.specs.Machine.{Machine}
 use Rattle.raft_node.specs.Parts.{Keeper, keeper}
-use Rattle.world_run.specs.declared.outcome.Outcome.TheVariants.{Quiet}
-use Rattle.world_views.specs.Own.{EventOf, own_out}
 use Rattle.ether.specs.Passes.{EtherParts, view_of}
 use Rattle.node_cells.specs.declared.phase.Phase.{Phase}
-use Rattle.node_cells.specs.Books.{HasNoted, IsBook}
+use Rattle.node_cells.specs.Books.{IsBook, room_for}
 use Rattle.node_cells.specs.Cells.{CellRoom, IsCell, cell_of}
 use Rattle.node_cells.specs.Remembering.{Remembers}
-use Rattle.node_cells.specs.Restarts.{HasRestarts, IsRestart, fallen, first_of}
+use Rattle.node_cells.specs.Restarts.{HasNotedAll, HasRestarts, IsRestart, fallen, firsts_at_most, firsts_of}
 use Rattle.node_cells.specs.Sending.{terms_of}
-use Rattle.node_cells.proofs.Restarting.{first_out}
+use Rattle.node_cells.proofs.Stopping.{room_after}
 use Rattle.node_cells.proofs.Started.{refused_cell, started_cell, started_is, told_of}
 use Rattle.node_cells.proofs.cell.NodeCell.start_again.Given as given
 use Rattle.node_cells.proofs.cell.NodeCell.start_again.Goals as goal
@@ -36,22 +35,28 @@ invariant_of-self g c =
     (refused_cell (machine g i.book.ether.setup) (kept g) i.book i.node c.restart.new.self i.upstream i.phase i.refused i.shown c.self.invariant c.restart.ensures.same g.met.S.Stable.sure c.is_whole.ensures.holds
     c.in-Err.ensures.answers.1 c.restart.ensures.may_begin)
 
-pub note-requires-clause-out : goal.note-requires-clause-out
-note-requires-clause-out g c =
+abbrev RoomOf : given.Over → Type 0
+RoomOf g = CellRoom g.row.M-Setup.Denot g.row.M.Denot g.row.S.Denot g.row.M-Command.Denot g.row.M-Line.Denot g.row.M-Target.Denot g.row.M-Effect.Denot g.row.M-Played.Denot g.row.U.Denot
+
+pub note_restarts-requires-clause-room : goal.note_restarts-requires-clause-room
+note_restarts-requires-clause-room g c =
     let i = c.self.inside in
     let m = machine g i.book.ether.setup in
-    let v = view_of i.book.pass in
-    let event : c.first_event.result ≡ first_of i.phase c.is_in-same.result = c.first_event.ensures ∙ ap (λ (p : Phase g.row.M-Command.Denot g.row.M-Line.Denot). first_of p c.is_in-same.result) c.replace-phase.ensures.value in
-    λ honest. first_out m v.size (suc v.node) v.state i.phase c.is_in-same.result ∙ ap (λ (e : EventOf m). own_out m v.size (suc v.node) v.state e) (sym event)
+    let first : HasNotedAll m i.book (firsts_of i.phase c.is_in-same.result) c.note_first.new.self =
+    subst (λ (p : Phase g.row.M-Command.Denot g.row.M-Line.Denot). HasNotedAll m i.book (firsts_of p c.is_in-same.result) c.note_first.new.self) c.replace-phase.ensures.value c.note_first.ensures.noted in
+    room_after m i.book c.note_first.new.self i.phase c.is_in-same.result c.runs_until-more.result i.refused first
+    (subst (λ (n : ℕ). n ≤ i.refused) (sym c.runs_until-more.ensures) (min-le_right _ i.refused))
+    (subst (λ (z : RoomOf g). room_for z.parts.recording (firsts_at_most z.parts.phase + z.parts.refused) ≤ z.room) (sym c.self.view_is) c.requires.room.0)
+    (subst (λ (z : RoomOf g). length (view_of z.parts.pass).turns + (firsts_at_most z.parts.phase + z.parts.refused) ≤ 2 ^ 60) (sym c.self.view_is) c.requires.room.1)
 
 pub invariant_of-self-2 : goal.invariant_of-self-2
 invariant_of-self-2 g c =
     let i = c.self.inside in
     let m = machine g i.book.ether.setup in
-    let b1 = c.note.new.self in
+    let b1 = c.note_first.new.self in
     let b2 = c.note_restarts.new.self in
-    let event : c.first_event.result ≡ first_of i.phase c.is_in-same.result = c.first_event.ensures ∙ ap (λ (p : Phase g.row.M-Command.Denot g.row.M-Line.Denot). first_of p c.is_in-same.result) c.replace-phase.ensures.value in
-    let first : HasNoted m i.book (first_of i.phase c.is_in-same.result) Quiet b1 = subst (λ (e : EventOf m). HasNoted m i.book e Quiet b1) event c.note.ensures.noted in
+    let first : HasNotedAll m i.book (firsts_of i.phase c.is_in-same.result) b1 =
+    subst (λ (p : Phase g.row.M-Command.Denot g.row.M-Line.Denot). HasNotedAll m i.book (firsts_of p c.is_in-same.result) b1) c.replace-phase.ensures.value c.note_first.ensures.noted in
     let rest : IsBook m b2 × HasRestarts m b1 c.runs_until-more.result b2 =
     subst (λ (e : EtherParts g.row.M-Setup.Denot). IsBook (machine g e.setup) b2 × HasRestarts (machine g e.setup) b1 c.runs_until-more.result b2) first.ether (c.note_restarts.ensures.book, c.note_restarts.ensures.noted) in
     let ok = c.in_default.ensures.answers in
@@ -70,10 +75,10 @@ pub returns-clause-restart : goal.returns-clause-restart
 returns-clause-restart g c =
     let i = c.self.inside in
     let m = machine g i.book.ether.setup in
-    let b1 = c.note.new.self in
+    let b1 = c.note_first.new.self in
     let b2 = c.note_restarts.new.self in
-    let event : c.first_event.result ≡ first_of i.phase c.is_in-same.result = c.first_event.ensures ∙ ap (λ (p : Phase g.row.M-Command.Denot g.row.M-Line.Denot). first_of p c.is_in-same.result) c.replace-phase.ensures.value in
-    let first : HasNoted m i.book (first_of i.phase c.is_in-same.result) Quiet b1 = subst (λ (e : EventOf m). HasNoted m i.book e Quiet b1) event c.note.ensures.noted in
+    let first : HasNotedAll m i.book (firsts_of i.phase c.is_in-same.result) b1 =
+    subst (λ (p : Phase g.row.M-Command.Denot g.row.M-Line.Denot). HasNotedAll m i.book (firsts_of p c.is_in-same.result) b1) c.replace-phase.ensures.value c.note_first.ensures.noted in
     let rest : IsBook m b2 × HasRestarts m b1 c.runs_until-more.result b2 =
     subst (λ (e : EtherParts g.row.M-Setup.Denot). IsBook (machine g e.setup) b2 × HasRestarts (machine g e.setup) b1 c.runs_until-more.result b2) first.ether (c.note_restarts.ensures.book, c.note_restarts.ensures.noted) in
     let ok = c.in_default.ensures.answers in
