@@ -1,16 +1,19 @@
 """What a bouncer does whose nodes' journals fail: cases of tests/edge."""
 
 import os
+import random
+import re
 import time
 
 import journal
 from client import Client, until
-from harness import check, figures
+from harness import check, figures, said
 from people import Person, talk_while_journals_fail
 from shims import built
 from stand_in import attached, running, say_all
 
 FAULT_SECONDS = 12
+BURSTS = 32
 
 
 def no_majority(room):
@@ -90,6 +93,40 @@ def faults_at_random(room):
     said = sum(len(person.said) for person in people)
     figures("faults at random", f"{count} faults, {len(ends)} hung up, {said} lines said, {len(came)} came")
     check("it ends", bouncer.end() == 0)
+
+
+def bursts_while_the_leader_fails(room):
+    """Lines that come in bursts are saved together. Where the leader's journal fails in such a save, none of them stands twice in
+    the log, those that do stand there in order, and the record of the run replays."""
+    control, record = os.path.join(room, "failing"), os.path.join(room, "bursts.record")
+    environment = {"LD_PRELOAD": built(room, "fail_write"), "FAILING": control}
+    server, bouncer = running(room, "bursts", environment=environment, timeout_ms="300", beat_ms="60", record=f'"{record}"')
+    dice, count = random.Random(1), 0
+    for burst in range(BURSTS):
+        fails = burst % 4 == 3
+        for place in range(dice.randint(1, 20)):
+            if fails and place == 1:
+                with open(control, "w") as file:
+                    file.write(f"/node-{bouncer.leader()}")
+            server.say(f"line {count}")
+            count += 1
+        time.sleep(dice.uniform(0.02, 0.08))
+        if fails:
+            if os.path.exists(control):
+                os.unlink(control)
+            time.sleep(0.5)
+            until(server.is_joined, lambda: f"a session:\n{bouncer.log()}")
+    leader = bouncer.leader()
+    time.sleep(1)
+    check("it ends", bouncer.end() == 0)
+    log = b"\n".join(journal.bodies(bouncer.journal(leader)))
+    came = [int(number) for number in re.findall(rb"PRIVMSG #x :line (\d+)", log)]
+    check("no line of a burst stands twice in the log", len(came) == len(set(came)), came)
+    check("in order", came == sorted(came), came)
+    stops = bouncer.log().count(": down: ")
+    check("the leader's journal failed", stops >= 3, bouncer.log())
+    check("its record replays", said("replay", record) == (0, ["same"], []))
+    figures("bursts while the leader fails", f"{count} lines said, {len(came)} came, {stops} stops")
 
 
 def a_node_that_goes_down(room):
