@@ -165,7 +165,7 @@ module _ (M : Machine) (n i : ℕ) where
   are_answered (x ∷ xs) s (a ∷ answers) e = (
     does_out M n i s x ∙ ap (λ (t : Turn M). t.out) (sym (turn_same s x)) ∙ first_out _ _ _ _ e,
     are_answered xs (after_input M n i s x) answers
-    (ap (λ (t : Node M.Body). outs M n i (acts M xs) t) (sym (state_same s x)) ∙ rest_outs _ _ _ _ e),
+        (ap (λ (t : Node M.Body). outs M n i (acts M xs) t) (sym (state_same s x)) ∙ rest_outs _ _ _ _ e),
   )
 
   pub as_many_answers : (xs : List (NodeInput M.Body M.Line)) (s : Node M.Body) (answers : List Answer) → outs M n i (acts M xs) s ≡ map (out_of M) answers → length answers ≡ length xs

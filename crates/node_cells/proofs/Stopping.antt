@@ -83,7 +83,7 @@ module _ (M : Machine) where
         let few = firsts_few M.Target p same in
         let turns = noted_turns M b0 b1 (firsts_of p same) h in (
           subst (λ (r : Recording). room_for r more ≤ b1.room) (sym h.recording)
-          (room_then b0.recording (length (firsts_of {T = M.Target} p same)) (firsts_at_most p) more refused b0.room b1.room h.room room few less),
+              (room_then b0.recording (length (firsts_of {T = M.Target} p same)) (firsts_at_most p) more refused b0.room b1.room h.room room few less),
           omega (arith, few, turns, less, tickets),
         )
 
@@ -106,7 +106,7 @@ module _ (M : Machine) where
           let events : length (all_done {T = M.Target} xs answers) ≡ length xs = length_done M.Target xs answers enough in
           let turns = noted_turns M b0 b1 (all_done xs answers) h in (
             subst (λ (r : Recording). room_for r 1 ≤ b1.room) (sym h.recording)
-            (room_last b0.recording (length xs) (length (xs ++ x ∷ [])) b0.room b1.room (ap (λ (n : ℕ). b1.room + room_for b0.recording n) (sym events) ∙ h.room) room (omega (arith, long))),
+                (room_last b0.recording (length xs) (length (xs ++ x ∷ [])) b0.room b1.room (ap (λ (n : ℕ). b1.room + room_for b0.recording n) (sym events) ∙ h.room) room (omega (arith, long))),
             omega (arith, long, events, turns, tickets),
           )
 

@@ -53,6 +53,7 @@ fn what_waits_is_asked_each_timeout_once_a_turn_was_refused(rt: HostRuntime) -> 
 
 /// What a client sends to register, and a line that it says.
 const REGISTERS: &[u8] = b"PASS pw\r\nNICK n\r\nUSER u 0 * :r\r\n";
+
 const SAYS: &[u8] = b"PRIVMSG #c :x\r\n";
 
 #[test]

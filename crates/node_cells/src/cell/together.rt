@@ -66,8 +66,7 @@ impl<M: Hosted, S: Stable<M::Command>, U: Upstream> NodeCell<M, S, U> {
         taken: Vec<Input<M::Command, M::Line>>,
     ) -> Result<Vec<Result<(), Refusal>>, CellFault>
         requires up { self.old.parts.phase ≡ Up }
-        requires leads {
-            is_leader (role_of self.old.parts.node.state.standing.position) ≡ true }
+        requires leads { is_leader (role_of self.old.parts.node.state.standing.position) ≡ true }
         requires appends { OnlyAppend copies.items }
         requires some { 1 ≤ length copies.items }
         requires few { length copies.items ≤ 256 }
