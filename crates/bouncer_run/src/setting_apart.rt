@@ -30,7 +30,7 @@ pub fn set_apart<R: System>(
     for index in 0..journals.len() {
         let node = NodeId::new(index as u8 + 1);
         match set_node_apart(rt, node, journals, index) {
-            Ok(Some(earlier)) => tell_run(rt, config, node, earlier.run),
+            Ok(Some(earlier)) => tell_boot(rt, config, node, earlier.boot),
             Ok(None) => {}
             Err(fault) => {
                 let store = &config.store;
@@ -64,11 +64,11 @@ fn set_node_apart<R: System>(
 }
 
 /// An operator is told that a node begins behind a run.
-fn tell_run<R: System>(rt: &R, config: &Config, node: NodeId, run: Number) {
+fn tell_boot<R: System>(rt: &R, config: &Config, node: NodeId, boot: Number) {
     let telling = Telling::new(*rt, config.log);
     if let Ok(clock) = Clockwork::start(rt) {
         if let Ok(now) = clock.now(rt) {
-            telling.tell(&now, node.value(), &Behind { run: run.value() });
+            telling.tell(&now, node.value(), &Behind { boot: boot.value() });
         }
     }
 }
@@ -76,12 +76,12 @@ fn tell_run<R: System>(rt: &R, config: &Config, node: NodeId, run: Number) {
 /// A node begins behind this run, of which other nodes know.
 #[derive(Clone, Copy)]
 struct Behind {
-    run: u64,
+    boot: u64,
 }
 
 impl fmt::Display for Behind {
     fn fmt<W: fmt::Write>(&self, f: &mut fmt::Formatter<W>) -> fmt::Result {
-        write!(f, "its journal is new: it begins behind run {}", self.run)
+        write!(f, "its journal is new: it begins behind run {}", self.boot)
     }
 }
 
