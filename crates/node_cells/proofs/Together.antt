@@ -1,7 +1,7 @@
 -- A cell after inputs that were saved together.
 use Rattle.std.proofs.Common.{◌≡◌, ℕ, suc, ◌+◌, ◌≤◌, inl, inr, ⊎_elim, Bool, true, false, List, [], ◌∷◌, ◌++◌, map, length, Option, Some, None, Ok, Err, refl, sym, ap, ◌∙◌, subst, arith}
 use Rattle.std.specs.Global.{Vec}
-use Rattle.std.specs.Prelude.{◌↔◌, ◌⊎◌}
+use Rattle.std.specs.Prelude.{◌↔◌, ◌⊎◌, IfSome}
 use Rattle.raft_log.specs.declared.message.Message.{Message}
 use Rattle.raft_log.specs.declared.node_state.NodeState.{NodeState}
 use Rattle.raft_log.specs.Node.{Node, is_leader}
@@ -246,12 +246,39 @@ module _ (M : Machine) {Setup Hosted Store U : Type 0} (k : Keeper Store M.Body)
         pub falls_first : (ph : Phase M.Body M.Line) → IsDownInFirst xs ph → FallsInTurns M c xs (cell_of b0 q' u ph r line)
         falls_first ph down = falls_with ph (inl down)
 
-module _ (M : Machine) {Setup Hosted Store U : Type 0} (tally : U → Tally) where
+    -- ---- whichever it was
+    module _ (all : Vec (NodeInput M.Body M.Line)) (copied : all.items ≡ xs) (some : 1 ≤ length xs) (unsaved : Unsaved) (failed : HaveFailed M k (map input_of xs) q unsaved q')
+        (sure : (s : Store) (w : Saved M.Body) → Serves (k.condition s) → k.may_stand s w ↔ (w ≡ k.saved s)) (holds : q.down ≡ None → Holds k q.store q.state) (ph : Phase M.Body M.Line)
+        (in_all : IfSome unsaved.answers (λ given. ph ≡ DownInTurns all given)) (in_first : unsaved.answers ≡ None → IsDownInFirst all.items ph) where
+      falls_here : AreDowned M k (map input_of xs) q unsaved.cause q'
+      falls_here = downed_here M k xs q q' unsaved failed (h.up up)
+
+      abbrev Outs : Vec Answer → Type 0
+      Outs answers = (sent : List (Message M.Body)) → outs M (size_of q.state) q.id (acts M xs) (seen q.state sent) ≡ map (out_of M) answers.items
+
+      cell_by : (o : Option (Vec Answer)) → unsaved.answers ≡ o → IfSome o (λ answers. Outs answers) → IfSome o (λ given. ph ≡ DownInTurns all given) → IsCell M k (cell_of b0 q' u ph r line)
+      cell_by None is tried down = fallen_first unsaved.cause falls_here sure holds (failed.untried is) ph (subst (λ (l : List (NodeInput M.Body M.Line)). IsDownInFirst l ph) copied (in_first is))
+      cell_by (Some answers) is tried down =
+          subst (λ (z : Phase M.Body M.Line). IsCell M k (cell_of b0 q' u z r line)) (sym down) (fallen_together unsaved.cause falls_here all answers copied some tried)
+
+      pub fallen_cell_by : IsCell M k (cell_of b0 q' u ph r line)
+      fallen_cell_by = cell_by unsaved.answers refl failed.tried in_all
+
+      falls_by : (o : Option (Vec Answer)) → unsaved.answers ≡ o → IfSome o (λ answers. Outs answers) → IfSome o (λ given. ph ≡ DownInTurns all given) → FallsInTurns M c xs (cell_of b0 q' u ph r line)
+      falls_by None is tried down = falls_first unsaved.cause falls_here sure holds (failed.untried is) ph (subst (λ (l : List (NodeInput M.Body M.Line)). IsDownInFirst l ph) copied (in_first is))
+      falls_by (Some answers) is tried down =
+          subst (λ (z : Phase M.Body M.Line). FallsInTurns M c xs (cell_of b0 q' u z r line)) (sym down) (falls_together unsaved.cause falls_here all answers copied some tried)
+
+      pub falls_in_turns : FallsInTurns M c xs (cell_of b0 q' u ph r line)
+      falls_in_turns = falls_by unsaved.answers refl failed.tried in_all
+
+module _ (M : Machine) where
   -- nothing leaves by an answer
   none_by : (a : Answer) → effects_of (told.out_of M (outcome_by a)) ≡ []
   none_by (Ok done) = refl
   none_by (Err refusal) = refl
 
+module _ (M : Machine) {Setup Hosted Store U : Type 0} (tally : U → Tally) where
   -- one input alone
   one_event : (c d : CellOf M Setup Hosted Store U) (x : NodeInput M.Body M.Line) (a : Answer) (h : AreTurned M c (x ∷ []) (a ∷ []) d) (noted' : List (NotedOf M)) → h.noted ≡ noted'
       → AreNoted M ((Does x, a) ∷ []) noted' → IsEvent M tally c (Does x) (outcome_by a) d
@@ -268,7 +295,7 @@ module _ (M : Machine) {Setup Hosted Store U : Type 0} (tally : U → Tally) whe
         turns = h.turns ∙ ap (λ (l : List (NotedOf M)). c.turns ++ recorded_by c.recording l) is
             ∙ (λ i. c.turns ++ recorded_by c.recording (record { ticket = t.ticket; event = are.0 i; outcome = are.1 i } ∷ []));
         out = λ honest. out_by M a ∙ sym (h.outs honest).0;
-        handed = subst (λ (l : List M.Effect). HandsOut (hands M l) (tally c.upstream) (tally d.upstream)) (sym (none_by a)) (ap tally h.upstream);
+        handed = subst (λ (l : List M.Effect). HandsOut (hands M l) (tally c.upstream) (tally d.upstream)) (sym (none_by M a)) (ap tally h.upstream);
         ether = h.ether;
         was_up = h.was_up;
         is_up = h.is_up;

@@ -1,5 +1,6 @@
 //! Whether the node of a cell runs.
-ghost use Rattle.std.specs.Prelude.{◌≡◌, ◌≤◌, [], ◌∷◌, Ok, length};
+ghost use Rattle.std.specs.Prelude.{◌≡◌, ◌≤◌, [], ◌∷◌, IfSome, None, Ok, length};
+ghost use Rattle.node_cells.specs.declared.phase.Phase.TheVariants.{DownInTurns};
 ghost use Rattle.node_cells.specs.Restarts.{IsAlone, fallen, firsts_at_most, firsts_of};
 ghost use Rattle.node_cells.specs.Together.{IsDownInFirst};
 
@@ -42,13 +43,20 @@ impl<B: Wire, L> Phase<B, L> {
     }
 }
 
-/// What it is where there was no memory to save inputs together: down in the first of them, before that
-/// was saved.
-pub fn first_alone<B: Wire, L: Drop>(mut inputs: Vec<NodeInput<B, L>>) -> Phase<B, L>
+/// What it is where a node went down as these inputs were to be saved together: in all of them, with the
+/// answers that they have once they are saved; or where no save was tried, in the first of them.
+pub fn down_in<B: Wire, L: Drop>(
+    mut inputs: Vec<NodeInput<B, L>>,
+    answers: Option<Vec<Result<(), Refusal>>>,
+) -> Phase<B, L>
     requires { 1 ≤ length inputs.items }
-    ensures { IsDownInFirst inputs.items result }
+    ensures all { IfSome answers (λ given. result ≡ DownInTurns inputs given) }
+    ensures first { answers ≡ None → IsDownInFirst inputs.items result }
 {
-    Phase::DownInTurn(inputs.remove(0), false)
+    match answers {
+        Some(answers) => Phase::DownInTurns(inputs, answers),
+        None => Phase::DownInTurn(inputs.remove(0), false),
+    }
 }
 
 /// The first event of a restart, where no inputs were saved together: where the node went down in a turn,

@@ -13,7 +13,7 @@ ghost use Rattle.node_cells.specs.Together.{AreNoTurns, AreTurned};
 use crate::cell::NodeCell;
 use crate::cell_fault::CellFault;
 use crate::copying::{copied_inputs, inputs_of};
-use crate::phase::{Phase, first_alone};
+use crate::phase::down_in;
 use crate::upstream::Upstream;
 use machine_laws::{Hosted, Machine};
 use node_steps::Refusal;
@@ -90,10 +90,7 @@ impl<M: Hosted, S: Stable<M::Command>, U: Upstream> NodeCell<M, S, U> {
                 Ok(answers)
             }
             Err(Unsaved { cause, answers }) => {
-                self.phase = match answers {
-                    Some(answers) => Phase::DownInTurns(copies, answers),
-                    None => first_alone(copies),
-                };
+                self.phase = down_in(copies, answers);
                 Err(CellFault::Node(NodeFault::Down(cause)))
             }
         }
