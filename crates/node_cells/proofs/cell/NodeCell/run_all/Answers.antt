@@ -1,4 +1,4 @@
-use Rattle.std.proofs.Common.{rules, arith, ◌≡◌, ◌≤◌, List, [], length, map, true, suc, inl, refl, sym, ap, ◌∙◌, subst}
+use Rattle.std.proofs.Common.{rules, arith, ◌≡◌, List, [], length, map, true, suc, inl, refl, sym, ap, ◌∙◌, subst}
 use Rattle.raft_log.specs.declared.node_state.NodeState.{NodeState}
 use Rattle.raft_log.specs.Node.{is_leader}
 use Rattle.raft_log.specs.Positions.{role_of}
@@ -128,6 +128,7 @@ returns-in-Err-clause-cause g c =
     let i = c.self.inside in
     let up : i.phase ≡ Up = search rules in
     let failed = have_failed g _ i.book.ether.setup c.args.taken.items c.args.copies.items i.node c.step_all.new.self c.in-Err.field-0 c.self.invariant.setup c.requires.taken c.in-Err.ensures.failed in
-    let falls = downed_here (machine g i.book.ether.setup) (kept g) c.args.copies.items i.node c.step_all.new.self c.in-Err.field-0 failed (c.self.invariant.up up) in
-    (sym (ap own_cause falls.is_down),
-    λ was. subst (λ (z : RoomOf g). IsBlamed c.in-Err.field-0.cause (g.S.Stable.condition z.parts.node.store) (g.S.Stable.condition c.step_all.new.self.store)) c.self.view_is falls.blamed)
+    let falls = downed_here (machine g i.book.ether.setup) (kept g) c.args.copies.items i.node c.step_all.new.self c.in-Err.field-0 failed (c.self.invariant.up up) in (
+      sym (ap own_cause falls.is_down),
+      λ was. subst (λ (z : RoomOf g). IsBlamed c.in-Err.field-0.cause (g.S.Stable.condition z.parts.node.store) (g.S.Stable.condition c.step_all.new.self.store)) c.self.view_is falls.blamed,
+    )
