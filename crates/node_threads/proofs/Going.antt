@@ -11,7 +11,7 @@ use Rattle.node_notes.specs.declared.note.Note.TheVariants as note
 use Rattle.node_threads.specs.declared.job.Job.{Job}
 use Rattle.node_threads.specs.declared.job.Job.TheVariants as job
 use Rattle.node_threads.specs.Homes.{IsSameHome}
-use Rattle.node_threads.specs.declared.station.requests.Request.{Request}
+use Rattle.node_threads.specs.declared.worker_loop.requests.Request.{Request}
 use Rattle.node_threads.specs.Forwarding.{is_left}
 use Rattle.node_threads.specs.Work.{Deed, Does, HasBeaten, HasDeed, HasDone, HasDoneAll, HasDoneNote, HasDoneSome, HasGoneRound, HasHadTurn, HasLookedIn, HasTaken, HasTakenBut, HasTimedOut, HasTurnedIn, applies, beats_on, takes_but, takes_unless}
 use Rattle.node_threads.specs.Work.Deed.{Takes, Turns}

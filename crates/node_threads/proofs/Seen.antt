@@ -10,7 +10,7 @@ use Rattle.node_cells.specs.Cells.{CellParts}
 use Rattle.node_cells.specs.Openings.{HasSeenTo}
 use Rattle.node_cells.specs.Turns.{CellOf}
 use Rattle.node_cells.specs.Upstreams.{Tally}
-use Rattle.node_threads.specs.declared.station.requests.Request.{Request}
+use Rattle.node_threads.specs.declared.worker_loop.requests.Request.{Request}
 use Rattle.node_threads.specs.Asking.{HasLeft, HasSeenIf, MayAsk, MayIn, MayUp}
 use Rattle.node_threads.specs.Homes.{IsSameHome}
 use Rattle.node_threads.specs.Requests.{request}

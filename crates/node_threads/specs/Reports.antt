@@ -20,8 +20,8 @@ use Rattle.node_notes.specs.declared.status.Status.{Status}
 use Rattle.node_notes.specs.Notes.{status_of}
 use Rattle.node_threads.specs.declared.beats.Beats.{Beats}
 use Rattle.node_threads.specs.declared.beats.Beats.TheVariants.{OnNews, WhenTold}
-use Rattle.node_threads.specs.declared.station.Beaten.{Beaten}
-use Rattle.node_threads.specs.declared.station.telling.Told.{Told}
+use Rattle.node_threads.specs.declared.worker_loop.Beaten.{Beaten}
+use Rattle.node_threads.specs.declared.worker_loop.telling.Told.{Told}
 use Rattle.node_threads.specs.declared.job.Job.{Job}
 use Rattle.node_threads.specs.declared.job.Job.TheVariants as job
 

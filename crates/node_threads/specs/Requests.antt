@@ -5,9 +5,9 @@ use Rattle.raft_log.specs.declared.message.Kind.TheVariants.{RequestVote, Vote, 
 use Rattle.raft_log.specs.declared.node_state.NodeState.{NodeState}
 use Rattle.raft_log.specs.Positions.{leader_of}
 use Rattle.world_views.specs.declared.envelope.Envelope.{Envelope}
-use Rattle.node_threads.specs.declared.station.requests.Asked.{Asked}
-use Rattle.node_threads.specs.declared.station.requests.Request.{Request}
-use Rattle.node_threads.specs.declared.station.requests.Requests.{Requests}
+use Rattle.node_threads.specs.declared.worker_loop.requests.Asked.{Asked}
+use Rattle.node_threads.specs.declared.worker_loop.requests.Request.{Request}
+use Rattle.node_threads.specs.declared.worker_loop.requests.Requests.{Requests}
 
 -- what waits, in order, the last that was asked, and the last note whose request may be lost
 pub record Queue (B : Type 0) : Type 0 where

@@ -19,11 +19,11 @@ use Rattle.node_notes.specs.declared.note.Note.TheVariants as note
 use Rattle.node_threads.specs.Asking.{HasLeft, MayAsk, leader_in}
 use Rattle.node_threads.specs.Forwarding.{asks_first, is_left, is_request, request_at}
 use Rattle.node_threads.specs.Rounds.{GathersMark, GathersTurn}
-use Rattle.node_threads.specs.declared.station.round.Round.{Round}
+use Rattle.node_threads.specs.declared.worker_loop.round.Round.{Round}
 use Rattle.node_threads.specs.Reports.{leads_in}
 use Rattle.node_threads.specs.declared.job.Job.{Job}
 use Rattle.node_threads.specs.declared.job.Job.TheVariants as job
-use Rattle.node_threads.specs.declared.station.requests.Request.{Request}
+use Rattle.node_threads.specs.declared.worker_loop.requests.Request.{Request}
 
 -- one thing that a worker does with its node beside its jobs
 pub data Deed (B L : Type 0) : Type 0 where

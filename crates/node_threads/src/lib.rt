@@ -15,9 +15,9 @@ mod leaver;
 mod node_handle;
 mod outlet;
 mod part;
-mod station;
 mod task;
 mod worker;
+mod worker_loop;
 
 pub use beats::Beats;
 pub use cluster::Cluster;

@@ -3,8 +3,8 @@ ghost use Rattle.node_threads.specs.Homes.{IsSameHome};
 
 use crate::gate::Gate;
 use crate::outlet::Outlet;
-use crate::station::Station;
 use crate::task::Task;
+use crate::worker_loop::WorkerLoop;
 use machine_laws::{Hosted, Machine, Marking};
 use marked_cells::MarkedCell;
 use node_cells::{NodeCell, Upstream};
@@ -17,7 +17,7 @@ use std::thread::{Promise, PromisedHandle};
 #[derive(Drop)]
 pub struct Worker<M: Marking, S: Stable<M::Command>, U: Upstream, G: Drop, O: Outlet<M::Effect>> {
     pub cell: MarkedCell<M, S, U>,
-    pub station: Station<M, G, O>,
+    pub worker_loop: WorkerLoop<M, G, O>,
 }
 
 impl<M, S, U, G, O> Task for Worker<M, S, U, G, O>
@@ -42,26 +42,26 @@ where
     ghost leaves = { λ worker cell. IsSameHome worker.cell.parts cell.parts };
 
     fn run<R: Wait>(self, rt: &R) -> NodeCell<M, S, U> {
-        let Worker { cell, station } = self;
+        let Worker { cell, worker_loop } = self;
         let mut cell = cell;
-        let mut station = station;
-        station.work(rt, &mut cell);
+        let mut worker_loop = worker_loop;
+        worker_loop.work(rt, &mut cell);
         cell.into_cell()
     }
 }
 
 /// That a worker leaves the cell of its node, which was this as it was opened.
 #[derive(Drop)]
-pub struct Homecoming<M: Marking, S: Stable<M::Command>, U: Upstream> {
+pub struct WorkerPromise<M: Marking, S: Stable<M::Command>, U: Upstream> {
     pub cell: Snapshot<MarkedCell<M, S, U>>,
 }
 
 impl<M: Marking, S: Stable<M::Command>, U: Upstream> Promise<NodeCell<M, S, U>>
-    for Homecoming<M, S, U> {
+    for WorkerPromise<M, S, U> {
     ghost use Rattle.node_threads.specs.Homes.{IsSameHome};
 
     ghost kept_by = { λ promise cell. IsSameHome promise.cell.value.parts cell.parts };
 }
 
 /// The thread of a worker, which leaves the cell of its node.
-pub type Running<M, S, U> = PromisedHandle<NodeCell<M, S, U>, Homecoming<M, S, U>>;
+pub type Running<M, S, U> = PromisedHandle<NodeCell<M, S, U>, WorkerPromise<M, S, U>>;

@@ -13,10 +13,10 @@ use crate::gate::Gate;
 use crate::job::Job;
 use crate::outlet::Outlet;
 use crate::part::Part;
-use crate::station::Station;
-use crate::station::requests::Requests;
-use crate::station::round::Round;
 use crate::worker::Worker;
+use crate::worker_loop::WorkerLoop;
+use crate::worker_loop::requests::Requests;
+use crate::worker_loop::round::Round;
 use crossbeam_channel::{Receiver, Sender, unbounded};
 use ether::{Ether, Pass};
 use machine_laws::{Hosted, Machine, Marking};
@@ -110,18 +110,18 @@ fn open_worker<M: Marking, S: Stable<M::Command>, U: Upstream, G: Drop, O: Outle
         return Err(ClusterFault::Memory);
     };
     let cell = MarkedCell::open(alloc, ether, pass, store, upstream, recording)?;
-    let station = station(alloc, cell.id(), gate, outlet, ends)?;
-    Ok(Worker { cell, station })
+    let worker_loop = worker_loop(alloc, cell.id(), gate, outlet, ends)?;
+    Ok(Worker { cell, worker_loop })
 }
 
 /// What the worker of this node has beside its cell.
-fn station<M: Marking, G: Drop, O: Outlet<M::Effect>>(
+fn worker_loop<M: Marking, G: Drop, O: Outlet<M::Effect>>(
     alloc: Global,
     id: NodeId,
     gate: &Arc<G>,
     outlet: O,
     ends: &Inboxes<Job<M>>,
-) -> Result<Station<M, G, O>, ClusterFault>
+) -> Result<WorkerLoop<M, G, O>, ClusterFault>
     requires { id ≤ length ends.now.outboxes.items }
     ensures { IfErr result (λ e. e ≡ Memory) }
 {
@@ -133,7 +133,7 @@ fn station<M: Marking, G: Drop, O: Outlet<M::Effect>>(
     let Ok(gate) = Arc::try_clone(gate) else {
         return Err(ClusterFault::Memory);
     };
-    Ok(Station {
+    Ok(WorkerLoop {
         alloc,
         id,
         inbox,

@@ -15,7 +15,7 @@ use crate::job::Job;
 use crate::outlet::Outlet;
 use crate::part::Part;
 use crate::task::spawn_task;
-use crate::worker::{Homecoming, Running, Worker};
+use crate::worker::{Running, Worker, WorkerPromise};
 use crossbeam_channel::Sender;
 use ether::{Ether, Pass};
 use machine_laws::{Hosted, Machine, Marking};
@@ -118,7 +118,7 @@ where
         O: Outlet<M::Effect> + Send + 'static,
         ensures { IfSome result (λ t. t.promise.cell.value ≡ worker.cell) }
     {
-        let promise = Homecoming {
+        let promise = WorkerPromise {
             cell: Snapshot::of(&worker.cell),
         };
         spawn_task(rt, promise, worker)

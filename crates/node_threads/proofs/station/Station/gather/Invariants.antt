@@ -1,9 +1,0 @@
-use Rattle.std.proofs.Common.{◌≡◌}
-use Rattle.node_threads.specs.Forwarding.{forwarded_after}
-use Rattle.node_threads.specs.Rounds.{woken_by}
-use Rattle.node_threads.proofs.station.Station.gather.Given as goal
-
-abbrev pub invariant-loop-envelope : goal.invariant-loop-envelope
-invariant-loop-envelope g l =
-    (l.self.round ≡ record l.fn.self.round { woken = woken_by l.fn.self.round.woken l.fn.output.posted_to.items }) × (l.self.contacts ≡ l.fn.self.contacts)
-    × (l.self.forwarded ≡ forwarded_after l.fn.is_request l.fn.output.posted_to.items l.fn.self.forwarded)

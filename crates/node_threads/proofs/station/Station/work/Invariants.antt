@@ -1,5 +1,0 @@
-use Rattle.node_threads.specs.Homes.{IsSameHome}
-use Rattle.node_threads.proofs.station.Station.work.Given as goal
-
-abbrev pub invariant-loop : goal.invariant-loop
-invariant-loop g l = IsSameHome l.fn.cell.parts l.cell.parts

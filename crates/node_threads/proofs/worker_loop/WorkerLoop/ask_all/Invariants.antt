@@ -1,0 +1,17 @@
+use Rattle.raft_node.specs.Hosts.{hosted}
+use Rattle.raft_node.specs.Machine.{Machine}
+use Rattle.node_cells.specs.Turns.{CellOf}
+use Rattle.node_threads.specs.Homes.{IsSameHome}
+use Rattle.node_threads.specs.Work.{HasAskedOn}
+use Rattle.node_threads.proofs.worker_loop.WorkerLoop.ask_all.Given as goal
+
+abbrev pub machine : (g : goal.Over) → g.row.M-Setup.Denot → Machine
+machine g s =
+    hosted g.M.Hosted.blank g.M.Hosted.opened g.M.Hosted.shut g.M.Hosted.heard g.M.Hosted.claim g.M.Hosted.source (g.M.Machine.effects s)
+    (g.M.Hosted.next_claim s) (g.M.Hosted.playback s) g.M.Hosted.class
+
+abbrev pub invariant-loop : goal.invariant-loop
+invariant-loop g l =
+    let first = l.fn.cell.parts in
+    let M = machine g first.ether.setup in
+    IsSameHome first l.cell.parts × ((e : CellOf M _ _ _ _) → HasAskedOn M g.U.Upstream.tally l.cell.parts e → HasAskedOn M g.U.Upstream.tally first e)

@@ -1,0 +1,54 @@
+use Rattle.std.proofs.Common.{◌≡◌, ap, subst}
+use Rattle.raft_node.specs.Hosts.{hosted}
+use Rattle.raft_node.specs.Machine.{Machine}
+use Rattle.node_threads.specs.Reports.{is_news}
+use Rattle.node_threads.specs.Work.{HasApplied, HasAskedOn, HasBeaten, HasTakenBut}
+use Rattle.node_threads.proofs.Going.{home_after, home_after_taking}
+use Rattle.node_threads.proofs.Home.{same_home_still}
+use Rattle.node_threads.proofs.Seen.{home_asked, home_before, home_left}
+use Rattle.node_threads.proofs.worker_loop.WorkerLoop.go_round.Given as given
+use Rattle.node_threads.proofs.worker_loop.WorkerLoop.go_round.Goals as goal
+
+abbrev machine : (g : given.Over) → g.row.M-Setup.Denot → Machine
+machine g s =
+    hosted g.M.Hosted.blank g.M.Hosted.opened g.M.Hosted.shut g.M.Hosted.heard g.M.Hosted.claim g.M.Hosted.source (g.M.Machine.effects s)
+    (g.M.Hosted.next_claim s) (g.M.Hosted.playback s) g.M.Hosted.class
+
+pub returns : goal.returns
+returns g c =
+    let old = c.args.cell.now.parts in
+    let first = c.ask_before.new.cell.parts in
+    let seen = c.leader_left-left.new.cell.parts in
+    let heard = c.take_all.new.cell.parts in
+    let asked = c.ask_all-all_asked.new.cell.parts in
+    let applied = c.apply_all-all_applied.new.cell.parts in
+    let last = c.beat_on_news.new.cell.parts in
+    let tally = g.U.Upstream.tally in
+    let M = machine g old.ether.setup in
+    let one = home_before M tally _ c.args.self.now.requests.waiting.items old first c.ask_before.ensures in
+    let two = same_home_still old first seen one (home_left _ first c.leader_left-left.result seen c.leader_left-left.ensures) in
+    let takes = subst (λ (s : g.row.M-Setup.Denot). HasTakenBut (machine g s) tally c.leader_left-left.result seen heard) (ap (λ e. e.setup) two.ether) c.take_all.ensures in
+    let three = same_home_still old seen heard two (home_after_taking M tally c.leader_left-left.result seen heard takes) in
+    let asks = subst (λ (s : g.row.M-Setup.Denot). HasAskedOn (machine g s) tally heard asked) (ap (λ e. e.setup) three.ether) c.ask_all-all_asked.ensures in
+    let four = same_home_still old heard asked three (home_asked M tally heard asked asks) in
+    let applies = subst (λ (s : g.row.M-Setup.Denot). HasApplied (machine g s) tally asked applied) (ap (λ e. e.setup) four.ether) c.apply_all-all_applied.ensures.applied in
+    let five = same_home_still old asked applied four (home_after M tally _ asked applied applies.1) in
+    let now = c.apply_all-all_applied.new.self in
+    let news = is_news now.beats now.beaten now.round.is_behind applied in
+    let beats = subst (λ (s : g.row.M-Setup.Denot). HasBeaten (machine g s) tally news applied last) (ap (λ e. e.setup) five.ether) c.beat_on_news.ensures in
+    record {
+      first = first;
+      seen = seen;
+      heard = heard;
+      asked = asked;
+      applied = applied;
+      now_forwarded = c.ask_before.new.self.forwarded;
+      left = c.leader_left-left.result;
+      has_news = news;
+      asks_before = c.ask_before.ensures;
+      leaves = c.leader_left-left.ensures;
+      takes = takes;
+      asks = asks;
+      applies_on = applies;
+      beats = beats;
+    }

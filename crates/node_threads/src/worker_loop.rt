@@ -1,0 +1,299 @@
+//! What a worker has beside its node's cell, and what it does with it, in rounds.
+ghost use Rattle.std.specs.Prelude.{◌≡◌, ◌&&◌, [], false, length, true};
+ghost use Rattle.node_threads.specs.Homes.{IsSameHome};
+ghost use Rattle.node_threads.specs.Reports.{IsReport, IsStatusOf, TellsFirst, has_grown, is_news};
+ghost use Rattle.node_threads.specs.Requests.{in_term, queue_of};
+ghost use Rattle.node_threads.specs.Rounds.{leaving};
+ghost use Rattle.node_threads.specs.Work.{HasBeaten, HasGoneRound};
+
+use crate::beats::Beats;
+use crate::gate::Gate;
+use crate::job::Job;
+use crate::outlet::Outlet;
+use crate::worker_loop::requests::Requests;
+use crate::worker_loop::round::Round;
+use crate::worker_loop::telling::{Told, leads, status, wake};
+use crossbeam_channel::{Receiver, Sender};
+use machine_laws::{Hosted, Machine, Marking};
+use marked_cells::MarkedCell;
+use node_cells::Upstream;
+use node_notes::{Progress, Report};
+use raft_log::NodeId;
+use raft_node::Described;
+use stable_store::Stable;
+use std::alloc::Global;
+use std::mem::replace;
+use std::sync::{Arc, Wait};
+use std::thread;
+use wire_bytes::Number;
+use world_views::NodeInput;
+
+mod asking;
+mod forwarding;
+mod jobs;
+mod messages;
+pub mod requests;
+pub mod round;
+mod telling;
+mod turning;
+
+/// The most nodes that there may be.
+const MOST_NODES: u8 = 7;
+
+/// The most jobs that a round takes: each may be saved on its own, and the others wait for what a leader sends behind.
+const MOST_JOBS: u64 = 16;
+
+/// The most requests that a round asks, for the same.
+const MOST_ASKED: u64 = 16;
+
+/// The most places that a round applies, for the same.
+const MOST_APPLIED: u64 = 1_000;
+
+/// What a worker has beside its node's cell.
+#[derive(Drop)]
+pub struct WorkerLoop<M: Marking, G: Drop, O: Outlet<M::Effect>> {
+    pub alloc: Global,
+    pub id: NodeId,
+    pub inbox: Receiver<Job<M>>,
+    /// The inboxes of all workers, node 1's first.
+    pub others: Vec<Sender<Job<M>>>,
+    pub gate: Arc<G>,
+    pub outlet: O,
+    pub beats: Beats,
+    /// How many turns it came to.
+    pub turns: u64,
+    /// How many notes it has taken up.
+    pub done: u64,
+    /// How often its node has heard of the leader of its term.
+    pub contacts: u64,
+    pub requests: Requests<M::Command>,
+    /// The node to which a request was posted last, and nothing since.
+    pub forwarded: Option<u8>,
+    pub round: Round<M::Effect>,
+    /// What it told last, if that was taken.
+    pub told: Option<Told>,
+    /// What its node had where it sent last, as the leader of its term.
+    pub beaten: Option<Beaten>,
+    /// Whether nothing is left to do until a job comes.
+    pub may_wait: bool,
+}
+
+/// What a leader had where it sent last: its term, the last place of its log, and what was agreed.
+#[derive(Clone, Copy)]
+pub struct Beaten {
+    pub term: Number,
+    pub last: Number,
+    pub commit: Number,
+}
+
+impl<M: Marking, G: Gate + Drop, O: Outlet<M::Effect>> WorkerLoop<M, G, O> {
+    /// Works in rounds, until it is told to end.
+    pub fn work<R: Wait, S: Stable<M::Command>, U: Upstream>(
+        &mut self,
+        rt: &R,
+        cell: &mut MarkedCell<M, S, U>,
+    )
+        ensures { IsSameHome cell.old.parts cell.new.parts }
+    {
+        for _ in rt.forever() {
+            if !self.do_round(rt, cell) {
+                break;
+            }
+        }
+    }
+
+    /// A round. False where it is told to end, or nobody tells it anything any more.
+    fn do_round<R: Wait, S: Stable<M::Command>, U: Upstream>(
+        &mut self,
+        rt: &R,
+        cell: &mut MarkedCell<M, S, U>,
+    ) -> bool
+        ensures { IsSameHome cell.old.parts cell.new.parts }
+    {
+        let may_wait = self.may_wait;
+        let is_over = self.do_jobs(rt, cell, may_wait);
+        let all_done = self.go_round(rt, cell);
+        self.may_wait = all_done;
+        !is_over
+    }
+
+    /// What a round does behind its jobs. False where there is more to do, even if nothing comes.
+    fn go_round<R: Wait, S: Stable<M::Command>, U: Upstream>(
+        &mut self,
+        rt: &R,
+        cell: &mut MarkedCell<M, S, U>,
+    ) -> bool
+        ensures { HasGoneRound (⟦<M as Described>⟧.machine cell.old.parts.ether.setup) U.tally
+            self.old.forwarded self.old.requests.waiting.items cell.old.parts cell.new.parts }
+    {
+        self.ask_before(rt, cell);
+        let left = self.leader_left(cell);
+        self.take_all(rt, cell, left);
+        let all_asked = self.ask_all(rt, cell);
+        let all_applied = self.apply_all(rt, cell);
+        self.beat_on_news(rt, cell);
+        self.wake_all(rt);
+        let all_told = self.tell(rt, cell);
+        all_of(all_asked, all_applied, all_told)
+    }
+
+    /// A leader whose worker is to send by itself sends, where there is news.
+    fn beat_on_news<R: Wait, S: Stable<M::Command>, U: Upstream>(
+        &mut self,
+        rt: &R,
+        cell: &mut MarkedCell<M, S, U>,
+    )
+        ensures { HasBeaten (⟦<M as Described>⟧.machine cell.old.parts.ether.setup) U.tally
+            (is_news self.old.beats self.old.beaten self.old.round.is_behind cell.old.parts)
+            cell.old.parts cell.new.parts }
+    {
+        if !self.has_news(cell) {
+            return;
+        }
+        let standing = cell.state().standing;
+        let beaten = Beaten {
+            term: standing.term,
+            last: cell.state().log.len(),
+            commit: standing.commit,
+        };
+        if self.turn(rt, cell, NodeInput::Beat) {
+            self.beaten = Some(beaten);
+            self.round.is_behind = false;
+        }
+    }
+
+    /// Whether the node leads, and its log or what is agreed of it grew since it sent last in its term, or
+    /// a node that lags behind it answered; and its worker is to send by itself.
+    fn has_news<S: Stable<M::Command>, U: Upstream>(&self, cell: &MarkedCell<M, S, U>) -> bool
+        ensures { result ≡ is_news self.now.beats self.now.beaten self.now.round.is_behind
+            cell.now.parts }
+    {
+        let is_on_news = match self.beats {
+            Beats::OnNews => true,
+            Beats::WhenTold => false,
+        };
+        let standing = cell.state().standing;
+        let now = Beaten {
+            term: standing.term,
+            last: cell.state().log.len(),
+            commit: standing.commit,
+        };
+        is_on_news && leads(cell) && has_grown(self.beaten, self.round.is_behind, now)
+    }
+
+    /// Wakes the workers of the nodes that were posted to, or whose answer was taken.
+    fn wake_all<R: Wait>(&mut self, rt: &R) {
+        for place in 0..MOST_NODES {
+            if self.round.woken[place as usize] {
+                wake(rt, self.others.as_slice(), place + 1);
+            }
+        }
+        self.round.woken = [false; 7];
+    }
+
+    /// Tells what is new. False where that was not taken, or where more is to be told.
+    fn tell<R: Wait, S: Stable<M::Command>, U: Upstream>(
+        &mut self,
+        rt: &R,
+        cell: &MarkedCell<M, S, U>,
+    ) -> bool
+        ensures order { TellsFirst (leaving self.old.round) (leaving self.new.round) }
+        ensures all { result ≡ true → self.new.round.effects.items ≡ [] }
+    {
+        let now = self.stand(cell);
+        if !self.is_news(&now) {
+            return true;
+        }
+        let report = self.report(cell.id(), &now);
+        match self.outlet.report(rt, report) {
+            Ok(()) => {
+                self.told = Some(now);
+                self.round.go_on(self.alloc);
+                !self.round.has_news()
+            }
+            Err(back) => {
+                self.round.effects = back.effects;
+                thread::yield_now();
+                false
+            }
+        }
+    }
+
+    /// How the node stands, and how far its worker is.
+    fn stand<S: Stable<M::Command>, U: Upstream>(&mut self, cell: &MarkedCell<M, S, U>) -> Told
+        ensures status { IsStatusOf M.next_claim cell.now.parts result.status }
+        ensures progress { result.progress ≡ record {
+          done = self.old.done;
+          waiting = length self.old.requests.waiting.items;
+          lost = (in_term cell.now.parts.node.state.standing.term
+              (queue_of self.old.requests)).lost;
+          contacts = self.old.contacts;
+        } }
+        ensures requests { queue_of self.new.requests
+            ≡ in_term cell.now.parts.node.state.standing.term (queue_of self.old.requests) }
+        ensures round { self.new.round ≡ self.old.round }
+    {
+        let status = status(cell);
+        self.requests.see(status.term);
+        let progress = Progress {
+            done: self.done,
+            waiting: self.requests.waiting.len() as u64,
+            lost: self.requests.lost,
+            contacts: self.contacts,
+        };
+        Told { status, progress }
+    }
+
+    /// What is told, of what left and the first fault.
+    fn report(&mut self, node: NodeId, now: &Told) -> Report<M::Effect>
+        ensures report { IsReport node now.now self.old.round.effects.items self.old.round.fault
+            result }
+        ensures effects { self.new.round.effects.items ≡ [] }
+        ensures further { self.new.round.further ≡ self.old.round.further }
+    {
+        Report {
+            node,
+            status: now.status,
+            effects: replace(&mut self.round.effects, Vec::new(self.alloc)),
+            progress: now.progress,
+            fault: self.round.fault,
+        }
+    }
+
+    /// Whether this is to be told: something leaves, a turn did nothing, or the node or its worker stands
+    /// as was not told last.
+    fn is_news(&self, now: &Told) -> bool
+        ensures { result ≡ false → self.now.round.effects.items ≡ [] }
+    {
+        if self.round.has_news() {
+            return true;
+        }
+        match &self.told {
+            Some(told) => !told.is_same(now),
+            None => true,
+        }
+    }
+}
+
+/// Whether all of these are so.
+fn all_of(one: bool, two: bool, three: bool) -> bool
+    ensures { result ≡ (one && (two && three)) }
+{
+    one && two && three
+}
+
+/// Whether a leader's log or what is agreed of it grew since it sent last in its term, or a node that lags
+/// behind it answered.
+fn has_grown(beaten: Option<Beaten>, is_behind: bool, now: Beaten) -> bool
+    ensures { result ≡ has_grown beaten is_behind now.term now.last now.commit }
+{
+    match beaten {
+        Some(beaten) => {
+            beaten.term != now.term
+                || beaten.last < now.last
+                || beaten.commit < now.commit
+                || is_behind
+        }
+        None => true,
+    }
+}

@@ -1,0 +1,121 @@
+//! How a worker asks the requests that wait.
+ghost use Rattle.std.specs.Prelude.{◌≡◌};
+ghost use Rattle.node_threads.specs.Asking.{HasLeft, HasSeenIf, MayAsk, leader_in};
+ghost use Rattle.node_threads.specs.Forwarding.{asks_first, request_at};
+ghost use Rattle.node_threads.specs.Work.{AsksBefore, HasAskedFirstOf, HasAskedOn};
+
+use crate::gate::Gate;
+use crate::outlet::Outlet;
+use crate::worker_loop::forwarding::{asks_first, request_at};
+use crate::worker_loop::{MOST_ASKED, WorkerLoop};
+use machine_laws::{Hosted, Machine, Marking};
+use marked_cells::MarkedCell;
+use node_cells::Upstream;
+use raft_log::Position;
+use raft_node::Described;
+use stable_store::Stable;
+use std::sync::Wait;
+use world_views::NodeInput;
+
+impl<M: Marking, G: Gate + Drop, O: Outlet<M::Effect>> WorkerLoop<M, G, O> {
+    /// A node that knows a leader asks the first request that waits, before it answers its leader: of a
+    /// leader that sends again and again an answer is always on its way, and the mailbox holds one message.
+    /// Where it posted a request last, it answers first: else no answer would come while requests wait.
+    pub fn ask_before<R: Wait, S: Stable<M::Command>, U: Upstream>(
+        &mut self,
+        rt: &R,
+        cell: &mut MarkedCell<M, S, U>,
+    )
+        ensures { AsksBefore (⟦<M as Described>⟧.machine cell.old.parts.ether.setup) U.tally
+            (asks_first self.old.forwarded (leader_in cell.old.parts))
+            self.old.requests.waiting.items cell.old.parts cell.new.parts }
+    {
+        let leader = cell.state().standing.position.leader();
+        if asks_first(self.forwarded, leader) {
+            self.ask_one(rt, cell);
+        }
+    }
+
+    /// Asks the requests that wait as long as the node may. False where it may ask more.
+    pub fn ask_all<R: Wait, S: Stable<M::Command>, U: Upstream>(
+        &mut self,
+        rt: &R,
+        cell: &mut MarkedCell<M, S, U>,
+    ) -> bool
+        ensures { HasAskedOn (⟦<M as Described>⟧.machine cell.old.parts.ether.setup) U.tally
+            cell.old.parts cell.new.parts }
+    {
+        for _ in 0..MOST_ASKED {
+            if !self.ask_one(rt, cell) {
+                return true;
+            }
+        }
+        false
+    }
+
+    /// Asks the first request that waits, if one does and the node may. Whether it did.
+    fn ask_one<R: Wait, S: Stable<M::Command>, U: Upstream>(
+        &mut self,
+        rt: &R,
+        cell: &mut MarkedCell<M, S, U>,
+    ) -> bool
+        ensures { HasAskedFirstOf (⟦<M as Described>⟧.machine cell.old.parts.ether.setup) U.tally
+            self.old.requests.waiting.items result cell.old.parts cell.new.parts }
+    {
+        if !self.requests.has_waiting() {
+            return false;
+        }
+        if !may_ask(cell) {
+            return false;
+        }
+        let term = cell.state().standing.term;
+        let Some(body) = self.requests.ask(term) else {
+            return false;
+        };
+        self.turn(rt, cell, NodeInput::Ask(body));
+        true
+    }
+
+    /// The leader to which a request lies that it did not take, if one does: its mailbox is left, since the
+    /// answer to what lies there would replace the request. Of an older leader this says nothing.
+    pub fn leader_left<S: Stable<M::Command>, U: Upstream>(
+        &self,
+        cell: &mut MarkedCell<M, S, U>,
+    ) -> Option<u8>
+        ensures { HasLeft (request_at self.now.forwarded (leader_in cell.old.parts))
+            cell.old.parts result cell.new.parts }
+    {
+        let leader = request_at(self.forwarded, cell.state().standing.position.leader())?;
+        if has_taken(cell, leader) {
+            return None;
+        }
+        Some(leader)
+    }
+}
+
+/// Whether the node may ask: it is up, and leads, or knows a leader that took its last message.
+fn may_ask<M: Marking, S: Stable<M::Command>, U: Upstream>(cell: &mut MarkedCell<M, S, U>) -> bool
+    ensures { MayAsk cell.old.parts result cell.new.parts }
+{
+    if cell.down().is_some() {
+        return false;
+    }
+    match cell.state().standing.position {
+        Position::Leader(_) => true,
+        Position::Follower(Some(leader)) => has_taken(cell, leader.value()),
+        Position::Follower(None) | Position::Candidate => false,
+    }
+}
+
+/// Whether the node of this number took the last message that was posted to it.
+fn has_taken<M: Marking, S: Stable<M::Command>, U: Upstream>(
+    cell: &mut MarkedCell<M, S, U>,
+    node: u8,
+) -> bool
+    ensures { HasSeenIf node cell.old.parts result cell.new.parts }
+{
+    if node < 1 || cell.size().value() < node {
+        return false;
+    }
+    cell.is_taken(node as u64 - 1)
+}

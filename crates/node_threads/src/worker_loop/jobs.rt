@@ -1,0 +1,177 @@
+//! The jobs of a worker.
+ghost use Rattle.std.specs.Prelude.{◌≡◌, ◌+◌, ◌-◌, ◌^◌, ◌&&◌, min, nat_le, not, if◌then◌else◌};
+ghost use Rattle.node_threads.specs.Reports.{is_told, leads_in};
+ghost use Rattle.node_threads.specs.Work.{HasDone, HasDoneNote, HasDoneSome, HasTimedOut};
+
+use crate::gate::Gate;
+use crate::job::{Job, put};
+use crate::outlet::Outlet;
+use crate::worker_loop::telling::{leads, status};
+use crate::worker_loop::{MOST_JOBS, WorkerLoop};
+use crossbeam_channel::TryRecvError;
+use machine_laws::{Hosted, Machine, Marking};
+use marked_cells::MarkedCell;
+use node_cells::Upstream;
+use node_notes::Note;
+use raft_node::Described;
+use stable_store::Stable;
+use std::sync::Wait;
+use world_views::NodeInput;
+
+/// What comes to an inbox.
+enum Next<J> {
+    Job(J),
+    /// Nothing is there now.
+    Nothing,
+    /// Nothing will come any more.
+    Over,
+}
+
+impl<M: Marking, G: Gate + Drop, O: Outlet<M::Effect>> WorkerLoop<M, G, O> {
+    /// Does the jobs that are in the inbox, in order, and waits for the first one where it may. True where
+    /// it is told to end, or nobody tells it anything any more.
+    pub fn do_jobs<R: Wait, S: Stable<M::Command>, U: Upstream>(
+        &mut self,
+        rt: &R,
+        cell: &mut MarkedCell<M, S, U>,
+        may_wait: bool,
+    ) -> bool
+        ensures { HasDoneSome (⟦<M as Described>⟧.machine cell.old.parts.ether.setup) U.tally
+            M.marked M.mark M.Action cell.old.parts cell.new.parts }
+    {
+        for place in 0..MOST_JOBS {
+            match self.next_job(rt, may_wait && place == 0) {
+                Next::Job(job) => {
+                    if job.is_end() {
+                        return true;
+                    }
+                    self.do_job(rt, cell, job);
+                }
+                Next::Nothing => return false,
+                Next::Over => return true,
+            }
+        }
+        false
+    }
+
+    /// The next job of the inbox.
+    fn next_job<R: Wait>(&self, rt: &R, may_wait: bool) -> Next<Job<M>> {
+        if may_wait {
+            return match self.inbox.recv(rt) {
+                Ok(job) => Next::Job(job),
+                Err(_) => Next::Over,
+            };
+        }
+        match self.inbox.try_recv(rt) {
+            Ok(job) => Next::Job(job),
+            Err(TryRecvError::Empty) => Next::Nothing,
+            Err(TryRecvError::Disconnected) => Next::Over,
+        }
+    }
+
+    /// Does what a job says.
+    fn do_job<R: Wait, S: Stable<M::Command>, U: Upstream>(
+        &mut self,
+        rt: &R,
+        cell: &mut MarkedCell<M, S, U>,
+        job: Job<M>,
+    )
+        ensures { HasDone (⟦<M as Described>⟧.machine cell.old.parts.ether.setup) U.tally
+            M.marked M.mark job cell.old.parts cell.new.parts }
+    {
+        self.count(job.is_told());
+        match job {
+            Job::Note(note) => self.follow(rt, cell, note),
+            Job::Look(from_place, target, reply) => {
+                let _ = put(rt, &reply, cell.look(from_place, target));
+            }
+            Job::Mark(reply) => {
+                let _ = put(rt, &reply, self.mark(rt, cell));
+            }
+            Job::LookAfter(number, target, reply) => {
+                let _ = put(rt, &reply, cell.look_after(number, target));
+            }
+            Job::Restart(reply) => {
+                self.requests.end_run();
+                let _ = put(rt, &reply, cell.restart());
+            }
+            Job::Status(reply) => {
+                let _ = put(rt, &reply, status(cell));
+            }
+        }
+    }
+
+    /// A job is taken up, which counts where the node was told it.
+    fn count(&mut self, is_told: bool)
+        ensures { self.new.done ≡ (if is_told then min (self.old.done + 1) (2 ^ 64 - 1)
+            else self.old.done) }
+    {
+        if is_told {
+            self.done = self.done.saturating_add(1);
+        }
+    }
+
+    /// Does what a note says.
+    fn follow<R: Wait, S: Stable<M::Command>, U: Upstream>(
+        &mut self,
+        rt: &R,
+        cell: &mut MarkedCell<M, S, U>,
+        note: Note<M::Command, M::Line>,
+    )
+        ensures { HasDoneNote (⟦<M as Described>⟧.machine cell.old.parts.ether.setup) U.tally
+            note cell.old.parts cell.new.parts }
+    {
+        match note {
+            Note::Timeout(contacts) => self.time_out(rt, cell, contacts),
+            Note::Ask(body) => self.requests.tell(self.done, body),
+            Note::Restart => {
+                self.requests.end_run();
+                let _ = cell.restart();
+            }
+            Note::Beat => {
+                self.turn(rt, cell, NodeInput::Beat);
+            }
+            Note::Opened => {
+                self.turn(rt, cell, NodeInput::Opened);
+            }
+            Note::Closed => {
+                self.turn(rt, cell, NodeInput::Closed);
+            }
+            Note::Heard(at, line) => {
+                self.turn(rt, cell, NodeInput::Heard(at, line));
+            }
+            Note::Claim => {
+                self.turn(rt, cell, NodeInput::Claim);
+            }
+            Note::Wake | Note::End => {}
+        }
+    }
+
+    /// The node waited too long for a leader, unless it leads, or has heard of a leader more often than
+    /// this by now. So it takes the mailbox of its leader, too, whatever lies on its way there.
+    fn time_out<R: Wait, S: Stable<M::Command>, U: Upstream>(
+        &mut self,
+        rt: &R,
+        cell: &mut MarkedCell<M, S, U>,
+        contacts: u64,
+    )
+        ensures { HasTimedOut (⟦<M as Described>⟧.machine cell.old.parts.ether.setup) U.tally
+            (nat_le self.new.contacts contacts) cell.old.parts cell.new.parts }
+    {
+        self.take_all(rt, cell, None);
+        if self.is_due(cell, contacts) {
+            self.turn(rt, cell, NodeInput::Timeout);
+        }
+    }
+
+    /// Whether the node leads not, and has heard of a leader at most so often.
+    fn is_due<S: Stable<M::Command>, U: Upstream>(
+        &self,
+        cell: &MarkedCell<M, S, U>,
+        contacts: u64,
+    ) -> bool
+        ensures { result ≡ (nat_le self.now.contacts contacts && not (leads_in cell.now.parts)) }
+    {
+        self.contacts <= contacts && !leads(cell)
+    }
+}

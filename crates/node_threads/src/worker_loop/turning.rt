@@ -1,0 +1,162 @@
+//! The turns of a worker's node.
+ghost use Rattle.std.specs.Prelude.{◌≡◌, [], false};
+ghost use Rattle.world_views.specs.Views.{carries};
+ghost use Rattle.node_cells.specs.Cells.{HasHeard, view_in};
+ghost use Rattle.node_threads.specs.Rounds.{Gathers};
+ghost use Rattle.node_threads.specs.Work.{HasApplied, HasAppliedSo, HasGathered, HasGatheredMark, HasHadTurn, HasMarkedOne};
+
+use crate::gate::{Gate, pass_gate};
+use crate::outlet::Outlet;
+use crate::worker_loop::forwarding::{forwarded_after, is_request};
+use crate::worker_loop::telling::status;
+use crate::worker_loop::{MOST_APPLIED, WorkerLoop};
+use machine_laws::{Hosted, Machine, Marking};
+use marked_cells::{MarkTurn, MarkedCell};
+use node_cells::{CellFault, TurnOutput, Upstream};
+use raft_log::{Kind, Message};
+use raft_node::Described;
+use stable_store::Stable;
+use std::sync::Wait;
+use wire_bytes::Copied;
+use world_views::{Envelope, NodeInput};
+
+impl<M: Marking, G: Gate + Drop, O: Outlet<M::Effect>> WorkerLoop<M, G, O> {
+    /// One turn of the node. False where it did nothing.
+    pub fn turn<R: Wait, S: Stable<M::Command>, U: Upstream>(
+        &mut self,
+        rt: &R,
+        cell: &mut MarkedCell<M, S, U>,
+        input: NodeInput<M::Command, M::Line>,
+    ) -> bool
+        requires { HasHeard (view_in cell.old.parts) (carries input) }
+        ensures turn { HasHadTurn (⟦<M as Described>⟧.machine cell.old.parts.ether.setup) U.tally
+            cell.old.parts input cell.new.parts }
+        ensures gathered { HasGathered (⟦<M as Described>⟧.machine cell.old.parts.ether.setup)
+            U.tally cell.old.parts input self.old.round self.old.forwarded
+            cell.new.parts self.new.round self.new.forwarded }
+        ensures contacts { self.new.contacts ≡ self.old.contacts }
+    {
+        if self.round.has_further() {
+            self.round.fail(CellFault::Memory);
+            return false;
+        }
+        pass_gate(rt, &*self.gate, self.id, &mut self.turns);
+        let is_request = is_request(&input);
+        match cell.turn(input) {
+            Ok(output) => {
+                self.gather(cell, output, is_request);
+                true
+            }
+            Err(fault) => {
+                self.round.fail(fault);
+                false
+            }
+        }
+    }
+
+    /// The node's next mark.
+    pub fn mark<R: Wait, S: Stable<M::Command>, U: Upstream>(
+        &mut self,
+        rt: &R,
+        cell: &mut MarkedCell<M, S, U>,
+    ) -> Result<u64, CellFault>
+        ensures mark { HasMarkedOne (⟦<M as Described>⟧.machine cell.old.parts.ether.setup) U.tally
+            M.marked M.mark cell.old.parts result cell.new.parts }
+        ensures gathered { HasGatheredMark (⟦<M as Described>⟧.machine cell.old.parts.ether.setup)
+            U.tally M.marked M.mark cell.old.parts self.old.round self.old.forwarded
+            cell.new.parts self.new.round self.new.forwarded }
+    {
+        if self.round.has_further() {
+            return Err(CellFault::Memory);
+        }
+        pass_gate(rt, &*self.gate, self.id, &mut self.turns);
+        match cell.mark() {
+            Ok(MarkTurn { number, output }) => {
+                self.gather(cell, output, true);
+                Ok(number)
+            }
+            Err(fault) => Err(fault),
+        }
+    }
+
+    /// What came of a turn, which was a request or not, is kept for the end of the round.
+    fn gather<S: Stable<M::Command>, U: Upstream>(
+        &mut self,
+        cell: &MarkedCell<M, S, U>,
+        output: TurnOutput<M::Command, M::Effect>,
+        is_request: bool,
+    )
+        ensures gathered { Gathers is_request output self.old.round self.old.forwarded
+            self.new.round self.new.forwarded }
+        ensures contacts { self.new.contacts ≡ self.old.contacts }
+    {
+        let TurnOutput {
+            posted_to,
+            replaced,
+            effects,
+            ..
+        } = output;
+        self.round.wake_each(posted_to.as_slice());
+        self.forwarded = forwarded_after(self.forwarded, is_request, posted_to.as_slice());
+        for envelope in replaced {
+            self.take_back(cell, &envelope);
+        }
+        self.round.leave(effects);
+    }
+
+    /// A request that lay on its way to the leader of this term comes first again.
+    fn take_back<S: Stable<M::Command>, U: Upstream>(
+        &mut self,
+        cell: &MarkedCell<M, S, U>,
+        envelope: &Envelope<M::Command>,
+    )
+        ensures round { self.new.round ≡ self.old.round }
+        ensures forwarded { self.new.forwarded ≡ self.old.forwarded }
+        ensures contacts { self.new.contacts ≡ self.old.contacts }
+    {
+        let standing = cell.state().standing;
+        let Message { term, to, kind, .. } = &envelope.message;
+        let Kind::Forward(body) = kind else {
+            return;
+        };
+        let Some(leader) = standing.position.leader() else {
+            return;
+        };
+        if *term != standing.term || *to != leader.value() {
+            return;
+        }
+        let Some(note) = self.requests.asked_in(standing.term) else {
+            return;
+        };
+        match body.get().copy(self.alloc) {
+            Ok(body) => self.requests.give_back(note, body),
+            Err(_) => self.requests.lose(note),
+        }
+    }
+
+    /// Applies until all is applied that is agreed, or a turn does nothing. False where there is more: behind 1,000
+    /// places, or where what left is to be told first.
+    pub fn apply_all<R: Wait, S: Stable<M::Command>, U: Upstream>(
+        &mut self,
+        rt: &R,
+        cell: &mut MarkedCell<M, S, U>,
+    ) -> bool
+        ensures applied { HasApplied (⟦<M as Described>⟧.machine cell.old.parts.ether.setup) U.tally
+            cell.old.parts cell.new.parts }
+        ensures many { result ≡ false → self.new.round.further.items ≡ [] → HasAppliedSo
+            (⟦<M as Described>⟧.machine cell.old.parts.ether.setup) U.tally 1_000
+            cell.old.parts cell.new.parts }
+    {
+        for count in 0..MOST_APPLIED {
+            let _ = count;
+            let status = status(cell);
+            if status.down.is_some() || status.commit.value() <= status.applied.value() {
+                return true;
+            }
+            if !self.turn(rt, cell, NodeInput::Apply) {
+                return !self.round.has_further();
+            }
+        }
+        false
+    }
+}
