@@ -1,7 +1,6 @@
 -- What a marked cell keeps, after each call.
-use Rattle.std.proofs.Common.{◌≡◌, ℕ, suc, Bool, true, false, ◌||◌, not, ltb, List, [], ◌∷◌, ◌++◌, Option, Some, None, Result, Ok, Err, take, refl, sym, ap, ◌∙◌, subst, arith, ⊎_elim}
+use Rattle.std.proofs.Common.{◌≡◌, ℕ, suc, true, false, List, [], Option, Some, None, Result, Ok, Err, take, refl, sym, ap, ◌∙◌, subst, arith, ⊎_elim}
 use Rattle.std.proofs.Math.ListN.{length-replicate}
-use Rattle.std.proofs.lemmas.Bool.{cond_both, le-ltb}
 use Rattle.wire_bytes.specs.declared.mark.Mark.{Mark}
 use Rattle.raft_log.specs.declared.node_state.NodeState.{NodeState}
 use Rattle.raft_log.specs.declared.entry.Entry.{Entry}
@@ -9,7 +8,6 @@ use Rattle.raft_log.specs.declared.message.Message.{Message}
 use Rattle.raft_log.specs.Node.{Node}
 use Rattle.raft_log.specs.Seen.{seen}
 use Rattle.node_steps.specs.declared.refusal.Refusal.{Refusal}
-use Rattle.node_steps.specs.declared.refusal.Refusal.TheVariants.{Behind}
 use Rattle.raft_node.specs.declared.node_fault.NodeFault.TheVariants.{Down, Refused as Declined}
 use Rattle.raft_node.specs.declared.input.Looked.{Looked as PlayedAt}
 use Rattle.raft_node.specs.Machine.{Machine}
@@ -18,120 +16,34 @@ use Rattle.raft_node.specs.Raft.{started}
 use Rattle.raft_node.specs.Sound.{IsSound}
 use Rattle.raft_node.specs.Steps.{Act, Looks, Out, Turn, looked, refused, turn}
 use Rattle.raft_node.specs.Steps as steps
-use Rattle.raft_node.proofs.Keeps.{stays_sound}
 use Rattle.world_run.specs.declared.outcome.Outcome.TheVariants as outcome
 use Rattle.world_views.specs.declared.envelope.Envelope.{Envelope}
-use Rattle.world_views.specs.declared.node_event.NodeEvent.TheVariants.{Does, Look, Restart, StopIn}
+use Rattle.world_views.specs.declared.node_event.NodeEvent.TheVariants.{Does, Look}
 use Rattle.world_views.specs.declared.node_event.NodeInput.{NodeInput}
 use Rattle.world_views.specs.declared.node_event.NodeInput.TheVariants.{Deliver}
-use Rattle.world_views.specs.Own.{EventOf, TurnOf, ViewOf, act_of, own_of, own_state}
+use Rattle.world_views.specs.Own.{EventOf, ViewOf, act_of, own_state}
 use Rattle.world_views.specs.Views.{View}
 use Rattle.ether.specs.Passes.{EtherParts, view_of}
-use Rattle.ether.specs.Plays.{after_event, after_opening, after_take}
+use Rattle.ether.specs.Plays.{after_event, after_opening}
 use Rattle.ether.specs.declared.pass.Pass.{Pass}
 use Rattle.node_cells.specs.declared.record.Recording.{Recording}
 use Rattle.node_cells.specs.declared.cell_fault.CellFault.{CellFault}
 use Rattle.node_cells.specs.declared.cell_fault.CellFault.TheVariants.{Memory, Spent, Node as OfNode}
-use Rattle.node_cells.specs.declared.phase.Phase.{Phase}
-use Rattle.node_cells.specs.declared.phase.Phase.TheVariants.{Up, DownInTurn, DownInRestart}
+use Rattle.node_cells.specs.declared.phase.Phase.TheVariants.{Up}
 use Rattle.node_cells.specs.declared.record.TurnOutput.{TurnOutput}
 use Rattle.node_cells.specs.Books.{OutcomeOf}
 use Rattle.node_cells.specs.Cells.{CellParts, IsIn, view_in}
 use Rattle.node_cells.specs.Openings.{HasTakenIn, IsFresh}
-use Rattle.node_cells.specs.Posts.{posts_from}
-use Rattle.node_cells.specs.Restarts.{AreRestarts, IsNoRestart, IsRestart, after_turns, first_of}
+use Rattle.node_cells.specs.Restarts.{IsNoRestart, IsRestart}
 use Rattle.node_cells.specs.Turns.{CellOf, FallsInTurn, HasDelivered, HasHeardIn, HasLooked, IsEvent, IsNoTurn, IsTurn}
 use Rattle.node_cells.specs.Upstreams.{Tally}
 use Rattle.node_cells.proofs.Recorded.{posts_are}
 use Rattle.node_cells.proofs.Showing.{does_state, does_out}
-use Rattle.marked_cells.specs.Marks.{Keeps, asked_after, asked_from, asks, has_own, is_refusal, larger, reached_after}
+use Rattle.node_cells.specs.Inputs.{Answer}
+use Rattle.node_cells.specs.Together.{AreNoTurns, AreTurned, FallsInTurns}
+use Rattle.marked_cells.specs.Marks.{Keeps, asked_after, asked_from, asks, has_own, is_refusal, larger, reached_after, asked_by_all}
 use Rattle.marked_cells.proofs.Applied.{Reaches, quiet_turn_reaches, turn_reaches}
-
--- ---- views
-
-module _ (M : Machine) (marked : M.Body → Option Mark) where
-  abbrev Kept : ViewOf M → ℕ → Option ℕ → Type 0
-  Kept v asked reached = Keeps marked v asked reached
-
-  asked_behind : (most : ℕ) (turns : List (TurnOf M)) (t : TurnOf M) → asked_from marked most (turns ++ t ∷ []) ≡ asked_after marked (asked_from marked most turns) t.1
-  asked_behind most [] t = refl
-  asked_behind most (u ∷ turns) t = asked_behind (asked_after marked most u.1) turns t
-
-  own_sound : (n i : ℕ) (s : Node M.Body) (e : EventOf M) → IsSound n s → IsSound n (own_state M n i s e)
-  unfolding own_state
-  own_sound n i s e h = stays_sound M n i (own_of M e) s h
-
-  -- after an event
-  pub event_keeps : (v : ViewOf M) (t : ℕ) (e : EventOf M) (asked asked' : ℕ) (reached reached' : Option ℕ) → Kept v asked reached → asked' ≡ asked_after marked asked e
-      → (v.honest ≡ true → Reaches marked (suc v.node) reached' (own_state M v.size (suc v.node) v.state e)) → Kept (after_event M v t e) asked' reached'
-  event_keeps v t e asked asked' reached reached' h is reaches =
-      record {
-        asked_is = is ∙ ap (λ (most : ℕ). asked_after marked most e) h.asked_is ∙ sym (asked_behind 0 v.turns (t, e));
-        sound = λ honest. own_sound v.size (suc v.node) v.state e (h.sound honest);
-        reached_is = reaches;
-      }
-
-  -- posts change nothing of it
-  posted_keeps : (v : ViewOf M) (more : List ℕ) (asked : ℕ) (reached : Option ℕ) → Kept v asked reached → Kept (record v { posted = more }) asked reached
-  posted_keeps v more asked reached h = record { asked_is = h.asked_is; sound = h.sound; reached_is = h.reached_is }
-
-  posts_keep : (v : ViewOf M) (n k asked : ℕ) (reached : Option ℕ) → Kept v asked reached → Kept (posts_from v n k) asked reached
-  posts_keep v n k asked reached h = subst (λ (w : ViewOf M). Kept w asked reached) (sym (posts_are v n k)) (posted_keeps v (posts_from v n k).posted asked reached h)
-
-  -- a look into a mailbox
-  take_keeps : (v : ViewOf M) (came : Option (Envelope M.Body)) (asked : ℕ) (reached : Option ℕ) → Kept v asked reached → Kept (after_take v came) asked reached
-  take_keeps v None asked reached h = h
-  take_keeps v (Some e) asked reached h = record { asked_is = h.asked_is; sound = h.sound; reached_is = h.reached_is }
-
-  -- a look changes no node
-  look_same : (n i : ℕ) (s : Node M.Body) (from : ℕ) (target : M.Target) → own_state M n i s (Look from target) ≡ s
-  unfolding own_state
-  look_same n i s from target = cond_both (ltb s.applied from) (refused M s (Behind s.applied)) (record { node = s; out = steps.Looked s.applied (M.playback (steps.applied_history M s) target) }) (λ (t : Turn M). t.node ≡ s) (λ e. refl) (λ e. refl)
-
-  pub looked_keeps : (v : ViewOf M) (t from : ℕ) (target : M.Target) (asked : ℕ) (reached : Option ℕ) → Kept v asked reached → Kept (after_event M v t (Look from target)) asked reached
-  looked_keeps v t from target asked reached h =
-      event_keeps v t (Look from target) asked asked reached reached h refl
-      (λ honest. subst (λ (s : Node M.Body). Reaches marked (suc v.node) reached s) (sym (look_same v.size (suc v.node) v.state from target)) (h.reached_is honest))
-
-  -- ---- a new run
-
-  restart_none : (n i : ℕ) (s : Node M.Body) → (own_state M n i s Restart).applied ≡ 0
-  unfolding own_state
-  restart_none n i s = refl
-
-  stop_none : (n i : ℕ) (s : Node M.Body) (x : NodeInput M.Body M.Line) (after : Bool) → (own_state M n i s (StopIn x after)).applied ≡ 0
-  unfolding own_state
-  stop_none n i s x false = refl
-  stop_none n i s x true = refl
-
-  none_reached : (node : ℕ) (s : Node M.Body) → s.applied ≡ 0 → Reaches marked node None s
-  none_reached node s e n = λ d. has_own marked node s.boot n (take (sym e d) s.log)
-
-  restart_reaches : (n i : ℕ) (s : Node M.Body) → Reaches marked i None (own_state M n i s Restart)
-  restart_reaches n i s = none_reached i (own_state M n i s Restart) (restart_none n i s)
-
-  stop_reaches : (n i : ℕ) (s : Node M.Body) (x : NodeInput M.Body M.Line) (after : Bool) → Reaches marked i None (own_state M n i s (StopIn x after))
-  stop_reaches n i s x after = none_reached i (own_state M n i s (StopIn x after)) (stop_none n i s x after)
-
-  restarted_keeps : (v : ViewOf M) (t asked : ℕ) (reached : Option ℕ) → Kept v asked reached → Kept (after_event M v t Restart) 0 None
-  restarted_keeps v t asked reached h = event_keeps v t Restart asked 0 reached None h refl (λ honest. restart_reaches v.size (suc v.node) v.state)
-
-  stopped_keeps : (v : ViewOf M) (t : ℕ) (x : NodeInput M.Body M.Line) (after : Bool) (asked : ℕ) (reached : Option ℕ) → Kept v asked reached → Kept (after_event M v t (StopIn x after)) 0 None
-  stopped_keeps v t x after asked reached h = event_keeps v t (StopIn x after) asked 0 reached None h refl (λ honest. stop_reaches v.size (suc v.node) v.state x after)
-
-  first_keeps : (v : ViewOf M) (t : ℕ) (p : Phase M.Body M.Line) (same : Bool) (asked : ℕ) (reached : Option ℕ) → Kept v asked reached → Kept (after_event M v t (first_of p same)) 0 None
-  first_keeps v t Up same asked reached h = restarted_keeps v t asked reached h
-  first_keeps v t (DownInTurn x done) same asked reached h = stopped_keeps v t x (done || not same) asked reached h
-  first_keeps v t DownInRestart same asked reached h = restarted_keeps v t asked reached h
-
-  more_keep : (v : ViewOf M) (turns : List (TurnOf M)) → AreRestarts turns → Kept v 0 None → Kept (after_turns M v turns) 0 None
-  more_keep v [] are h = h
-  more_keep v (t ∷ turns) are h =
-      more_keep (after_event M v t.0 t.1) turns are.1
-      (subst (λ (e : EventOf M). Kept (after_event M v t.0 e) 0 None) (sym are.0) (restarted_keeps v t.0 0 None h))
-
-  no_larger : (a : ℕ) → a ≡ larger a 0
-  no_larger a = cond_both (ltb a 0) 0 a (λ (m : ℕ). a ≡ m) (λ e. absurd (let is : ltb a 0 ≡ false = le-ltb a 0 (omega arith) in let clash : true ≡ false = sym e ∙ is in cc clash)) (λ e. refl)
+use Rattle.marked_cells.proofs.Runs.{Kept, all_keep, event_keeps, looked_keeps, no_larger, posts_keep, restart_begins, take_keeps}
 
 -- ---- cells
 
@@ -139,6 +51,19 @@ module _ (M : Machine) (marked : M.Body → Option Mark) {Setup Hosted Store U :
   module _ (c d : CellOf M Setup Hosted Store U) (asked : ℕ) (reached : Option ℕ) (h : Kept M marked (view_in c) asked reached) where
     pub same_keeps : view_in d ≡ view_in c → Kept M marked (view_in d) asked reached
     same_keeps e = subst (λ (v : ViewOf M). Kept M marked v asked reached) (sym e) h
+
+    -- inputs that were done together
+    pub turns_keep : (inputs : List (NodeInput M.Body M.Line)) (answers : List Answer) → AreTurned M c inputs answers d → Kept M marked (view_in d) (asked_by_all marked asked inputs) reached
+    turns_keep inputs answers is =
+        subst (λ (v : ViewOf M). Kept M marked v (asked_by_all marked asked inputs) reached) (sym is.view)
+        (all_keep M marked inputs answers is.noted (view_in c) asked reached h is.many is.are is.outs)
+
+    -- inputs that were not done
+    pub no_turns_keep : (inputs : List (NodeInput M.Body M.Line)) (fault : CellFault) → AreNoTurns M c inputs fault d → Kept M marked (view_in d) asked reached
+    no_turns_keep inputs Memory is = same_keeps (ap view_in is)
+    no_turns_keep inputs Spent is = same_keeps (ap view_in is.0)
+    no_turns_keep inputs (OfNode (Declined refusal)) is = absurd is
+    no_turns_keep inputs (OfNode (Down cause)) is = ⊎_elim (λ (f : FallsInTurns M c inputs d). same_keeps (ap view_of f.same.pass)) (λ w. same_keeps (ap view_in w.1)) is
 
     module _ (tally : U → Tally) where
       event : (e : EventOf M) (o : OutcomeOf M) (asked' : ℕ) (reached' : Option ℕ) → IsEvent M tally c e o d → asked' ≡ asked_after marked asked e
@@ -221,7 +146,7 @@ module _ (M : Machine) (marked : M.Body → Option Mark) {Setup Hosted Store U :
     pub restart_keeps : IsRestart M c d → Kept M marked (view_in d) 0 None
     restart_keeps is =
         subst (λ (v : ViewOf M). Kept M marked v 0 None) (sym is.view)
-        (more_keep M marked (after_event M (view_in c) is.ticket (first_of c.phase is.same)) is.more is.restarts (first_keeps M marked (view_in c) is.ticket c.phase is.same asked reached h))
+        (restart_begins M marked c.phase is.same is.first is.more (view_in c) asked reached h is.together is.first_are is.restarts)
 
     pub no_restart_keeps : (fault : CellFault) → IsNoRestart M c fault d → Kept M marked (view_in d) asked reached
     no_restart_keeps Memory is = same_keeps (ap view_in is)

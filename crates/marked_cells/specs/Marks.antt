@@ -85,6 +85,11 @@ module _ {B : Type 0} (marked : B → Option Mark) where
     asks Claim = 0
     asks Apply = 0
 
+    -- the greatest number of a mark that was asked, where it was `most` before these inputs
+    abbrev pub asked_by_all : ℕ → List (NodeInput B L) → ℕ
+    asked_by_all most [] = most
+    asked_by_all most (x ∷ inputs) = asked_by_all (larger most (asks x)) inputs
+
   module _ {L T : Type 0} where
     -- the greatest number of a mark that was asked in a run, after an event: a new run has asked none
     abbrev pub asked_after : ℕ → NodeEvent B L T → ℕ

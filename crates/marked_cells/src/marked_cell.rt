@@ -1,20 +1,25 @@
 //! A cell that marks places of the agreed list, and waits for its marks.
-ghost use Rattle.std.specs.Prelude.{◌≡◌, ◌<◌, []};
+ghost use Rattle.std.specs.Prelude.{◌≡◌, ◌<◌, ◌≤◌, [], IfErr, IfOk, length, true};
 ghost use Rattle.std.specs.Arc.{arc_value};
 ghost use Rattle.ether.specs.Passes.{IsPass, IsUnopened, view_of};
 ghost use Rattle.ether.specs.Plays.{IsFrom};
+ghost use Rattle.raft_log.specs.Node.{is_leader};
+ghost use Rattle.raft_log.specs.Positions.{role_of};
 ghost use Rattle.raft_node.specs.Parts.{keeper};
 ghost use Rattle.world_views.specs.Laws.{AreOfOneGroup};
 ghost use Rattle.world_views.specs.Views.{carries};
 ghost use Rattle.node_cells.specs.Causes.{HasCause, MayNotRestart, TellsCause};
 ghost use Rattle.node_cells.specs.Cells.{HasHeard, view_in};
+ghost use Rattle.node_cells.specs.Inputs.{OnlyAppend};
 ghost use Rattle.node_cells.specs.Openings.{HasOpened, HasSeenTo, HasTakenIn, IsClosed, IsSameCell};
 ghost use Rattle.node_cells.specs.Restarts.{HasRestarted};
+ghost use Rattle.node_cells.specs.Together.{AreNoTurns, AreTurned};
 ghost use Rattle.node_cells.specs.Turns.{HasDelivered, HasLooked, HasTurned};
+ghost use Rattle.node_cells.specs.declared.phase.Phase.TheVariants.{Up};
 ghost use Rattle.marked_cells.specs.Marking.{HasLookedAfter, HasMarked};
 
 use crate::mark_turn::MarkTurn;
-use crate::reaching::{asks, is_reached, is_refusal, larger, reached_after};
+use crate::reaching::{asked_by_all, asks, is_reached, is_refusal, larger, reached_after};
 use ether::{Ether, Pass};
 use machine_laws::{Hosted, Machine, Marking};
 use node_cells::{CellFault, NodeCell, NodeRecord, Recording, TurnOutput, Upstream};
@@ -106,6 +111,35 @@ impl<M: Marking, S: Stable<M::Command>, U: Upstream> MarkedCell<M, S, U> {
                 }
                 Err(fault)
             }
+        }
+    }
+
+    /// Inputs by which a leader only appends, one after the other and saved at once, as those of a `NodeCell`.
+    pub fn turn_all(
+        &mut self,
+        inputs: Vec<NodeInput<M::Command, M::Line>>,
+    ) -> Result<Vec<Result<(), Refusal>>, CellFault>
+        requires leads { self.old.parts.phase ≡ Up
+            → is_leader (role_of self.old.parts.node.state.standing.position) ≡ true }
+        requires appends { OnlyAppend inputs.items }
+        requires some { 1 ≤ length inputs.items }
+        requires few { length inputs.items ≤ 256 }
+        ensures done { IfOk result (λ answers. AreTurned
+            (⟦<M as Described>⟧.machine self.old.parts.ether.setup) self.old.parts inputs.items
+            answers.items self.new.parts) }
+        ensures failed { IfErr result (λ fault. AreNoTurns
+            (⟦<M as Described>⟧.machine self.old.parts.ether.setup) self.old.parts inputs.items
+            fault self.new.parts) }
+        ensures cause { HasCause (keeper S.saved S.may_stand S.condition) self.old.parts result
+            self.new.parts }
+    {
+        let asked = asked_by_all::<M>(self.asked, inputs.as_slice());
+        match self.cell.turn_all(inputs) {
+            Ok(answers) => {
+                self.asked = asked;
+                Ok(answers)
+            }
+            Err(fault) => Err(fault),
         }
     }
 

@@ -1,6 +1,6 @@
 //! The greatest numbers of marks.
 ghost use Rattle.std.specs.Prelude.{◌≡◌, suc};
-ghost use Rattle.marked_cells.specs.Marks.{asks, is_reached, is_refusal, larger, mark_at, reached_after, with_mark};
+ghost use Rattle.marked_cells.specs.Marks.{asked_by_all, asks, is_reached, is_refusal, larger, mark_at, reached_after, with_mark};
 
 use machine_laws::Marking;
 use node_cells::CellFault;
@@ -27,6 +27,17 @@ pub fn asks<M: Marking>(input: &NodeInput<M::Command, M::Line>) -> Number
         },
         _ => Number::new(0),
     }
+}
+
+/// The greatest number of a mark that was asked, once these inputs were, too.
+pub fn asked_by_all<M: Marking>(most: Number, inputs: &[NodeInput<M::Command, M::Line>]) -> Number
+    ensures { result ≡ asked_by_all M.marked most inputs.now }
+{
+    let mut most = most;
+    for input in inputs {
+        most = larger(most, asks::<M>(input));
+    }
+    most
 }
 
 /// Whether the greatest number that was reached is at least this.
