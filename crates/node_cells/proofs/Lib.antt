@@ -14,3 +14,4 @@ pub mod Appending
 pub mod Noting
 pub mod Stopping
 pub mod Together
+pub mod OneInput

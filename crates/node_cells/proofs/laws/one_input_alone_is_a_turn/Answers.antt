@@ -1,4 +1,4 @@
-use Rattle.node_cells.proofs.Together.{one_is_a_turn}
+use Rattle.node_cells.proofs.OneInput.{one_is_a_turn}
 use Rattle.node_cells.proofs.laws.one_input_alone_is_a_turn.Goals as goal
 
 pub returns : goal.returns

@@ -1,4 +1,4 @@
-use Rattle.std.proofs.Common.{rules, arith, ◌≡◌, ◌∷◌, List, Option, Some, None, length, suc, [], append-nil, sym, ap, ◌∙◌, subst}
+use Rattle.std.proofs.Common.{rules, arith, ◌≡◌, ◌∷◌, List, Some, None, length, suc, [], append-nil, sym, ap, ◌∙◌, subst}
 use Rattle.std.proofs.lemmas.List.{nil_from_length}
 use Rattle.raft_log.specs.declared.message.Message.{Message}
 use Rattle.ether.specs.Passes.{view_of}

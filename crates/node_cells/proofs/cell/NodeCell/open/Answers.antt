@@ -7,10 +7,7 @@ use Rattle.raft_node.specs.Hosts.{hosted}
 use Rattle.raft_node.specs.Machine.{Machine}
 use Rattle.raft_node.specs.Parts.{Keeper, keeper}
 use Rattle.ether.specs.Passes.{EtherParts, IsOpenPass}
-use Rattle.node_cells.specs.declared.phase.Phase.TheVariants.{Up}
 use Rattle.node_cells.specs.Books.{BookParts}
-use Rattle.node_cells.specs.Cells.{cell_of}
-use Rattle.node_cells.specs.Openings.{IsFresh}
 use Rattle.node_cells.proofs.Opening.{fresh, fresh_cell}
 use Rattle.node_cells.proofs.cell.NodeCell.open.Given as given
 use Rattle.node_cells.proofs.cell.NodeCell.open.Goals as goal

@@ -1,11 +1,9 @@
-use Rattle.std.proofs.Common.{rules, arith, ◌≡◌, ◌≤◌, ◌+◌, ◌-◌, ◌^◌, ℕ, suc, List, length, map, IfOk, IfErr, sym, ap, subst}
-use Rattle.std.specs.Prelude.{vec_len}
+use Rattle.std.proofs.Common.{rules, arith, ◌≡◌, ◌≤◌, ◌+◌, ◌-◌, ◌^◌, ℕ, suc, List, length, IfOk, IfErr, sym, ap, subst}
 use Rattle.raft_node.specs.Hosts.{hosted}
 use Rattle.raft_node.specs.Machine.{Machine}
 use Rattle.world_views.specs.declared.node_event.NodeInput.{NodeInput}
 use Rattle.node_cells.specs.Books.{room_for}
 use Rattle.node_cells.specs.Cells.{CellParts, view_in}
-use Rattle.node_cells.specs.Inputs.{Answer}
 use Rattle.node_cells.specs.Together.{AreNoTurns, AreTurned}
 use Rattle.node_cells.proofs.cell.NodeCell.turn_all.Given as given
 use Rattle.node_cells.proofs.cell.NodeCell.turn_all.Goals as goal
