@@ -44,7 +44,7 @@ fn a_node_that_lives_on_in_a_run_that_is_gone_is_started_again(
     follow(&rt, rt.alloc(), &buried(), &story)
 }
 
-/// A session of node 1, of which 31 notes are not done, and client 1 at this node and client 2 at node 2;
+/// A session of node 1, of which 255 notes are not done, and client 1 at this node and client 2 at node 2;
 /// the last line that came was the last one that may.
 fn flooded() -> [Step<'static>; 7] {
     let (one, two) = (NodeId::new(1), NodeId::new(2));
@@ -56,12 +56,12 @@ fn flooded() -> [Step<'static>; 7] {
         Step::Connected(0),
         // the node was asked, is told of the session, and of its first line
         Step::Server(0, b":s 001 me :hi\r\n", 1),
-        Step::Server(0, b":a!b@c NOTICE me :x\r\n", 28),
+        Step::Server(0, b":a!b@c NOTICE me :x\r\n", 252),
     ]
 }
 
 #[test]
-fn nothing_is_read_for_a_node_while_32_of_its_notes_wait(rt: HostRuntime) -> Result<(), Fail> {
+fn nothing_is_read_for_a_node_while_256_of_its_notes_wait(rt: HostRuntime) -> Result<(), Fail> {
     let node = NodeId::new(1);
     let story = [
         Step::ReadsServer(true),
