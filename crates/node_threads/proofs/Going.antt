@@ -1,5 +1,5 @@
 -- What a worker does with its node's cell, step by step.
-use Rattle.std.proofs.Common.{◌≡◌, ◌<◌, ◌+◌, ◌-◌, inl, inr, ⊎_elim, ℕ, zero, suc, Bool, true, false, List, [], ◌∷◌, ◌++◌, Option, None, Some, Result, Ok, Err, option_map, refl, sym, subst, arith}
+use Rattle.std.proofs.Common.{◌≡◌, ℕ, zero, suc, Bool, true, false, List, [], ◌∷◌, ◌++◌, Option, None, Some, option_map, refl, sym, subst}
 use Rattle.wire_bytes.specs.declared.mark.Mark.{Mark}
 use Rattle.raft_node.specs.Machine.{Machine}
 use Rattle.world_views.specs.declared.node_event.NodeInput.{NodeInput}
@@ -13,7 +13,7 @@ use Rattle.node_threads.specs.declared.job.Job.TheVariants as job
 use Rattle.node_threads.specs.Homes.{IsSameHome}
 use Rattle.node_threads.specs.declared.worker_loop.requests.Request.{Request}
 use Rattle.node_threads.specs.Forwarding.{is_left}
-use Rattle.node_threads.specs.Work.{Deed, Does, HasBeaten, HasDeed, HasDone, HasDoneAll, HasDoneNote, HasDoneSome, HasGoneRound, HasHadTurn, HasLookedIn, HasTaken, HasTakenBut, HasTimedOut, HasTurnedIn, applies, beats_on, takes_but, takes_unless}
+use Rattle.node_threads.specs.Work.{Deed, Does, HasDeed, HasDone, HasDoneNote, HasGoneRound, HasHadTurn, HasLookedIn, HasTaken, HasTakenBut, HasTimedOut, HasTurnedIn, applies, takes_but, takes_unless}
 use Rattle.node_threads.specs.Work.Deed.{Takes, Turns}
 use Rattle.node_threads.proofs.Home.{home_after_input, home_after_look, home_after_restart, home_after_take, same_home, same_home_still}
 use Rattle.node_threads.proofs.Seen.{home_asked, home_before, home_left}
@@ -90,7 +90,7 @@ module _ (M : Machine) {Setup Hosted Store U : Type 0} (tally : U → Tally) whe
       same_home_still c h.first d (home_before M tally _ waiting c h.first h.asks_before)
       (same_home_still h.first h.seen d (home_left _ h.first h.left h.seen h.leaves)
       (same_home_still h.seen h.heard d (home_after_taking h.left h.seen h.heard h.takes)
-      (same_home_still h.heard h.asked d (home_asked M tally h.heard h.asked h.asks)
+      (same_home_still h.heard h.asked d (home_asked M tally h.now_waiting h.heard h.asked h.asks)
       (same_home_still h.asked h.applied d (home_after _ h.asked h.applied h.applies_on.1) (home_after _ h.applied d h.beats)))))
 
   -- a note that is this one was done
@@ -109,17 +109,3 @@ module _ (M : Machine) {Setup Hosted Store U : Type 0} (tally : U → Tally) whe
     -- a job that is this one was done
     pub done_as : (j k : Job Hosted Action M.Line M.Target M.Played Setup M.Body M.Effect) (c d : CellOf M Setup Hosted Store U) → j ≡ k → HasDone M tally marked mark k c d → HasDone M tally marked mark j c d
     done_as j k c d is h = subst (λ (z : Job Hosted Action M.Line M.Target M.Played Setup M.Body M.Effect). HasDone M tally marked mark z c d) (sym is) h
-
-    home_after_jobs : (js : List (Job Hosted Action M.Line M.Target M.Played Setup M.Body M.Effect)) (c d : CellOf M Setup Hosted Store U) → HasDoneAll M tally marked mark js c d → IsSameHome c d
-    home_after_jobs [] c d h = same_home c d h
-    home_after_jobs (j ∷ js) c d h = same_home_still c h.0 d (home_after_job j c h.0 h.1) (home_after_jobs js h.0 d h.2)
-
-    pub home_after_some : (c d : CellOf M Setup Hosted Store U) → HasDoneSome M tally marked mark Action c d → IsSameHome c d
-    home_after_some c d h = home_after_jobs h.0 c d h.1
-
-    -- one job more is done
-    pub some_next : (j : Job Hosted Action M.Line M.Target M.Played Setup M.Body M.Effect) (c b e : CellOf M Setup Hosted Store U) → HasDone M tally marked mark j c b → HasDoneSome M tally marked mark Action b e → HasDoneSome M tally marked mark Action c e
-    some_next j c b e done rest = (j ∷ rest.0, (b, done, rest.1))
-
-  pub some_none : (marked : M.Body → Option Mark) (mark : Mark → M.Body) (Action : Type 0) (c : CellOf M Setup Hosted Store U) → HasDoneSome M tally marked mark Action c c
-  some_none marked mark Action c = ([], refl)

@@ -1,5 +1,5 @@
 -- That a cell stays its node's, whatever is done with it.
-use Rattle.std.proofs.Common.{◌≡◌, ℕ, zero, suc, Bool, List, [], ◌∷◌, Option, Some, None, Result, Ok, Err, refl, sym, ap, ◌∙◌, subst, ⊎_elim}
+use Rattle.std.proofs.Common.{◌≡◌, ℕ, zero, suc, Bool, List, [], ◌∷◌, ◌++◌, map, Option, Some, None, Result, Ok, Err, refl, sym, ap, ◌∙◌, subst, ⊎_elim}
 use Rattle.raft_node.specs.declared.input.Looked.{Looked as PlayedAt}
 use Rattle.raft_node.specs.declared.node_fault.NodeFault.TheVariants.{Down, Refused}
 use Rattle.raft_node.specs.Machine.{Machine}
@@ -12,14 +12,16 @@ use Rattle.ether.specs.Plays.{after_event, after_post, after_take}
 use Rattle.node_cells.specs.declared.cell_fault.CellFault.{CellFault}
 use Rattle.node_cells.specs.declared.cell_fault.CellFault.TheVariants.{Memory, Spent, Node}
 use Rattle.node_cells.specs.declared.record.TurnOutput.{TurnOutput}
-use Rattle.node_cells.specs.Books.{OutcomeOf}
+use Rattle.node_cells.specs.Books.{OutcomeOf, turn_in}
 use Rattle.node_cells.specs.Cells.{CellParts, view_in}
 use Rattle.node_cells.specs.Openings.{HasSeenTo, HasTakenIn}
 use Rattle.node_cells.specs.Posts.{posts_from}
 use Rattle.node_cells.specs.Restarts.{HasRestarted, after_turns}
 use Rattle.node_cells.specs.Turns.{CellOf, HasLooked, HasTurned, IsDownAs, IsEvent}
 use Rattle.node_cells.specs.Upstreams.{Tally}
+use Rattle.node_cells.specs.Inputs.{Answer}
 use Rattle.node_threads.specs.Homes.{IsLaterView, IsSameHome}
+use Rattle.node_threads.specs.Together.{HasTurnedAll, HaveTurned}
 use Rattle.node_threads.specs.Work.{HasHadTurn}
 
 module _ {B L T : Type 0} where
@@ -96,12 +98,29 @@ module _ (M : Machine) {Setup Hosted Store U : Type 0} where
 
   pub home_after_restart : (c : CellOf M Setup Hosted Store U) (answer : Result (Unit {0}) CellFault) (d : CellOf M Setup Hosted Store U) → HasRestarted M c answer d → IsSameHome c d
   home_after_restart c (Ok done) d h =
-      let w = after_event M (view_in c) h.ticket _ in
       record {
         ether = h.ether;
         recording = h.recording;
-        view = subst (λ (v : ViewOf M). IsLaterView (view_in c) v) (sym h.view) (turns_later M (view_in c) w (event_later M (view_in c) h.ticket _) h.more);
+        view = subst (λ (v : ViewOf M). IsLaterView (view_in c) v) (sym h.view) (turns_later M (view_in c) (view_in c) (same_view (view_in c)) (map (turn_in M) h.first ++ h.more));
       }
   home_after_restart c (Err Memory) d h = same_home c d h
   home_after_restart c (Err Spent) d h = same_home c d h.0
   home_after_restart c (Err (Node fault)) d h = down_home c d h.same
+
+  pub home_together : (c : CellOf M Setup Hosted Store U) (inputs : List (NodeInput M.Body M.Line)) (answer : Result (List Answer) CellFault) (d : CellOf M Setup Hosted Store U)
+      → HaveTurned M c inputs answer d → IsSameHome c d
+  home_together c inputs (Ok answers) d h =
+      record {
+        ether = h.ether;
+        recording = h.recording;
+        view = subst (λ (v : ViewOf M). IsLaterView (view_in c) v) (sym h.view) (turns_later M (view_in c) (view_in c) (same_view (view_in c)) (map (turn_in M) h.noted));
+      }
+  home_together c inputs (Err Memory) d h = same_home c d h
+  home_together c inputs (Err Spent) d h = same_home c d h.0
+  home_together c inputs (Err (Node (Refused refusal))) d h = absurd h
+  home_together c inputs (Err (Node (Down cause))) d h = ⊎_elim (λ f. down_home c d f.same) (λ w. same_home c d w.1) h
+
+  -- after inputs that were gathered were done
+  pub home_after_all : (inputs : List (NodeInput M.Body M.Line)) (c d : CellOf M Setup Hosted Store U) → HasTurnedAll M inputs c d → IsSameHome c d
+  home_after_all [] c d h = same_home c d h
+  home_after_all (x ∷ inputs) c d h = home_together c (x ∷ inputs) h.answer d h.turned

@@ -4,6 +4,9 @@ pub mod Opened
 mod HomeMarked
 pub mod Started
 mod Going
+mod Taken
+mod Asked
+mod Gathered
 mod Seen
 mod Told
 mod Exits

@@ -1,11 +1,11 @@
 -- That looks whether a message was taken, and requests that are asked, leave a cell its node's.
-use Rattle.std.proofs.Common.{◌≡◌, ⊎_elim, ℕ, zero, suc, Bool, true, false, List, [], ◌∷◌, Option, None, Some, refl, sym, subst}
+use Rattle.std.proofs.Common.{◌≡◌, inl, inr, ⊎_elim, ℕ, zero, suc, Bool, true, false, List, [], ◌∷◌, take, Option, None, Some, refl, sym, subst}
 use Rattle.raft_node.specs.Machine.{Machine}
 use Rattle.raft_log.specs.declared.position.Position.{Position}
 use Rattle.raft_log.specs.declared.position.Position.TheVariants.{Follower, Candidate, Leader}
 use Rattle.world_views.specs.declared.node_event.NodeInput.TheVariants as input
 use Rattle.node_cells.specs.declared.phase.Phase.{Phase}
-use Rattle.node_cells.specs.declared.phase.Phase.TheVariants.{Up, DownInTurn, DownInRestart}
+use Rattle.node_cells.specs.declared.phase.Phase.TheVariants.{Up, DownInTurn, DownInTurns, DownInRestart}
 use Rattle.node_cells.specs.Cells.{CellParts}
 use Rattle.node_cells.specs.Openings.{HasSeenTo}
 use Rattle.node_cells.specs.Turns.{CellOf}
@@ -14,8 +14,9 @@ use Rattle.node_threads.specs.declared.worker_loop.requests.Request.{Request}
 use Rattle.node_threads.specs.Asking.{HasLeft, HasSeenIf, MayAsk, MayIn, MayUp}
 use Rattle.node_threads.specs.Homes.{IsSameHome}
 use Rattle.node_threads.specs.Requests.{request}
-use Rattle.node_threads.specs.Work.{AsksBefore, AsksWhere, HasAskedFirstOf, HasAskedOn, HasAskedSome, HasHadTurn, HasTriedAsking}
-use Rattle.node_threads.proofs.Home.{home_after_input, home_after_seen, same_home, same_home_still}
+use Rattle.node_threads.specs.Work.{AsksBefore, AsksWhere, HasAskedEach, HasAskedFirstOf, HasAskedOn, HasAskedSome, HasAskedTogether, HasTriedTogether, HasHadTurn}
+use Rattle.node_threads.specs.Together.{asks_of}
+use Rattle.node_threads.proofs.Home.{home_after_all, home_after_input, home_after_seen, same_home, same_home_still}
 
 module _ {Setup Hosted Store B L T E P U : Type 0} where
   pub home_seen_if : (node : ℕ) (c : CellParts Setup Hosted Store B L T E P U) (taken : Bool) (d : CellParts Setup Hosted Store B L T E P U) → HasSeenIf node c taken d → IsSameHome c d
@@ -31,6 +32,7 @@ module _ {Setup Hosted Store B L T E P U : Type 0} where
   in_phase : (p : Phase B L) (c : CellParts Setup Hosted Store B L T E P U) (may : Bool) (d : CellParts Setup Hosted Store B L T E P U) → MayUp p c may d → IsSameHome c d
   in_phase Up c may d h = in_position c.node.state.standing.position c may d h
   in_phase (DownInTurn x done) c may d h = same_home c d h.1
+  in_phase (DownInTurns inputs answers) c may d h = same_home c d h.1
   in_phase DownInRestart c may d h = same_home c d h.1
 
   -- after a look whether the node may ask
@@ -57,18 +59,31 @@ module _ (M : Machine) {Setup Hosted Store U : Type 0} (tally : U → Tally) whe
   home_some zero c d h = same_home c d h
   home_some (suc n) c d h = same_home_still c h.2 d (home_first_of h.0 h.1 c h.2 h.3) (home_some n h.2 d h.4)
 
-  pub home_asked : (c d : CellOf M Setup Hosted Store U) → HasAskedOn M tally c d → IsSameHome c d
-  home_asked c d h = home_some h.0 c d h.1
+  pub home_asked : (waiting : List (Request M.Body)) (c d : CellOf M Setup Hosted Store U) → HasAskedOn M tally waiting c d → IsSameHome c d
+  home_asked waiting c d h =
+      ⊎_elim (λ (t : HasAskedTogether M tally waiting c d). home_after_all M (asks_of (take 256 waiting)) c d t.turned) (λ (e : HasAskedEach M tally c d). home_some e.0 c d e.1) h
 
   pub home_before : (asks : Bool) (waiting : List (Request M.Body)) (c d : CellOf M Setup Hosted Store U) → AsksBefore M tally asks waiting c d → IsSameHome c d
   home_before true waiting c d h = home_first_of waiting h.0 c d h.1
   home_before false waiting c d h = same_home c d h
 
   -- one request more is asked, or the node may not
-  pub asks_next : (waiting : List (Request M.Body)) (asked : Bool) (c b e : CellOf M Setup Hosted Store U) → HasAskedFirstOf M tally waiting asked c b → HasAskedOn M tally b e → HasAskedOn M tally c e
+  pub asks_next : (waiting : List (Request M.Body)) (asked : Bool) (c b e : CellOf M Setup Hosted Store U) → HasAskedFirstOf M tally waiting asked c b → HasAskedEach M tally b e → HasAskedEach M tally c e
   asks_next waiting asked c b e one rest = (suc rest.0, (waiting, asked, b, one, rest.1))
 
-  pub asks_none : (c : CellOf M Setup Hosted Store U) → HasAskedOn M tally c c
+  pub asks_together : (waiting : List (Request M.Body)) (asked : Bool) (c d : CellOf M Setup Hosted Store U) → asked ≡ true → HasTriedTogether M tally waiting asked c d → HasAskedOn M tally waiting c d
+  asks_together waiting true c d is h = inl h
+  asks_together waiting false c d is h = absurd (cc is)
+
+  pub not_together : (waiting : List (Request M.Body)) (asked : Bool) (c d : CellOf M Setup Hosted Store U) → asked ≡ false → HasTriedTogether M tally waiting asked c d → d ≡ c
+  not_together waiting true c d is h = absurd (cc is)
+  not_together waiting false c d is h = h
+
+  -- those that were not asked together are asked one by one
+  pub asks_behind : (waiting : List (Request M.Body)) (c b d : CellOf M Setup Hosted Store U) → b ≡ c → HasAskedEach M tally b d → HasAskedOn M tally waiting c d
+  asks_behind waiting c b d is h = inr (subst (λ (z : CellOf M Setup Hosted Store U). HasAskedEach M tally z d) is h)
+
+  pub asks_none : (c : CellOf M Setup Hosted Store U) → HasAskedEach M tally c c
   asks_none c = (zero, refl)
 
   -- where none waits

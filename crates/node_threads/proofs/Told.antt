@@ -1,5 +1,5 @@
 -- That a status is told as its node stands.
-use Rattle.std.proofs.Common.{◌≡◌, ◌↔◌, ◌&&◌, ℕ, Bool, true, false, List, Option, Some, None, refl, sym, ap, ◌∙◌, subst}
+use Rattle.std.proofs.Common.{◌≡◌, ◌↔◌, ℕ, List, Option, Some, None, refl, sym, ap, ◌∙◌, subst}
 use Rattle.raft_log.specs.declared.node_state.NodeState.{NodeState}
 use Rattle.raft_log.specs.declared.role.Role.{Role}
 use Rattle.raft_log.specs.declared.role.Role.TheVariants.{Follower, Candidate, Leader}
@@ -7,7 +7,7 @@ use Rattle.raft_log.specs.Positions.{role_of}
 use Rattle.raft_node.specs.declared.node_fault.Cause.{Cause}
 use Rattle.raft_node.specs.Parts.{applied_bodies}
 use Rattle.node_cells.specs.declared.phase.Phase.{Phase}
-use Rattle.node_cells.specs.declared.phase.Phase.TheVariants.{Up, DownInTurn, DownInRestart}
+use Rattle.node_cells.specs.declared.phase.Phase.TheVariants.{Up, DownInTurn, DownInTurns, DownInRestart}
 use Rattle.node_cells.specs.Cells.{CellParts}
 use Rattle.node_cells.specs.Causes.{down_in}
 use Rattle.node_notes.specs.declared.status.Status.{Status}
@@ -30,6 +30,10 @@ module _ {B L : Type 0} where
   by_phase (DownInTurn x done) Leader (Some cause) h = refl
   by_phase (DownInTurn x done) Follower down h = refl
   by_phase (DownInTurn x done) Candidate down h = refl
+  by_phase (DownInTurns inputs answers) Leader None h = absurd (let z = h.0 refl in cc z)
+  by_phase (DownInTurns inputs answers) Leader (Some cause) h = refl
+  by_phase (DownInTurns inputs answers) Follower down h = refl
+  by_phase (DownInTurns inputs answers) Candidate down h = refl
   by_phase DownInRestart Leader None h = absurd (let z = h.0 refl in cc z)
   by_phase DownInRestart Leader (Some cause) h = refl
   by_phase DownInRestart Follower down h = refl

@@ -1,10 +1,10 @@
 -- When a node may ask a request that waits at its worker, and which mailbox it leaves for one that lies on its way.
-use Rattle.std.specs.Prelude.{◌≡◌, ◌⊎◌, ◌↔◌, ℕ, suc, Bool, true, false, Option, Some, None, if◌then◌else◌}
+use Rattle.std.specs.Prelude.{◌≡◌, ◌⊎◌, ℕ, suc, Bool, true, false, Option, Some, None, if◌then◌else◌}
 use Rattle.raft_log.specs.declared.position.Position.{Position}
 use Rattle.raft_log.specs.declared.position.Position.TheVariants.{Follower, Candidate, Leader}
 use Rattle.raft_log.specs.Positions.{leader_of}
 use Rattle.node_cells.specs.declared.phase.Phase.{Phase}
-use Rattle.node_cells.specs.declared.phase.Phase.TheVariants.{Up, DownInTurn, DownInRestart}
+use Rattle.node_cells.specs.declared.phase.Phase.TheVariants.{Up, DownInTurn, DownInTurns, DownInRestart}
 use Rattle.node_cells.specs.Cells.{CellParts}
 use Rattle.node_cells.specs.Openings.{HasSeenTo}
 
@@ -24,6 +24,7 @@ module _ {Setup Hosted Store B L T E P U : Type 0} where
   abbrev pub MayUp : Phase B L → CellParts Setup Hosted Store B L T E P U → Bool → CellParts Setup Hosted Store B L T E P U → Type 0
   MayUp Up c may d = MayIn c.node.state.standing.position c may d
   MayUp (DownInTurn x done) c may d = (may ≡ false) × (d ≡ c)
+  MayUp (DownInTurns inputs answers) c may d = (may ≡ false) × (d ≡ c)
   MayUp DownInRestart c may d = (may ≡ false) × (d ≡ c)
 
   -- the node may ask, or may not

@@ -7,4 +7,6 @@ pub mod Joins
 pub mod Reports
 pub mod Requests
 pub mod Rounds
+pub mod Taking
+pub mod Together
 pub mod Work

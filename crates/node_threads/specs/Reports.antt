@@ -1,5 +1,5 @@
 -- What a worker tells its outlet.
-use Rattle.std.specs.Prelude.{◌≡◌, ◌↔◌, ◌&&◌, ◌||◌, ◌++◌, ℕ, length, Bool, true, false, not, nat_eq, nat_lt, List, [], Option, Some, None}
+use Rattle.std.specs.Prelude.{◌≡◌, ◌↔◌, ◌&&◌, ◌||◌, ◌++◌, ℕ, length, Bool, true, false, not, nat_eq, nat_lt, List, Option, Some, None}
 use Rattle.raft_log.specs.declared.role.Role.{Role}
 use Rattle.raft_log.specs.declared.role.Role.TheVariants.{Follower, Candidate, Leader}
 use Rattle.raft_log.specs.Positions.{role_of}
@@ -10,7 +10,7 @@ use Rattle.raft_node.specs.declared.node_fault.NodeFault.TheVariants.{Down}
 use Rattle.node_cells.specs.declared.cell_fault.CellFault.{CellFault}
 use Rattle.node_cells.specs.declared.cell_fault.CellFault.TheVariants.{Memory, Spent, Node}
 use Rattle.node_cells.specs.declared.phase.Phase.{Phase}
-use Rattle.node_cells.specs.declared.phase.Phase.TheVariants.{Up, DownInTurn, DownInRestart}
+use Rattle.node_cells.specs.declared.phase.Phase.TheVariants.{Up, DownInTurn, DownInTurns, DownInRestart}
 use Rattle.node_cells.specs.Cells.{CellParts}
 use Rattle.node_cells.specs.Causes.{down_in}
 use Rattle.node_notes.specs.declared.note.Note.{Note}
@@ -91,6 +91,7 @@ leads_up Up Leader = true
 leads_up Up Follower = false
 leads_up Up Candidate = false
 leads_up (DownInTurn x done) role = false
+leads_up (DownInTurns inputs answers) role = false
 leads_up DownInRestart role = false
 
 module _ {Setup Hosted Store B L T E P U : Type 0} where

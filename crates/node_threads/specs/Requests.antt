@@ -1,10 +1,5 @@
 -- The requests that wait at a worker.
-use Rattle.std.specs.Prelude.{◌≡◌, ◌⊎◌, ◌&&◌, ℕ, Bool, true, false, nat_eq, nat_lt, max, List, [], ◌∷◌, ◌++◌, Option, Some, None, if◌then◌else◌}
-use Rattle.raft_log.specs.declared.message.Kind.{Kind}
-use Rattle.raft_log.specs.declared.message.Kind.TheVariants.{RequestVote, Vote, Append, AppendReply, Forward}
-use Rattle.raft_log.specs.declared.node_state.NodeState.{NodeState}
-use Rattle.raft_log.specs.Positions.{leader_of}
-use Rattle.world_views.specs.declared.envelope.Envelope.{Envelope}
+use Rattle.std.specs.Prelude.{◌≡◌, ◌⊎◌, ℕ, nat_eq, nat_lt, max, List, [], ◌∷◌, ◌++◌, Option, Some, None, if◌then◌else◌}
 use Rattle.node_threads.specs.declared.worker_loop.requests.Asked.{Asked}
 use Rattle.node_threads.specs.declared.worker_loop.requests.Request.{Request}
 use Rattle.node_threads.specs.declared.worker_loop.requests.Requests.{Requests}

@@ -1,10 +1,12 @@
 -- What a round of a worker gathers.
-use Rattle.std.specs.Prelude.{◌≡◌, ℕ, suc, Bool, true, false, nat_le, nat_lt, not, ◌&&◌, ◌||◌, List, [], ◌∷◌, ◌++◌, Option, Some, None, Result, Ok, Err}
+use Rattle.std.specs.Prelude.{◌≡◌, ℕ, Bool, true, false, nat_le, nat_lt, not, ◌&&◌, ◌||◌, List, [], ◌∷◌, ◌++◌, Option, Some, None, Result, Ok, Err}
 use Rattle.raft_log.specs.declared.message.Kind.{Kind}
 use Rattle.raft_log.specs.declared.message.Kind.TheVariants.{RequestVote, Vote, Append, AppendReply, Forward}
 use Rattle.raft_log.specs.declared.message.Message.{Message}
 use Rattle.raft_log.specs.Lists.{with_item}
+use Rattle.node_steps.specs.declared.refusal.Refusal.{Refusal}
 use Rattle.raft_node.specs.declared.node_fault.NodeFault.{NodeFault}
+use Rattle.raft_node.specs.declared.node_fault.NodeFault.TheVariants.{Refused}
 use Rattle.node_cells.specs.declared.cell_fault.CellFault.{CellFault}
 use Rattle.node_cells.specs.declared.record.TurnOutput.{TurnOutput}
 use Rattle.marked_cells.specs.declared.mark_turn.MarkTurn.{MarkTurn}
@@ -25,6 +27,22 @@ first_fault (Some first) fault = first
 abbrev pub woken_by : List Bool → List ℕ → List Bool
 woken_by woken [] = woken
 woken_by woken (node ∷ nodes) = woken_by (with_item woken node true) nodes
+
+-- a fault more, of which the first stays
+abbrev pub with_fault : {E : Type 0} → NodeFault → Round E → Round E
+with_fault fault r = record r { fault = Some (first_fault r.fault fault) }
+
+module _ {E : Type 0} where
+  -- each of these answers that is a refusal is a fault, in order
+  abbrev pub with_refusals : List (Result (Unit {0}) Refusal) → Round E → Round E
+  with_refusals [] r = r
+  with_refusals (Ok done ∷ answers) r = with_refusals answers r
+  with_refusals (Err refusal ∷ answers) r = with_refusals answers (with_fault (Refused refusal) r)
+
+  -- of inputs that were done together the refusals are kept, and where nothing was done, why
+  abbrev pub GathersAnswers : Result (List (Result (Unit {0}) Refusal)) CellFault → Round E → Round E → Type 0
+  GathersAnswers (Ok answers) old new = new ≡ with_refusals answers old
+  GathersAnswers (Err fault) old new = new ≡ with_fault (told_fault fault) old
 
 module _ {B E : Type 0} where
   -- What a turn gave is gathered: what leaves, who is to look into its mailboxes, and whether a request was posted last, which the turn was or not.

@@ -1,5 +1,5 @@
 -- What a worker does with its node's cell.
-use Rattle.std.specs.Prelude.{◌≡◌, ◌++◌, ◌&&◌, not, ℕ, zero, suc, Bool, true, false, List, [], ◌∷◌, Option, None, Some, Result, Ok, Err, option_map}
+use Rattle.std.specs.Prelude.{◌≡◌, ◌⊎◌, ◌++◌, ◌&&◌, not, ℕ, zero, suc, Bool, true, false, List, [], ◌∷◌, take, Option, None, Some, Result, Ok, Err, option_map}
 use Rattle.wire_bytes.specs.declared.mark.Mark.{Mark}
 use Rattle.raft_node.specs.declared.input.Looked.{Looked as PlayedAt}
 use Rattle.raft_node.specs.Machine.{Machine}
@@ -7,13 +7,13 @@ use Rattle.world_views.specs.declared.envelope.Envelope.{Envelope}
 use Rattle.world_views.specs.declared.node_event.NodeInput.{NodeInput}
 use Rattle.world_views.specs.declared.node_event.NodeInput.TheVariants as input
 use Rattle.marked_cells.specs.declared.mark_turn.MarkTurn.{MarkTurn}
+use Rattle.marked_cells.specs.Marking.{HasLookedAfter, HasMarked}
 use Rattle.node_cells.specs.declared.cell_fault.CellFault.{CellFault}
 use Rattle.node_cells.specs.declared.record.TurnOutput.{TurnOutput}
 use Rattle.node_cells.specs.Openings.{HasTakenIn}
 use Rattle.node_cells.specs.Restarts.{HasRestarted}
 use Rattle.node_cells.specs.Turns.{CellOf, HasLooked, HasTurned}
 use Rattle.node_cells.specs.Upstreams.{Tally}
-use Rattle.marked_cells.specs.Marking.{HasLookedAfter, HasMarked}
 use Rattle.node_notes.specs.declared.note.Note.{Note}
 use Rattle.node_notes.specs.declared.note.Note.TheVariants as note
 use Rattle.node_threads.specs.Asking.{HasLeft, MayAsk, leader_in}
@@ -21,6 +21,7 @@ use Rattle.node_threads.specs.Forwarding.{asks_first, is_left, is_request, reque
 use Rattle.node_threads.specs.Rounds.{GathersMark, GathersTurn}
 use Rattle.node_threads.specs.declared.worker_loop.round.Round.{Round}
 use Rattle.node_threads.specs.Reports.{leads_in}
+use Rattle.node_threads.specs.Together.{HasTurnedAll, asks_of}
 use Rattle.node_threads.specs.declared.job.Job.{Job}
 use Rattle.node_threads.specs.declared.job.Job.TheVariants as job
 use Rattle.node_threads.specs.declared.worker_loop.requests.Request.{Request}
@@ -137,8 +138,22 @@ module _ (M : Machine) {Setup Hosted Store U : Type 0} where
     HasAskedSome (suc n) c d =
         (waiting : List (Request M.Body)) × (asked : Bool) × (b : CellOf M Setup Hosted Store U) × HasAskedFirstOf waiting asked c b × HasAskedSome n b d
 
-    abbrev pub HasAskedOn : CellOf M Setup Hosted Store U → CellOf M Setup Hosted Store U → Type 0
-    HasAskedOn c d = (n : ℕ) × HasAskedSome n c d
+    abbrev pub HasAskedEach : CellOf M Setup Hosted Store U → CellOf M Setup Hosted Store U → Type 0
+    HasAskedEach c d = (n : ℕ) × HasAskedSome n c d
+
+    -- a node that leads was asked the first 256 of the requests that wait, together
+    pub record HasAskedTogether (waiting : List (Request M.Body)) (c d : CellOf M Setup Hosted Store U) : Type 0 where
+      pub leads : leads_in c ≡ true
+      pub turned : HasTurnedAll M (asks_of (take 256 waiting)) c d
+
+    -- so, or nothing was done
+    abbrev pub HasTriedTogether : List (Request M.Body) → Bool → CellOf M Setup Hosted Store U → CellOf M Setup Hosted Store U → Type 0
+    HasTriedTogether waiting true c d = HasAskedTogether waiting c d
+    HasTriedTogether waiting false c d = d ≡ c
+
+    -- requests that wait were asked: together, or one by one where the node does not lead, or there is no memory for that
+    abbrev pub HasAskedOn : List (Request M.Body) → CellOf M Setup Hosted Store U → CellOf M Setup Hosted Store U → Type 0
+    HasAskedOn waiting c d = HasAskedTogether waiting c d ⊎ HasAskedEach c d
 
     -- the first request that waits is asked, where it is to be asked before the mailboxes are taken
     abbrev pub AsksBefore : Bool → List (Request M.Body) → CellOf M Setup Hosted Store U → CellOf M Setup Hosted Store U → Type 0
@@ -185,12 +200,13 @@ module _ (M : Machine) {Setup Hosted Store U : Type 0} where
       pub asked : CellOf M Setup Hosted Store U
       pub applied : CellOf M Setup Hosted Store U
       pub now_forwarded : Option ℕ
+      pub now_waiting : List (Request M.Body)
       pub left : Option ℕ
       pub has_news : Bool
       pub asks_before : AsksBefore (asks_first forwarded (leader_in c)) waiting c first
       pub leaves : HasLeft (request_at now_forwarded (leader_in first)) first left seen
       pub takes : HasTakenBut left seen heard
-      pub asks : HasAskedOn heard asked
+      pub asks : HasAskedOn now_waiting heard asked
       pub applies_on : HasApplied asked applied
       pub beats : HasBeaten has_news applied d
 
@@ -217,13 +233,3 @@ module _ (M : Machine) {Setup Hosted Store U : Type 0} where
       HasDone (job.LookAfter number target reply) c d = (answer : Result (PlayedAt M.Played) CellFault) × HasLookedAfter M tally marked c number target answer d
       HasDone (job.Restart reply) c d = HasTriedAgain c d
       HasDone (job.Status reply) c d = d ≡ c
-
-      -- these jobs were done, in order, each once
-      abbrev pub HasDoneAll : List (Job Hosted Action M.Line M.Target M.Played Setup M.Body M.Effect) → CellOf M Setup Hosted Store U → CellOf M Setup Hosted Store U → Type 0
-      HasDoneAll [] c d = d ≡ c
-      HasDoneAll (j ∷ js) c d = (b : CellOf M Setup Hosted Store U) × HasDone j c b × HasDoneAll js b d
-
-    module _ (marked : M.Body → Option Mark) (mark : Mark → M.Body) (Action : Type 0) where
-      -- some jobs were done
-      abbrev pub HasDoneSome : CellOf M Setup Hosted Store U → CellOf M Setup Hosted Store U → Type 0
-      HasDoneSome c d = (js : List (Job Hosted Action M.Line M.Target M.Played Setup M.Body M.Effect)) × HasDoneAll marked mark js c d

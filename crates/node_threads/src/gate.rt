@@ -16,6 +16,19 @@ impl Gate for OpenGate {
     fn pass<R: Wait>(&self, _rt: &R, _node: u8, _turn: u64) {}
 }
 
+/// A worker of this node comes to so many turns more.
+pub(crate) fn pass_gates<R: Wait, G: Gate>(
+    rt: &R,
+    gate: &G,
+    node: NodeId,
+    turns: &mut u64,
+    count: usize,
+) {
+    for _ in 0..count {
+        pass_gate(rt, gate, node, turns);
+    }
+}
+
 /// A worker of this node comes to one turn more.
 pub(crate) fn pass_gate<R: Wait, G: Gate>(rt: &R, gate: &G, node: NodeId, turns: &mut u64) {
     *turns = turns.saturating_add(1);

@@ -1,7 +1,8 @@
 //! What a worker has to do.
-ghost use Rattle.std.specs.Prelude.{◌≡◌, IfErr};
+ghost use Rattle.std.specs.Prelude.{◌≡◌, IfErr, IfOk, None, Some};
 ghost use Rattle.node_threads.specs.Faults.{IsUndelivered};
 ghost use Rattle.node_threads.specs.Reports.{is_end, is_told, waits};
+ghost use Rattle.node_threads.specs.Together.{appended, input_in, is_idle};
 
 use crate::cluster_fault::ClusterFault;
 use crossbeam_channel::{SendError, Sender};
@@ -10,6 +11,8 @@ use node_cells::CellFault;
 use node_notes::{Note, Status};
 use raft_node::Looked;
 use std::sync::Wait;
+use wire_bytes::Wire;
+use world_views::NodeInput;
 
 /// What a worker has to do.
 #[derive(Drop)]
@@ -50,11 +53,50 @@ impl<M: Hosted> Job<M> {
         matches!(self, Job::Note(Note::End))
     }
 
+    /// Whether it does nothing with the node, and asks nothing of it: a request waits until it is asked, and
+    /// a wake is for the worker.
+    pub(crate) fn is_idle(&self) -> bool
+        ensures { result ≡ is_idle self.now }
+    {
+        match self {
+            Job::Note(Note::Ask(_) | Note::Wake) => true,
+            _ => false,
+        }
+    }
+
+    /// The input that it is for, where a leader only appends by that; else the job.
+    pub(crate) fn into_append(self) -> Result<NodeInput<M::Command, M::Line>, Job<M>>
+        ensures input { IfOk result (λ input. appended self ≡ Some input) }
+        ensures job { IfErr result (λ job. (job ≡ self) × (appended self ≡ None)) }
+    {
+        match self {
+            Job::Note(note) => match append_of(note) {
+                Ok(input) => Ok(input),
+                Err(note) => Err(Job::Note(note)),
+            },
+            other => Err(other),
+        }
+    }
+
     /// Whether it is a look that may come too early: there may be many, and nothing comes of most.
     pub fn waits(&self) -> bool
         ensures { result ≡ waits self.now }
     {
         matches!(self, Job::LookAfter(_, _, _))
+    }
+}
+
+/// The input that a note is for, where a leader only appends by that; else the note.
+fn append_of<B: Wire, L>(note: Note<B, L>) -> Result<NodeInput<B, L>, Note<B, L>>
+    ensures input { IfOk result (λ input. input_in note ≡ Some input) }
+    ensures note { IfErr result (λ other. (other ≡ note) × (input_in note ≡ None)) }
+{
+    match note {
+        Note::Opened => Ok(NodeInput::Opened),
+        Note::Closed => Ok(NodeInput::Closed),
+        Note::Heard(at, line) => Ok(NodeInput::Heard(at, line)),
+        Note::Claim => Ok(NodeInput::Claim),
+        other => Err(other),
     }
 }
 

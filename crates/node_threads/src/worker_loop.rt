@@ -30,6 +30,7 @@ use world_views::NodeInput;
 
 mod asking;
 mod forwarding;
+mod gathering;
 mod jobs;
 mod messages;
 pub mod requests;
@@ -39,15 +40,6 @@ mod turning;
 
 /// The most nodes that there may be.
 const MOST_NODES: u8 = 7;
-
-/// The most jobs that a round takes: each may be saved on its own, and the others wait for what a leader sends behind.
-const MOST_JOBS: u64 = 16;
-
-/// The most requests that a round asks, for the same.
-const MOST_ASKED: u64 = 16;
-
-/// The most places that a round applies, for the same.
-const MOST_APPLIED: u64 = 1_000;
 
 /// What a worker has beside its node's cell.
 #[derive(Drop)]

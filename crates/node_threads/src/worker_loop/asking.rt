@@ -1,13 +1,17 @@
 //! How a worker asks the requests that wait.
-ghost use Rattle.std.specs.Prelude.{◌≡◌};
+ghost use Rattle.std.specs.Prelude.{◌≡◌, true};
 ghost use Rattle.node_threads.specs.Asking.{HasLeft, HasSeenIf, MayAsk, leader_in};
 ghost use Rattle.node_threads.specs.Forwarding.{asks_first, request_at};
-ghost use Rattle.node_threads.specs.Work.{AsksBefore, HasAskedFirstOf, HasAskedOn};
+ghost use Rattle.node_threads.specs.Reports.{leads_in};
+ghost use Rattle.node_threads.specs.Together.{AreReady, TakesFront};
+ghost use Rattle.node_threads.specs.Work.{AsksBefore, HasAskedEach, HasAskedFirstOf, HasAskedOn, HasTriedTogether};
 
 use crate::gate::Gate;
 use crate::outlet::Outlet;
+use crate::worker_loop::WorkerLoop;
 use crate::worker_loop::forwarding::{asks_first, request_at};
-use crate::worker_loop::{MOST_ASKED, WorkerLoop};
+use crate::worker_loop::gathering::has_some;
+use crate::worker_loop::telling::leads;
 use machine_laws::{Hosted, Machine, Marking};
 use marked_cells::MarkedCell;
 use node_cells::Upstream;
@@ -16,6 +20,13 @@ use raft_node::Described;
 use stable_store::Stable;
 use std::sync::Wait;
 use world_views::NodeInput;
+
+/// The most requests that a round asks one by one: each may be saved on its own, and the others wait for
+/// what a leader sends behind.
+const MOST_ASKED: u64 = 16;
+
+/// The most requests that a leader is asked at once.
+const MOST_TOGETHER: usize = 256;
 
 impl<M: Marking, G: Gate + Drop, O: Outlet<M::Effect>> WorkerLoop<M, G, O> {
     /// A node that knows a leader asks the first request that waits, before it answers its leader: of a
@@ -36,13 +47,73 @@ impl<M: Marking, G: Gate + Drop, O: Outlet<M::Effect>> WorkerLoop<M, G, O> {
         }
     }
 
-    /// Asks the requests that wait as long as the node may. False where it may ask more.
+    /// Asks the requests that wait as long as the node may: a node that leads 256 at most together, and any
+    /// other one by one. False where it may ask more.
     pub fn ask_all<R: Wait, S: Stable<M::Command>, U: Upstream>(
         &mut self,
         rt: &R,
         cell: &mut MarkedCell<M, S, U>,
     ) -> bool
         ensures { HasAskedOn (⟦<M as Described>⟧.machine cell.old.parts.ether.setup) U.tally
+            self.old.requests.waiting.items cell.old.parts cell.new.parts }
+    {
+        if self.ask_together(rt, cell) {
+            return !self.requests.has_waiting();
+        }
+        self.ask_each(rt, cell)
+    }
+
+    /// A node that leads is asked the first 256 of the requests that wait, together. Whether any was.
+    fn ask_together<R: Wait, S: Stable<M::Command>, U: Upstream>(
+        &mut self,
+        rt: &R,
+        cell: &mut MarkedCell<M, S, U>,
+    ) -> bool
+        ensures { HasTriedTogether (⟦<M as Described>⟧.machine cell.old.parts.ether.setup) U.tally
+            self.old.requests.waiting.items result cell.old.parts cell.new.parts }
+    {
+        if !leads(cell) {
+            return false;
+        }
+        let inputs = self.next_asks(cell);
+        if !has_some(&inputs) {
+            return false;
+        }
+        self.turn_all(rt, cell, inputs);
+        true
+    }
+
+    /// The first 256 of the requests that wait, which are asked in the node's term. None where there is no
+    /// memory for them, and then all wait on.
+    fn next_asks<S: Stable<M::Command>, U: Upstream>(
+        &mut self,
+        cell: &MarkedCell<M, S, U>,
+    ) -> Vec<NodeInput<M::Command, M::Line>>
+        ensures front { TakesFront self.old.requests.waiting.items result.items
+            self.new.requests.waiting.items }
+        ensures ready { leads_in cell.now.parts ≡ true → AreReady result.items cell.now.parts }
+    {
+        let term = cell.state().standing.term;
+        let count = MOST_TOGETHER.min(self.requests.waiting.len());
+        let Ok(mut inputs) = Vec::with_capacity(self.alloc, count) else {
+            return Vec::new(self.alloc);
+        };
+        for _ in 0..count {
+            let Some(request) = self.requests.ask(term) else {
+                return inputs;
+            };
+            inputs.push_reserved(NodeInput::Ask(request));
+        }
+        inputs
+    }
+
+    /// Asks the requests that wait one by one, as long as the node may. False where it may ask more.
+    fn ask_each<R: Wait, S: Stable<M::Command>, U: Upstream>(
+        &mut self,
+        rt: &R,
+        cell: &mut MarkedCell<M, S, U>,
+    ) -> bool
+        ensures { HasAskedEach (⟦<M as Described>⟧.machine cell.old.parts.ether.setup) U.tally
             cell.old.parts cell.new.parts }
     {
         for _ in 0..MOST_ASKED {

@@ -1,13 +1,15 @@
 //! The jobs of a worker.
-ghost use Rattle.std.specs.Prelude.{◌≡◌, ◌+◌, ◌-◌, ◌^◌, ◌&&◌, min, nat_le, not, if◌then◌else◌};
+ghost use Rattle.std.specs.Prelude.{◌≡◌, ◌+◌, ◌-◌, ◌^◌, ◌&&◌, [], min, nat_le, not, if◌then◌else◌};
 ghost use Rattle.node_threads.specs.Reports.{is_told, leads_in};
-ghost use Rattle.node_threads.specs.Work.{HasDone, HasDoneNote, HasDoneSome, HasTimedOut};
+ghost use Rattle.node_threads.specs.Taking.{HasDoneSome};
+ghost use Rattle.node_threads.specs.Together.{AreReady};
+ghost use Rattle.node_threads.specs.Work.{HasDone, HasDoneNote, HasTimedOut};
 
 use crate::gate::Gate;
 use crate::job::{Job, put};
 use crate::outlet::Outlet;
+use crate::worker_loop::WorkerLoop;
 use crate::worker_loop::telling::{leads, status};
-use crate::worker_loop::{MOST_JOBS, WorkerLoop};
 use crossbeam_channel::TryRecvError;
 use machine_laws::{Hosted, Machine, Marking};
 use marked_cells::MarkedCell;
@@ -17,6 +19,14 @@ use raft_node::Described;
 use stable_store::Stable;
 use std::sync::Wait;
 use world_views::NodeInput;
+
+/// The most jobs that a round takes. What a leader only appends of them is saved at once, so that a slow
+/// disk is waited for once, and the more jobs a round takes, the more come out of that wait.
+const MOST_JOBS: u64 = 256;
+
+/// The most jobs that a round does each by itself: each may be saved on its own, and the others wait for
+/// what a leader sends behind.
+const MOST_ALONE: u64 = 16;
 
 /// What comes to an inbox.
 enum Next<J> {
@@ -39,13 +49,38 @@ impl<M: Marking, G: Gate + Drop, O: Outlet<M::Effect>> WorkerLoop<M, G, O> {
         ensures { HasDoneSome (⟦<M as Described>⟧.machine cell.old.parts.ether.setup) U.tally
             M.marked M.mark M.Action cell.old.parts cell.new.parts }
     {
+        let mut gathered = Vec::new(self.alloc);
+        let is_over = self.take_jobs(rt, cell, may_wait, &mut gathered);
+        self.turn_all(rt, cell, gathered);
+        is_over
+    }
+
+    /// Takes up the jobs that are in the inbox. What is gathered of them is still to be done.
+    fn take_jobs<R: Wait, S: Stable<M::Command>, U: Upstream>(
+        &mut self,
+        rt: &R,
+        cell: &mut MarkedCell<M, S, U>,
+        may_wait: bool,
+        gathered: &mut Vec<NodeInput<M::Command, M::Line>>,
+    ) -> bool
+        requires { gathered.old.items ≡ [] }
+        ensures done { HasDoneSome (⟦<M as Described>⟧.machine cell.old.parts.ether.setup) U.tally
+            M.marked M.mark M.Action cell.old.parts cell.new.parts }
+        ensures ready { AreReady gathered.new.items cell.new.parts }
+    {
+        let mut alone = 0u64;
         for place in 0..MOST_JOBS {
             match self.next_job(rt, may_wait && place == 0) {
                 Next::Job(job) => {
                     if job.is_end() {
                         return true;
                     }
-                    self.do_job(rt, cell, job);
+                    if self.take_up(rt, cell, job, gathered) {
+                        alone = alone.saturating_add(1);
+                    }
+                    if alone >= MOST_ALONE {
+                        return false;
+                    }
                 }
                 Next::Nothing => return false,
                 Next::Over => return true,
@@ -70,7 +105,7 @@ impl<M: Marking, G: Gate + Drop, O: Outlet<M::Effect>> WorkerLoop<M, G, O> {
     }
 
     /// Does what a job says.
-    fn do_job<R: Wait, S: Stable<M::Command>, U: Upstream>(
+    pub fn do_job<R: Wait, S: Stable<M::Command>, U: Upstream>(
         &mut self,
         rt: &R,
         cell: &mut MarkedCell<M, S, U>,
@@ -79,7 +114,6 @@ impl<M: Marking, G: Gate + Drop, O: Outlet<M::Effect>> WorkerLoop<M, G, O> {
         ensures { HasDone (⟦<M as Described>⟧.machine cell.old.parts.ether.setup) U.tally
             M.marked M.mark job cell.old.parts cell.new.parts }
     {
-        self.count(job.is_told());
         match job {
             Job::Note(note) => self.follow(rt, cell, note),
             Job::Look(from_place, target, reply) => {
@@ -102,7 +136,7 @@ impl<M: Marking, G: Gate + Drop, O: Outlet<M::Effect>> WorkerLoop<M, G, O> {
     }
 
     /// A job is taken up, which counts where the node was told it.
-    fn count(&mut self, is_told: bool)
+    pub fn count(&mut self, is_told: bool)
         ensures { self.new.done ≡ (if is_told then min (self.old.done + 1) (2 ^ 64 - 1)
             else self.old.done) }
     {

@@ -1,10 +1,11 @@
 //! What a round of a worker gathers.
 ghost use Rattle.std.specs.Prelude.{◌≡◌, ◌++◌, ◌∷◌, [], ◌↔◌, IsFalse, None, Some};
 ghost use Rattle.node_threads.specs.Reports.{told_fault};
-ghost use Rattle.node_threads.specs.Rounds.{first_fault, leaving, woken_by};
+ghost use Rattle.node_threads.specs.Rounds.{first_fault, leaving, with_refusals, woken_by};
 
 use crate::worker_loop::telling::told_fault;
 use node_cells::CellFault;
+use node_steps::Refusal;
 use raft_node::NodeFault;
 use std::alloc::Global;
 use std::mem::replace;
@@ -58,6 +59,17 @@ impl<E: Drop> Round<E> {
     {
         if self.fault.is_none() {
             self.fault = Some(told_fault(fault));
+        }
+    }
+
+    /// Each of these answers that is a refusal is a turn that did nothing.
+    pub fn fail_each(&mut self, answers: &[Result<(), Refusal>])
+        ensures { self.new ≡ with_refusals answers.now self.old }
+    {
+        for answer in answers {
+            if let Err(refusal) = answer {
+                self.fail(CellFault::Node(NodeFault::Refused(*refusal)));
+            }
         }
     }
 

@@ -7,9 +7,9 @@ ghost use Rattle.node_threads.specs.Work.{HasApplied, HasAppliedSo, HasGathered,
 
 use crate::gate::{Gate, pass_gate};
 use crate::outlet::Outlet;
+use crate::worker_loop::WorkerLoop;
 use crate::worker_loop::forwarding::{forwarded_after, is_request};
 use crate::worker_loop::telling::status;
-use crate::worker_loop::{MOST_APPLIED, WorkerLoop};
 use machine_laws::{Hosted, Machine, Marking};
 use marked_cells::{MarkTurn, MarkedCell};
 use node_cells::{CellFault, TurnOutput, Upstream};
@@ -19,6 +19,9 @@ use stable_store::Stable;
 use std::sync::Wait;
 use wire_bytes::Copied;
 use world_views::{Envelope, NodeInput};
+
+/// The most places that a round applies: the others wait for what a leader sends behind.
+const MOST_APPLIED: u64 = 1_000;
 
 impl<M: Marking, G: Gate + Drop, O: Outlet<M::Effect>> WorkerLoop<M, G, O> {
     /// One turn of the node. False where it did nothing.

@@ -1,36 +1,29 @@
-use Rattle.std.proofs.Common.{◌≡◌, refl, ap, subst}
-use Rattle.node_threads.specs.Work.{HasAskedFirstOf}
-use Rattle.node_threads.proofs.Home.{same_home, same_home_still}
-use Rattle.node_threads.proofs.Seen.{asks_next, asks_none, home_first_of}
+use Rattle.std.proofs.Common.{rules, ◌≡◌, false, ap, subst}
+use Rattle.node_threads.specs.Work.{HasAskedEach}
+use Rattle.node_threads.proofs.Seen.{asks_behind, asks_together, not_together}
+use Rattle.node_threads.proofs.worker_loop.WorkerLoop.ask_all.Given as given
 use Rattle.node_threads.proofs.worker_loop.WorkerLoop.ask_all.Goals as goal
-use Rattle.node_threads.proofs.worker_loop.WorkerLoop.ask_all.Invariants.{machine}
+use Rattle.raft_node.specs.Hosts.{hosted}
+use Rattle.raft_node.specs.Machine.{Machine}
 
-pub loop-init : goal.loop-init
-loop-init g c = (same_home c.args.cell.now.parts _ refl, λ e h. h)
+abbrev machine : (g : given.Over) → g.row.M-Setup.Denot → Machine
+machine g s =
+    hosted g.M.Hosted.blank g.M.Hosted.opened g.M.Hosted.shut g.M.Hosted.heard g.M.Hosted.claim g.M.Hosted.source (g.M.Machine.effects s)
+    (g.M.Hosted.next_claim s) (g.M.Hosted.playback s) g.M.Hosted.class
 
-pub loop-preserved : goal.loop-preserved
-loop-preserved g c =
+pub returns-then-ask_together : goal.returns-then-ask_together
+returns-then-ask_together g c =
     let first = c.args.cell.now.parts in
-    let old = c.loop.cell.parts in
-    let new = c.ask_one.new.cell.parts in
-    let waiting = c.loop.self.requests.waiting.items in
-    let M = machine g first.ether.setup in
-    let tally = g.U.Upstream.tally in
-    let one = subst (λ (s : g.row.M-Setup.Denot). HasAskedFirstOf (machine g s) tally waiting c.ask_one.result old new) (ap (λ e. e.setup) c.loop.invariant.0.ether) c.ask_one.ensures in (
-      same_home_still first old new c.loop.invariant.0 (home_first_of M tally waiting c.ask_one.result old new one),
-      λ e h. c.loop.invariant.1 e (asks_next M tally waiting c.ask_one.result old new e one h),
-    )
+    asks_together (machine g first.ether.setup) g.U.Upstream.tally c.args.self.now.requests.waiting.items c.ask_together.result first c.ask_together.new.cell.parts (search rules) c.ask_together.ensures
 
 pub returns : goal.returns
-returns g c = c.loop.invariant.1 c.loop.cell.parts (asks_none (machine g c.args.cell.now.parts.ether.setup) g.U.Upstream.tally c.loop.cell.parts)
-
-pub returns-then-not-ask_one : goal.returns-then-not-ask_one
-returns-then-not-ask_one g c =
+returns g c =
     let first = c.args.cell.now.parts in
-    let old = c.loop.cell.parts in
-    let new = c.ask_one.new.cell.parts in
-    let waiting = c.loop.self.requests.waiting.items in
-    let M = machine g first.ether.setup in
+    let between = c.ask_together.new.cell.parts in
+    let new = c.ask_each.new.cell.parts in
+    let waiting = c.args.self.now.requests.waiting.items in
     let tally = g.U.Upstream.tally in
-    let one = subst (λ (s : g.row.M-Setup.Denot). HasAskedFirstOf (machine g s) tally waiting c.ask_one.result old new) (ap (λ e. e.setup) c.loop.invariant.0.ether) c.ask_one.ensures in
-    c.loop.invariant.1 new (asks_next M tally waiting c.ask_one.result old new new one (asks_none M tally new))
+    let no : c.ask_together.result ≡ false = search rules in
+    let same : between ≡ first = not_together (machine g first.ether.setup) tally waiting c.ask_together.result first between no c.ask_together.ensures in
+    asks_behind (machine g first.ether.setup) tally waiting first between new same
+    (subst (λ (s : g.row.M-Setup.Denot). HasAskedEach (machine g s) tally between new) (ap (λ p. p.ether.setup) same) c.ask_each.ensures)

@@ -1,32 +1,22 @@
-use Rattle.std.proofs.Common.{◌≡◌, refl, ap, subst}
-use Rattle.node_threads.specs.Work.{HasDone}
-use Rattle.node_threads.proofs.Going.{home_after_job, some_next, some_none}
-use Rattle.node_threads.proofs.Home.{same_home, same_home_still}
+use Rattle.std.proofs.Common.{ap, subst}
+use Rattle.raft_node.specs.Hosts.{hosted}
+use Rattle.raft_node.specs.Machine.{Machine}
+use Rattle.node_threads.specs.Together.{HasTurnedAll}
+use Rattle.node_threads.proofs.Taken.{all_end, home_after_some}
+use Rattle.node_threads.proofs.worker_loop.WorkerLoop.do_jobs.Given as given
 use Rattle.node_threads.proofs.worker_loop.WorkerLoop.do_jobs.Goals as goal
-use Rattle.node_threads.proofs.worker_loop.WorkerLoop.do_jobs.Invariants.{machine}
 
-pub loop-place-init : goal.loop-place-init
-loop-place-init g c = (same_home c.args.cell.now.parts _ refl, λ e h. h)
-
-pub loop-place-preserved : goal.loop-place-preserved
-loop-place-preserved g c =
-    let first = c.args.cell.now.parts in
-    let old = c.loop-place.cell.parts in
-    let new = c.do_job.new.cell.parts in
-    let M = machine g first.ether.setup in
-    let done = subst (λ (s : g.row.M-Setup.Denot). HasDone (machine g s) g.U.Upstream.tally g.M.Marking.marked g.M.Hosted.mark c.in-Job.job old new) (ap (λ e. e.setup) c.loop-place.invariant.0.ether) c.do_job.ensures in (
-      same_home_still first old new c.loop-place.invariant.0 (home_after_job M g.U.Upstream.tally g.M.Marking.marked g.M.Hosted.mark c.in-Job.job old new done),
-      λ e h. c.loop-place.invariant.1 e (some_next M g.U.Upstream.tally g.M.Marking.marked g.M.Hosted.mark c.in-Job.job old new e done h),
-    )
+abbrev machine : (g : given.Over) → g.row.M-Setup.Denot → Machine
+machine g s =
+    hosted g.M.Hosted.blank g.M.Hosted.opened g.M.Hosted.shut g.M.Hosted.heard g.M.Hosted.claim g.M.Hosted.source (g.M.Machine.effects s)
+    (g.M.Hosted.next_claim s) (g.M.Hosted.playback s) g.M.Hosted.class
 
 pub returns : goal.returns
-returns g c = c.loop-place.invariant.1 c.loop-place.cell.parts (some_none (machine g c.args.cell.now.parts.ether.setup) g.U.Upstream.tally g.M.Marking.marked g.M.Hosted.mark g.row.M-Action.Denot c.loop-place.cell.parts)
-
-pub returns-then-is_end : goal.returns-then-is_end
-returns-then-is_end g c = c.loop-place.invariant.1 c.loop-place.cell.parts (some_none (machine g c.args.cell.now.parts.ether.setup) g.U.Upstream.tally g.M.Marking.marked g.M.Hosted.mark g.row.M-Action.Denot c.loop-place.cell.parts)
-
-pub returns-in-Nothing : goal.returns-in-Nothing
-returns-in-Nothing g c = c.loop-place.invariant.1 c.loop-place.cell.parts (some_none (machine g c.args.cell.now.parts.ether.setup) g.U.Upstream.tally g.M.Marking.marked g.M.Hosted.mark g.row.M-Action.Denot c.loop-place.cell.parts)
-
-pub returns-in-Over : goal.returns-in-Over
-returns-in-Over g c = c.loop-place.invariant.1 c.loop-place.cell.parts (some_none (machine g c.args.cell.now.parts.ether.setup) g.U.Upstream.tally g.M.Marking.marked g.M.Hosted.mark g.row.M-Action.Denot c.loop-place.cell.parts)
+returns g c =
+    let first = c.args.cell.now.parts in
+    let between = c.take_jobs-is_over.new.cell.parts in
+    let new = c.turn_all.new.cell.parts in
+    let M = machine g first.ether.setup in
+    let home = home_after_some M g.U.Upstream.tally g.M.Marking.marked g.M.Hosted.mark first between c.take_jobs-is_over.ensures.done in
+    let turned = subst (λ (s : g.row.M-Setup.Denot). HasTurnedAll (machine g s) c.take_jobs-is_over.new.gathered.items between new) (ap (λ e. e.setup) home.ether) c.turn_all.ensures.turned in
+    all_end M g.U.Upstream.tally g.M.Marking.marked g.M.Hosted.mark c.take_jobs-is_over.new.gathered.items first between new c.take_jobs-is_over.ensures.done turned

@@ -1,7 +1,8 @@
 use Rattle.raft_node.specs.Hosts.{hosted}
 use Rattle.raft_node.specs.Machine.{Machine}
-use Rattle.node_threads.proofs.Going.{home_after_round, home_after_some}
+use Rattle.node_threads.proofs.Going.{home_after_round}
 use Rattle.node_threads.proofs.Home.{same_home_still}
+use Rattle.node_threads.proofs.Taken.{home_after_some}
 use Rattle.node_threads.proofs.worker_loop.WorkerLoop.do_round.Given as given
 use Rattle.node_threads.proofs.worker_loop.WorkerLoop.do_round.Goals as goal
 

@@ -1,4 +1,4 @@
-use Rattle.std.proofs.Common.{◌≡◌, ap, subst}
+use Rattle.std.proofs.Common.{ap, subst}
 use Rattle.raft_node.specs.Hosts.{hosted}
 use Rattle.raft_node.specs.Machine.{Machine}
 use Rattle.node_threads.specs.Reports.{is_news}
@@ -29,8 +29,9 @@ returns g c =
     let two = same_home_still old first seen one (home_left _ first c.leader_left-left.result seen c.leader_left-left.ensures) in
     let takes = subst (λ (s : g.row.M-Setup.Denot). HasTakenBut (machine g s) tally c.leader_left-left.result seen heard) (ap (λ e. e.setup) two.ether) c.take_all.ensures in
     let three = same_home_still old seen heard two (home_after_taking M tally c.leader_left-left.result seen heard takes) in
-    let asks = subst (λ (s : g.row.M-Setup.Denot). HasAskedOn (machine g s) tally heard asked) (ap (λ e. e.setup) three.ether) c.ask_all-all_asked.ensures in
-    let four = same_home_still old heard asked three (home_asked M tally heard asked asks) in
+    let now_waiting = c.take_all.new.self.requests.waiting.items in
+    let asks = subst (λ (s : g.row.M-Setup.Denot). HasAskedOn (machine g s) tally now_waiting heard asked) (ap (λ e. e.setup) three.ether) c.ask_all-all_asked.ensures in
+    let four = same_home_still old heard asked three (home_asked M tally now_waiting heard asked asks) in
     let applies = subst (λ (s : g.row.M-Setup.Denot). HasApplied (machine g s) tally asked applied) (ap (λ e. e.setup) four.ether) c.apply_all-all_applied.ensures.applied in
     let five = same_home_still old asked applied four (home_after M tally _ asked applied applies.1) in
     let now = c.apply_all-all_applied.new.self in
@@ -43,6 +44,7 @@ returns g c =
       asked = asked;
       applied = applied;
       now_forwarded = c.ask_before.new.self.forwarded;
+      now_waiting = now_waiting;
       left = c.leader_left-left.result;
       has_news = news;
       asks_before = c.ask_before.ensures;

@@ -2,8 +2,8 @@ use Rattle.raft_node.specs.Hosts.{hosted}
 use Rattle.raft_node.specs.Machine.{Machine}
 use Rattle.node_cells.specs.Turns.{CellOf}
 use Rattle.node_threads.specs.Homes.{IsSameHome}
-use Rattle.node_threads.specs.Work.{HasAskedOn}
-use Rattle.node_threads.proofs.worker_loop.WorkerLoop.ask_all.Given as goal
+use Rattle.node_threads.specs.Work.{HasAskedEach}
+use Rattle.node_threads.proofs.worker_loop.WorkerLoop.ask_each.Given as goal
 
 abbrev pub machine : (g : goal.Over) → g.row.M-Setup.Denot → Machine
 machine g s =
@@ -14,4 +14,4 @@ abbrev pub invariant-loop : goal.invariant-loop
 invariant-loop g l =
     let first = l.fn.cell.parts in
     let M = machine g first.ether.setup in
-    IsSameHome first l.cell.parts × ((e : CellOf M _ _ _ _) → HasAskedOn M g.U.Upstream.tally l.cell.parts e → HasAskedOn M g.U.Upstream.tally first e)
+    IsSameHome first l.cell.parts × ((e : CellOf M _ _ _ _) → HasAskedEach M g.U.Upstream.tally l.cell.parts e → HasAskedEach M g.U.Upstream.tally first e)

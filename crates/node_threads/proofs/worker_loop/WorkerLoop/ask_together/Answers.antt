@@ -1,0 +1,25 @@
+use Rattle.std.proofs.Common.{rules, ◌≡◌, ◌≤◌, true, length, ap, sym, ◌∙◌, subst, arith}
+use Rattle.node_threads.specs.Reports.{leads_in}
+use Rattle.node_threads.specs.Together.{HasTurnedAll}
+use Rattle.node_threads.proofs.Asked.{front_asked}
+use Rattle.node_threads.proofs.worker_loop.WorkerLoop.ask_together.Given as given
+use Rattle.node_threads.proofs.worker_loop.WorkerLoop.ask_together.Goals as goal
+use Rattle.raft_node.specs.Hosts.{hosted}
+use Rattle.raft_node.specs.Machine.{Machine}
+
+abbrev machine : (g : given.Over) → g.row.M-Setup.Denot → Machine
+machine g s =
+    hosted g.M.Hosted.blank g.M.Hosted.opened g.M.Hosted.shut g.M.Hosted.heard g.M.Hosted.claim g.M.Hosted.source (g.M.Machine.effects s)
+    (g.M.Hosted.next_claim s) (g.M.Hosted.playback s) g.M.Hosted.class
+
+pub returns : goal.returns
+returns g c =
+    let first = c.args.cell.now.parts in
+    let new = c.turn_all.new.cell.parts in
+    let waiting = c.args.self.now.requests.waiting.items in
+    let inputs = c.next_asks-inputs.result.items in
+    let M = machine g first.ether.setup in
+    let yes : leads_in first ≡ true = sym c.leads.ensures ∙ search rules in
+    let some : 1 ≤ length inputs = c.has_some.ensures.some (search rules) in
+    let is = front_asked waiting c.next_asks-inputs.new.self.requests.waiting.items inputs c.next_asks-inputs.ensures.front (λ none. let short : length inputs ≡ 0 = ap length none in omega (arith, some, short)) in
+    record { leads = yes; turned = subst (λ l. HasTurnedAll M l first new) is c.turn_all.ensures.turned }

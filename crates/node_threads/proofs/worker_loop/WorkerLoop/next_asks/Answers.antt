@@ -1,0 +1,84 @@
+use Rattle.std.proofs.Common.{rules, ◌≡◌, ◌+◌, ◌-◌, ◌++◌, suc, [], length, min, take, drop, ap, ◌∙◌, subst, arith}
+use Rattle.node_threads.specs.Together.{TakesFront, asks_of}
+use Rattle.node_threads.proofs.Taken.{none_ready}
+use Rattle.node_threads.proofs.Asked.{asks_ready, next_left, next_taken, none_waits_more, so_many}
+use Rattle.node_threads.proofs.worker_loop.WorkerLoop.next_asks.Goals as goal
+
+pub loop-init : goal.loop-init
+loop-init g c =
+    let first = c.args.self.now.requests.waiting.items in
+    let all : c.min-count.result - 0 ≡ c.min-count.result = omega arith in
+    let len = c.in-Ok.ensures.len in
+    let room = c.in-Ok.ensures.exact in
+    record {
+      taken = λ i. c.in-Ok.ensures.items i ++ asks_of {L = g.row.M-Line.Denot} (take (all i) first);
+      left = λ i. drop (all i) first;
+      room = omega (arith, len, room);
+    }
+
+pub loop-preserved : goal.loop-preserved
+loop-preserved g c =
+    let first = c.args.self.now.requests.waiting.items in
+    let old = c.loop.self.requests.waiting.items in
+    let new = c.ask.new.self.waiting.items in
+    let n = c.min-count.result - c.loop.counter in
+    let m = c.min-count.result - (c.loop.counter + 1) in
+    let some = c.loop-test.true in
+    let next : n ≡ suc m = omega (arith, some) in
+    let len = c.push_reserved.ensures.len in
+    let full = c.push_reserved.ensures.capacity in
+    let room = c.loop.invariant.room in
+    let waits = c.in-Some.ensures.1 in
+    record {
+      taken = ap (λ l. l ++ asks_of {L = g.row.M-Line.Denot} (take m new)) c.push_reserved.ensures.items
+          ∙ next_taken old new c.in-Some.ensures.0 c.in-Some.request c.loop.inputs.items (asks_of (take c.min-count.result first)) n m next waits c.loop.invariant.taken;
+      left = next_left old new (drop c.min-count.result first) c.in-Some.ensures.0 c.in-Some.request n m next waits c.loop.invariant.left;
+      room = omega (arith, len, full, room, next);
+    }
+
+pub returns-in_default-ask-clause-front : goal.returns-in_default-ask-clause-front
+returns-in_default-ask-clause-front g c =
+    let first = c.args.self.now.requests.waiting.items in
+    let old = c.loop.self.requests.waiting.items in
+    let new = c.ask.new.self.waiting.items in
+    let many : c.min-count.result ≡ min 256 (length first) = search rules in
+    let same : old ≡ new = search rules in
+    let none : old ≡ [] = c.in_default-ask.ensures.0 in
+    subst (λ w. TakesFront first c.loop.inputs.items w) same
+    (none_waits_more first old c.loop.inputs.items (c.min-count.result - c.loop.counter) c.min-count.result many c.loop.invariant.taken c.loop.invariant.left none)
+
+pub returns-clause-front : goal.returns-clause-front
+returns-clause-front g c =
+    let first = c.args.self.now.requests.waiting.items in
+    let now = c.loop.self.requests.waiting.items in
+    let many : c.min-count.result ≡ min 256 (length first) = search rules in
+    let least = c.loop-test.false in
+    let end : c.min-count.result - c.loop.counter ≡ 0 = omega (arith, least) in
+    so_many first now c.loop.inputs.items (c.min-count.result - c.loop.counter) c.min-count.result many c.loop.invariant.taken c.loop.invariant.left end
+
+pub returns-in_default-ask-clause-ready : goal.returns-in_default-ask-clause-ready
+returns-in_default-ask-clause-ready g c =
+    let first = c.args.self.now.requests.waiting.items in
+    let old = c.loop.self.requests.waiting.items in
+    let new = c.ask.new.self.waiting.items in
+    let many : c.min-count.result ≡ min 256 (length first) = search rules in
+    let same : old ≡ new = search rules in
+    let none : old ≡ [] = c.in_default-ask.ensures.0 in
+    let front : TakesFront first c.loop.inputs.items new =
+    subst (λ w. TakesFront first c.loop.inputs.items w) same
+    (none_waits_more first old c.loop.inputs.items (c.min-count.result - c.loop.counter) c.min-count.result many c.loop.invariant.taken c.loop.invariant.left none) in
+    λ yes. asks_ready first new c.loop.inputs.items c.args.cell.now.parts front yes
+
+pub returns-clause-ready : goal.returns-clause-ready
+returns-clause-ready g c =
+    let first = c.args.self.now.requests.waiting.items in
+    let now = c.loop.self.requests.waiting.items in
+    let many : c.min-count.result ≡ min 256 (length first) = search rules in
+    let least = c.loop-test.false in
+    let end : c.min-count.result - c.loop.counter ≡ 0 = omega (arith, least) in
+    let front : TakesFront first c.loop.inputs.items now =
+    so_many first now c.loop.inputs.items (c.min-count.result - c.loop.counter) c.min-count.result many c.loop.invariant.taken c.loop.invariant.left end in
+    λ yes. asks_ready first now c.loop.inputs.items c.args.cell.now.parts front yes
+
+pub returns-in_default-clause-ready : goal.returns-in_default-clause-ready
+returns-in_default-clause-ready g c = λ yes. none_ready c.new.result.items c.args.cell.now.parts c.new.ensures.items

@@ -1,0 +1,143 @@
+//! The inputs that a worker gathers, for its node to do together.
+ghost use Rattle.std.specs.Prelude.{◌≡◌, ◌≤◌, [], None, false, length, true};
+ghost use Rattle.world_views.specs.Views.{carries};
+ghost use Rattle.node_threads.specs.Reports.{leads_in};
+ghost use Rattle.node_threads.specs.Taking.{HasAdded, HasDoneBehind, HasTakenUp};
+ghost use Rattle.node_threads.specs.Together.{AreReady, HasGatheredAll, HasTurnedAll, is_idle};
+
+use crate::gate::{Gate, pass_gates};
+use crate::job::Job;
+use crate::outlet::Outlet;
+use crate::worker_loop::WorkerLoop;
+use crate::worker_loop::telling::leads;
+use machine_laws::{Hosted, Machine, Marking};
+use marked_cells::MarkedCell;
+use node_cells::Upstream;
+use raft_node::Described;
+use stable_store::Stable;
+use std::mem::replace;
+use std::sync::Wait;
+use world_views::NodeInput;
+
+impl<M: Marking, G: Gate + Drop, O: Outlet<M::Effect>> WorkerLoop<M, G, O> {
+    /// Takes up a job. An input by which a leader only appends is gathered; any other job is done behind
+    /// all that was gathered. Whether the job was done by itself.
+    pub fn take_up<R: Wait, S: Stable<M::Command>, U: Upstream>(
+        &mut self,
+        rt: &R,
+        cell: &mut MarkedCell<M, S, U>,
+        job: Job<M>,
+        gathered: &mut Vec<NodeInput<M::Command, M::Line>>,
+    ) -> bool
+        requires { AreReady gathered.old.items cell.old.parts }
+        ensures { HasTakenUp (⟦<M as Described>⟧.machine cell.old.parts.ether.setup) U.tally
+            M.marked M.mark job gathered.old.items cell.old.parts gathered.new.items
+            cell.new.parts }
+    {
+        self.count(job.is_told());
+        if !leads(cell) {
+            self.do_job(rt, cell, job);
+            return true;
+        }
+        match job.into_append() {
+            Ok(input) => self.add(rt, cell, input, gathered),
+            Err(job) => self.do_behind(rt, cell, job, gathered),
+        }
+    }
+
+    /// An input comes behind those that were gathered. Where there is no memory for that, it is done by
+    /// itself behind them, which is true then.
+    fn add<R: Wait, S: Stable<M::Command>, U: Upstream>(
+        &mut self,
+        rt: &R,
+        cell: &mut MarkedCell<M, S, U>,
+        input: NodeInput<M::Command, M::Line>,
+        gathered: &mut Vec<NodeInput<M::Command, M::Line>>,
+    ) -> bool
+        requires ready { AreReady gathered.old.items cell.old.parts }
+        requires no_message { carries input ≡ None }
+        ensures { HasAdded (⟦<M as Described>⟧.machine cell.old.parts.ether.setup) U.tally input
+            gathered.old.items cell.old.parts gathered.new.items cell.new.parts }
+    {
+        match gathered.push(input) {
+            Ok(()) => false,
+            Err(failed) => {
+                self.turn_gathered(rt, cell, gathered);
+                self.turn(rt, cell, failed.value);
+                true
+            }
+        }
+    }
+
+    /// A job is done behind all that was gathered, unless it does nothing with the node. Whether it does
+    /// something with it.
+    fn do_behind<R: Wait, S: Stable<M::Command>, U: Upstream>(
+        &mut self,
+        rt: &R,
+        cell: &mut MarkedCell<M, S, U>,
+        job: Job<M>,
+        gathered: &mut Vec<NodeInput<M::Command, M::Line>>,
+    ) -> bool
+        requires { AreReady gathered.old.items cell.old.parts }
+        ensures { HasDoneBehind (⟦<M as Described>⟧.machine cell.old.parts.ether.setup) U.tally
+            M.marked M.mark (is_idle job) job gathered.old.items cell.old.parts gathered.new.items
+            cell.new.parts }
+    {
+        if job.is_idle() {
+            self.do_job(rt, cell, job);
+            return false;
+        }
+        self.turn_gathered(rt, cell, gathered);
+        self.do_job(rt, cell, job);
+        true
+    }
+
+    /// All that was gathered is done together, and nothing is gathered any more.
+    pub fn turn_gathered<R: Wait, S: Stable<M::Command>, U: Upstream>(
+        &mut self,
+        rt: &R,
+        cell: &mut MarkedCell<M, S, U>,
+        gathered: &mut Vec<NodeInput<M::Command, M::Line>>,
+    )
+        requires { AreReady gathered.old.items cell.old.parts }
+        ensures turned { HasTurnedAll (⟦<M as Described>⟧.machine cell.old.parts.ether.setup)
+            gathered.old.items cell.old.parts cell.new.parts }
+        ensures none { gathered.new.items ≡ [] }
+    {
+        let inputs = replace(gathered, Vec::new(self.alloc));
+        self.turn_all(rt, cell, inputs);
+    }
+
+    /// Inputs that only append are done together by a node that leads, if there are any: they are saved at
+    /// once, and nothing is sent by them. A refusal is a turn that did nothing.
+    pub fn turn_all<R: Wait, S: Stable<M::Command>, U: Upstream>(
+        &mut self,
+        rt: &R,
+        cell: &mut MarkedCell<M, S, U>,
+        inputs: Vec<NodeInput<M::Command, M::Line>>,
+    )
+        requires { AreReady inputs.items cell.old.parts }
+        ensures turned { HasTurnedAll (⟦<M as Described>⟧.machine cell.old.parts.ether.setup)
+            inputs.items cell.old.parts cell.new.parts }
+        ensures gathered { HasGatheredAll (⟦<M as Described>⟧.machine cell.old.parts.ether.setup)
+            inputs.items cell.old.parts self.old.round cell.new.parts self.new.round }
+        ensures forwarded { self.new.forwarded ≡ self.old.forwarded }
+    {
+        if !has_some(&inputs) {
+            return;
+        }
+        pass_gates(rt, &*self.gate, self.id, &mut self.turns, inputs.len());
+        match cell.turn_all(inputs) {
+            Ok(answers) => self.round.fail_each(answers.as_slice()),
+            Err(fault) => self.round.fail(fault),
+        }
+    }
+}
+
+/// Whether there are any.
+pub fn has_some<T>(items: &Vec<T>) -> bool
+    ensures some { result ≡ true → 1 ≤ length items.now.items }
+    ensures none { result ≡ false → items.now.items ≡ [] }
+{
+    !items.is_empty()
+}
