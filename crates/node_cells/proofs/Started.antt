@@ -247,6 +247,7 @@ module _ (M : Machine) {Setup Hosted Store U : Type 0} (k : Keeper Store M.Body)
           record {
             first = first.first;
             same = told;
+            together = h.together;
             first_are = first.are;
             more = rest.more;
             restarts = rest.restarts;

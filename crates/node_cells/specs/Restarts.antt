@@ -17,7 +17,7 @@ use Rattle.node_cells.specs.declared.phase.Phase.{Phase}
 use Rattle.node_cells.specs.declared.phase.Phase.TheVariants.{Up, DownInTurn, DownInTurns, DownInRestart}
 use Rattle.ether.specs.Passes.{view_of}
 use Rattle.node_cells.specs.Books.{BookParts, NotedOf, noted, recorded_by, room_for, turn_in}
-use Rattle.node_cells.specs.Cells.{AreAnswered, CellParts, view_in}
+use Rattle.node_cells.specs.Cells.{AreAnswered, AreTogether, CellParts, view_in}
 use Rattle.node_cells.specs.Inputs.{Answer}
 use Rattle.node_cells.specs.Sending.{terms_of}
 use Rattle.node_cells.specs.Turns.{IsDownAs}
@@ -116,6 +116,7 @@ module _ (M : Machine) where
     pub record IsRestart (c d : CellParts Setup Hosted Store M.Body M.Line M.Target M.Effect M.Played U) : Type 0 where
       pub first : List (NotedOf M)
       pub same : Bool
+      pub together : AreTogether c.phase
       pub first_are : AreNoted (firsts_of c.phase same) first
       pub more : List (TurnOf M)
       pub restarts : AreRestarts more
