@@ -12,7 +12,7 @@ fn change(alloc: Global, place: u64) -> Result<Change<u8>, AllocError>
     requires { place < 2 ^ 60 }
 {
     let term = Number::new(1);
-    let body = LoggedBody::new(7);
+    let body = LoggedBody::new(alloc, 7)?;
     let entries = vec![in alloc; Entry { term, body }]?;
     Ok(Change::new(term, term, None, Number::new(place), entries))
 }

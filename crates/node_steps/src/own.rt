@@ -1,5 +1,5 @@
 //! What a leader is about to append of its own.
-ghost use Rattle.std.specs.Prelude.{◌≡◌, true};
+ghost use Rattle.std.specs.Prelude.{◌≡◌, ◌≤◌, length, true};
 ghost use Rattle.raft_log.specs.Node.{is_leader};
 ghost use Rattle.raft_log.specs.Positions.{role_of};
 ghost use Rattle.node_steps.specs.Plans.{IsPrepared, own_plan};
@@ -19,9 +19,11 @@ pub(crate) fn append_own<B: Wire>(
     log: &Log<B>,
     live: Option<Live>,
     attempts: Number,
-    body: LoggedBody<B>,
+    body: B,
 ) -> Result<Step<B>, Unprepared>
-    requires { is_leader (role_of standing.position) ≡ true }
+    requires leads { is_leader (role_of standing.position) ≡ true }
+    requires fits { B.fits body }
+    requires short { length (B.spelled body) ≤ 65536 }
     ensures { IsPrepared (own_plan live attempts body) standing log.now result }
 {
     if log.is_full() {
@@ -32,6 +34,7 @@ pub(crate) fn append_own<B: Wire>(
         attempts,
         ..standing
     };
+    let body = LoggedBody::new(alloc, body)?;
     Ok(replication::on_forward(alloc, led, log, body)?)
 }
 

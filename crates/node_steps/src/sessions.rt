@@ -8,7 +8,7 @@ use crate::own::{append_own, leads};
 use crate::refusal::Refusal;
 use crate::unprepared::Unprepared;
 use machine_laws::Hosted;
-use raft_log::{Live, Log, LoggedBody, Standing, Step};
+use raft_log::{Live, Log, Standing, Step};
 use std::alloc::Global;
 use wire_bytes::{Moment, Number, SessionId};
 
@@ -44,7 +44,7 @@ pub fn on_opened<M: Hosted>(
         log,
         Some(Live { id, next }),
         attempts,
-        LoggedBody::new(body),
+        body,
     )
 }
 
@@ -63,7 +63,7 @@ pub fn on_closed<M: Hosted>(
             let body = M::shut(live.id);
             M::fits(&body);
             let attempts = standing.attempts;
-            append_own(alloc, standing, log, None, attempts, LoggedBody::new(body))
+            append_own(alloc, standing, log, None, attempts, body)
         }
         None => Ok(Step::still(alloc, standing, log)),
     }
@@ -94,14 +94,7 @@ pub fn on_heard<M: Hosted>(
             let body = M::heard(live.id, live.next, at, line);
             M::fits(&body);
             let attempts = standing.attempts;
-            append_own(
-                alloc,
-                standing,
-                log,
-                Some(counted),
-                attempts,
-                LoggedBody::new(body),
-            )
+            append_own(alloc, standing, log, Some(counted), attempts, body)
         }
         None => Ok(Step::still(alloc, standing, log)),
     }
@@ -124,14 +117,7 @@ pub fn on_claim<M: Hosted>(
                 let body = M::claim(live.id, number);
                 M::fits(&body);
                 let attempts = standing.attempts;
-                append_own(
-                    alloc,
-                    standing,
-                    log,
-                    Some(live),
-                    attempts,
-                    LoggedBody::new(body),
-                )
+                append_own(alloc, standing, log, Some(live), attempts, body)
             }
             None => Ok(Step::still(alloc, standing, log)),
         },

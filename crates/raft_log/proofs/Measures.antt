@@ -1,5 +1,5 @@
 -- What the reading of a body behind its length answers, which inputs want memory for it, and what is written over a place.
-use Rattle.std.proofs.Common.{◌≡◌, ◌≢◌, ℕ, ◌+◌, Bool, true, false, cond, eqb, List, ◌++◌, length, take, drop, Result, Ok, Err, IsTrue, refl, sym, subst, ap, ◌∙◌, arith, append_assoc}
+use Rattle.std.proofs.Common.{◌≡◌, ◌≢◌, ℕ, ◌+◌, Bool, true, false, ◌||◌, cond, eqb, List, ◌++◌, length, take, drop, Result, Ok, Err, is_ok, IsTrue, refl, sym, subst, ap, ◌∙◌, arith, append_assoc}
 use Rattle.std.proofs.lemmas.Bool.{eq-eqb}
 use Rattle.std.proofs.lemmas.List.{take_at, drop_at, length-append}
 use Rattle.wire_bytes.specs.declared.wire_fault.WireFault.{WireFault}
@@ -33,9 +33,21 @@ module _ {X : Type 0} (reading : Reading X) (input : List ℕ) where
   unfolding measured
   measured-refused n k x m h b e = ap goes h ∙ (ap (ending_at (k + n)) b ∙ ends_by x m (k + n) false (grind arith))
 
+or_left : (a b : Bool) → IsTrue a → IsTrue (a || b)
+or_left true b h = refl
+or_left false b h = absurd cc
+
+or_right : (a b : Bool) → IsTrue b → IsTrue (a || b)
+or_right true b h = refl
+or_right false b h = h
+
 -- a body that wants memory, behind its length
-pub measured_wants : (wants : Wants) (input : List ℕ) (n k : ℕ) → body_length input ≡ Ok (n, k) → IsTrue (wants (drop k input)) → IsTrue (wants_measured wants input)
-measured_wants wants input n k h w = subst (λ (r : Result (ℕ × ℕ) WireFault). IsTrue (wants_next r wants input)) (sym h) w
+pub measured_wants : {X : Type 0} (wants : Wants) (reading : Reading X) (input : List ℕ) (n k : ℕ) → body_length input ≡ Ok (n, k) → IsTrue (wants (drop k input)) → IsTrue (wants_measured wants reading input)
+measured_wants wants reading input n k h w = or_left (wants_next (body_length input) wants input) (is_ok (measured reading input)) (subst (λ (r : Result (ℕ × ℕ) WireFault). IsTrue (wants_next r wants input)) (sym h) w)
+
+-- a body that was read whole is kept apart from the input
+pub whole_wants : {X : Type 0} (wants : Wants) (reading : Reading X) (input : List ℕ) (x : X) (m : ℕ) → measured reading input ≡ Ok (x, m) → IsTrue (wants_measured wants reading input)
+whole_wants wants reading input x m e = or_right (wants_next (body_length input) wants input) (is_ok (measured reading input)) (ap is_ok e)
 
 -- how long the spelling of a body is with its length
 pub measured_length : {X : Type 0} (spelled : X → List ℕ) (x : X) → length (spelled_measured spelled x) ≡ 4 + length (spelled x)

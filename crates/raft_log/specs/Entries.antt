@@ -24,5 +24,5 @@ module _ {B : Type 0} where
   entry_taken body = through entry_of (both number (measured body))
 
 -- an entry wants memory for its body alone
-abbrev pub wants_entry : Wants → Wants
-wants_entry wants = wants_both never number (wants_measured wants)
+abbrev pub wants_entry : {B : Type 0} → Wants → Reading B → Wants
+wants_entry wants body = wants_both never number (wants_measured wants body)

@@ -1,5 +1,5 @@
 -- Bodies as bytes: the length of a body stands before it, in four bytes.
-use Rattle.std.specs.Prelude.{ℕ, ◌+◌, ◌==◌, ◌≤◌, if◌then◌else◌, List, ◌++◌, length, take, drop, Result, Ok, Err}
+use Rattle.std.specs.Prelude.{ℕ, ◌+◌, ◌==◌, ◌≤◌, ◌||◌, if◌then◌else◌, List, ◌++◌, length, take, drop, Result, Ok, Err, is_ok}
 use Rattle.std.specs.Int.{w32, to_be_bytes}
 use Rattle.wire_bytes.specs.declared.wire_fault.WireFault.{WireFault}
 use Rattle.wire_bytes.specs.declared.wire_fault.WireFault.TheVariants.{Bad}
@@ -31,6 +31,6 @@ written_over items place bytes = take place items ++ (bytes ++ drop (place + len
 abbrev pub FitsMeasured : {X : Type 0} → (X → Type 0) → (X → List ℕ) → X → Type 0
 FitsMeasured fits spelled x = fits x × (length (spelled x) ≤ 65536)
 
--- what stands behind a length that was read
-abbrev pub wants_measured : Wants → Wants
-wants_measured wants input = wants_next (body_length input) wants input
+-- what stands behind a length that was read, or a body that stands whole, since it is kept apart from the input
+abbrev pub wants_measured : {X : Type 0} → Wants → Reading X → Wants
+wants_measured wants reading input = wants_next (body_length input) wants input || is_ok (measured reading input)

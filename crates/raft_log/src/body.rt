@@ -1,33 +1,37 @@
-ghost use Rattle.std.specs.Prelude.{◌≡◌, ◌+◌, ◌≤◌, length, vec_capacity};
+ghost use Rattle.std.specs.Prelude.{◌≡◌, ◌+◌, ◌≤◌, IfOk, length, vec_capacity};
 ghost use Rattle.raft_log.specs.Spellings.{written_over};
 
 use std::alloc::{AllocError, Global};
 use std::marker::Model;
+use std::sync::Arc;
 use wire_bytes::{Copied, Wire, WireFault, take_behind, take_u32};
 
-/// A body that may stand in a log: it has a spelling, of at most 65,536 bytes.
+/// A body that may stand in a log: it has a spelling, of at most 65,536 bytes. All copies of it share
+/// one value in memory.
 #[derive(Drop)]
 pub struct LoggedBody<B: Wire> {
-    body: B,
+    body: Arc<B, Global>,
 }
 
 impl<B: Wire> Model for LoggedBody<B> {
+    ghost use Rattle.std.specs.Arc.{arc_value};
     ghost use Rattle.raft_log.specs.Spellings.{FitsMeasured};
 
     ghost Value = { B };
 
-    ghost view = { λ b. b.body };
+    ghost view = { λ b. arc_value b.body };
 
-    ghost invariant = { λ b. FitsMeasured B.fits B.spelled b.body };
+    ghost invariant = { λ b. FitsMeasured B.fits B.spelled (arc_value b.body) };
 }
 
 impl<B: Wire> LoggedBody<B> {
-    pub fn new(body: B) -> Self
+    pub fn new(alloc: Global, body: B) -> Result<Self, AllocError>
         requires fits { B.fits body }
         requires short { length (B.spelled body) ≤ 65536 }
-        ensures { result ≡ body }
+        ensures { IfOk result (λ b. b ≡ body) }
     {
-        LoggedBody { body }
+        let body = Arc::new(alloc, body)?;
+        Ok(LoggedBody { body })
     }
 
     pub fn get(&self) -> &B
@@ -39,9 +43,10 @@ impl<B: Wire> LoggedBody<B> {
     }
 }
 
+/// A copy is one more pointer to the same value.
 impl<B: Wire> Copied for LoggedBody<B> {
-    fn copy(&self, alloc: Global) -> Result<Self, AllocError> {
-        let body = self.body.copy(alloc)?;
+    fn copy(&self, _alloc: Global) -> Result<Self, AllocError> {
+        let body = Arc::try_clone(&self.body)?;
         Ok(LoggedBody { body })
     }
 }
@@ -59,14 +64,14 @@ impl<B: Wire> Wire for LoggedBody<B> {
 
     ghost taken = { measured B.taken };
 
-    ghost wants = { wants_measured B.wants };
+    ghost wants = { wants_measured B.wants B.taken };
 
     #[tactic(auto, using(crate::proofs::Measures::measured_length))]
     fn put(&self, out: &mut Vec<u8>) -> Result<(), AllocError> {
         let start = out.len();
         // the length is known once the body is spelled
         out.extend_from_slice(&[0; 4])?;
-        let outcome = self.body.put(out);
+        let outcome = self.get().put(out);
         if outcome.is_err() {
             out.truncate(start);
             return outcome;
@@ -80,7 +85,7 @@ impl<B: Wire> Wire for LoggedBody<B> {
         let (size, place) = take_u32(input, 65_536)?;
         let (body, end) = take_behind::<B>(alloc, input, place)?;
         if end == place + size as usize {
-            Ok((LoggedBody { body }, end))
+            Ok((LoggedBody::new(alloc, body)?, end))
         } else {
             Err(WireFault::Bad(0))
         }

@@ -41,7 +41,7 @@ impl<B: Wire> Wire for Entry<B> {
 
     ghost taken = { entry_taken B.taken };
 
-    ghost wants = { wants_entry B.wants };
+    ghost wants = { wants_entry B.wants B.taken };
 
     #[tactic(auto, unfolding(crate::specs::Entries::spelled_entry))]
     fn put(&self, out: &mut Vec<u8>) -> Result<(), AllocError> {

@@ -38,12 +38,14 @@ pub fn prepare<M: Hosted>(
         Input::Deliver(message) => {
             let blank = M::blank();
             M::fits(&blank);
-            Ok(on_message(alloc, state, id, message, LoggedBody::new(blank))?)
+            let blank = LoggedBody::new(alloc, blank)?;
+            Ok(on_message(alloc, state, id, message, blank)?)
         }
         Input::Ask(body) => {
             M::fits(&body);
             let source = M::source(&body);
-            on_ask(alloc, standing, log, id, source, LoggedBody::new(body))
+            let body = LoggedBody::new(alloc, body)?;
+            on_ask(alloc, standing, log, id, source, body)
         }
         Input::Opened => on_opened::<M>(alloc, standing, log),
         Input::Closed => on_closed::<M>(alloc, standing, log),

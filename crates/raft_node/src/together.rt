@@ -120,7 +120,7 @@ fn append<M: Hosted>(
         return Ok(Err(Refusal::LogFull));
     }
     M::fits(&body);
-    let body = LoggedBody::new(body);
+    let body = LoggedBody::new(*together.entries.allocator(), body)?;
     let term = state.standing.term;
     together.entries.push(Entry { term, body })?;
     together.live = live;

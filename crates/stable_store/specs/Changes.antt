@@ -62,4 +62,4 @@ module _ {B : Type 0} where
 
   -- a change wants memory for its entries alone
   abbrev pub wants_change : Wants → Reading B → Wants
-  wants_change wants body = wants_both never numbers_taken (wants_counted (wants_entry wants) (entry_taken body))
+  wants_change wants body = wants_both never numbers_taken (wants_counted (wants_entry wants body) (entry_taken body))

@@ -20,4 +20,4 @@ module _ {B : Type 0} where
   -- why so many entries were not read: what is wrong with them, or memory, where they may want it
   pub record IsRefusal (wants : Wants) (body : Reading B) (count place : ℕ) (input : List ℕ) (e : WireFault) : Type 0 where
     pub fault : e ≢ Memory → entries_at body count place input ≡ Err e
-    pub memory : e ≡ Memory → IsTrue (wants_many count (wants_entry wants) (entry_taken body) (drop place input))
+    pub memory : e ≡ Memory → IsTrue (wants_many count (wants_entry wants body) (entry_taken body) (drop place input))

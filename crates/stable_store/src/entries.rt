@@ -69,7 +69,7 @@ impl<B: Wire> Wire for Entries<B> {
 
     ghost taken = { counted (entry_taken B.taken) };
 
-    ghost wants = { wants_counted (wants_entry B.wants) (entry_taken B.taken) };
+    ghost wants = { wants_counted (wants_entry B.wants B.taken) (entry_taken B.taken) };
 
     #[tactic(auto, unfolding(crate::specs::Lists::spelled_counted))]
     fn put(&self, out: &mut Vec<u8>) -> Result<(), AllocError> {

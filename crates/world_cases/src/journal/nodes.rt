@@ -50,18 +50,18 @@ fn request() -> Input<u8, u8> {
     })
 }
 
-fn entry(body: u8) -> Entry<u8> {
-    Entry {
+fn entry(alloc: Global, body: u8) -> Result<Entry<u8>, AllocError> {
+    Ok(Entry {
         term: Number::new(1),
-        body: LoggedBody::new(body),
-    }
+        body: LoggedBody::new(alloc, body)?,
+    })
 }
 
 /// Its blank entry, and one of the body 7.
 fn entries(alloc: Global) -> Result<Input<u8, u8>, AllocError> {
     let mut entries = Vec::with_capacity(alloc, 2)?;
-    entries.push(entry(0))?;
-    entries.push(entry(7))?;
+    entries.push(entry(alloc, 0)?)?;
+    entries.push(entry(alloc, 7)?)?;
     let (prev, none) = (Number::new(0), Number::new(0));
     Ok(from_first(Kind::Append(Batch::new(prev, none, entries, none))))
 }

@@ -18,11 +18,11 @@ fn number(value: u8) -> Number
     Number::new(value as u64)
 }
 
-fn entry(term: u8) -> Entry<u8> {
-    Entry {
+fn entry(alloc: Global, term: u8) -> Result<Entry<u8>, AllocError> {
+    Ok(Entry {
         term: number(term),
-        body: LoggedBody::new(0),
-    }
+        body: LoggedBody::new(alloc, 0)?,
+    })
 }
 
 /// A log of these terms.
@@ -30,7 +30,7 @@ fn log_of(alloc: Global, terms: &[u8]) -> Result<Log<u8>, AllocError> {
     let mut log = Log::new(alloc);
     for term in terms {
         if !log.is_full() {
-            log.push(entry(*term))?;
+            log.push(entry(alloc, *term)?)?;
         }
     }
     Ok(log)
@@ -97,7 +97,7 @@ fn answered(messages: &[Message<u8>]) -> Option<(u8, bool, u64)> {
 /// The term 3's entry behind a place of term 1, from a leader that committed place 9.
 fn batch(alloc: Global, prev: u8) -> Result<Batch<u8>, AllocError> {
     let mut entries = Vec::with_capacity(alloc, 1)?;
-    entries.push(entry(3))?;
+    entries.push(entry(alloc, 3)?)?;
     Ok(Batch::new(number(prev), number(1), entries, number(9)))
 }
 
@@ -132,7 +132,7 @@ fn candidate() -> Result<Standing, Fail> {
 /// What the vote of node 5 makes of it, with a log of one entry of term 1.
 fn elected(alloc: Global) -> Result<Step<u8>, Fail> {
     let log = log_of(alloc, &[1])?;
-    let (from, blank) = (NodeId::new(5), LoggedBody::new(0));
+    let (from, blank) = (NodeId::new(5), LoggedBody::new(alloc, 0)?);
     Ok(on_vote(alloc, candidate()?, &log, from, number(3), true, blank)?)
 }
 
@@ -146,7 +146,7 @@ fn leader(alloc: Global) -> Result<NodeState<u8>, Fail>
     ensures { IfOk result (λ s. IsWithinLog s.standing s.log) }
 {
     let mut log = Log::new(alloc);
-    let (from, blank) = (NodeId::new(5), LoggedBody::new(0));
+    let (from, blank) = (NodeId::new(5), LoggedBody::new(alloc, 0)?);
     let mut candidate = candidate()?;
     candidate.commit = number(0);
     candidate.position = Position::Candidate;
@@ -227,7 +227,7 @@ fn forwarded_to(messages: &[Message<u8>]) -> Option<(u8, u8)> {
 fn forwarded(alloc: Global) -> Result<Step<u8>, Fail> {
     let log = log_of(alloc, &[1])?;
     let leads = standing(Position::Leader(None))?;
-    Ok(on_forward(alloc, leads, &log, LoggedBody::new(7))?)
+    Ok(on_forward(alloc, leads, &log, LoggedBody::new(alloc, 7)?)?)
 }
 
 /// What node 1, which follows node 4, makes of a body that it is asked for.
@@ -235,7 +235,7 @@ fn asked(alloc: Global) -> Result<Step<u8>, Fail> {
     let log = log_of(alloc, &[1])?;
     let follows = standing(Position::Follower(Some(NodeId::new(4))))?;
     let own = NodeId::new(1);
-    Ok(ask(alloc, follows, &log, own, LoggedBody::new(7))?)
+    Ok(ask(alloc, follows, &log, own, LoggedBody::new(alloc, 7)?)?)
 }
 
 /// Of what a leader and what a follower makes of a body.

@@ -12,7 +12,7 @@ use wire_bytes::Number;
 fn follower(alloc: Global) -> Result<NodeState<u8>, Fail> {
     let mut log = Log::new(alloc);
     for term in [1u8, 1, 2] {
-        let body = LoggedBody::new(0);
+        let body = LoggedBody::new(alloc, 0)?;
         let term = Number::new(term as u64);
         if !log.is_full() {
             log.push(Entry { term, body })?;

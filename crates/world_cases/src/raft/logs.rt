@@ -7,11 +7,11 @@ use std::process::Abort;
 use std::test::Fail;
 use wire_bytes::{Copied, Number, Wire, WireFault};
 
-fn entry(term: u8, body: u8) -> Entry<u8> {
-    Entry {
+fn entry(alloc: Global, term: u8, body: u8) -> Result<Entry<u8>, AllocError> {
+    Ok(Entry {
         term: Number::new(term as u64),
-        body: LoggedBody::new(body),
-    }
+        body: LoggedBody::new(alloc, body)?,
+    })
 }
 
 fn place(place: u8) -> Number
@@ -25,7 +25,7 @@ fn log_of(alloc: Global, terms: &[u8]) -> Result<Log<u8>, AllocError> {
     let mut log = Log::new(alloc);
     for term in terms {
         if !log.is_full() {
-            log.push(entry(*term, 0))?;
+            log.push(entry(alloc, *term, 0)?)?;
         }
     }
     Ok(log)
@@ -46,7 +46,7 @@ fn has_terms(log: &Log<u8>, terms: &[u64]) -> bool {
 /// Whether a log of terms 1, 1, 2 has these terms once an entry of this term came behind a place of it.
 fn is_repaired(alloc: Global, prev: u8, term: u8, terms: &[u64]) -> Result<bool, AllocError> {
     let mut log = log_of(alloc, &[1, 1, 2])?;
-    let entries = vec![in alloc; entry(term, 0)]?;
+    let entries = vec![in alloc; entry(alloc, term, 0)?]?;
     if place(prev) <= log.len() {
         log.repair(place(prev), entries)?;
     }
@@ -57,7 +57,8 @@ fn is_repaired(alloc: Global, prev: u8, term: u8, terms: &[u64]) -> Result<bool,
 fn is_replaced(alloc: Global, terms: &[u64]) -> Result<bool, AllocError> {
     let mut log = log_of(alloc, &[1, 1, 2])?;
     if place(2) <= log.len() {
-        log.replace_from(place(2), &[entry(3, 0), entry(4, 0)])?;
+        let entries = [entry(alloc, 3, 0)?, entry(alloc, 4, 0)?];
+        log.replace_from(place(2), &entries)?;
     }
     Ok(has_terms(&log, terms))
 }
@@ -79,7 +80,7 @@ const ENTRY: &[u8] = &[0, 0, 0, 0, 0, 0, 0, 2, 0, 0, 0, 1, 7];
 /// Whether the entry of term 2 and body 7 is spelled so.
 fn is_spelled(alloc: Global, spelling: &[u8]) -> Result<bool, AllocError> {
     let mut out = Vec::new(alloc);
-    entry(2, 7).put(&mut out)?;
+    entry(alloc, 2, 7)?.put(&mut out)?;
     Ok(out.as_slice() == spelling)
 }
 
@@ -95,7 +96,7 @@ fn is_read(alloc: Global, input: &[u8], len: usize) -> Result<bool, WireFault> {
 }
 
 fn is_copied(alloc: Global) -> Result<bool, AllocError> {
-    let copy = entry(2, 7).copy(alloc)?;
+    let copy = entry(alloc, 2, 7)?.copy(alloc)?;
     Ok(is_it(&copy))
 }
 
@@ -157,10 +158,10 @@ fn check_copied(rt: &impl Abort, alloc: Global, log: &Log<u8>) -> Result<(), Fai
 fn looked_at(alloc: Global) -> Result<Log<u8>, AllocError> {
     let mut log = Log::new(alloc);
     if !log.is_full() {
-        log.push(entry(1, 7))?;
+        log.push(entry(alloc, 1, 7)?)?;
     }
     if !log.is_full() {
-        log.push(entry(2, 8))?;
+        log.push(entry(alloc, 2, 8)?)?;
     }
     Ok(log)
 }
@@ -190,7 +191,7 @@ fn logs_are_compared_copied_and_looked_at(rt: HostRuntime) -> Result<(), Fail> {
     check_log(
         &rt,
         &log_of(rt.alloc(), &[1, 1, 2])?,
-        &[entry(1, 0), entry(3, 0)],
+        &[entry(rt.alloc(), 1, 0)?, entry(rt.alloc(), 3, 0)?],
     );
     check_copied(&rt, rt.alloc(), &log_of(rt.alloc(), &[1, 2])?)?;
     check_looked_at(&rt, &looked_at(rt.alloc())?)
@@ -198,7 +199,7 @@ fn logs_are_compared_copied_and_looked_at(rt: HostRuntime) -> Result<(), Fail> {
 
 /// An append of node 1 in term 5, of one entry behind place 3 of term 2.
 fn append(alloc: Global) -> Result<Message<u8>, AllocError> {
-    let entries = vec![in alloc; entry(4, 9)]?;
+    let entries = vec![in alloc; entry(alloc, 4, 9)?]?;
     let batch = Batch::new(Number::new(3), Number::new(2), entries, Number::new(1));
     Ok(Message {
         term: Number::new(5),

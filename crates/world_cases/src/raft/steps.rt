@@ -21,8 +21,8 @@ fn number(value: u8) -> Number
     Number::new(value as u64)
 }
 
-fn body() -> LoggedBody<u8> {
-    LoggedBody::new(9)
+fn body(alloc: Global) -> Result<LoggedBody<u8>, AllocError> {
+    LoggedBody::new(alloc, 9)
 }
 
 /// A node of term 4 in a group of three, in its second run, which opened one session.
@@ -59,7 +59,8 @@ fn log(alloc: Global) -> Result<Log<u8>, AllocError> {
     for term in [1u8, 1, 2] {
         if !log.is_full() {
             let term = number(term);
-            log.push(Entry { term, body: body() })?;
+            let body = body(alloc)?;
+            log.push(Entry { term, body })?;
         }
     }
     Ok(log)
@@ -122,7 +123,8 @@ fn asks_others(alloc: Global) -> Result<bool, Fail> {
 fn ask(alloc: Global, position: Position, source: Source) -> Result<Option<Refusal>, Fail> {
     let log = log(alloc)?;
     let id = NodeId::new(1);
-    Ok(refusal(&on_ask(alloc, standing(position)?, &log, id, source, body())))
+    let standing = standing(position)?;
+    Ok(refusal(&on_ask(alloc, standing, &log, id, source, body(alloc)?)))
 }
 
 #[test]
@@ -146,7 +148,7 @@ fn an_ask_is_refused_where_no_leader_is_known_or_its_origin_is_another(
 fn appended(alloc: Global) -> Result<Step<u8>, Fail> {
     let leader = standing(Position::Leader(None))?;
     let (id, source) = (NodeId::new(1), Source::Run(1, 2));
-    prepared(on_ask(alloc, leader, &log(alloc)?, id, source, body()))
+    prepared(on_ask(alloc, leader, &log(alloc)?, id, source, body(alloc)?))
 }
 
 /// A step leaves this session and adds an entry of term 4 with this body.
@@ -225,7 +227,7 @@ fn requested(alloc: Global, to: u8) -> Result<(u64, Option<u8>), Fail> {
         to,
         kind,
     };
-    let step = on_message(alloc, &state, NodeId::new(1), message, body())?;
+    let step = on_message(alloc, &state, NodeId::new(1), message, body(alloc)?)?;
     Ok(voted(&step))
 }
 

@@ -46,10 +46,8 @@ fn change(
     let (boot, term) = (Number::new(numbers.0), Number::new(numbers.1));
     let mut entries = Vec::with_capacity(alloc, 1)?;
     if let Some(body) = body {
-        entries.push(Entry {
-            term,
-            body: LoggedBody::new(body),
-        })?;
+        let body = LoggedBody::new(alloc, body)?;
+        entries.push(Entry { term, body })?;
     }
     Ok(Change::new(boot, term, vote, Number::new(keep), entries))
 }

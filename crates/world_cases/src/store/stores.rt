@@ -15,11 +15,11 @@ const BYTES: [u8; 40] = [
     0, 0, 2, 0, 0, 0, 1, 7,
 ];
 
-fn entry(term: u8, body: u8) -> Entry<u8> {
-    Entry {
+fn entry(alloc: Global, term: u8, body: u8) -> Result<Entry<u8>, AllocError> {
+    Ok(Entry {
         term: Number::new(term as u64),
-        body: LoggedBody::new(body),
-    }
+        body: LoggedBody::new(alloc, body)?,
+    })
 }
 
 /// A change of boot 1 and term 2 that keeps so many entries, and one of term 2 that follows.
@@ -29,7 +29,7 @@ fn change(alloc: Global, vote: Option<u8>, keep: u8) -> Result<Change<u8>, Alloc
     ensures vote { IfOk result (λ c. c.vote ≡ vote) }
     ensures keep { IfOk result (λ c. (c.keep ≡ keep) × (length c.entries ≡ 1)) }
 {
-    let entries = vec![in alloc; entry(2, 7)]?;
+    let entries = vec![in alloc; entry(alloc, 2, 7)?]?;
     let keep = Number::new(keep as u64);
     Ok(Change::new(Number::new(1), Number::new(2), vote, keep, entries))
 }
@@ -168,7 +168,7 @@ fn two_entries(alloc: Global) -> Result<Log<u8>, AllocError> {
     let mut log = Log::new(alloc);
     for body in [5, 6] {
         if !log.is_full() {
-            log.push(entry(1, body))?;
+            log.push(entry(alloc, 1, body)?)?;
         }
     }
     Ok(log)

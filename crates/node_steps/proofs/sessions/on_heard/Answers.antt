@@ -13,8 +13,8 @@ returns-in-Some g c =
     let is = sym c.live.ensures ∙ c.in-Some.is in
     let leading : is_leader (role_of c.args.standing.position) ≡ true = holds c.args.standing.position c.in-Some.live is in
     let next : c.new.result ≡ suc c.in-Some.live.next = omega arith in
-    prepared-as c.args.standing c.args.log.now (own_plan (Some (record c.in-Some.live { next = c.new.result })) c.args.standing.attempts c.new-in-Some.result) (hear_plan heard)
-    (λ sent. hears_line (node_of c.args.standing c.args.log.now sent) heard c.in-Some.live c.new.result c.new-in-Some.result leading is (c.new-in-Some.ensures ∙ c.heard-body.ensures) next)
+    prepared-as c.args.standing c.args.log.now (own_plan (Some (record c.in-Some.live { next = c.new.result })) c.args.standing.attempts c.heard-body.result) (hear_plan heard)
+    (λ sent. hears_line (node_of c.args.standing c.args.log.now sent) heard c.in-Some.live c.new.result c.heard-body.result leading is c.heard-body.ensures next)
     c.append_own.result c.append_own.ensures
 
 pub returns-in-None : goal.returns-in-None

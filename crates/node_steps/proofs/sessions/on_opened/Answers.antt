@@ -23,7 +23,7 @@ returns g c =
     let few : nat_le (2 ^ 60) c.args.standing.attempts ≡ false = grind arith in
     let attempts : c.new-attempts.result ≡ suc c.args.standing.attempts = omega arith in
     let attempt : c.value-2.result ≡ suc c.args.standing.attempts = omega arith in
-    prepared-as c.args.standing c.args.log.now (own_plan (Some (session c.new-id.result c.new-next.result)) c.new-attempts.result c.new.result) (open_plan g.M.Hosted.opened)
-    (λ sent. opens (node_of c.args.standing c.args.log.now sent) g.M.Hosted.opened c.new-id.result c.value.result c.value-2.result c.new-next.result c.new-attempts.result c.new.result
-    (sym c.leads.ensures ∙ c.if-not-leads.false) none few (c.new.ensures ∙ c.opened-body.ensures) c.new-id.ensures c.value.ensures.value attempt c.new-next.ensures attempts)
+    prepared-as c.args.standing c.args.log.now (own_plan (Some (session c.new-id.result c.new-next.result)) c.new-attempts.result c.opened-body.result) (open_plan g.M.Hosted.opened)
+    (λ sent. opens (node_of c.args.standing c.args.log.now sent) g.M.Hosted.opened c.new-id.result c.value.result c.value-2.result c.new-next.result c.new-attempts.result c.opened-body.result
+    (sym c.leads.ensures ∙ c.if-not-leads.false) none few c.opened-body.ensures c.new-id.ensures c.value.ensures.value attempt c.new-next.ensures attempts)
     c.append_own.result c.append_own.ensures

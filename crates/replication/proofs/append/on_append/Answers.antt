@@ -1,10 +1,21 @@
-use Rattle.std.proofs.Common.{◌≡◌, true, false, nat_lt, ap, arith}
+use Rattle.std.proofs.Common.{◌≡◌, ℕ, true, false, nat_lt, [], ◌∷◌, subst, ap, arith}
 use Rattle.raft_log.specs.Node.{is_leader}
 use Rattle.raft_log.specs.Positions.{role_of}
 use Rattle.raft_log.specs.declared.position.Position.{Position}
+use Rattle.raft_log.specs.Steps.{IsSending}
 use Rattle.raft_log.proofs.Sending.{ok_map}
-use Rattle.replication.proofs.Appends.{follows, leading, following}
+use Rattle.replication.specs.Replication.{reply}
+use Rattle.replication.proofs.Appends.{follows, older, leading, following}
 use Rattle.replication.proofs.append.on_append.Goals as goal
+
+pub returns-then-lt : goal.returns-then-lt
+returns-then-lt g c =
+    let less : nat_lt c.args.term c.args.standing.term ≡ true = grind arith in
+    ok_map c.answer.result
+    (λ step h.
+    older c.args.id c.args.from c.args.term c.args.batch.prev_index c.args.batch.prev_term c.args.batch.commit c.args.batch.entries c.args.standing c.args.log.now step
+    (subst (λ (place : ℕ). IsSending c.args.standing c.args.log.now (reply c.args.standing.term c.args.id c.args.from false place ∷ []) step) c.new.ensures h) less)
+    c.answer.ensures
 
 pub returns-in-Leader : goal.returns-in-Leader
 returns-in-Leader g c =

@@ -14,18 +14,18 @@ returns-in_err-entry-clause-err g c =
     let i = c.loop-left.invariant in
     rw (p.1, p.2) (record {
       fault = λ h. sym i.same ∙ ap (joined c.loop-left.entries.items) (many-stops (entry_taken g.B.Wire.taken) c.args.input.now c.loop-left.end _ c.loop-left.left (omega arith) (c.in_err-entry.ensures.err h));
-      memory = λ h. many_want (wants_entry g.B.Wire.wants) (entry_taken g.B.Wire.taken) c.args.input.now c.args.place c.loop-left.end c.args.count c.loop-left.left i.some i.none i.few (omega arith) (c.in_err-entry.ensures.memory h);
+      memory = λ h. many_want (wants_entry g.B.Wire.wants g.B.Wire.taken) (entry_taken g.B.Wire.taken) c.args.input.now c.args.place c.loop-left.end c.args.count c.loop-left.left i.some i.none i.few (omega arith) (c.in_err-entry.ensures.memory h);
     })
 
 pub returns-in_err-push-clause-err : goal.returns-in_err-push-clause-err
 returns-in_err-push-clause-err g c =
     let p = err_from_is_err_and c.from_residual-in_err-push.result c.from_residual-in_err-push.ensures.1 in
     let i = c.loop-left.invariant in
-    let here = was_read (wants_entry g.B.Wire.wants) (entry_taken g.B.Wire.taken) c.args.input.now c.loop-left.end _ _ c.in_ok-entry.ensures.ok in
-    let first = first_was_read (wants_entry g.B.Wire.wants) (entry_taken g.B.Wire.taken) c.args.input.now c.args.place c.loop-left.end c.args.count c.loop-left.left i.some i.none i.few here in
+    let here = was_read (wants_entry g.B.Wire.wants g.B.Wire.taken) (entry_taken g.B.Wire.taken) c.args.input.now c.loop-left.end _ _ c.in_ok-entry.ensures.ok in
+    let first = first_was_read (wants_entry g.B.Wire.wants g.B.Wire.taken) (entry_taken g.B.Wire.taken) c.args.input.now c.args.place c.loop-left.end c.args.count c.loop-left.left i.some i.none i.few here in
     rw (p.1, p.2) (record {
       fault = λ h. absurd (h refl);
-      memory = λ h. many_want_room (wants_entry g.B.Wire.wants) (entry_taken g.B.Wire.taken) c.args.input.now c.args.place c.args.count (omega (arith, i.few)) first;
+      memory = λ h. many_want_room (wants_entry g.B.Wire.wants g.B.Wire.taken) (entry_taken g.B.Wire.taken) c.args.input.now c.args.place c.args.count (omega (arith, i.few)) first;
     })
 
 pub loop-left-preserved : goal.loop-left-preserved
@@ -40,8 +40,8 @@ loop-left-preserved g c =
       few = omega (arith, c.loop-left.invariant.few);
       none = λ e. absurd (omega (arith, e, c.loop-left.invariant.few));
       some = λ lt.
-          first_was_read (wants_entry g.B.Wire.wants) (entry_taken g.B.Wire.taken) c.args.input.now c.args.place c.loop-left.end c.args.count c.loop-left.left c.loop-left.invariant.some c.loop-left.invariant.none c.loop-left.invariant.few
-          (was_read (wants_entry g.B.Wire.wants) (entry_taken g.B.Wire.taken) c.args.input.now c.loop-left.end _ _ c.in_ok-entry.ensures.ok);
+          first_was_read (wants_entry g.B.Wire.wants g.B.Wire.taken) (entry_taken g.B.Wire.taken) c.args.input.now c.args.place c.loop-left.end c.args.count c.loop-left.left c.loop-left.invariant.some c.loop-left.invariant.none c.loop-left.invariant.few
+          (was_read (wants_entry g.B.Wire.wants g.B.Wire.taken) (entry_taken g.B.Wire.taken) c.args.input.now c.loop-left.end _ _ c.in_ok-entry.ensures.ok);
     }
 
 pub returns-clause-ok : goal.returns-clause-ok

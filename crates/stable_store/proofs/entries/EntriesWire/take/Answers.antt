@@ -21,7 +21,7 @@ returns-in_err-entries-clause-err g c =
 pub returns-in_err-entries-clause-memory : goal.returns-in_err-entries-clause-memory
 returns-in_err-entries-clause-memory g c =
     let p = err_from_is_err_and c.from_residual-in_err-entries.result c.from_residual-in_err-entries.ensures.1 in
-    rw (p.1, p.2) (λ h. counted_wants (wants_entry g.B.Wire.wants) (entry_taken g.B.Wire.taken) c.args.input.now _ _ (sym c.in_ok-count.ensures.value) (c.in_err-entries.ensures.err.memory h))
+    rw (p.1, p.2) (λ h. counted_wants (wants_entry g.B.Wire.wants g.B.Wire.taken) (entry_taken g.B.Wire.taken) c.args.input.now _ _ (sym c.in_ok-count.ensures.value) (c.in_err-entries.ensures.err.memory h))
 
 pub returns-clause-ok : goal.returns-clause-ok
 returns-clause-ok g c = counted-goes (entry_taken g.B.Wire.taken) c.args.input.now _ _ (sym c.in_ok-count.ensures.value) ∙ c.in_ok-entries.ensures.ok
