@@ -36,7 +36,7 @@ last_tail_by : (command last : List ℕ) (b : Bool) → has_colon command last �
 last_tail_by command last true e = trailing [] last refl
 last_tail_by command last false e = subst (λ t. IsTail (32 ∷ t) (last ∷ [])) (append-nil last) (middle [] last [] [] refl (plain_middle command last e) (none [] refl))
 
-tail_spelled : (command : List ℕ) (ps : List (List ℕ)) → are_parameters ps ≡ true → IsTail (spelled_parameters command ps) ps
+pub tail_spelled : (command : List ℕ) (ps : List (List ℕ)) → are_parameters ps ≡ true → IsTail (spelled_parameters command ps) ps
 tail_spelled command [] h = none [] refl
 tail_spelled command (last ∷ []) h = last_tail_by command last (has_colon command last) refl
 tail_spelled command (x ∷ y ∷ rest) h =

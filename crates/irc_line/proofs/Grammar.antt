@@ -57,7 +57,7 @@ parameters_word (x ∷ w) r h e =
     let ws : NoSpace w = and_right (not (is_space x)) _ h.1 in
     rw (parameters_from, n, h.0, word_all w r ws e, behind (w ++ r), behind_all w r ws e) refl
 
-tail_read : {s : List ℕ} {ps : List (List ℕ)} → IsTail s ps → parameters_of s ≡ ps
+pub tail_read : {s : List ℕ} {ps : List (List ℕ)} → IsTail s ps → parameters_of s ≡ ps
 tail_read (none spaces h) = parameters_none spaces h
 tail_read (trailing spaces text h) = parameters_spaces spaces (58 ∷ text) h
 tail_read (middle spaces word rest ps h w t) =

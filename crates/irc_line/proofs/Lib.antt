@@ -14,4 +14,4 @@ pub mod SameBytes
 pub mod Order
 pub mod Tails
 pub mod Comparisons
-pub mod Clones
+pub mod Cutting

@@ -5,3 +5,4 @@ pub mod Reading
 pub mod Splitting
 pub mod Keys
 pub mod Comparing
+pub mod Places

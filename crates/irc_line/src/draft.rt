@@ -6,9 +6,8 @@ ghost use Rattle.irc_line.specs.Grammar.{upper};
 ghost use Rattle.irc_line.specs.Reading.{judged_parts};
 
 use crate::comparing::{behind_prefix, behind_upper};
-use crate::line::copied_prefix;
 use crate::spelling::prefix_len;
-use crate::tail::{are_spelled, built_parameters, tail_size};
+use crate::tail::{are_spelled, lent_parameters, tail_size};
 use crate::word::upper_byte;
 use crate::{Line, LineFault};
 use std::alloc::{AllocError, Global};
@@ -66,14 +65,25 @@ impl<'a> Draft<'a> {
         }
     }
 
+    /// The line of the draft, whose canonical spelling these bytes are: they are copied once.
+    pub fn copied(&self, alloc: Global, bytes: &[u8]) -> Result<Line, AllocError>
+        requires line { IsTrue (is_line self.now) }
+        requires spelled { IsTrue (same_bytes (spelling self.now) bytes.now) }
+        ensures { IfOk result (λ l. l ≡ self.now) }
+    {
+        let text = Vec::from_slice(alloc, bytes)?;
+        let start = prefix_len(self.prefix);
+        Line::cut(text, start, start + self.command.len())
+    }
+
+    /// The line of the draft, which is spelled anew.
     pub fn build(&self, alloc: Global) -> Result<Line, AllocError>
         requires { IsTrue (is_line self.now) }
         ensures { IfOk result (λ l. l ≡ self.now) }
     {
-        let prefix = copied_prefix(alloc, self.prefix)?;
         let command = in_upper_case(alloc, self.command)?;
-        let parameters = built_parameters(alloc, self.tail)?;
-        Ok(Line::new(prefix, command, parameters))
+        let parameters = lent_parameters(alloc, self.tail)?;
+        Line::new(alloc, self.prefix, &command, &parameters)
     }
 }
 

@@ -1,6 +1,10 @@
-ghost use Rattle.std.specs.Prelude.{◌≡◌, map, length, IfOk, IsTrue};
-ghost use Rattle.irc_line.specs.Lines.{held_parts, held_prefix, is_line, is_prefix, is_upper_command, lent_prefix, message, parameter};
+ghost use Rattle.std.specs.Prelude.{◌≡◌, None, length, map, IfOk, IsTrue};
+ghost use Rattle.irc_line.specs.Lines.{is_line, is_prefix, is_upper_command, lent_prefix, message, parameter, parts, spelling};
+ghost use Rattle.irc_line.specs.Places.{IsHeld, cut_parts};
 
+use crate::shared::SharedBytes;
+use crate::spelling::{push_parameters, push_prefix, spelling_len};
+use crate::tail::{nth_parameter, parameters_in};
 use crate::{Name, Text};
 use std::alloc::{AllocError, Global};
 use std::marker::Model;
@@ -8,38 +12,62 @@ use std::marker::Model;
 /// A line, by what it says (RFC 2812, 2.3.1): an optional prefix, a command and at most
 /// 15 parameters.
 ///
-/// A line that was read has at most 511 bytes; one that was built may have more.
+/// It is held as its canonical spelling, which all its copies share. A line that was read has at
+/// most 511 bytes; one that was built may have more.
 #[derive(Drop)]
 pub struct Line {
-    prefix: Option<Vec<u8>>,
-    command: Vec<u8>,
-    parameters: Vec<Vec<u8>>,
+    text: SharedBytes,
+    /// Where the command begins; 0 where there is no prefix.
+    command: usize,
+    /// Where the command ends, and the parameters begin.
+    tail: usize,
 }
 
 impl Model for Line {
-    ghost use Rattle.std.specs.Prelude.{IsTrue};
-    ghost use Rattle.irc_line.specs.Lines.{Parts, held_parts, parts_code, is_line};
+    ghost use Rattle.irc_line.specs.Lines.{Parts, parts_code};
+    ghost use Rattle.irc_line.specs.Places.{IsHeld, cut_parts};
 
     ghost Value = { Parts };
 
     ghost coded = { parts_code };
 
-    ghost view = { λ l. held_parts l.prefix l.command l.parameters };
+    ghost view = { λ l. cut_parts l.text l.command l.tail };
 
-    ghost invariant = { λ l. IsTrue (is_line (held_parts l.prefix l.command l.parameters)) };
+    ghost invariant = { λ l. IsHeld l.text l.command l.tail };
 }
 
 impl Line {
     /// The line of these parts.
-    pub fn new(prefix: Option<Vec<u8>>, command: Vec<u8>, parameters: Vec<Vec<u8>>) -> Line
-        requires { IsTrue (is_line (held_parts prefix command parameters)) }
-        ensures { result ≡ held_parts prefix command parameters }
+    pub fn new(
+        alloc: Global,
+        prefix: Option<&[u8]>,
+        command: &[u8],
+        parameters: &[&[u8]],
+    ) -> Result<Line, AllocError>
+        requires { IsTrue (is_line
+            (parts (lent_prefix prefix) command.now (map (λ x. x.now) parameters.now))) }
+        ensures { IfOk result (λ l. l ≡
+            parts (lent_prefix prefix.entry) command.now (map (λ x. x.now) parameters.now)) }
     {
-        Line {
-            prefix,
+        let mut text = Vec::with_capacity(alloc, spelling_len(prefix, command, parameters))?;
+        push_prefix(&mut text, prefix)?;
+        let start = text.len();
+        text.extend_from_slice(command)?;
+        let end = text.len();
+        push_parameters(&mut text, command, parameters)?;
+        Line::cut(text, start, end)
+    }
+
+    /// The line of this canonical spelling, whose command stands between these places.
+    pub(crate) fn cut(text: Vec<u8>, command: usize, tail: usize) -> Result<Line, AllocError>
+        requires { IsHeld text.items command tail }
+        ensures { IfOk result (λ l. l ≡ cut_parts text.items command tail) }
+    {
+        Ok(Line {
+            text: SharedBytes::from_vec(text)?,
             command,
-            parameters,
-        }
+            tail,
+        })
     }
 
     /// A command to a target with a text, as `PRIVMSG` and `NOTICE` are (RFC 2812, 3.3).
@@ -55,13 +83,23 @@ impl Line {
         ensures { IfOk result (λ l. l ≡
             message (lent_prefix prefix.entry) command.now target.now text.now) }
     {
-        let prefix = copied_prefix(alloc, prefix)?;
-        let command = Vec::from_slice(alloc, command)?;
-        let parameters = vec![in alloc;
-            Vec::from_slice(alloc, target.as_bytes())?,
-            Vec::from_slice(alloc, text.as_bytes())?,
-        ]?;
-        Ok(Line::new(prefix, command, parameters))
+        Line::new(
+            alloc,
+            prefix,
+            command,
+            &[target.as_bytes(), text.as_bytes()],
+        )
+    }
+
+    /// The line without its prefix.
+    pub fn without_prefix(&self, alloc: Global) -> Result<Line, AllocError>
+        ensures { IfOk result (λ l. l ≡ parts None self.now.command self.now.parameters) }
+    {
+        if self.command == 0 {
+            return self.share();
+        }
+        let text = Vec::from_slice(alloc, &self.spelling()[self.command..])?;
+        Line::cut(text, 0, self.tail - self.command)
     }
 
     /// The prefix, without its colon, where there is one.
@@ -69,9 +107,10 @@ impl Line {
         ensures value { lent_prefix result ≡ self.now.prefix }
         ensures line { IsTrue (is_line self.now) }
     {
-        match &self.prefix {
-            None => None,
-            Some(prefix) => Some(prefix.as_slice()),
+        if self.command == 0 {
+            None
+        } else {
+            Some(&self.spelling()[1..self.command - 1])
         }
     }
 
@@ -80,52 +119,48 @@ impl Line {
         ensures value { result.now ≡ self.now.command }
         ensures line { IsTrue (is_line self.now) }
     {
-        self.command.as_slice()
+        &self.spelling()[self.command..self.tail]
     }
 
     pub fn parameter_count(&self) -> usize
         ensures value { result ≡ length self.now.parameters }
         ensures line { IsTrue (is_line self.now) }
     {
-        self.parameters.len()
+        parameters_in(&self.spelling()[self.tail..])
     }
 
-    /// A parameter, from 0; no bytes where there is none.
+    /// A parameter, from 0; no bytes where there is none. It is found from the first one on.
     pub fn parameter(&self, i: usize) -> &[u8]
         ensures value { result.now ≡ parameter i self.now }
         ensures line { IsTrue (is_line self.now) }
     {
-        match self.parameters.get(i) {
-            None => &[],
-            Some(parameter) => parameter.as_slice(),
-        }
+        nth_parameter(&self.spelling()[self.tail..], i)
     }
 
-    pub fn parameters(&self) -> &[Vec<u8>]
-        ensures { map (λ p. p.items) result.now ≡ self.now.parameters }
+    /// The canonical spelling, without CR LF.
+    pub fn spelling(&self) -> &[u8]
+        ensures value { result.now ≡ spelling self.now }
+        ensures line { IsTrue (is_line self.now) }
     {
-        self.parameters.as_slice()
+        self.text.as_slice()
     }
 
-    pub fn copy(&self, alloc: Global) -> Result<Line, AllocError>
+    /// The canonical spelling as the line holds it.
+    pub fn text(&self) -> &SharedBytes
+        ensures { result.now ≡ spelling self.now }
+    {
+        &self.text
+    }
+
+    /// The line once more, of the same text. No memory is taken; it is refused only where the text
+    /// is shared more often than can be counted.
+    pub fn share(&self) -> Result<Line, AllocError>
         ensures { IfOk result (λ l. l ≡ self.now) }
     {
         Ok(Line {
-            prefix: copied_prefix(alloc, self.prefix())?,
-            command: Vec::from_slice(alloc, &self.command)?,
-            parameters: self.parameters.clone()?,
+            text: self.text.share()?,
+            command: self.command,
+            tail: self.tail,
         })
-    }
-}
-
-pub(crate) fn copied_prefix(
-    alloc: Global,
-    prefix: Option<&[u8]>,
-) -> Result<Option<Vec<u8>>, AllocError>
-    ensures { IfOk result (λ p. held_prefix p ≡ lent_prefix prefix.entry) }
-{
-    match prefix {
-        None => Ok(None),
-        Some(prefix) => Ok(Some(Vec::from_slice(alloc, prefix)?)),
     }
 }

@@ -23,7 +23,11 @@ impl Line {
     {
         // All faults come before the first allocation, so that want of memory hides none of them.
         let draft = judge(content)?;
-        Ok(draft.build(alloc)?)
+        if draft.is_spelled(content) {
+            Ok(draft.copied(alloc, content)?)
+        } else {
+            Ok(draft.build(alloc)?)
+        }
     }
 
     /// The line of which these bytes are the canonical spelling; none where they are another
@@ -37,7 +41,7 @@ impl Line {
         match judge(bytes) {
             Err(_) => Ok(None),
             Ok(draft) => if draft.is_spelled(bytes) {
-                Ok(Some(draft.build(alloc)?))
+                Ok(Some(draft.copied(alloc, bytes)?))
             } else {
                 Ok(None)
             },

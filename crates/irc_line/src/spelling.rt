@@ -5,7 +5,6 @@ ghost use Rattle.irc_line.specs.Lines.{cut_spelling, LacksRoom, has_colon, is_sp
 use crate::Line;
 use crate::bytes::{begins_with, has_space, is_same};
 use std::alloc::AllocError;
-use std::convert::AsSlice;
 
 impl Line {
     /// Appends the canonical spelling, without CR LF. It is refused only where room is missing
@@ -16,7 +15,7 @@ impl Line {
         ensures full { OnErr result (LacksRoom out.old (length (spelling self.now))) }
         ensures capacity { vec_capacity out.old ≤ vec_capacity out.new }
     {
-        write_spelling(out, self.prefix(), self.command(), self.parameters())
+        out.extend_from_slice(self.spelling())
     }
 
     /// Appends the first 510 bytes of the canonical spelling with CR LF, as a line leaves
@@ -41,7 +40,7 @@ impl Line {
     pub fn spelled_len(&self) -> usize
         ensures { result ≡ min (length (spelling self.now)) usize.MAX }
     {
-        spelling_len(self.prefix(), self.command(), self.parameters())
+        self.spelling().len()
     }
 }
 
@@ -59,22 +58,6 @@ pub fn write_parts(
         (length (spelled_parts prefix.entry command.now (map (λ x. x.now) parameters.now)))) }
     ensures capacity { vec_capacity out.old ≤ vec_capacity out.new }
 {
-    write_spelling(out, prefix, command, parameters)
-}
-
-fn write_spelling<P: AsSlice<u8>>(
-    out: &mut Vec<u8>,
-    prefix: Option<&[u8]>,
-    command: &[u8],
-    parameters: &[P],
-) -> Result<(), AllocError>
-    ensures ok { OnOk result (out.new.items ≡ out.old.items ++
-        spelled_parts prefix.entry command.now (map P.items parameters.now)) }
-    ensures err { OnErr result (out.new.items ≡ out.old.items) }
-    ensures full { OnErr result (LacksRoom out.old
-        (length (spelled_parts prefix.entry command.now (map P.items parameters.now)))) }
-    ensures capacity { vec_capacity out.old ≤ vec_capacity out.new }
-{
     let before = out.len();
     let written = push_spelling(out, prefix, command, parameters);
     if written.is_err() {
@@ -85,17 +68,17 @@ fn write_spelling<P: AsSlice<u8>>(
 
 /// Appends the canonical spelling. After an error a part of it may have been appended.
 #[tactic(auto, unfolding(crate::specs::Lines::spelling))]
-fn push_spelling<P: AsSlice<u8>>(
+fn push_spelling(
     out: &mut Vec<u8>,
     prefix: Option<&[u8]>,
     command: &[u8],
-    parameters: &[P],
+    parameters: &[&[u8]],
 ) -> Result<(), AllocError>
     ensures ok { OnOk result (out.new.items ≡ out.old.items ++
-        spelled_parts prefix.entry command.now (map P.items parameters.now)) }
+        spelled_parts prefix.entry command.now (map (λ x. x.now) parameters.now)) }
     ensures err { OnErr result (take (length out.old.items) out.new.items ≡ out.old.items) }
     ensures full { OnErr result (LacksRoom out.old
-        (length (spelled_parts prefix.entry command.now (map P.items parameters.now)))) }
+        (length (spelled_parts prefix.entry command.now (map (λ x. x.now) parameters.now)))) }
     ensures capacity { vec_capacity out.old ≤ vec_capacity out.new }
 {
     push_prefix(out, prefix)?;
@@ -103,7 +86,8 @@ fn push_spelling<P: AsSlice<u8>>(
     push_parameters(out, command, parameters)
 }
 
-fn push_prefix(out: &mut Vec<u8>, prefix: Option<&[u8]>) -> Result<(), AllocError>
+/// Appends the canonical spelling of a prefix. After an error a part of it may have been appended.
+pub fn push_prefix(out: &mut Vec<u8>, prefix: Option<&[u8]>) -> Result<(), AllocError>
     ensures ok { OnOk result (out.new.items ≡ out.old.items ++
         spelled_prefix (lent_prefix prefix.entry)) }
     ensures err { OnErr result (take (length out.old.items) out.new.items ≡ out.old.items) }
@@ -119,24 +103,25 @@ fn push_prefix(out: &mut Vec<u8>, prefix: Option<&[u8]>) -> Result<(), AllocErro
     Ok(())
 }
 
-fn push_parameters<P: AsSlice<u8>>(
+/// Appends the canonical spelling of parameters. After an error a part of it may have been appended.
+pub fn push_parameters(
     out: &mut Vec<u8>,
     command: &[u8],
-    parameters: &[P],
+    parameters: &[&[u8]],
 ) -> Result<(), AllocError>
     ensures ok { OnOk result (out.new.items ≡ out.old.items ++
-        spelled_parameters command.now (map P.items parameters.now)) }
+        spelled_parameters command.now (map (λ x. x.now) parameters.now)) }
     ensures err { OnErr result (take (length out.old.items) out.new.items ≡ out.old.items) }
     ensures full { OnErr result (LacksRoom out.old
-        (length (spelled_parameters command.now (map P.items parameters.now)))) }
+        (length (spelled_parameters command.now (map (λ x. x.now) parameters.now)))) }
     ensures capacity { vec_capacity out.old ≤ vec_capacity out.new }
 {
     match parameters {
         [] => Ok(()),
-        [last] => push_last(out, command, last.as_slice()),
+        [last] => push_last(out, command, last),
         [first, rest @ ..] => {
             out.push(b' ')?;
-            out.extend_from_slice(first.as_slice())?;
+            out.extend_from_slice(first)?;
             push_parameters(out, command, rest)
         }
     }
@@ -157,12 +142,8 @@ fn push_last(out: &mut Vec<u8>, command: &[u8], last: &[u8]) -> Result<(), Alloc
 
 /// The length of the canonical spelling, at most `usize::MAX`.
 #[tactic(auto, unfolding(crate::specs::Lines::spelling))]
-pub fn spelling_len<P: AsSlice<u8>>(
-    prefix: Option<&[u8]>,
-    command: &[u8],
-    parameters: &[P],
-) -> usize
-    ensures { let all = spelled_parts prefix.entry command.now (map P.items parameters.now) in
+pub fn spelling_len(prefix: Option<&[u8]>, command: &[u8], parameters: &[&[u8]]) -> usize
+    ensures { let all = spelled_parts prefix.entry command.now (map (λ x. x.now) parameters.now) in
         result ≡ min (length all) usize.MAX }
 {
     let front = prefix_len(prefix).saturating_add(command.len());
@@ -178,16 +159,14 @@ pub fn prefix_len(prefix: Option<&[u8]>) -> usize
     }
 }
 
-fn parameters_len<P: AsSlice<u8>>(command: &[u8], parameters: &[P]) -> usize
+fn parameters_len(command: &[u8], parameters: &[&[u8]]) -> usize
     ensures { result ≡
-        min (length (spelled_parameters command.now (map P.items parameters.now))) usize.MAX }
+        min (length (spelled_parameters command.now (map (λ x. x.now) parameters.now))) usize.MAX }
 {
     match parameters {
         [] => 0,
-        [last] => last_len(command, last.as_slice()),
-        [first, rest @ ..] => (first.as_slice().len() + 1).saturating_add(parameters_len(
-            command, rest,
-        )),
+        [last] => last_len(command, last),
+        [first, rest @ ..] => (first.len() + 1).saturating_add(parameters_len(command, rest)),
     }
 }
 

@@ -1,5 +1,5 @@
 //! The parameters of what stands behind a command, one by one.
-ghost use Rattle.std.specs.Prelude.{◌≡◌, ◌≤◌, ◌∷◌, [], IfOk, option_map, MatchOption, length, map, min};
+ghost use Rattle.std.specs.Prelude.{◌≡◌, ◌≤◌, ◌∷◌, [], IfOk, option_map, MatchOption, length, map, min, slice_get, unwrap_or};
 ghost use Rattle.irc_line.specs.Names.{same_bytes};
 ghost use Rattle.irc_line.specs.Lines.{has_colon, is_spoken, spelled_last};
 ghost use Rattle.irc_line.specs.Comparing.{behind, spelled_behind, spelled_tail};
@@ -32,16 +32,41 @@ pub struct TailSize {
     pub spelled: usize,
 }
 
-pub fn built_parameters(alloc: Global, text: &[u8]) -> Result<Vec<Vec<u8>>, AllocError>
-    ensures { IfOk result (λ v. map (λ p. p.items) v.items ≡ parameters_of text.now) }
+pub fn lent_parameters<'a>(alloc: Global, text: &'a [u8]) -> Result<Vec<&'a [u8]>, AllocError>
+    ensures { IfOk result (λ v. map (λ x. x.now) v.items ≡ parameters_of text.now) }
 {
     let mut all = Vec::new(alloc);
     let mut left = text;
     while let Some((parameter, behind)) = next_parameter(left) {
-        all.push(Vec::from_slice(alloc, parameter)?)?;
+        all.push(parameter)?;
         left = behind;
     }
     Ok(all)
+}
+
+/// How many parameters a text has.
+pub fn parameters_in(text: &[u8]) -> usize
+    ensures value { result ≡ length (parameters_of text.now) }
+    ensures within { result ≤ length text.now }
+{
+    match next_parameter(text) {
+        None => 0,
+        Some((_, behind)) => parameters_in(behind) + 1,
+    }
+}
+
+/// A parameter of a text, from 0; no bytes where there is none.
+pub fn nth_parameter(text: &[u8], i: usize) -> &[u8]
+    ensures { result.now ≡ unwrap_or (slice_get (parameters_of text.now) i) [] }
+{
+    match next_parameter(text) {
+        None => &[],
+        Some((first, behind)) => if i == 0 {
+            first
+        } else {
+            nth_parameter(behind, i - 1)
+        },
+    }
 }
 
 /// How many parameters a text has, and how long their canonical spelling behind this command is.

@@ -2,4 +2,4 @@ use Rattle.std.proofs.Common.{length}
 use Rattle.irc_line.proofs.spelling.+push_parameters.Given as goal
 
 abbrev pub decreases-push_parameters : goal.decreases-push_parameters
-decreases-push_parameters g l = length l.parameters.now
+decreases-push_parameters l = length l.parameters.now

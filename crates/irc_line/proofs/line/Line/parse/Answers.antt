@@ -18,3 +18,6 @@ returns-in_err-draft-clause-memory c = faulty c.args.content.now c.in_err-draft.
 
 pub build-requires : goal.build-requires
 build-requires c = judged_line c.args.content.now c.in_ok-draft.draft (sym c.in_ok-draft.ensures)
+
+pub copied-requires-clause-line : goal.copied-requires-clause-line
+copied-requires-clause-line c = judged_line c.args.content.now c.in_ok-draft.draft (sym c.in_ok-draft.ensures)
