@@ -59,7 +59,7 @@ module _ {B : Type 0} (standing : Standing) (log : List (Entry B)) where
   pub prepared-as : (plan plan' : Node B → Plan B) → ((sent : List (Message B)) → plan (node_of standing log sent) ≡ plan' (node_of standing log sent))
       → (r : Result (Step B) Unprepared) → IsPrepared plan standing log r → IsPrepared plan' standing log r
   prepared-as plan plan' same (Ok step) h = record { goes = λ sent. sym (same sent) ∙ h.goes sent; savable = h.savable }
-  prepared-as plan plan' same (Err Memory) h = tt
+  prepared-as plan plan' same (Err Memory) h = λ sent. ((h sent).0, sym (same sent) ∙ (h sent).1)
   prepared-as plan plan' same (Err (Refused refusal)) h = λ sent. sym (same sent) ∙ h sent
 
   leads_so : (sent : List (Message B)) (live : Option Live) (attempts : ℕ) (r : Role) (l : Option ℕ) → r ≡ Leader → l ≡ None
@@ -139,6 +139,25 @@ module _ {B : Type 0} (n : Node B) where
       by : (l : Option Live) → is_some l ≡ false → opening opened n l ≡ own_plan (Some (new_session n)) (suc n.attempts) (opened (new_session n).id) n
       by None e = cond-false (nat_le (2 ^ 60) n.attempts) (Declines TermsSpent) (own_plan (Some (new_session n)) (suc n.attempts) (opened (new_session n).id) n) few
       by (Some live) e = absurd cc
+
+  -- the log has room for a body of a leader's own
+  pub own_goes_on : (live : Option Live) (attempts : ℕ) (body : B) → is_full n ≡ false → own_plan live attempts body n ≡ Goes (on_forward (record n { live = live; attempts = attempts }) body)
+  own_goes_on live attempts body h = rw h refl
+
+  -- the body of the session that is shut
+  pub closes_live : (shut : SessionId → B) (live : Live) (body : B) → is_leader n.role ≡ true → n.live ≡ Some live → body ≡ shut live.id
+      → own_plan None n.attempts body n ≡ close_plan shut n
+  closes_live shut live body a b eb =
+      ap (λ (x : B). own_plan None n.attempts x n) eb
+      ∙ sym (leads_to (closing shut n n.live) a ∙ ap (λ (l : Option Live). closing shut n l) b)
+
+  -- the body of the line that is claimed
+  pub claims_line : (claim : SessionId → ℕ → B) (number : Option ℕ) (k : ℕ) (live : Live) (body : B) → is_leader n.role ≡ true → number ≡ Some k → n.live ≡ Some live → body ≡ claim live.id k
+      → own_plan (Some live) n.attempts body n ≡ claim_plan claim number n
+  claims_line claim number k live body a en b eb =
+      ap (λ (x : B). own_plan (Some live) n.attempts x n) eb
+      ∙ (ap (λ (l : Option Live). own_plan l n.attempts (claim live.id k) n) (sym b)
+      ∙ sym (leads_to (claiming claim number n n.live) a ∙ (ap (λ (o : Option ℕ). claiming claim o n n.live) en ∙ ap (λ (l : Option Live). claiming claim (Some k) n l) b)))
 
   pub closes_not : (shut : SessionId → B) → n.live ≡ None → close_plan shut n ≡ Goes n
   closes_not shut h = idles (closing shut n n.live) (ap (λ (l : Option Live). closing shut n l) h)

@@ -92,11 +92,11 @@ module _ {B : Type 0} where
     pub goes : (sent : List (Message B)) → plan (node_of standing log sent) ≡ Goes (node_of step.standing (log_after log step) (sent ++ step.messages.items))
     pub savable : IsSavable standing log step
 
-  -- a plan is prepared as a step, or is declined; of want of memory nothing is said
+  -- a plan is prepared as a step, or is declined; memory is wanting only for a plan that is not declined
   abbrev pub IsPrepared : (Node B → Plan B) → Standing → List (Entry B) → Result (Step B) Unprepared → Type 0
   IsPrepared plan standing log (Ok step) = IsStepOf plan standing log step
   IsPrepared plan standing log (Err (Refused refusal)) = (sent : List (Message B)) → plan (node_of standing log sent) ≡ Declines refusal
-  IsPrepared plan standing log (Err Memory) = Unit {0}
+  IsPrepared plan standing log (Err Memory) = (sent : List (Message B)) → (s : Node B) × (plan (node_of standing log sent) ≡ Goes s)
 
 -- a session's next line is not past the entries, since each of its lines is one
 abbrev pub CountsLines : Option Live → ℕ → Type 0

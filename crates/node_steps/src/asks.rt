@@ -1,5 +1,5 @@
 //! What a node is about to do when a body is asked of it.
-ghost use Rattle.std.specs.Prelude.{◌≡◌, ◌&&◌, ℕ, [], length, nat_le};
+ghost use Rattle.std.specs.Prelude.{◌≡◌, ◌≤◌, ◌&&◌, ℕ, [], length, nat_le};
 ghost use Rattle.raft_log.specs.Logs.{entry_limit};
 ghost use Rattle.raft_log.specs.Node.{is_leader};
 ghost use Rattle.raft_log.specs.Positions.{leader_of, role_of};
@@ -27,8 +27,10 @@ pub fn on_ask<B: Wire>(
     log: &Log<B>,
     id: NodeId,
     source: Source,
-    body: LoggedBody<B>,
+    body: B,
 ) -> Result<Step<B>, Unprepared>
+    requires fits { B.fits body }
+    requires short { length (B.spelled body) ≤ 65536 }
     ensures { IsPrepared (ask_plan id source body) standing log.now result }
 {
     if !may_ask(&standing, id, source) {
@@ -40,6 +42,7 @@ pub fn on_ask<B: Wire>(
     if has_no_room(&standing, log) {
         return Err(Unprepared::Refused(Refusal::LogFull));
     }
+    let body = LoggedBody::new(alloc, body)?;
     Ok(replication::ask(alloc, standing, log, id, body)?)
 }
 

@@ -1,11 +1,11 @@
 //! What a node is about to do when a message comes.
-ghost use Rattle.std.specs.Prelude.{◌≡◌, ◌==◌, ◌&&◌, nat_le, not, IfOk};
+ghost use Rattle.std.specs.Prelude.{◌≡◌, ◌==◌, ◌≤◌, ◌&&◌, length, nat_le, not, IfOk};
 ghost use Rattle.raft_log.specs.Node.{message as sent_by, raised};
 ghost use Rattle.raft_log.specs.Seen.{Becomes};
 ghost use Rattle.raft_log.specs.Steps.{IsStep, IsWithinLog};
 ghost use Rattle.node_steps.specs.Messages.{handled, on_message};
 
-use raft_log::{Kind, Log, LoggedBody, Message, NodeId, NodeState, Standing, Step};
+use raft_log::{Kind, Log, Message, NodeId, NodeState, Standing, Step};
 use std::alloc::{AllocError, Global};
 use wire_bytes::{Number, Wire};
 
@@ -19,9 +19,11 @@ pub fn on_message<B: Wire>(
     state: &NodeState<B>,
     id: NodeId,
     message: Message<B>,
-    blank: LoggedBody<B>,
+    blank: B,
 ) -> Result<Step<B>, AllocError>
-    requires { IsWithinLog state.now.standing state.now.log }
+    requires within { IsWithinLog state.now.standing state.now.log }
+    requires fits { B.fits blank }
+    requires short { length (B.spelled blank) ≤ 65536 }
     ensures { IfOk result (IsStep
         (λ s. on_message blank state.now.standing.peers.size id s message)
         state.now.standing state.now.log) }
@@ -78,9 +80,11 @@ fn handled<B: Wire>(
     from: NodeId,
     term: Number,
     kind: Kind<B>,
-    blank: LoggedBody<B>,
+    blank: B,
 ) -> Result<Step<B>, AllocError>
-    requires { IsWithinLog standing log.now }
+    requires within { IsWithinLog standing log.now }
+    requires fits { B.fits blank }
+    requires short { length (B.spelled blank) ≤ 65536 }
     ensures { IfOk result (IsStep
         (λ s. handled blank standing.peers.size id s (sent_by term from id kind) kind)
         standing log.now) }

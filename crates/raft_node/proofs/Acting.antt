@@ -7,7 +7,7 @@ use Rattle.raft_log.specs.Node.{Node}
 use Rattle.raft_log.specs.Seen.{node_of, seen}
 use Rattle.raft_log.specs.Steps.{after, log_after}
 use Rattle.node_steps.specs.declared.refusal.Refusal.{Refusal}
-use Rattle.node_steps.specs.Plans.{Plan, Declines, IsStepOf}
+use Rattle.node_steps.specs.Plans.{Plan, Declines, Goes, IsStepOf}
 use Rattle.raft_node.specs.declared.input.Input.{Input}
 use Rattle.raft_node.specs.declared.input.Output.{Output}
 use Rattle.raft_node.specs.declared.node_fault.NodeFault.{NodeFault}
@@ -17,11 +17,16 @@ use Rattle.raft_node.specs.Machine.{Machine}
 use Rattle.raft_node.specs.Parts.{Keeper, MayHold, Parts, applied_bodies, size_of}
 use Rattle.raft_node.specs.Stepping.{IsStepped, given, turned}
 use Rattle.raft_node.specs.Steps.{Out, Quiet, Turn, quiet}
+use Rattle.raft_node.specs.Steps as steps
 use Rattle.raft_node.specs.Stood.{IsStood, Stands}
 use Rattle.raft_node.proofs.Planned.{turn_goes, turn_declines}
 
 module _ (M : Machine) {Setup Hosted Store : Type 0} (k : Keeper Store M.Body) (input : Input M.Body M.Line) (saves : is_apply input ≡ false)
     (old : Parts Setup Hosted Store M.Body) (up : old.down ≡ None) where
+  -- what is quiet is no refusal
+  quiet_so : (r : Refusal) (t : Turn M) (n : Node M.Body) → t ≡ quiet M n → t.out ≡ steps.Refused r → ⊥
+  quiet_so r t n e h = let z : (quiet M n).out ≡ steps.Refused r = sym (ap (λ (u : Turn M). u.out) e) ∙ h in cc z
+
   -- what this node plans
   abbrev plan : Node M.Body → Plan M.Body
   plan = input_plan (bodies_of M) (M.next_claim (applied_bodies old.state)) (size_of old.state) old.id input
@@ -61,9 +66,17 @@ module _ (M : Machine) {Setup Hosted Store : Type 0} (k : Keeper Store M.Body) (
         same = h.0.state;
         blamed = h.0.blamed;
         may_hold = subst (λ (t : Turn M). MayHold k new.store old.state t.node) (sym (comes [])) h.0.may_hold;
+        not_refused = λ r e. quiet_so r (turned M (act_of M input) old []) _ (comes []) e;
       }),
       h.1,
     )
+
+  -- a plan that goes on is not refused
+  pub wanting : ((sent : List (Message M.Body)) → (s : Node M.Body) × (plan (node_of old.state.standing old.state.log sent) ≡ Goes s))
+      → (r : Refusal) → (turned M (act_of M input) old []).out ≡ steps.Refused r → ⊥
+  wanting goes r e =
+      let g = goes [] in
+      quiet_so r (turned M (act_of M input) old []) g.0 (turn_goes M (seen old.state []) (size_of old.state) old.id input saves g.0 g.1) e
 
   pub declined : (refusal : Refusal) → ((sent : List (Message M.Body)) → plan (node_of old.state.standing old.state.log sent) ≡ Declines refusal)
       → (new : Parts Setup Hosted Store M.Body) → new ≡ old → IsStepped M k input old (Err (Refused refusal)) new

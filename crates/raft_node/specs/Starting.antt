@@ -69,13 +69,15 @@ module _ {Setup Hosted Store B : Type 0} (k : Keeper Store B) where
     pub id_is : n.id ≡ id
     pub setup_is : n.setup ≡ setup
     pub is_up : n.down ≡ None
+    pub honest : (k.condition n.store).honest ≡ (k.condition store).honest
     pub begins : Begins size (MayHaveStood k store) n.state
     pub holds : Holds k n.store n.state
 
   -- what a start answers; a refusal says that all boots were made
   abbrev pub IsStarted : ℕ → ℕ → Setup → Store → Result (Parts Setup Hosted Store B) NodeFault → Type 0
   IsStarted id size setup store (Ok n) = IsFirst id size setup store n
-  IsStarted id size setup store (Err (Down cause)) = Unit {0}
+  IsStarted id size setup store (Err (Down cause)) =
+      (now : Condition) × (now.honest ≡ (k.condition store).honest) × MayFail k store now (Down cause)
   IsStarted id size setup store (Err (Refused refusal)) = MayFail k store (k.condition store) (Refused refusal)
 
   -- by what a restart answers; where it fails the node shows the state from before, and is down

@@ -1,5 +1,5 @@
 -- What comes of a step of a node, and of a look at it.
-use Rattle.std.specs.Prelude.{◌≡◌, ◌⊎◌, ℕ, zero, suc, List, [], ◌++◌, None, Some, Result, Ok, Err}
+use Rattle.std.specs.Prelude.{◌≡◌, ◌≤◌, ◌⊎◌, ℕ, zero, suc, List, [], ◌++◌, None, Some, Result, Ok, Err}
 use Rattle.raft_log.specs.declared.message.Message.{Message}
 use Rattle.raft_log.specs.Seen.{seen}
 use Rattle.raft_node.specs.declared.input.Input.{Input}
@@ -54,6 +54,7 @@ module _ (M : Machine) {Setup Hosted Store : Type 0} where
     pub same : new.state ≡ old.state
     pub blamed : IsBlamed cause (k.condition old.store) (k.condition new.store)
     pub may_hold : MayHold k new.store old.state (turned act old []).node
+    pub not_refused : (r : Refusal) → (turned act old []).out ≡ steps.Refused r → ⊥
 
   -- by what a step answers; a node that was down answers its cause, and is as it was
   abbrev pub IsActed : Keeper Store M.Body → Act M → Parts Setup Hosted Store M.Body → Result (Output M.Body M.Effect) NodeFault → Parts Setup Hosted Store M.Body → Type 0
@@ -71,4 +72,4 @@ module _ (M : Machine) {Setup Hosted Store : Type 0} where
       (n.down ≡ None) × ((sent : List (Message M.Body)) → turned (Looks from_place target) n sent ≡ record { node = seen n.state sent; out = steps.Looked looked.place looked.lines.items })
   IsLooked from_place target n (Err (Fault refusal)) =
       (n.down ≡ None) × ((sent : List (Message M.Body)) → turned (Looks from_place target) n sent ≡ refused M (seen n.state sent) refusal)
-  IsLooked from_place target n (Err (Down cause)) = (n.down ≡ Some cause) ⊎ ((n.down ≡ None) × (cause ≡ Memory))
+  IsLooked from_place target n (Err (Down cause)) = (n.down ≡ Some cause) ⊎ ((n.down ≡ None) × (cause ≡ Memory) × (from_place ≤ n.state.standing.applied))

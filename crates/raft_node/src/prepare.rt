@@ -11,7 +11,7 @@ use machine_laws::Hosted;
 use node_steps::{
     Unprepared, on_ask, on_claim, on_closed, on_heard, on_message, on_opened, on_timeout,
 };
-use raft_log::{LoggedBody, NodeId, NodeState, Step};
+use raft_log::{NodeId, NodeState, Step};
 use replication::beat;
 use std::alloc::Global;
 
@@ -38,13 +38,11 @@ pub fn prepare<M: Hosted>(
         Input::Deliver(message) => {
             let blank = M::blank();
             M::fits(&blank);
-            let blank = LoggedBody::new(alloc, blank)?;
             Ok(on_message(alloc, state, id, message, blank)?)
         }
         Input::Ask(body) => {
             M::fits(&body);
             let source = M::source(&body);
-            let body = LoggedBody::new(alloc, body)?;
             on_ask(alloc, standing, log, id, source, body)
         }
         Input::Opened => on_opened::<M>(alloc, standing, log),

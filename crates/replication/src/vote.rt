@@ -1,4 +1,4 @@
-ghost use Rattle.std.specs.Prelude.{IfOk};
+ghost use Rattle.std.specs.Prelude.{◌≤◌, IfOk, length};
 ghost use Rattle.raft_log.specs.Steps.{IsStep};
 ghost use Rattle.replication.specs.Replication.{on_vote};
 
@@ -17,13 +17,16 @@ pub fn on_vote<B: Wire>(
     from: NodeId,
     term: Number,
     granted: bool,
-    blank: LoggedBody<B>,
+    blank: B,
 ) -> Result<Step<B>, AllocError>
+    requires fits { B.fits blank }
+    requires short { length (B.spelled blank) ≤ 65536 }
     ensures { IfOk result (IsStep
         (λ s. on_vote blank standing.peers.size s from term granted) standing log.now) }
 {
     if let Position::Candidate = standing.position {
         let known = election::on_vote(standing, log, from, term, granted);
+        let blank = LoggedBody::new(alloc, blank)?;
         return on_forward(alloc, known, log, blank);
     }
     Ok(Step::still(alloc, standing, log))
