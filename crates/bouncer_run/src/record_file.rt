@@ -12,7 +12,7 @@ use buffer_lines::Shown;
 use irc_line::Name;
 use node_cells::NodeRecord;
 use raft_log::GroupSize;
-use run_records::{TextFault, run_text};
+use records::{TextFault, run_text};
 use setup_spelling::WireSetup;
 use std::fs::OpenOptions;
 use std::io::{self, Write};

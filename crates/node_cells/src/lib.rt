@@ -1,5 +1,5 @@
 //! Nodes that run: each with its pass at the ether, its record, and where its lines go.
-//! Stands under marked_cells, run_records and node_threads.
+//! Stands under marked_cells, records and node_threads.
 //! Each turn, look and restart is events at the node's own view; over an honest store what comes out of each is in
 //! the record, where the cell records, and what it sent was posted once; each line that leaves is one call of the
 //! upstream, in order.

@@ -4,3 +4,5 @@ pub mod ItemSteps
 pub mod TurnSteps
 pub mod VerdictSteps
 pub mod OneReading
+mod WritableTurns
+mod RecordLists

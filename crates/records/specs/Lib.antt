@@ -4,3 +4,5 @@ pub mod RecordText
 pub mod RecordReading
 pub mod VerdictLaws
 pub mod ReadingLaws
+pub mod Converting
+pub mod RunText

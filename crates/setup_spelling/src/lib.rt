@@ -1,5 +1,5 @@
 //! What a bouncer is set up with, as bytes.
-//! Stands under run_records, world_app and bouncer_run, among others.
+//! Stands under records, world_app and bouncer_run, among others.
 //! Promises that a setup has one spelling, which is read back whatever follows it.
 #![tactic(auto)]
 

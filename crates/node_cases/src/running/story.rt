@@ -14,7 +14,7 @@ use node_cells::{NodeRecord, Recording};
 use node_threads::{Beats, Gate, Outlet};
 use raft_log::GroupSize;
 use recorder::Words;
-use run_records::run_text;
+use records::run_text;
 use setup_spelling::WireSetup;
 use std::alloc::Global;
 use std::rt::Clock;

@@ -8,7 +8,7 @@ use machine_laws::{Hosted, Machine};
 use node_cells::{NodeRecord, Upstream};
 use raft_log::GroupSize;
 use recorder::{Words, parse_events};
-use run_records::run_text;
+use records::run_text;
 use setup_spelling::WireSetup;
 use stable_store::Stable;
 use std::alloc::{AllocError, Global};

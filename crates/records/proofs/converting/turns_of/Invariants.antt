@@ -1,7 +1,7 @@
 use Rattle.std.proofs.Common.{◌≡◌, ◌++◌, length, map}
 use Rattle.std.specs.Vec.Iter.{into_iter_items, into_iter_len}
-use Rattle.run_records.specs.Converting.{AreOfMembers, turn_of}
-use Rattle.run_records.proofs.converting.turns_of.Given as goal
+use Rattle.records.specs.Converting.{AreOfMembers, turn_of}
+use Rattle.records.proofs.converting.turns_of.Given as goal
 
 -- what was converted and what is left come to all turns; if all are of members, so is what is left
 abbrev pub invariant-loop-turn : goal.invariant-loop-turn

@@ -1,8 +1,8 @@
 use Rattle.std.proofs.Common.{ap, arith, length, subst}
 use Rattle.std.proofs.lemmas.List.{nil_from_length}
-use Rattle.run_records.specs.RunText.{AreAllOfMembers}
-use Rattle.run_records.proofs.RecordLists.{one_more, none_left}
-use Rattle.run_records.proofs.text.all_of.Goals as goal
+use Rattle.records.specs.RunText.{AreAllOfMembers}
+use Rattle.records.proofs.RecordLists.{one_more, none_left}
+use Rattle.records.proofs.text.all_of.Goals as goal
 
 pub loop-own-preserved : goal.loop-own-preserved
 loop-own-preserved g c =

@@ -10,7 +10,7 @@ use Rattle.records.specs.declared.record.Record.{Record}
 use Rattle.setup_spelling.specs.Spelling.{FitsSetup, spelled_setup}
 use Rattle.world_events.specs.declared.event.Event.{Event}
 use Rattle.world_run.specs.declared.outcome.Outcome.{Outcome}
-use Rattle.run_records.specs.Converting.{AreOfMembers, IsRecordOf}
+use Rattle.records.specs.Converting.{AreOfMembers, IsRecordOf}
 
 module _ {B L T E P : Type 0} where
   -- each of these is the other's, in order

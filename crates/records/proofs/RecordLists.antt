@@ -5,8 +5,8 @@ use Rattle.node_cells.specs.declared.record.NodeRecord.{NodeRecord}
 use Rattle.records.specs.declared.record.Record.{Record}
 use Rattle.world_events.specs.declared.event.Event.{Event}
 use Rattle.world_run.specs.declared.outcome.Outcome.{Outcome}
-use Rattle.run_records.specs.Converting.{IsRecordOf}
-use Rattle.run_records.specs.RunText.{AreRecordsOf}
+use Rattle.records.specs.Converting.{IsRecordOf}
+use Rattle.records.specs.RunText.{AreRecordsOf}
 
 module _ {B L T E P : Type 0} where
   -- where what was converted and whatever the rest comes to are all, so it is with one record more

@@ -1,12 +1,12 @@
 //! A node's record as one of its group.
 ghost use Rattle.std.specs.Prelude.{◌≡◌, IfErr, IfNone, IfOk, IfSome, map};
-ghost use Rattle.run_records.specs.Converting.{IsOfAStranger, IsRecordOf, IsRefused, event_of, input_of};
-ghost use Rattle.run_records.specs.Converting.{AreOfMembers, IsInputOfAStranger, turn_of};
+ghost use Rattle.records.specs.Converting.{IsOfAStranger, IsRecordOf, IsRefused, event_of, input_of};
+ghost use Rattle.records.specs.Converting.{AreOfMembers, IsInputOfAStranger, turn_of};
 
+use crate::record::{Record, Turn};
 use crate::text_fault::TextFault;
 use node_cells::{NodeRecord, NodeTurn};
 use raft_log::NodeId;
-use records::{Record, Turn};
 use std::alloc::Global;
 use wire_bytes::Wire;
 use world_events::{Event, Input};

@@ -1,7 +1,7 @@
 use Rattle.std.proofs.Common.{◌∙◌, ◌++◌, ap, arith, map, sym}
 use Rattle.std.proofs.lemmas.List.{append-nil, nil_from_length}
-use Rattle.run_records.specs.Converting.{turn_of}
-use Rattle.run_records.proofs.converting.turns_of.Goals as goal
+use Rattle.records.specs.Converting.{turn_of}
+use Rattle.records.proofs.converting.turns_of.Goals as goal
 
 pub returns-clause-ok : goal.returns-clause-ok
 returns-clause-ok g c =

@@ -1,17 +1,19 @@
 //! The text of the record file of a run.
 ghost use Rattle.std.specs.Prelude.{◌≡◌, ◌++◌, ◌∷◌, [], IfErr, IfOk, OnOk};
-ghost use Rattle.run_records.specs.RunText.{AreRecordsOf, HasAStranger, IsRunText};
+ghost use Rattle.records.specs.RunText.{AreRecordsOf, HasAStranger, IsRunText};
 
 use crate::converting::record_of;
+use crate::merging::merge;
+use crate::record::Record;
 use crate::text_fault::TextFault;
 use crate::writable::turns_are_writable;
+use crate::writing::write_record;
 use buffer_commands::WireLine;
 use irc_line::Name;
 use machine_laws::{Hosted, Machine};
 use node_cells::NodeRecord;
 use raft_log::GroupSize;
 use recorder::Words;
-use records::{Record, merge, write_record};
 use setup_spelling::WireSetup;
 use std::alloc::{AllocError, Global};
 use wire_bytes::Wire;

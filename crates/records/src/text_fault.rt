@@ -14,7 +14,7 @@ pub enum TextFault {
 
 impl From<AllocError> for TextFault {
     ghost use Rattle.std.specs.Prelude.{◌≡◌};
-    ghost use Rattle.run_records.specs.declared.text_fault.TextFault.TheVariants.{Memory};
+    ghost use Rattle.records.specs.declared.text_fault.TextFault.TheVariants.{Memory};
 
     ghost from_gives = { λ _ e. e ≡ Memory };
 

@@ -1,6 +1,6 @@
 use Rattle.std.proofs.Common.{arith}
-use Rattle.run_records.proofs.WritableTurns.{all_at_end}
-use Rattle.run_records.proofs.writable.turns_are_writable.Goals as goal
+use Rattle.records.proofs.WritableTurns.{all_at_end}
+use Rattle.records.proofs.writable.turns_are_writable.Goals as goal
 
 pub returns : goal.returns
 returns g c =

@@ -1,7 +1,7 @@
 use Rattle.std.proofs.Common.{◌≡◌, ◌++◌, List, length}
 use Rattle.std.specs.Vec.Iter.{into_iter_items, into_iter_len}
-use Rattle.run_records.specs.RunText.{AreAllOfMembers, AreRecordsOf}
-use Rattle.run_records.proofs.text.all_of.Given as goal
+use Rattle.records.specs.RunText.{AreAllOfMembers, AreRecordsOf}
+use Rattle.records.proofs.text.all_of.Given as goal
 
 -- what was converted, and what is left, come to all records; if all are of members, so is what is left
 abbrev pub invariant-loop-own : goal.invariant-loop-own

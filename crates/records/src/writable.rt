@@ -3,10 +3,10 @@ ghost use Rattle.std.specs.Prelude.{◌≡◌};
 ghost use Rattle.recorder.specs.InputReadings.{IsWritable, IsWritableInput};
 ghost use Rattle.records.specs.RecordText.{AreWritableTurns};
 
+use crate::record::Turn;
 use buffer_commands::WireLine;
 use irc_line::Name;
 use machine_laws::{Hosted, Machine};
-use records::Turn;
 use wire_bytes::Wire;
 use world_events::{Event, Input};
 

@@ -1,6 +1,6 @@
 use Rattle.std.proofs.Common.{drop}
-use Rattle.run_records.proofs.WritableTurns.{AreWritableEach}
-use Rattle.run_records.proofs.writable.turns_are_writable.Given as goal
+use Rattle.records.proofs.WritableTurns.{AreWritableEach}
+use Rattle.records.proofs.writable.turns_are_writable.Given as goal
 
 -- if what is left is writable, all is
 abbrev pub invariant-loop-turn : goal.invariant-loop-turn

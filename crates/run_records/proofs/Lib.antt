@@ -1,2 +1,0 @@
-mod RecordLists
-mod WritableTurns

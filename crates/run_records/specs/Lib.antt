@@ -1,2 +1,0 @@
-pub mod Converting
-pub mod RunText
