@@ -95,15 +95,20 @@ class End:
 class Run:
     """The program, the server, and clients."""
 
+    nodes = 3
     password = "word"
     environment = {}
 
     def __init__(self, program):
         self.room = selectors.DefaultSelector()
         self.folder = tempfile.mkdtemp()
-        self.ports = [free_port() for _ in range(3)]
+        self.ports = [free_port() for _ in range(self.nodes)]
         self.server = socket.create_server(("127.0.0.1", 0))
         self.start(program)
+        self.welcome()
+
+    def welcome(self):
+        """The server takes the session that the program opens."""
         self.server.settimeout(LIMIT)
         stream, _ = self.server.accept()
         self.upstream = End(self.room, stream)
@@ -155,7 +160,7 @@ class Run:
                 self.serve(max(0, end - time.perf_counter()))
 
     def sizes(self):
-        return [os.path.getsize(f"{self.folder}/store/node-{node}") for node in (1, 2, 3)]
+        return [os.path.getsize(f"{self.folder}/store/node-{node + 1}") for node in range(self.nodes)]
 
     def told(self):
         """The program's log, but for what it says of clients."""
@@ -203,12 +208,16 @@ class Run:
             fields = stat.read().rsplit(")", 1)[1].split()
         return (int(fields[11]) + int(fields[12])) / os.sysconf("SC_CLK_TCK")
 
-    def end(self):
+    def stop(self):
+        """The program ends; its folder stays."""
         self.program.stdin.close()
         status = self.program.wait(LIMIT)
-        shutil.rmtree(self.folder)
         if status != 0:
             sys.exit(f"the program ended with {status}")
+
+    def end(self):
+        self.stop()
+        shutil.rmtree(self.folder)
 
 
 def said(number):

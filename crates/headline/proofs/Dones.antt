@@ -1,17 +1,18 @@
--- That a request is done leaves at most once.
-use Rattle.std.proofs.Common.{◌≡◌, ℕ, suc, ◌+◌, ◌≤◌, Bool, true, false, List, [], ◌∷◌, refl, arith}
+-- That a request is done leaves at most once, and that any other changes nothing.
+use Rattle.std.proofs.Common.{◌≡◌, ℕ, suc, ◌+◌, ◌≤◌, Bool, true, false, List, [], ◌∷◌, ◌++◌, refl, sym, subst, arith}
 use Rattle.std.specs.Prelude.{if◌then◌else◌}
-use Rattle.machine_laws.specs.Runs.{all_effects}
+use Rattle.machine_laws.specs.Runs.{History, all_effects}
 use Rattle.wire_bytes.specs.declared.origin.Origin.{Origin}
 use Rattle.buffer_commands.specs.Settings.{Settings}
 use Rattle.request_once.specs.Fresh.{dones, is_done}
 use Rattle.request_once.proofs.Stays.{stays_once}
 use Rattle.request_once.proofs.Answered as answered
-use Rattle.bouncer_tower.specs.Bodies.{TowerEffect, answers, client, claimed_effects}
+use Rattle.bouncer_tower.specs.Bodies.{TowerBody, TowerEffect, answers, client, claimed_effects}
+use Rattle.bouncer_tower.proofs.Without.{plain_same, session_same, outgoing_same, claimed_same}
 use Rattle.world_run.specs.World.{count}
 use Rattle.world_run.proofs.Holds as holds
 use Rattle.headline.specs.Tower.{tower}
-use Rattle.headline.specs.Promises.{OverAll, bodies, DoneOnce, RequestsActOnce}
+use Rattle.headline.specs.Promises.{OverAll, bodies, DoneOnce, IsUnchanged, OthersChangeNothing, RequestsActOnce}
 
 one_more : (b : Bool) (k l : ℕ) → k ≡ l → (if b then suc k else k) ≡ (if b then l + 1 else l)
 one_more true k l e = omega (arith, e)
@@ -29,3 +30,13 @@ module _ (s : Settings) where
   done_once size es o n =
       let few : dones o n (all_effects (answers s) (bodies s size es)) ≤ 1 = answered.done_once client (claimed_effects s) o n (bodies s size es) in
       omega (arith, holds.no_more (tower s) size es (is_done o n), count_dones o n (all_effects (answers s) (bodies s size es)), few)
+
+  pub others_change_nothing : OverAll s OthersChangeNothing
+  others_change_nothing size es later earlier place o n at action is drops =
+      subst (λ (h : History TowerBody). IsUnchanged s h (later ++ earlier)) (sym is)
+      record {
+        plain = plain_same later earlier place o n at action drops;
+        session = session_same later earlier place o n at action drops;
+        outgoing = outgoing_same later earlier place o n at action drops s;
+        claimed = claimed_same later earlier place o n at action drops s;
+      }

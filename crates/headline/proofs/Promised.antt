@@ -17,6 +17,7 @@ headline_of s size es =
       faithful = faithful_of (tower s) size es;
       apart = apart_of (tower s) size es;
       acts_once = dones.requests_act_once s size es;
+      others_change_nothing = dones.others_change_nothing s size es;
       done_once = dones.done_once s size es;
       handed_once = hands.handed_once s size es;
       outgoing = hands.handed_is_outgoing s size es;

@@ -6,9 +6,10 @@ use Rattle.wire_bytes.specs.declared.session_id.SessionId.{SessionId}
 use Rattle.wire_bytes.specs.declared.mark.Mark as mark
 use Rattle.machine_laws.specs.Runs.{History}
 use Rattle.buffer_commands.specs.Settings.{Settings}
-use Rattle.request_once.specs.declared.body.Body.TheVariants.{Mark}
-use Rattle.request_once.specs.Fresh.{fresh, times, is_done}
-use Rattle.bouncer_tower.specs.Bodies.{TowerBody, outgoing, claimed}
+use Rattle.request_once.specs.declared.body.Body.TheVariants.{Asked, Mark}
+use Rattle.request_once.specs.Fresh.{fresh, stays, times, is_done}
+use Rattle.buffer_commands.specs.declared.command.Action.{Action}
+use Rattle.bouncer_tower.specs.Bodies.{TowerBody, plain, session, outgoing, claimed}
 use Rattle.bouncer_tower.specs.Hosting.{playback}
 use Rattle.raft_log.specs.declared.entry.Entry.{Entry}
 use Rattle.raft_log.specs.Lists.{item}
@@ -25,6 +26,13 @@ abbrev pub OverAll : (s : Settings) → ((s : Settings) → ℕ → List (Event 
 OverAll s P = (size : ℕ) (es : List (Event (tower s))) → P s size es
 
 module _ (s : Settings) where
+  -- Two lists of bodies come to the same commands of the buffers, session, outgoing lines and claims.
+  pub record IsUnchanged (one other : History TowerBody) : Type 0 where
+    pub plain : plain one ≡ plain other
+    pub session : session one ≡ session other
+    pub outgoing : outgoing s one ≡ outgoing s other
+    pub claimed : claimed s one ≡ claimed s other
+
   -- the bodies that are agreed, each at its place
   abbrev pub bodies : ℕ → List (Event (tower s)) → History TowerBody
   bodies size es = history (agreed (tower s) size es)
@@ -40,6 +48,14 @@ module _ (s : Settings) where
   -- of the requests that take effect no two have the same origin and number
   abbrev pub RequestsActOnce : ℕ → List (Event (tower s)) → Type 0
   RequestsActOnce size es = (o : Origin) (n : ℕ) → times o n (fresh (bodies size es)) ≤ 1
+
+  -- Any other request changes nothing: where one stands in the agreed list that is not the next of its origin, the commands of the
+  -- buffers, the session, the outgoing lines and their claims are those of the list without it.
+  abbrev pub OthersChangeNothing : ℕ → List (Event (tower s)) → Type 0
+  OthersChangeNothing size es =
+      (later earlier : History TowerBody) (place : ℕ) (o : Origin) (n at : ℕ) (action : Action) →
+      bodies size es ≡ later ++ (place, Asked o n at action) ∷ earlier → stays (fresh earlier) (Asked o n at action) ≡ false →
+      IsUnchanged (bodies size es) (later ++ earlier)
 
   -- and that one is done leaves at most once, of all nodes and all their runs
   abbrev pub DoneOnce : ℕ → List (Event (tower s)) → Type 0
@@ -115,8 +131,9 @@ module _ (s : Settings) where
     pub faithful : IsFaithful (tower s) size es
     -- runs of a node have boots of their own, no session id is of two runs
     pub apart : RunsAreApart (tower s) size es
-    -- no numbered request takes effect twice, nor is one told twice to be done
+    -- no numbered request takes effect twice, all else of its origin and number changes nothing, nor is one told twice to be done
     pub acts_once : RequestsActOnce size es
+    pub others_change_nothing : OthersChangeNothing size es
     pub done_once : DoneOnce size es
     -- no line is handed upstream twice, and each is the outgoing line of its number
     pub handed_once : HandedOnce size es

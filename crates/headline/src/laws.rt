@@ -7,7 +7,7 @@ ghost use Rattle.world_run.specs.Laws.{AgreedGrows, EachBrought, InAgreed, OneLi
 ghost use Rattle.world_run.specs.Laws.{ApplyIsFaithful, LooksAreFaithful};
 ghost use Rattle.headline.specs.Tower.{tower};
 ghost use Rattle.headline.specs.Promises.{AreAgreed, ComesOut, OverAll};
-ghost use Rattle.headline.specs.Promises.{DoneOnce, RequestsActOnce};
+ghost use Rattle.headline.specs.Promises.{DoneOnce, OthersChangeNothing, RequestsActOnce};
 ghost use Rattle.headline.specs.Promises.{HandedIsOutgoing, HandedOnce};
 ghost use Rattle.headline.specs.Promises.{AppliedMarks, ConfirmedLooks, MarksAreAbove};
 
@@ -39,9 +39,10 @@ pub fn playback_is_faithful()
 {}
 
 /// Of one origin and number at most one request takes effect, and that it is done leaves at most once, of all nodes and
-/// all their runs. Any other of that origin and number changes nothing (`a_dropped_request_changes_nothing`).
+/// all their runs. Any other of that origin and number changes nothing.
 pub fn requests_act_once()
     ensures effect { (s : Settings) → OverAll s RequestsActOnce }
+    ensures others { (s : Settings) → OverAll s OthersChangeNothing }
     ensures done { (s : Settings) → OverAll s DoneOnce }
 {}
 
