@@ -11,8 +11,8 @@ returns-then-not-is_heard g c =
     let heard : c.is_heard.result ≡ is_heard size c.args.id c.args.message = c.is_heard.ensures ∙ ap (λ (k : ℕ). is_heard k c.args.id c.args.message) (c.value-size.ensures.value ∙ c.size.ensures) in
     unheard c.args.blank size c.args.id c.args.message c.args.state.now.standing c.args.state.now.log c.still.result (sym heard ∙ c.if-not-is_heard.true) c.still.ensures
 
-pub handled-requires-within : goal.handled-requires-within
-handled-requires-within g c = stays_within c.args.state.now.standing c.raised-standing.result c.args.state.now.log c.args.message.term c.raised-standing.ensures.step c.requires.within
+pub handled-requires-clause-within : goal.handled-requires-clause-within
+handled-requires-clause-within g c = stays_within c.args.state.now.standing c.raised-standing.result c.args.state.now.log c.args.message.term c.raised-standing.ensures.step c.requires.within
 
 pub returns : goal.returns
 returns g c =
