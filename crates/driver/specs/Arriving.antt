@@ -18,6 +18,7 @@ use Rattle.driver.specs.Hearing.{boot_up, turned_away, turned_away_news}
 use Rattle.driver.specs.Links.{first_backoff, status_at}
 use Rattle.driver.specs.Rosters.{IsNew, client_at}
 use Rattle.driver.specs.Telling.{none_told}
+use Rattle.driver.specs.declared.driver.TheConstants.{MOST_NUMBER}
 
 -- a new monitor for each of the seven nodes, in order
 abbrev pub new_monitors : Settings → ℕ → List NodeMonitor
@@ -53,7 +54,7 @@ boot_at monitors node = boot_up (status_at monitors node)
 -- the number of a client that connects to a node with this run: one more than the last, where numbers are left
 abbrev pub number_if : Option ℕ → ℕ → Option ℕ
 number_if None last = None
-number_if (Some boot) last = if nat_lt last (2 ^ 60) then Some (last + 1) else None
+number_if (Some boot) last = if nat_lt last MOST_NUMBER then Some (last + 1) else None
 
 -- the number of a client that connects to this node: none where the node is not up, or where no number is left
 abbrev pub next_number : List NodeMonitor → ℕ → ℕ → Option ℕ
@@ -90,7 +91,7 @@ visited (Some boot) taken monitors node = if taken then changed_at (with_seen bo
 
 -- the monitors where a client connected to this node, and so many clients had been numbered before it
 abbrev pub monitors_behind : List NodeMonitor → ℕ → ℕ → List NodeMonitor
-monitors_behind monitors node numbered = visited (boot_at monitors node) (nat_lt numbered (2 ^ 60)) monitors node
+monitors_behind monitors node numbered = visited (boot_at monitors node) (nat_lt numbered MOST_NUMBER) monitors node
 
 -- an operator is told of the first client that was turned away since the node was up
 abbrev pub turned_away_by : Option ℕ → List NodeMonitor → ℕ → List Order

@@ -15,11 +15,12 @@ use Rattle.driver.specs.Leading.{IsLeader}
 use Rattle.driver.specs.Nicks.{AllAreWritten, nick_in, notice}
 use Rattle.driver.specs.Rosters.{client_at, is_attached_in}
 use Rattle.driver.specs.Telling.{ordered}
+use Rattle.driver.specs.declared.level.TheConstants.{FULL, NEARLY_FULL, FILLING}
 
 -- how full a log of so many entries is, of the 1,000,000 that it takes: the last 1,000 are kept for what brings a bouncer up again
 abbrev pub level_of : ℕ → Level
 level_of last =
-    if nat_le 999000 last then Full else (if nat_le 950000 last then NearlyFull else (if nat_le 800000 last then Filling else Roomy))
+    if nat_le FULL last then Full else (if nat_le NEARLY_FULL last then NearlyFull else (if nat_le FILLING last then Filling else Roomy))
 
 -- levels in order: the fuller the log, the greater
 abbrev pub rank : Level → ℕ

@@ -15,6 +15,7 @@ use Rattle.driver.specs.declared.news.News.TheVariants.{Down, Elected, TurnedAwa
 use Rattle.driver.specs.declared.order.Order.{Order}
 use Rattle.driver.specs.declared.order.Order.TheVariants.{Log}
 use Rattle.driver.specs.Monitors.{at, is_over, outage}
+use Rattle.driver.specs.declared.node_monitor.hearing.TheConstants.{GOOD_RUN}
 
 -- this is of another run than what was heard before
 abbrev pub is_new_run : Option Status → Status → Bool
@@ -51,7 +52,7 @@ down_news id cause (Some since) = []
 
 -- how long is waited: the first wait again where the node was up for a minute
 abbrev pub wait_behind : NodeMonitor → ℕ → ℕ
-wait_behind monitor now = if is_over monitor.presence.up 60_000 now then monitor.backoff.first else monitor.backoff.next
+wait_behind monitor now = if is_over monitor.presence.up GOOD_RUN now then monitor.backoff.first else monitor.backoff.next
 
 -- it is started again behind that wait, which is twice as long the next time, up to a limit
 abbrev pub down_behind : NodeMonitor → ℕ → Option Outage → NodeMonitor

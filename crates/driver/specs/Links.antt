@@ -28,6 +28,7 @@ use Rattle.driver.specs.declared.order.Order.TheVariants.{Send, Log}
 use Rattle.driver.specs.declared.settings.Settings.{Settings}
 use Rattle.driver.specs.Monitors.{at, is_over}
 use Rattle.driver.specs.Telling.{Ordered, ordered}
+use Rattle.driver.specs.declared.link.TheConstants.{FIRST_WAIT, LONGEST_WAIT, GOOD_SESSION, SILENCE}
 
 -- the node that a connection is of, if there is one
 abbrev pub node_of : Stage → Option ℕ
@@ -43,13 +44,13 @@ may_connect (Open session) now = false
 
 -- before anything failed: the first wait is a second, and the longest a minute
 abbrev pub first_backoff : Backoff
-first_backoff = record { first = 1000; most = 60_000; next = 1000 }
+first_backoff = record { first = FIRST_WAIT; most = LONGEST_WAIT; next = FIRST_WAIT }
 
 -- the server was silent for five minutes
 abbrev pub is_silent : Stage → ℕ → Bool
 is_silent (Idle since wait) now = false
 is_silent (Connecting node) now = false
-is_silent (Open session) now = is_over session.heard 300_000 now
+is_silent (Open session) now = is_over session.heard SILENCE now
 
 -- what an operator is told of a connection that stood: the end of its session, or that none was given
 abbrev pub end_of : Bool → ℕ → Ending → News
@@ -69,7 +70,7 @@ opened (Open session) = Open (record session { is_opened = true })
 
 -- how long is waited behind a connection that is gone: the first wait again behind a session of a minute
 abbrev pub wait_behind : Stage → Backoff → ℕ → ℕ
-wait_behind (Open session) backoff now = if is_over session.since 60_000 now then backoff.first else backoff.next
+wait_behind (Open session) backoff now = if is_over session.since GOOD_SESSION now then backoff.first else backoff.next
 wait_behind (Connecting node) backoff now = backoff.next
 wait_behind (Idle since wait) backoff now = wait
 

@@ -18,6 +18,8 @@ use Rattle.driver.specs.declared.order.Order.{Order}
 use Rattle.driver.specs.declared.order.Order.TheVariants.{Submit}
 use Rattle.driver.specs.declared.settings.Settings.{Settings}
 use Rattle.driver.specs.Telling.{Ordered, next_note}
+use Rattle.driver.specs.declared.node_monitor.TheConstants.{LONGEST, MOST_WAITING}
+use Rattle.driver.specs.declared.node_monitor.clock.TheConstants.{APART}
 
 -- so many milliseconds have passed since then; before that moment none have
 abbrev pub is_over : Timer → ℕ → ℕ → Bool
@@ -25,7 +27,7 @@ is_over timer wait now = nat_le wait (now - timer.since)
 
 -- how long a node waits for a leader: each next one 50 ms longer
 abbrev pub patience : Settings → ℕ → ℕ
-patience settings id = settings.timeout_ms + 50 * id
+patience settings id = settings.timeout_ms + APART * id
 
 -- a leader sends where it was not told to for a while, and its last such note is done
 abbrev pub is_to_beat : NodeMonitor → Settings → ℕ → Bool
@@ -52,7 +54,7 @@ note_at monitor settings now = note_for monitor settings now monitor.status moni
 
 -- as many notes of a node wait as may: 256 of those that it was told are not done, or are requests that wait for a leader
 abbrev pub is_full : ℕ → Progress → Bool
-is_full told progress = nat_le 256 ((told - progress.done) + progress.waiting)
+is_full told progress = nat_le MOST_WAITING ((told - progress.done) + progress.waiting)
 
 -- a note as orders to the node
 abbrev pub told : ℕ → Option (Note TowerBody WireLine) → List Order
@@ -95,7 +97,7 @@ new_monitor settings now id = record {
   beat = record { at = at now; note = 0 };
   claimed = None;
   down = None;
-  backoff = record { first = settings.timeout_ms; most = 60_000; next = settings.timeout_ms };
+  backoff = record { first = settings.timeout_ms; most = LONGEST; next = settings.timeout_ms };
   restart_note = 0;
   presence = record { last_report = at now; up = at now };
   visitors = record { greatest_boot = None; has_turned_away = false };

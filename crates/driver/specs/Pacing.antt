@@ -1,9 +1,10 @@
 -- How often lines may go, and how long is waited after what failed.
 use Rattle.std.specs.Prelude.{◌≡◌, ◌≤◌, ◌+◌, ◌*◌, ◌^◌, ◌&&◌, ◌++◌, ℕ, pred, Bool, nat_le, nat_lt, max, min, if◌then◌else◌, List, [], ◌∷◌, length}
+use Rattle.driver.specs.declared.pace.TheConstants.{LAST}
 
 -- a line may go at this moment, where so many may go at once, a line takes so long, and all is free again at a moment
 abbrev pub may_go : ℕ → ℕ → ℕ → ℕ → Bool
-may_go burst line free now = nat_lt now (2 ^ 63) && nat_le free (now + pred burst * line)
+may_go burst line free now = nat_lt now LAST && nat_le free (now + pred burst * line)
 
 -- when all is free again, behind a line that goes at this moment, if it may
 abbrev pub free_after : ℕ → ℕ → ℕ → ℕ → ℕ

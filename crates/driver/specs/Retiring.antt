@@ -17,6 +17,7 @@ use Rattle.driver.specs.declared.retirement.Progress.TheVariants.{Told, Appended
 use Rattle.driver.specs.Monitors.{at, is_over}
 use Rattle.driver.specs.Hearing.{is_none}
 use Rattle.driver.specs.Telling.{Ordered, next_note}
+use Rattle.driver.specs.declared.node_monitor.TheConstants.{DEAD, MOST_BOOT}
 
 -- that the runs of a node with a smaller boot are gone
 abbrev pub gone_body : ℕ → ℕ → TowerBody
@@ -100,7 +101,7 @@ with_seen boot monitor = record monitor { visitors = record monitor.visitors { g
 -- the runs up to this boot are gone
 abbrev pub gone_below : Option ℕ → Option ℕ
 gone_below None = None
-gone_below (Some boot) = if nat_lt boot (2 ^ 60) then Some (boot + 1) else None
+gone_below (Some boot) = if nat_lt boot MOST_BOOT then Some (boot + 1) else None
 
 -- the last run of a node that is over: where it is down, that in which it was last heard of; where it answered nothing for ten
 -- waits, the last one of which a boot was seen
@@ -111,7 +112,7 @@ boot_over None status seen silent = if silent then seen else None
 
 -- the last run of a node that is over now, if one is: the node is down, or answered nothing for ten waits
 abbrev pub dead_boot : NodeMonitor → ℕ → ℕ → Option ℕ
-dead_boot monitor wait now = boot_over monitor.down monitor.status monitor.visitors.greatest_boot (is_over monitor.presence.last_report (10 * wait) now)
+dead_boot monitor wait now = boot_over monitor.down monitor.status monitor.visitors.greatest_boot (is_over monitor.presence.last_report (DEAD * wait) now)
 
 -- the boot below which the runs of a node are over now, if some are
 abbrev pub dead_below : NodeMonitor → ℕ → ℕ → Option ℕ

@@ -12,6 +12,7 @@ use Rattle.driver.specs.declared.node_monitor.NodeMonitor.{NodeMonitor}
 use Rattle.driver.specs.Monitors.{at, is_full}
 use Rattle.driver.specs.Asking.{is_idle}
 use Rattle.driver.specs.Telling.{Ordered, told_to}
+use Rattle.driver.specs.declared.client.TheConstants.{MOST_WAITING}
 
 -- the client of this number, if there is one
 abbrev pub client_at : Clients → ℕ → Option Client
@@ -45,7 +46,7 @@ is_read_for orders monitors (Some node) = takes_notes orders (slice_get monitors
 -- As many requests of a client wait at its gate, behind whatever calls of it, as may while more is read.
 abbrev pub IsFullIn : Bool → Option Client → Type 0
 IsFullIn full None = full ≡ false
-IsFullIn full (Some c) = (s : Settings) (calls : List Call) → Stands s calls c.gate → full ≡ nat_le 48 (length (gate s calls).waiting)
+IsFullIn full (Some c) = (s : Settings) (calls : List Call) → Stands s calls c.gate → full ≡ nat_le MOST_WAITING (length (gate s calls).waiting)
 
 -- Bytes are read of a client, if there is one: not while as many notes of its node wait as may, or as many of its requests.
 abbrev pub IsReadOf : Bool → Ordered → List NodeMonitor → Option Client → Type 0

@@ -11,13 +11,14 @@ use Rattle.driver.specs.Asking.{anew_if, asks_if, is_stuck, now_asked}
 use Rattle.driver.specs.Monitors.{at, is_over}
 use Rattle.driver.specs.Serving.{IsLost}
 use Rattle.driver.specs.Telling.{Ordered, ordered}
+use Rattle.driver.specs.declared.client.silence.TheConstants.{REGISTERS_WITHIN, SILENCE}
 
 -- a client that is still there did not register within 10 seconds, or did not answer within four minutes
 abbrev pub is_too_slow : Client → ℕ → Bool
 is_too_slow c now =
     if c.is_gone
     then false
-    else if c.is_attached then c.is_pinged && is_over c.heard 240_000 now else is_over c.since 10_000 now
+    else if c.is_attached then c.is_pinged && is_over c.heard (2 * SILENCE) now else is_over c.since REGISTERS_WITHIN now
 
 -- A client that is not read: its time to be silent begins anew. One that did not register is read in any case.
 abbrev pub held_back : ℕ → Client → Client
@@ -40,7 +41,7 @@ pub record IsSentOff (now : ℕ) (at : Moment) (s : Settings) (calls : List Call
 
 -- a client that is still there was silent for two minutes, and was not asked for a word since
 abbrev pub is_silent : Client → ℕ → Bool
-is_silent c now = not (c.is_pinged || c.is_gone || not (is_over c.heard 120_000 now))
+is_silent c now = not (c.is_pinged || c.is_gone || not (is_over c.heard SILENCE now))
 
 -- a client is asked for a word, if it is
 abbrev pub IsPing : Bool → ℕ → List Order → Type 0

@@ -15,7 +15,7 @@ mod news;
 mod writing;
 
 use crate::client::Client;
-use crate::node_monitor::NodeMonitor;
+use crate::node_monitor::{MOST_NODES, NodeMonitor};
 use crate::order::Now;
 use crate::orders::Orders;
 use bouncer_tower::TowerEffect;
@@ -23,9 +23,6 @@ use raft_log::NodeId;
 use std::alloc::{AllocError, Global};
 use std::collections::BTreeMap;
 use wire_bytes::Origin;
-
-/// The most nodes that there may be.
-const MOST_NODES: usize = 7;
 
 /// The clients, by their numbers, which rise in the order in which they connected.
 #[derive(Drop)]

@@ -24,7 +24,7 @@ use crate::client::Client;
 use crate::clients::Clients;
 use crate::level::Level;
 use crate::link::Link;
-use crate::node_monitor::NodeMonitor;
+use crate::node_monitor::{MOST_NODES, NodeMonitor};
 use crate::order::{Now, Order};
 use crate::orders::Orders;
 use crate::pace::Pace;
@@ -36,9 +36,6 @@ use irc_line::{Line, Name};
 use raft_log::NodeId;
 use std::alloc::{AllocError, Global};
 use wire_bytes::{Number, Origin};
-
-/// The most nodes that there may be.
-const MOST_NODES: usize = 7;
 
 /// The largest number that a client may have.
 const MOST_NUMBER: u64 = 1 << 60;

@@ -2,12 +2,9 @@
 ghost use Rattle.std.specs.Prelude.{◌≡◌};
 ghost use Rattle.driver.specs.Leading.{IsLeader, better};
 
-use crate::node_monitor::NodeMonitor;
+use crate::node_monitor::{MOST_NODES, NodeMonitor};
 use raft_log::NodeId;
 use wire_bytes::Number;
-
-/// The most nodes that there may be.
-const MOST_NODES: usize = 7;
 
 /// A node that leads, and its term.
 #[derive(Clone, Copy)]

@@ -27,6 +27,9 @@ use standing::{Claimed, Following, LastBeat, Outage, Presence, Visitors};
 use std::alloc::AllocError;
 use wire_bytes::Number;
 
+/// The most nodes that there may be.
+pub const MOST_NODES: usize = 7;
+
 /// The longest wait before a node that is down is started again, in milliseconds.
 const LONGEST: u32 = 60_000;
 

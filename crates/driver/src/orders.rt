@@ -5,13 +5,11 @@ ghost use Rattle.driver.specs.declared.order.Order.TheVariants.{Close, Connect, 
 ghost use Rattle.driver.specs.Telling.{emptied, next_note, none_told, ordered, told_to};
 
 use crate::news::News;
+use crate::node_monitor::MOST_NODES;
 use crate::order::{Order, TowerNote};
 use raft_log::NodeId;
 use std::alloc::{AllocError, Global};
 use std::marker::Model;
-
-/// The most nodes that there may be.
-const MOST_NODES: usize = 7;
 
 /// What is ordered, and how many notes each node was told.
 ///

@@ -9,7 +9,7 @@ ghost use Rattle.driver.specs.Rounds.{ask_orders, retired, place_asked, retireme
 ghost use Rattle.driver.specs.Telling.{ordered};
 
 use crate::leader::leader_of;
-use crate::node_monitor::NodeMonitor;
+use crate::node_monitor::{MOST_NODES, NodeMonitor};
 use crate::order::Now;
 use crate::orders::Orders;
 use crate::retirement::Retirement;
@@ -18,9 +18,6 @@ use node_notes::Status;
 use raft_log::NodeId;
 use std::alloc::AllocError;
 use wire_bytes::Number;
-
-/// The most nodes that there may be.
-const MOST_NODES: usize = 7;
 
 /// The retirement of each node whose earlier runs are gone.
 #[derive(Drop)]

@@ -1,6 +1,6 @@
 -- What looks and applies answer, and what stays within a run.
 use Rattle.std.proofs.Common.{◌≡◌, ℕ, zero, suc, pred, ◌+◌, ◌<◌, ◌≤◌, Bool, true, false, ltb, eqb, List, [], ◌∷◌, ◌++◌, Option, Some, None, IsTrue, length, take, drop, refl, sym, ap, subst, ◌∙◌, arith, take-append-drop}
-use Rattle.std.specs.Prelude.{slice_get}
+use Rattle.std.specs.Prelude.{slice_get, if◌then◌else◌}
 use Rattle.std.proofs.lemmas.Bool.{cond_both, ltb-true, ltb-false, eqb-true, eq-eqb}
 use Rattle.raft_log.specs.Lists.{item, with_item}
 use Rattle.raft_log.specs.declared.entry.Entry.{Entry}
@@ -12,11 +12,12 @@ use Rattle.world_run.proofs.Places.{came_of}
 use Rattle.machine_laws.specs.Runs.{all_effects}
 use Rattle.std.specs.Prelude.{filter}
 use Rattle.world_run.proofs.Tallies.{All}
-use Rattle.node_steps.specs.declared.refusal.Refusal.TheVariants.{Behind}
-use Rattle.raft_node.specs.Steps.{Out, Left, Looked, Turn, quiet, refused, leaving, leaves, applied_history, applied, apply_next, looked, own, effects_of}
-use Rattle.world_run.specs.World.{Event, Does, Restart, StopIn, Look, Apply, act_of, begins_run, stepper, own_of, world_by, out_by, happens, out_of, outs, run, moment, agreed, left, left_of}
+use Rattle.node_steps.specs.declared.refusal.Refusal.TheVariants.{BadOrigin, Behind, NoLeader}
+use Rattle.node_steps.specs.Asking.{finds_leader, may_ask}
+use Rattle.raft_node.specs.Steps.{Out, Left, Looked, Refused, Turn, asked, asks, quiet, refused, leaving, leaves, applied_history, applied, apply_next, looked, own, effects_of}
+use Rattle.world_run.specs.World.{Event, Does, Restart, StopIn, Look, Apply, Ask, act_of, begins_run, stepper, own_of, world_by, out_by, happens, out_of, outs, run, moment, agreed, left, left_of}
 use Rattle.agreement.proofs.Lists.{begins_length, length_take}
-use Rattle.world_run.specs.Laws.{OverAll, LooksAreFaithful, ApplyIsFaithful, AppliedStays, NewIdIsNew, NewRunNewBoot}
+use Rattle.world_run.specs.Laws.{OverAll, LooksAreFaithful, ApplyIsFaithful, AppliedStays, AskedInItsRun, NewIdIsNew, NewRunNewBoot}
 use Rattle.world_run.proofs.Lowers.{Always}
 use Rattle.raft_node.proofs.Fares.{Lives, stop_boot, GoesOn, Applied, Step, InRun, NewRun, own_step}
 use Rattle.world_run.proofs.Tallies.{not_both}
@@ -97,6 +98,25 @@ module _ (M : Machine) where
       apply_brings size es h i s (fine_at M size es h m i s here) place effects
       (subst (λ o. out_by M (moment M size es m) i (own_of M (moment M size es m) (Does (Apply i))) o ≡ Left place effects) here
       (out_at es (start size) m (Does (Apply i)) (Left place effects) at out))
+
+  -- requests
+
+  asked_out : (i : ℕ) (s : Node M.Body) (body : M.Body) (out : Out M) → (asked M i s body).out ≡ out → (out ≡ Refused BadOrigin → ⊥) → may_ask i s (M.source body) ≡ true
+  asked_out i s body out is fine = by (may_ask i s (M.source body)) is
+    where
+      abbrev turn_by : Bool → Turn M
+      turn_by b = if b then (if finds_leader s s.leader then asks M i s body else refused M s NoLeader) else refused M s BadOrigin
+
+      by : (b : Bool) → (turn_by b).out ≡ out → b ≡ true
+      by true e = refl
+      by false e = absurd (fine (sym e))
+
+  pub asked_in_its_run : OverAll M AskedInItsRun
+  asked_in_its_run size es zero i body s out at here came fine = absurd (cc at)
+  asked_in_its_run size es (suc m) i body s out at here came fine =
+      asked_out i s body out
+      (subst (λ o. out_by M (moment M size es m) i (own_of M (moment M size es m) (Does (Ask i body))) o ≡ out) here
+      (out_at es (start size) m (Does (Ask i body)) out at came)) fine
 
   -- each effect that leaves is one that the agreed list brings about
 

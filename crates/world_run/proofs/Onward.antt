@@ -17,7 +17,7 @@ use Rattle.world_run.specs.World.{run, outs, outputs}
 use Rattle.world_run.specs.World as world
 use Rattle.world_run.specs.Laws.{IsAgreed, IsFaithful, IsRaft, RunsAreApart}
 use Rattle.world_run.proofs.Holds.{one_list, in_agreed, agreed_grows, each_brought, no_more, one_leader, one_vote, logs_match, leaders_hold, sessions_apart}
-use Rattle.world_run.proofs.Answers.{looks_are_faithful, apply_is_faithful, new_run_new_boot, applied_stays, new_id_is_new}
+use Rattle.world_run.proofs.Answers.{looks_are_faithful, apply_is_faithful, asked_in_its_run, new_run_new_boot, applied_stays, new_id_is_new}
 
 first : {A : Type 0} (xs : List A) (k : ℕ) (x : A) → k < length xs → x ≡ get_or xs k x → drop k xs ≡ x ∷ drop (suc k) xs
 first [] k x lt e = absurd (omega (arith, lt))
@@ -93,7 +93,7 @@ raft_of M size es =
 
 pub apart_of : (M : Machine) (size : ℕ) (es : List (world.Event M)) → RunsAreApart M size es
 apart_of M size es =
-    record { boots = new_run_new_boot M size es; applied = applied_stays M size es; sessions = sessions_apart M size es; new_ids = new_id_is_new M size es }
+    record { boots = new_run_new_boot M size es; origins = asked_in_its_run M size es; applied = applied_stays M size es; sessions = sessions_apart M size es; new_ids = new_id_is_new M size es }
 
 -- a group has seven nodes at most
 pub at_most_seven : (cells size : ℕ) → cells ≡ size → IsGroupSize size → cells ≤ 7

@@ -8,12 +8,13 @@ use Rattle.raft_log.specs.Lists.{item}
 use Rattle.raft_log.specs.Logs.{entry_limit, term_at}
 use Rattle.raft_log.specs.Node.{Node}
 use Rattle.raft_node.specs.Machine.{Machine, history}
-use Rattle.node_steps.specs.Asking.{new_session}
-use Rattle.raft_node.specs.Steps.{Left, Looked, leaving, Act, Stops, turn, own}
+use Rattle.node_steps.specs.declared.refusal.Refusal.TheVariants.{BadOrigin}
+use Rattle.node_steps.specs.Asking.{may_ask, new_session}
+use Rattle.raft_node.specs.Steps.{Out, Left, Looked, Refused, leaving, Act, Stops, turn, own}
 use Rattle.raft_node.specs.Sound.{IsSound}
 use Rattle.agreement.specs.World.{Begins, committed}
 use Rattle.agreement.specs.Laws.{LeadsAnew, StopSaves}
-use Rattle.world_run.specs.World.{Event, Does, Look, Apply, Brought, count, stepper, begins_run, moment, outputs, agreed, left}
+use Rattle.world_run.specs.World.{Event, Does, Look, Apply, Ask, Brought, count, stepper, begins_run, moment, outputs, agreed, left}
 
 -- This holds of groups of every size, over every list of events.
 abbrev pub OverAll : (M : Machine) → ((M : Machine) → ℕ → List (Event M) → Type 0) → Type 0
@@ -192,9 +193,17 @@ module _ (M : Machine) where
     pub logs_match : LogsMatch size es
     pub leaders_hold : LeadersHold size es
 
-  -- Over these events runs of a node and sessions are told apart.
+  -- a body that a node is asked for is of that node, in that run of it, if it is of one; else it is refused as one of another origin
+  abbrev pub AskedInItsRun : ℕ → List (Event M) → Type 0
+  AskedInItsRun size es =
+      (k i : ℕ) (body : M.Body) (s : Node M.Body) (out : Out M) →
+      item es k ≡ Some (Does (Ask i body)) → item (moment M size es (pred k)) i ≡ Some s → item (outputs M size es) k ≡ Some out →
+      (out ≡ Refused BadOrigin → ⊥) → may_ask i s (M.source body) ≡ true
+
+  -- Over these events runs of a node, their origins and sessions are told apart.
   pub record RunsAreApart (size : ℕ) (es : List (Event M)) : Type 0 where
     pub boots : NewRunNewBoot size es
+    pub origins : AskedInItsRun size es
     pub applied : AppliedStays size es
     pub sessions : SessionsApart size es
     pub new_ids : NewIdIsNew size es

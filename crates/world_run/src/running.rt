@@ -1,6 +1,6 @@
 //! That runs of a node and sessions are told apart.
-ghost use Rattle.world_run.specs.Laws.{AppliedStays, EachIsSound, NewRunNewBoot, OverAll};
-ghost use Rattle.world_run.specs.Laws.{NewIdIsNew, SessionsApart};
+ghost use Rattle.world_run.specs.Laws.{AppliedStays, AskedInItsRun, EachIsSound, NewRunNewBoot};
+ghost use Rattle.world_run.specs.Laws.{NewIdIsNew, OverAll, SessionsApart};
 
 use machine_laws::Hosted;
 use raft_node::Described;
@@ -10,10 +10,11 @@ pub fn each_node_is_sound<M: Hosted>()
     ensures { (s : M.Setup) → OverAll (⟦<M as Described>⟧.machine s) EachIsSound }
 {}
 
-/// Each restart and each stop begins a run with a boot of its own, one more than the last; within a run what was applied
-/// stays, in its place.
+/// Each restart and each stop begins a run with a boot of its own, one more than the last; a body of a client or of a run is
+/// taken by that node in that run alone, so no origin is of two runs; within a run what was applied stays, in its place.
 pub fn runs_are_apart<M: Hosted>()
     ensures boots { (s : M.Setup) → OverAll (⟦<M as Described>⟧.machine s) NewRunNewBoot }
+    ensures origins { (s : M.Setup) → OverAll (⟦<M as Described>⟧.machine s) AskedInItsRun }
     ensures applied { (s : M.Setup) → OverAll (⟦<M as Described>⟧.machine s) AppliedStays }
 {}
 

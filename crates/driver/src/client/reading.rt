@@ -3,11 +3,8 @@ ghost use Rattle.driver.specs.Rosters.{IsReadOf};
 ghost use Rattle.std.specs.Prelude.{Some};
 
 use crate::client::Client;
-use crate::node_monitor::{NodeMonitor, reads_for};
+use crate::node_monitor::{MOST_NODES, NodeMonitor, reads_for};
 use crate::orders::Orders;
-
-/// The most nodes that there may be.
-const MOST_NODES: usize = 7;
 
 impl Client {
     /// Whether it is read: not while as many notes of its node wait as may, or as many of its requests.

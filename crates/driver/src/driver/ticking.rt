@@ -4,10 +4,10 @@ ghost use Rattle.driver.specs.Driving.{Claims, Serves, ServesIf, Ticks, TicksMon
 ghost use Rattle.driver.specs.Leading.{IsLeader, is_that};
 ghost use Rattle.driver.specs.Waking.{awake, slept, waited_longer};
 
+use crate::driver::Driver;
 use crate::driver::session::is_that;
-use crate::driver::{Driver, MOST_NODES};
 use crate::leader::leader_of;
-use crate::node_monitor::NodeMonitor;
+use crate::node_monitor::{MOST_NODES, NodeMonitor};
 use crate::order::Now;
 use crate::timer::Timer;
 use raft_log::NodeId;

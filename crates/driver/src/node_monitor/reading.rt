@@ -2,12 +2,9 @@
 ghost use Rattle.std.specs.Prelude.{◌≡◌};
 ghost use Rattle.driver.specs.Rosters.{is_read_for};
 
-use crate::node_monitor::NodeMonitor;
+use crate::node_monitor::{MOST_NODES, NodeMonitor};
 use crate::orders::Orders;
 use raft_log::NodeId;
-
-/// The most nodes that there may be.
-const MOST_NODES: usize = 7;
 
 /// Whether fewer notes of a node wait than may, if it is for one.
 pub fn reads_for(
