@@ -185,5 +185,5 @@ module _ (M : Machine) (Setup Hosted : Type 0) {Store : Type 0} (k : Keeper Stor
           none_leaves = λ e. f;
           holds = h.holds;
         },
-    λ cause h. record { was_up = h.was_up; is_down = h.is_down; same = h.same; blamed = h.blamed; may_hold = h.may_hold },
+    λ cause goes h. record { was_up = h.was_up; is_down = h.is_down; same = h.same; blamed = h.blamed; may_hold = h.may_hold; not_refused = goes },
   )

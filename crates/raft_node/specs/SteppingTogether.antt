@@ -14,7 +14,7 @@ use Rattle.raft_node.specs.Inputs.{act_of}
 use Rattle.raft_node.specs.Machine.{Machine}
 use Rattle.raft_node.specs.Parts.{Holds, IsBlamed, Keeper, MayHold, Parts, size_of}
 use Rattle.raft_node.specs.Steps.{Out, Quiet, Refused}
-use Rattle.raft_node.specs.Stepping.{IsDone, IsDowned}
+use Rattle.raft_node.specs.Stepping.{IsDone, IsDowned, turned}
 use Rattle.raft_node.specs.Together.{outs, turned_all}
 
 module _ (M : Machine) where
@@ -57,10 +57,11 @@ module _ (M : Machine) {Setup Hosted Store : Type 0} where
     pub untried : unsaved.answers ≡ None → new.store ≡ old.store
 
 module _ (M : Machine) (Setup Hosted : Type 0) {Store : Type 0} (k : Keeper Store M.Body) where
-  -- one input alone comes to what a step by it comes to
+  -- One input alone comes to what a step by it comes to. Of one that is refused this is said where there is memory for its answer.
   abbrev pub OneIsAStep : Type 0
   OneIsAStep =
       (input : Input M.Body M.Line) (old new : Parts Setup Hosted Store M.Body) →
       ((output : Output M.Body M.Effect) → output.messages.items ≡ [] → output.place ≡ 0 → output.effects.items ≡ []
       → AreDone M k (input ∷ []) old (Ok tt ∷ []) new → IsDone M k (act_of M input) old output new)
-      × ((cause : Cause) → AreDowned M k (input ∷ []) old cause new → IsDowned M k (act_of M input) old cause new)
+      × ((cause : Cause) → ((r : Refusal) → (turned M (act_of M input) old []).out ≡ Refused r → ⊥)
+      → AreDowned M k (input ∷ []) old cause new → IsDowned M k (act_of M input) old cause new)

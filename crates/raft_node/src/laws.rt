@@ -28,7 +28,8 @@ pub fn what_was_sent_stays_and_is_not_read<M: Hosted>()
     ensures is_not_read { (s : M.Setup) → SentIsNotRead (⟦<M as Described>⟧.machine s) }
 {}
 
-/// What several inputs of a leader come to by one save, one input alone comes to by a step.
+/// What several inputs of a leader come to by one save, one input alone comes to by a step; want of memory for its answer
+/// may be told of one that is refused.
 pub fn one_input_alone_is_a_step<M: Hosted, S: Stable<M::Command>>()
     ensures { (s : M.Setup) → OneIsAStep (⟦<M as Described>⟧.machine s) M.Setup M
         (keeper S.saved S.may_stand S.condition) }
