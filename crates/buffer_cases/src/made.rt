@@ -41,7 +41,7 @@ pub fn filled_to(
 /// A line as it is shown.
 pub fn shown(alloc: Global, line: &[u8]) -> Result<Shown, LineFault> {
     let line = Line::parse(alloc, line)?;
-    Ok(Shown::of_line(alloc, &line)?)
+    Ok(Shown::of_line(&line)?)
 }
 
 /// Appends a line and a line feed.

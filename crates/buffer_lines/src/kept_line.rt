@@ -48,6 +48,6 @@ impl KeptLine {
         let mut out = Vec::with_capacity(alloc, text.len().saturating_add(STAMP_LEN))?;
         push_head(&mut out, line.prefix(), line.command(), line.parameter(0))?;
         push_stamped(&mut out, offset, self.at, text)?;
-        Ok(Shown::of_bytes(out))
+        Shown::of_bytes(out)
     }
 }

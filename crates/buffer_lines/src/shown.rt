@@ -1,7 +1,7 @@
 ghost use Rattle.std.specs.Prelude.{◌≡◌, map, IfOk};
 ghost use Rattle.irc_line.specs.Lines.{spelled_parts, spelling};
 
-use irc_line::{Line, write_parts};
+use irc_line::{Line, SharedBytes, write_parts};
 use std::alloc::{AllocError, Global};
 use std::marker::Model;
 use wire_bytes::Copied;
@@ -9,10 +9,11 @@ use wire_bytes::Copied;
 /// Room for most lines that the bouncer itself writes.
 const SHORT_LINE: usize = 128;
 
-/// The canonical spelling of a line that is shown, of any length and without its CR LF.
+/// The canonical spelling of a line that is shown, of any length and without its CR LF. All that are
+/// shown it share one text.
 #[derive(Drop)]
 pub struct Shown {
-    bytes: Vec<u8>,
+    text: SharedBytes,
 }
 
 impl Model for Shown {
@@ -20,17 +21,17 @@ impl Model for Shown {
 
     ghost Value = { List ℕ };
 
-    ghost view = { λ s. s.bytes.items };
+    ghost view = { λ s. s.text };
 }
 
 impl Shown {
-    /// What is shown of a line.
-    pub fn of_line(alloc: Global, line: &Line) -> Result<Shown, AllocError>
+    /// What is shown of a line: the line's own text. No memory is taken.
+    pub fn of_line(line: &Line) -> Result<Shown, AllocError>
         ensures { IfOk result (λ s. s ≡ spelling line.now) }
     {
-        let mut bytes = Vec::with_capacity(alloc, line.spelled_len())?;
-        line.write_to(&mut bytes)?;
-        Ok(Shown { bytes })
+        Ok(Shown {
+            text: line.text().share()?,
+        })
     }
 
     /// What is shown of these parts, which need be no line's.
@@ -45,30 +46,33 @@ impl Shown {
     {
         let mut bytes = Vec::with_capacity(alloc, SHORT_LINE)?;
         write_parts(&mut bytes, prefix, command, parameters)?;
-        Ok(Shown { bytes })
+        Shown::of_bytes(bytes)
     }
 
     /// What these bytes show, which are the spelling of a line.
-    pub(crate) fn of_bytes(bytes: Vec<u8>) -> Shown
-        ensures { result ≡ bytes.items }
+    pub(crate) fn of_bytes(bytes: Vec<u8>) -> Result<Shown, AllocError>
+        ensures { IfOk result (λ s. s ≡ bytes.items) }
     {
-        Shown { bytes }
+        Ok(Shown {
+            text: SharedBytes::from_vec(bytes)?,
+        })
     }
 
     /// The bytes that are shown.
     pub fn spelling(&self) -> &[u8]
         ensures { result.now ≡ self.now }
     {
-        self.bytes.as_slice()
+        self.text.as_slice()
     }
 }
 
+/// A copy is the same text once more.
 impl Copied for Shown {
-    fn copy(&self, alloc: Global) -> Result<Shown, AllocError>
+    fn copy(&self, _alloc: Global) -> Result<Shown, AllocError>
         ensures { IfOk result (λ s. s ≡ self.now) }
     {
         Ok(Shown {
-            bytes: Vec::from_slice(alloc, self.bytes.as_slice())?,
+            text: self.text.share()?,
         })
     }
 }

@@ -53,11 +53,7 @@ fn show_heard(
     if buffers.clients.is_empty() || has_command(line, b"001") || buffers.is_detached(place) {
         return Ok(Vec::new(alloc));
     }
-    show_to_all(
-        alloc,
-        buffers.clients.as_slice(),
-        Shown::of_line(alloc, line)?,
-    )
+    show_to_all(alloc, buffers.clients.as_slice(), Shown::of_line(line)?)
 }
 
 /// Takes a line from upstream: stores it, or does what it says of a channel or of the own nick.

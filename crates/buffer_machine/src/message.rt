@@ -56,9 +56,7 @@ pub fn bare_message(
 pub fn bare_channel(alloc: Global, word: ChannelWord, channel: &Name) -> Result<Line, AllocError>
     ensures { IfOk result (λ l. l ≡ bare (word_bytes word) (channel.now ∷ [])) }
 {
-    let command = Vec::from_slice(alloc, bytes_of(word))?;
-    let channel = Vec::from_slice(alloc, channel.as_bytes())?;
-    Ok(Line::new(None, command, vec![in alloc; channel]?))
+    Line::new(alloc, None, bytes_of(word), &[channel.as_bytes()])
 }
 
 /// A command of this nick about a channel, as clients are shown it.

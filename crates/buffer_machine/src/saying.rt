@@ -78,6 +78,6 @@ fn show_said(
     if buffers.is_detached(place) {
         return Ok(Vec::new(alloc));
     }
-    let shown = Shown::of_line(alloc, line)?;
+    let shown = Shown::of_line(line)?;
     show_to_others(alloc, buffers.clients.as_slice(), origin, shown)
 }

@@ -55,7 +55,7 @@ pub fn store_in_channel(
     if !stores_in_channel(setup, buffers, place, line) {
         return Ok(());
     }
-    let line = line.copy(alloc)?;
+    let line = line.share()?;
     buffers.channels.store_at(place, KeptLine::new(at, line));
     Ok(())
 }
@@ -77,7 +77,7 @@ pub fn store_in_query(
         return Ok(());
     }
     let name = sender(alloc, line)?;
-    let line = line.copy(alloc)?;
+    let line = line.share()?;
     let (size, most) = (setup.query_size(), setup.most_queries());
     buffers
         .queries

@@ -1,4 +1,3 @@
-pub mod BareLines
 pub mod ChannelNames
 pub mod Counting
 pub mod Deeds

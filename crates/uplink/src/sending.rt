@@ -50,8 +50,8 @@ pub fn send_nick(out: &mut Vec<u8>, nick: &Name) -> Result<(), AllocError>
 pub fn send_pong(out: &mut Vec<u8>, ping: &Line) -> Result<(), AllocError>
     ensures { OnOk result (out.new.items ≡ out.old.items ++ pong ping.now.parameters) }
 {
-    match ping.parameters() {
-        [] => Ok(()),
-        [token, ..] => send(out, b"PONG", &[token.as_slice()]),
+    if ping.parameter_count() == 0 {
+        return Ok(());
     }
+    send(out, b"PONG", &[ping.parameter(0)])
 }

@@ -139,14 +139,14 @@ fn has_prefix(line: &Line, want: &[u8]) -> bool {
 fn has_two(line: &Line, command: &[u8], first: &[u8], second: &[u8]) -> bool {
     line.command() == command
         && line.parameter_count() == 2
-        && line.parameters().len() == 2
+        && line.parameter_count() == 2
         && line.parameter(0) == first
         && line.parameter(1) == second
         && line.parameter(2) == b"".as_slice()
 }
 
 fn copied(alloc: Global, line: &Line) -> Result<Line, AllocError> {
-    line.copy(alloc)
+    line.share()
 }
 
 /// Whether the copy of a line says the parts of that line.
