@@ -13,6 +13,7 @@ use std::alloc::Global;
 use std::mem::replace;
 use std::snapshot::Snapshot;
 use std::sync::Wait;
+use wire_bytes::Copied;
 
 /// Tells the loop the lines that a node hands out. The report of the same turn has each of them too, among
 /// its effects, where the driver passes it over: a line counts as handed by what the loop is told here.

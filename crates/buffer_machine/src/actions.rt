@@ -158,6 +158,6 @@ fn leave(alloc: Global, clients: &mut Clients, origin: Origin) -> Result<Vec<Eff
 fn pass(alloc: Global, origin: Origin, line: &WireLine) -> Result<Vec<Effect>, AllocError>
     ensures { IfOk result (λ v. v.items ≡ Effect.Send origin line.now ∷ []) }
 {
-    let line = line.line().copy(alloc)?;
+    let line = line.line().share()?;
     single(alloc, Effect::Send(origin, line))
 }

@@ -1,5 +1,5 @@
 -- Lines (RFC 2812, 2.3.1): what a line says, and its one canonical spelling.
-use Rattle.std.specs.Prelude.{◌<◌, ◌+◌, map, unwrap_or, slice_get, vec_capacity, vec_len, ℕ, Bool, true, not, ◌&&◌, ◌||◌, if◌then◌else◌, ◌==◌, nat_le, nat_lt, List, [], ◌∷◌, ◌++◌, length, take, Option, Some, None, refl, codes}
+use Rattle.std.specs.Prelude.{◌<◌, ◌+◌, unwrap_or, slice_get, vec_capacity, vec_len, ℕ, Bool, true, not, ◌&&◌, ◌||◌, if◌then◌else◌, ◌==◌, nat_le, nat_lt, List, [], ◌∷◌, ◌++◌, length, take, Option, Some, None, refl, codes}
 use Rattle.std.specs.List.{list_all, list_any}
 use Rattle.std.specs.Global.{Vec}
 use Rattle.std.specs.Option.{option_map}
@@ -33,14 +33,6 @@ line_of prefix command parameters = parts (Some prefix) command parameters
 -- a command to a target with a text
 abbrev pub message : Option (List ℕ) → List ℕ → List ℕ → List ℕ → Parts
 message prefix command target text = parts prefix command (target ∷ text ∷ [])
-
--- the bytes that a prefix in memory holds, where there is one
-abbrev pub held_prefix : Option (Vec ℕ) → Option (List ℕ)
-held_prefix prefix = option_map (λ v. v.items) prefix
-
--- the parts that vectors hold
-abbrev pub held_parts : Option (Vec ℕ) → Vec ℕ → Vec (Vec ℕ) → Parts
-held_parts prefix command parameters = parts (held_prefix prefix) command.items (map (λ v. v.items) parameters.items)
 
 -- the bytes that a prefix points to, where there is one
 abbrev pub lent_prefix : Option (Bor (List ℕ)) → Option (List ℕ)

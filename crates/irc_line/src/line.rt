@@ -91,7 +91,7 @@ impl Line {
         )
     }
 
-    /// The line without its prefix.
+    /// The line without its prefix. A line that has none is shared, and no memory is taken.
     pub fn without_prefix(&self, alloc: Global) -> Result<Line, AllocError>
         ensures { IfOk result (λ l. l ≡ parts None self.now.command self.now.parameters) }
     {

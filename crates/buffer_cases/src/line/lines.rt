@@ -139,20 +139,15 @@ fn has_prefix(line: &Line, want: &[u8]) -> bool {
 fn has_two(line: &Line, command: &[u8], first: &[u8], second: &[u8]) -> bool {
     line.command() == command
         && line.parameter_count() == 2
-        && line.parameter_count() == 2
         && line.parameter(0) == first
         && line.parameter(1) == second
         && line.parameter(2) == b"".as_slice()
 }
 
-fn copied(alloc: Global, line: &Line) -> Result<Line, AllocError> {
-    line.share()
-}
-
 /// Whether the copy of a line says the parts of that line.
 fn has_parts(alloc: Global) -> Result<bool, LineFault> {
     let line = parsed(alloc, b":WiZ!jto@tolsun.oulu.fi nick Kilroy :")?;
-    let copy = copied(alloc, &line)?;
+    let copy = line.share()?;
     Ok(has_prefix(&copy, b"WiZ!jto@tolsun.oulu.fi") && has_two(&copy, b"NICK", b"Kilroy", b""))
 }
 
