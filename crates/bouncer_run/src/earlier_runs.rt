@@ -5,22 +5,23 @@ ghost use Rattle.bouncer_run.specs.Runs.{greatest_boot, boot_in, boot_in_claims,
 
 use bouncer_tower::TowerBody;
 use buffer_commands::{Command, WireLine};
-use raft_log::{Entry, NodeId};
+use raft_log::{Log, NodeId};
 use request_once::Body;
 use session_fence::FenceCommand;
 use upstream_claim::ClaimsCommand;
-use wire_bytes::Origin;
+use wire_bytes::{Number, Origin};
 
-/// The greatest boot of a node that the entries of a list tell of, 0 where they tell of none.
+/// The greatest boot of a node that the entries of a log tell of, 0 where they tell of none.
 #[tactic(auto, using(crate::proofs::Greatest::one_more, crate::proofs::Greatest::none_is_later))]
-pub fn greatest_boot(node: NodeId, entries: &[Entry<TowerBody>]) -> u64
-    ensures greatest { result ≡ greatest_boot node entries.now }
-    ensures none_is_later { All (λ e. boot_in node e.body ≤ result) entries.now }
+pub fn greatest_boot(node: NodeId, log: &Log<TowerBody>) -> u64
+    ensures greatest { result ≡ greatest_boot node log.now }
+    ensures none_is_later { All (λ e. boot_in node e.body ≤ result) log.now }
     ensures limit { result ≤ 2 ^ 60 }
 {
     let mut greatest = 0u64;
-    for entry in entries {
-        greatest = greatest.max(boot_in(node, entry.body.get()));
+    for before in 0..log.len().value() {
+        let body = log.body(Number::new(before + 1));
+        greatest = greatest.max(boot_in(node, body.get()));
     }
     greatest
 }

@@ -44,7 +44,7 @@ impl Earlier {
         ensures boot { self.now.boot ≤ result.boot }
         ensures term { self.now.term ≤ result.term }
     {
-        let boot = greatest_boot(node, saved.log.entries());
+        let boot = greatest_boot(node, &saved.log);
         Earlier {
             boot: Number::new(self.boot.value().max(boot)),
             term: Number::new(self.term.value().max(saved.term.value())),
@@ -103,5 +103,5 @@ fn is_nothing(saved: &Saved<TowerBody>) -> bool
     ensures nothing { IsTrue result → saved.now ≡ nothing_saved }
 {
     let is_new = saved.boot.value() == 0 && saved.term.value() == 0;
-    is_new && saved.vote.is_none() && saved.log.entries().is_empty()
+    is_new && saved.vote.is_none() && saved.log.len().value() == 0
 }

@@ -18,13 +18,13 @@ use buffer_commands::Setup;
 use irc_line::Name;
 use journal_store::{JournalStore, MemoryDisk};
 use machine_laws::{ApplyFault, Machine};
-use raft_log::Entry;
+use raft_log::Log;
 use request_once::Once;
 use session_fence::Fence;
 use stable_store::{Saved, Stable, StoreFault};
 use std::alloc::{AllocError, Global};
 use upstream_claim::Claims;
-use wire_bytes::Wire;
+use wire_bytes::{Number, Wire};
 
 /// The layers of the tower over the chat: requests take effect once, lines are taken of the session in force.
 type Told = Once<Claims<Fence<Chat>>>;
@@ -85,7 +85,7 @@ fn text_of(
 {
     let setup = setup_for(alloc, target)?;
     let mut layers = Told::start(alloc, &setup)?;
-    let text = tell(alloc, &mut layers, saved.log.entries())?;
+    let text = tell(alloc, &mut layers, &saved.log)?;
     Ok(text)
 }
 
@@ -104,17 +104,13 @@ fn setup_for(alloc: Global, target: Option<&Name>) -> Result<ChatSetup, AllocErr
     })
 }
 
-/// Applies the bodies of entries, the first at place 1, to layers to which nothing came, and copies the text.
-fn tell(
-    alloc: Global,
-    layers: &mut Told,
-    entries: &[Entry<TowerBody>],
-) -> Result<Vec<u8>, AllocError>
+/// Applies the bodies of a log, the first at place 1, to layers to which nothing came, and copies the text.
+fn tell(alloc: Global, layers: &mut Told, log: &Log<TowerBody>) -> Result<Vec<u8>, AllocError>
     ensures { (s : ChatSetup) → ⟦<Told as Machine>⟧.stands layers.old s []
         → IfOk result (λ v. v.items ≡ chat_text s.buffers s.target
-        (plain_commands (map (λ e. e.body) entries.now))) }
+        (plain_commands (map (λ e. e.body) log.now))) }
 {
-    match apply_all(layers, entries) {
+    match apply_all(layers, log) {
         Ok(()) => copied_text(alloc, layers),
         Err(_) => Err(AllocError),
     }
@@ -131,17 +127,16 @@ fn copied_text(alloc: Global, layers: &Told) -> Result<Vec<u8>, AllocError>
     Ok(copy)
 }
 
-/// Applies the bodies of entries, the first at place 1, to a machine to which nothing came. After an error the machine
+/// Applies the bodies of a log, the first at place 1, to a machine to which nothing came. After an error the machine
 /// is to be thrown away.
 #[tactic(auto, using(crate::proofs::Comes::run_more))]
-fn apply_all<M: Machine>(machine: &mut M, entries: &[Entry<M::Command>]) -> Result<(), ApplyFault>
+fn apply_all<M: Machine>(machine: &mut M, log: &Log<M::Command>) -> Result<(), ApplyFault>
     ensures { (s : M.Setup) → M.stands machine.old s []
-        → OnOk result (M.stands machine.new s (run (map (λ e. e.body) entries.now))) }
+        → OnOk result (M.stands machine.new s (run (map (λ e. e.body) log.now))) }
 {
-    let mut place = 0u64;
-    for entry in entries {
-        place += 1;
-        machine.apply(place, entry.body.get())?;
+    for applied in 0..log.len().value() {
+        let place = Number::new(applied + 1);
+        machine.apply(place.value(), log.body(place).get())?;
     }
     Ok(())
 }

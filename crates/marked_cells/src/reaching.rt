@@ -76,7 +76,7 @@ fn mark_at<M: Marking>(log: &Log<M::Command>, place: Number) -> Option<Mark>
     if place.value() == 0 || log.len() < place {
         return None;
     }
-    M::marked(log.entry(place).body.get())
+    M::marked(log.body(place).get())
 }
 
 /// The greatest number, once this was applied: a mark of this run of this node counts.

@@ -4,7 +4,7 @@ ghost use Rattle.raft_log.specs.Seen.{seen};
 ghost use Rattle.node_cells.specs.Remembering.{Remembers, same_terms};
 ghost use Rattle.node_cells.specs.Sending.{terms_of};
 
-use raft_log::{Entry, NodeId, NodeState};
+use raft_log::{Log, NodeId, NodeState};
 use std::alloc::{AllocError, Global};
 use wire_bytes::{Number, Wire};
 
@@ -27,7 +27,7 @@ impl Remembered {
             boot: standing.boot,
             term: standing.term,
             vote: standing.vote,
-            terms: terms_of(alloc, state.log.entries())?,
+            terms: terms_of(alloc, &state.log)?,
         })
     }
 
@@ -40,7 +40,7 @@ impl Remembered {
         let standing = state.standing;
         self.term == standing.term
             && self.vote == standing.vote
-            && same_terms(&self.terms, state.log.entries())
+            && same_terms(&self.terms, &state.log)
     }
 
     /// How many runs were begun between this and a later run, at most so many.
@@ -54,30 +54,30 @@ impl Remembered {
     }
 }
 
-/// The terms of these entries.
-fn terms_of<B: Wire>(alloc: Global, entries: &[Entry<B>]) -> Result<Vec<Number>, AllocError>
-    ensures { IfOk result (λ v. v.items ≡ terms_of entries.now) }
+/// The terms of the entries of a log.
+fn terms_of<B: Wire>(alloc: Global, log: &Log<B>) -> Result<Vec<Number>, AllocError>
+    ensures { IfOk result (λ v. v.items ≡ terms_of log.now) }
 {
-    let mut terms = Vec::with_capacity(alloc, entries.len())?;
-    for entry in entries {
-        terms.push(entry.term)?;
+    let len = log.len().value();
+    let mut terms = Vec::with_capacity(alloc, len as usize)?;
+    for before in 0..len {
+        terms.push(log.term_at(Number::new(before + 1)))?;
     }
     Ok(terms)
 }
 
-/// Whether these are the terms of the entries.
-fn same_terms<B: Wire>(terms: &[Number], entries: &[Entry<B>]) -> bool
-    ensures { result ≡ same_terms terms.now entries.now }
+/// Whether these are the terms of the entries of a log.
+fn same_terms<B: Wire>(terms: &[Number], log: &Log<B>) -> bool
+    ensures { result ≡ same_terms terms.now log.now }
 {
-    if terms.len() != entries.len() {
+    let len = log.len().value() as usize;
+    if terms.len() != len {
         return false;
     }
-    let mut place = 0;
-    for entry in entries {
-        if place >= terms.len() || terms[place] != entry.term {
+    for before in 0..len {
+        if log.term_at(Number::new(before as u64 + 1)) != terms[before] {
             return false;
         }
-        place += 1;
     }
     true
 }

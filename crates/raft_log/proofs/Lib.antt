@@ -3,3 +3,5 @@ pub mod Repairs
 pub mod Conflicts
 pub mod Others
 pub mod Sending
+pub mod Changes
+pub mod Joining

@@ -4,6 +4,8 @@ pub mod Entries
 pub mod EntryCodec
 pub mod Lists
 pub mod Logs
+pub mod Blocks
+pub mod Runs
 pub mod Batches
 pub mod Laws
 pub mod Votes

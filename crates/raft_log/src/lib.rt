@@ -4,6 +4,8 @@
 #![tactic(auto)]
 
 mod batch;
+mod block;
+mod blocks;
 mod body;
 mod entry;
 mod group_size;
@@ -15,7 +17,9 @@ mod node_state;
 mod peers;
 mod position;
 mod role;
+mod run;
 mod step;
+mod tail;
 
 pub use batch::Batch;
 pub use body::LoggedBody;
@@ -31,4 +35,5 @@ pub use node_state::{Live, NodeState, Standing};
 pub use peers::Peers;
 pub use position::Position;
 pub use role::Role;
+pub use run::Run;
 pub use step::Step;

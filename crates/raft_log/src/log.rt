@@ -1,10 +1,15 @@
-ghost use Rattle.std.specs.Prelude.{◌≡◌, ◌+◌, ◌<◌, ◌≤◌, [], ◌∷◌, ◌++◌, length, take, drop, Some};
-ghost use Rattle.std.specs.Prelude.{nat_le, vec_len, IfOk, OnOk, OnErr};
+ghost use Rattle.std.specs.Prelude.{◌≡◌, ◌+◌, ◌<◌, ◌≤◌, [], ◌∷◌, ◌++◌, length, map, take, drop, Some};
+ghost use Rattle.std.specs.Prelude.{nat_le, IfOk, OnOk, OnErr};
 ghost use Rattle.raft_log.specs.Lists.{item};
 ghost use Rattle.raft_log.specs.Logs.{agrees_at, last_term, repair, standing, term_at, up_to_date};
 ghost use Rattle.raft_log.specs.Logs.{conflicts_within, entry_limit};
+ghost use Rattle.raft_log.specs.Runs.{runs_of};
 
+use crate::blocks::Blocks;
+use crate::body::LoggedBody;
 use crate::entry::Entry;
+use crate::run::{Run, add_term, begun_at, begun_behind, last_term};
+use crate::tail::{replace_tail, without_first};
 use std::alloc::{AllocError, Global};
 use std::marker::Model;
 use wire_bytes::{Copied, Number, Wire, copied_all};
@@ -12,22 +17,25 @@ use wire_bytes::{Copied, Number, Wire, copied_all};
 /// How many entries a log has at most.
 pub const ENTRY_LIMIT: usize = 1_000_000;
 
-/// A node's entries, the first at place 1 and at most 1,000,000. Place 0 has term 0.
+/// A node's entries, the first at index 1 and at most 1,000,000. Index 0 has term 0.
+///
+/// The terms are kept as runs. The bodies are kept in blocks, and a copy of a log shares the full ones.
 #[derive(Drop)]
 pub struct Log<B: Wire> {
-    entries: Vec<Entry<B>>,
+    runs: Vec<Run>,
+    bodies: Blocks<LoggedBody<B>>,
 }
 
 impl<B: Wire> Model for Log<B> {
-    ghost use Rattle.std.specs.Prelude.{List, ◌≤◌, length};
+    ghost use Rattle.std.specs.Prelude.{List};
     ghost use Rattle.raft_log.specs.declared.entry.Entry.{Entry};
-    ghost use Rattle.raft_log.specs.Logs.{entry_limit};
+    ghost use Rattle.raft_log.specs.Runs.{entries_of, IsLog};
 
     ghost Value = { List (Entry B) };
 
-    ghost view = { λ l. l.entries.items };
+    ghost view = { λ l. entries_of l.runs.items l.bodies };
 
-    ghost invariant = { λ l. length l.entries.items ≤ entry_limit };
+    ghost invariant = { λ l. IsLog l.runs.items l.bodies };
 }
 
 impl<B: Wire> Log<B> {
@@ -36,72 +44,74 @@ impl<B: Wire> Log<B> {
         ensures { result ≡ [] }
     {
         Log {
-            entries: Vec::new(alloc),
+            runs: Vec::new(alloc),
+            bodies: Blocks::new(alloc),
         }
     }
 
-    /// The place of the last entry, 0 where there is none.
+    /// The index of the last entry, 0 where there is none.
     pub fn len(&self) -> Number
         ensures value { result ≡ length self.now }
         ensures limit { length self.now ≤ entry_limit }
     {
-        Number::new(self.entries.len() as u64)
+        Number::new(self.bodies.len() as u64)
     }
 
     /// Whether it has as many entries as a log may have.
     pub fn is_full(&self) -> bool
         ensures { result ≡ nat_le entry_limit (length self.now) }
     {
-        self.entries.len() >= ENTRY_LIMIT
+        self.bodies.len() >= ENTRY_LIMIT
     }
 
-    pub fn entries(&self) -> &[Entry<B>]
-        ensures { result.now ≡ self.now }
+    /// The runs of its terms, the first at index 1. Two neighbours have different terms.
+    pub fn runs(&self) -> &[Run]
+        ensures { result.now ≡ runs_of self.now }
     {
-        self.entries.as_slice()
+        self.runs.as_slice()
     }
 
-    /// The entry at a place.
-    pub fn entry(&self, place: Number) -> &Entry<B>
-        requires counts_from_1 { 1 ≤ place }
-        requires within { place ≤ length self.now }
-        ensures { item self.now place ≡ Some result.now }
+    /// The body at an index.
+    pub fn body(&self, index: Number) -> &LoggedBody<B>
+        requires counts_from_1 { 1 ≤ index }
+        requires within { index ≤ length self.now }
+        ensures { item self.now index
+            ≡ Some (record { term = term_at self.now index; body = result.now }) }
     {
-        &self.entries[place.value() as usize - 1]
+        self.bodies.get(index.value() as usize - 1)
     }
 
-    /// The term at a place of the log.
-    pub fn term_at(&self, place: Number) -> Number
-        requires { place ≤ length self.now }
-        ensures { result ≡ term_at self.now place }
+    /// The term at an index of the log.
+    pub fn term_at(&self, index: Number) -> Number
+        requires { index ≤ length self.now }
+        ensures { result ≡ term_at self.now index }
     {
-        let place = place.value() as usize;
-        if place == 0 {
-            Number::new(0)
-        } else {
-            self.entries[place - 1].term
+        let begun = begun_at(&self.runs, index.value() as usize);
+        match last_term(&self.runs[..begun]) {
+            Some(term) => term,
+            None => Number::new(0),
         }
     }
 
-    /// The last place and its term.
+    /// The last index and its term.
     pub fn last(&self) -> (Number, Number)
         ensures place { result.0 ≡ length self.now }
         ensures term { result.1 ≡ last_term self.now }
         ensures limit { length self.now ≤ entry_limit }
     {
-        let place = self.len();
-        (place, self.term_at(place))
+        let index = self.len();
+        (index, self.term_at(index))
     }
 
-    /// Whether the log reaches to a place and has this term there. At place 0, before all entries, it
-    /// always agrees. Logs that agree at a place are the same up to it: section 5.3 of the Raft paper.
-    pub fn agrees_at(&self, place: Number, term: Number) -> bool
-        ensures { result ≡ agrees_at self.now place term }
+    /// Whether the log reaches to an index and has this term there. At index 0, before all entries, it
+    /// always agrees. Logs that agree at an index are the same up to it: section 5.3 of the Raft paper.
+    pub fn agrees_at(&self, index: Number, term: Number) -> bool
+        ensures { result ≡ agrees_at self.now index term }
     {
-        place.value() == 0 || (place <= self.len() && self.term_at(place) == term)
+        index.value() == 0 || (index <= self.len() && self.term_at(index) == term)
     }
 
-    /// Whether a log that ends at this place, in this term, is at least as up to date as this one, as
+    /// Whether a log that ends at this index, in this term, is at least as up to date as this one, as
     /// section 5.4.1 of the Raft paper says: the later last term, or in the same the longer log.
     pub fn up_to_date(&self, index: Number, term: Number) -> bool
         ensures { result ≡ up_to_date term index (last_term self.now) (length self.now) }
@@ -110,32 +120,45 @@ impl<B: Wire> Log<B> {
         own_term < term || (term == own_term && own_index <= index)
     }
 
-    /// Copies of so many entries behind a place, or of all that are there.
-    pub fn copied_behind(&self, place: Number, count: usize) -> Result<Vec<Entry<B>>, AllocError>
-        requires { place ≤ length self.now }
-        ensures { IfOk result (λ v. v.items ≡ take count (drop place self.now)) }
+    /// Copies of so many entries behind an index, or of all that are there.
+    pub fn copied_behind(&self, index: Number, count: usize) -> Result<Vec<Entry<B>>, AllocError>
+        requires { index ≤ length self.now }
+        ensures { IfOk result (λ v. v.items ≡ take count (drop index self.now)) }
     {
-        let alloc = *self.entries.allocator();
-        let rest = &self.entries[place.value() as usize..];
-        if count < rest.len() {
-            copied_all(alloc, &rest[..count])
-        } else {
-            copied_all(alloc, rest)
+        let alloc = *self.runs.allocator();
+        let rest = self.len().value() - index.value();
+        let count = rest.min(count as u64);
+        let mut entries = Vec::with_capacity(alloc, count as usize)?;
+        for before in index.value()..index.value() + count {
+            let index = Number::new(before + 1);
+            let body = self.body(index).copy(alloc)?;
+            let term = self.term_at(index);
+            entries.push(Entry { term, body })?;
         }
+        Ok(entries)
     }
 
-    /// How many of the entries stand behind a place already, up to the first that does not.
+    /// How many of the entries stand behind an index already, up to the first that does not.
     pub fn standing(&self, prev: Number, entries: &[Entry<B>]) -> usize
         requires { prev ≤ length self.now }
         ensures value { result ≡ standing (drop prev self.now) entries.now }
         ensures few { result ≤ length entries.now }
         ensures within { prev + result ≤ length self.now }
     {
-        standing(&self.entries, prev.value() as usize, entries)
+        let len = self.len().value();
+        let mut index = prev.value();
+        for entry in entries {
+            if index < len && self.term_at(Number::new(index + 1)) == entry.term {
+                index += 1;
+            } else {
+                return (index - prev.value()) as usize;
+            }
+        }
+        entries.len()
     }
 
-    /// Whether one of the first so many entries conflicts with what stands behind a place: the same
-    /// place, another term.
+    /// Whether one of the first so many entries conflicts with what stands behind an index: the same
+    /// index, another term.
     pub fn conflicts_within(&self, prev: Number, entries: &[Entry<B>], count: usize) -> bool
         requires { prev ≤ length self.now }
         ensures { result ≡ conflicts_within (drop prev self.now) entries.now count }
@@ -144,8 +167,8 @@ impl<B: Wire> Log<B> {
         if standing == entries.len() {
             return false;
         }
-        let end = prev.value() as usize + standing;
-        end < self.entries.len() && standing < count
+        let end = prev.value() + standing as u64;
+        end < self.len().value() && standing < count
     }
 
     /// Adds an entry.
@@ -154,31 +177,45 @@ impl<B: Wire> Log<B> {
         ensures ok { OnOk result (self.new ≡ self.old ++ entry ∷ []) }
         ensures err { OnErr result (self.new ≡ self.old) }
     {
-        Ok(self.entries.push(entry)?)
+        let Entry { term, body } = entry;
+        let index = Number::new(self.bodies.len() as u64 + 1);
+        // room first: the body is added only where its run is sure to fit
+        self.runs.reserve(1)?;
+        self.bodies.push(body)?;
+        add_term(&mut self.runs, index, term)
     }
 
-    /// Copies of entries in the place of all that follow a place.
-    pub fn replace_from(&mut self, place: Number, entries: &[Entry<B>]) -> Result<(), AllocError>
-        requires within { place ≤ length self.old }
-        requires room { place + length entries.now ≤ entry_limit }
-        ensures ok { OnOk result (self.new ≡ take place self.old ++ entries.now) }
+    /// Copies of entries in the place of all that follow an index.
+    pub fn replace_from(&mut self, index: Number, entries: &[Entry<B>]) -> Result<(), AllocError>
+        requires within { index ≤ length self.old }
+        requires room { index + length entries.now ≤ entry_limit }
+        ensures ok { OnOk result (self.new ≡ take index self.old ++ entries.now) }
         ensures err { OnErr result (self.new ≡ self.old) }
     {
-        let added = copied_all(*self.entries.allocator(), entries)?;
-        self.put_behind(place, added)
+        let added = copied_all(*self.runs.allocator(), entries)?;
+        self.put_behind(index, added)
     }
 
-    /// These entries in the place of all that follow a place.
-    pub fn put_behind(&mut self, place: Number, entries: Vec<Entry<B>>) -> Result<(), AllocError>
-        requires within { place ≤ length self.old }
-        requires room { place + length entries.items ≤ entry_limit }
-        ensures ok { OnOk result (self.new ≡ take place self.old ++ entries.items) }
+    /// These entries in the place of all that follow an index.
+    pub fn put_behind(&mut self, index: Number, entries: Vec<Entry<B>>) -> Result<(), AllocError>
+        requires within { index ≤ length self.old }
+        requires room { index + length entries.items ≤ entry_limit }
+        ensures ok { OnOk result (self.new ≡ take index self.old ++ entries.items) }
         ensures err { OnErr result (self.new ≡ self.old) }
     {
-        replace_tail(&mut self.entries, place.value() as usize, entries)
+        let alloc = *self.runs.allocator();
+        let keep = index.value() as usize;
+        let kept = begun_at(&self.runs, keep);
+        let last = last_term(&self.runs[..kept]);
+        let begun = begun_behind(alloc, last, keep, &entries)?;
+        let bodies = bodies_of(alloc, entries)?;
+        // room first: the bodies change only where their runs are sure to fit
+        self.runs.reserve(begun.len())?;
+        self.bodies.replace_behind(keep, bodies)?;
+        replace_tail(&mut self.runs, kept, begun)
     }
 
-    /// How many entries stay where the log takes these behind a place, and which ones follow them, as
+    /// How many entries stay where the log takes these behind an index, and which ones follow them, as
     /// steps 3 and 4 of a receiver of AppendEntries say in Figure 2 of the Raft paper (section 5.3): the
     /// first that conflicts goes with all behind it, missing ones are added.
     pub fn repaired(&self, prev: Number, entries: Vec<Entry<B>>) -> (Number, Vec<Entry<B>>)
@@ -199,7 +236,7 @@ impl<B: Wire> Log<B> {
         (keep, without_first(entries, count))
     }
 
-    /// Takes entries that follow a place, as `repaired` says.
+    /// Takes entries that follow an index, as `repaired` says.
     pub fn repair(&mut self, prev: Number, entries: Vec<Entry<B>>) -> Result<(), AllocError>
         requires within { prev ≤ length self.old }
         requires room { prev + length entries.items ≤ entry_limit }
@@ -211,53 +248,26 @@ impl<B: Wire> Log<B> {
     }
 }
 
+/// A copy shares the full blocks of bodies.
 impl<B: Wire> Copied for Log<B> {
     fn copy(&self, alloc: Global) -> Result<Self, AllocError> {
-        let entries = copied_all(alloc, &self.entries)?;
-        Ok(Log { entries })
+        let runs = copied_all(alloc, &self.runs)?;
+        let bodies = self.bodies.copy(alloc)?;
+        Ok(Log { runs, bodies })
     }
 }
 
-/// How many of the entries stand behind a place already, up to the first that does not.
-fn standing<B: Wire>(log: &[Entry<B>], prev: usize, entries: &[Entry<B>]) -> usize
-    requires { prev ≤ length log.now }
-    ensures value { result ≡ standing (drop prev log.now) entries.now }
-    ensures few { result ≤ length entries.now }
-    ensures within { prev + result ≤ length log.now }
+/// The bodies of entries.
+fn bodies_of<B: Wire>(
+    alloc: Global,
+    entries: Vec<Entry<B>>,
+) -> Result<Vec<LoggedBody<B>>, AllocError>
+    ensures { IfOk result (λ v. v.items ≡ map (λ e. e.body) entries.items) }
 {
-    let mut count = 0;
+    let mut bodies = Vec::with_capacity(alloc, entries.len())?;
     for entry in entries {
-        let place = prev + count;
-        if place < log.len() && log[place].term == entry.term {
-            count += 1;
-        } else {
-            return count;
-        }
+        let Entry { body, .. } = entry;
+        bodies.push(body)?;
     }
-    count
-}
-
-/// The items but for so many at the front.
-fn without_first<T: Drop>(mut items: Vec<T>, count: usize) -> Vec<T>
-    requires { count ≤ vec_len items }
-    ensures { result.items ≡ drop count items.items }
-{
-    items.drain(..count);
-    items
-}
-
-/// Puts these items in the place of all that follow so many.
-fn replace_tail<T: Drop>(
-    items: &mut Vec<T>,
-    place: usize,
-    mut tail: Vec<T>,
-) -> Result<(), AllocError>
-    requires { place ≤ vec_len items.old }
-    ensures ok { OnOk result (items.new.items ≡ take place items.old.items ++ tail.items) }
-    ensures err { OnErr result (items.new.items ≡ items.old.items) }
-{
-    // room first: what follows the place is cut only where the rest is sure to fit
-    items.reserve(tail.len())?;
-    items.truncate(place);
-    items.append(&mut tail)
+    Ok(bodies)
 }

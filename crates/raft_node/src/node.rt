@@ -19,7 +19,7 @@ use machine_laws::{Hosted, Machine};
 use node_steps::{Refusal, Unprepared};
 use raft_log::{Entry, GroupSize, NodeId, NodeState, Step};
 use stable_store::Stable;
-use std::alloc::Global;
+use std::alloc::{AllocError, Global};
 use std::marker::Model;
 use wire_bytes::{Copied, Number, Wire};
 
@@ -207,8 +207,8 @@ impl<M: Hosted, S: Stable<M::Command>> Node<M, S> {
             });
         }
         let place = Number::new(applied + 1);
-        let entry = self.state.log.entry(place);
-        match self.machine.apply(place.value(), entry.body.get()) {
+        let body = self.state.log.body(place);
+        match self.machine.apply(place.value(), body.get()) {
             Ok(effects) => {
                 self.state.standing.applied = place;
                 let live = standing.position.live();
@@ -264,11 +264,13 @@ impl<M: Hosted, S: Stable<M::Command>> Node<M, S> {
         self.down
     }
 
-    /// The entries that are agreed, as far as it knows.
-    pub fn committed(&self) -> &[Entry<M::Command>]
-        ensures { result.now ≡ take self.now.state.standing.commit self.now.state.log }
+    /// Copies of the entries that are agreed, as far as it knows.
+    pub fn committed(&self) -> Result<Vec<Entry<M::Command>>, AllocError>
+        ensures { IfOk result (λ v. v.items
+            ≡ take self.now.state.standing.commit self.now.state.log) }
     {
-        &self.state.log.entries()[..self.state.standing.commit.value() as usize]
+        let commit = self.state.standing.commit.value() as usize;
+        self.state.log.copied_behind(Number::new(0), commit)
     }
 
     /// The number of the line that is to be claimed next, by what was applied, where the node is up.

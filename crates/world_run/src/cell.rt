@@ -67,9 +67,10 @@ impl<M: Hosted> Cell<M> {
         self.node.state()
     }
 
-    /// The entries that are agreed, as far as it knows.
-    pub fn committed(&self) -> &[Entry<M::Command>]
-        ensures { result.now ≡ take self.now.node.state.standing.commit self.now.node.state.log }
+    /// Copies of the entries that are agreed, as far as it knows.
+    pub fn committed(&self) -> Result<Vec<Entry<M::Command>>, AllocError>
+        ensures { IfOk result (λ v. v.items
+            ≡ take self.now.node.state.standing.commit self.now.node.state.log) }
     {
         self.node.committed()
     }

@@ -13,7 +13,7 @@ use crate::outcome::{Outcome, WorldFault};
 use machine_laws::Hosted;
 use raft_log::{Entry, GroupSize, NodeState};
 use raft_node::Described;
-use std::alloc::Global;
+use std::alloc::{AllocError, Global};
 use std::marker::Model;
 use world_events::Event;
 
@@ -96,16 +96,17 @@ impl<M: Hosted> World<M> {
         &self.outs
     }
 
-    /// What the node of this number commits, where there is one.
-    pub fn committed(&self, node: u8) -> Option<&[Entry<M::Command>]>
-        ensures some { IfSome result (λ entries. entries.now ≡ committed self.now.nodes node) }
-        ensures none { result ≡ None → item self.now.nodes node ≡ None }
+    /// Copies of what the node of this number commits, where there is one.
+    pub fn committed(&self, node: u8) -> Result<Option<Vec<Entry<M::Command>>>, AllocError>
+        ensures some { IfOk result (λ found. IfSome found
+            (λ entries. entries.items ≡ committed self.now.nodes node)) }
+        ensures none { IfOk result (λ found. found ≡ None → item self.now.nodes node ≡ None) }
     {
         let place = node as usize;
         if place == 0 || place > self.group.cells.len() {
-            return None;
+            return Ok(None);
         }
-        Some(self.group.cells[place - 1].committed())
+        Ok(Some(self.group.cells[place - 1].committed()?))
     }
 
     /// What the node of this number is, where there is one.

@@ -33,14 +33,15 @@ fn log_of(alloc: Global, terms: &[u8]) -> Result<Log<u8>, AllocError> {
 
 /// Whether a log is of these terms.
 fn has_terms(log: &Log<u8>, terms: &[u64]) -> bool {
-    let mut place = 0;
-    for entry in log.entries() {
-        if place >= terms.len() || entry.term.value() != terms[place] {
+    if log.len().value() as usize != terms.len() {
+        return false;
+    }
+    for before in 0..terms.len() {
+        if log.term_at(Number::new(before as u64 + 1)).value() != terms[before] {
             return false;
         }
-        place += 1;
     }
-    place == terms.len()
+    true
 }
 
 /// Whether a log of terms 1, 1, 2 has these terms once an entry of this term came behind a place of it.
@@ -177,8 +178,8 @@ fn copies(log: &Log<u8>, behind: u8, most: usize, want: usize) -> Result<bool, A
 
 fn check_looked_at(rt: &impl Abort, log: &Log<u8>) -> Result<(), Fail> {
     if place(2) <= log.len() {
-        assert!(rt; *log.entry(place(1)).body.get() == 7);
-        assert!(rt; *log.entry(place(2)).body.get() == 8);
+        assert!(rt; *log.body(place(1)).get() == 7);
+        assert!(rt; *log.body(place(2)).get() == 8);
     }
     assert!(rt; copies(log, 0, 1, 1)?);
     assert!(rt; copies(log, 1, 9, 1)?);

@@ -137,7 +137,7 @@ fn is_behind(node: &ToyNode, wanted: u64, place: u8) -> bool {
 /// What a majority has is applied place by place, and played.
 fn check_applied(rt: &impl Abort, node: &mut ToyNode) -> Result<(), Fail> {
     commit(node)?;
-    assert!(rt; places(node) == (2, 0) && node.committed().len() == 2);
+    assert!(rt; places(node) == (2, 0) && node.committed()?.len() == 2);
     assert!(rt; applies(node, 1, &[])?);
     assert!(rt; applies(node, 2, &[7])?);
     assert!(rt; plays(node, &[7])? && is_behind(node, 3, 2));

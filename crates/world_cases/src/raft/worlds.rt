@@ -41,10 +41,10 @@ fn agreed(alloc: Global, stops: bool) -> Result<World<Toy>, Fail> {
 }
 
 /// How many entries the node of a number commits.
-fn committed(world: &World<Toy>, node: u8) -> Option<usize> {
-    match world.committed(node) {
-        Some(entries) => Some(entries.len()),
-        None => None,
+fn committed(world: &World<Toy>, node: u8) -> Result<Option<usize>, AllocError> {
+    match world.committed(node)? {
+        Some(entries) => Ok(Some(entries.len())),
+        None => Ok(None),
     }
 }
 
@@ -62,8 +62,8 @@ fn check_agreed(rt: &impl Abort, alloc: Global, world: &World<Toy>) -> Result<()
     assert!(rt; role(world, 1) == Some(Role::Leader));
     assert!(rt; role(world, 3) == Some(Role::Follower));
     assert!(rt; role(world, 4) == None);
-    assert!(rt; committed(world, 1) == Some(2) && committed(world, 2) == Some(0));
-    assert!(rt; committed(world, 4) == None);
+    assert!(rt; committed(world, 1)? == Some(2) && committed(world, 2)? == Some(0));
+    assert!(rt; committed(world, 4)? == None);
     let handed = world.handed(alloc)?;
     assert!(rt; handed.is_empty());
     Ok(())

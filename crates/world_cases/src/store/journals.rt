@@ -3,7 +3,7 @@ ghost use Rattle.std.specs.Prelude.{◌≡◌, ◌≢◌, ◌≤◌, length, IfO
 ghost use Rattle.journal_store.specs.Disks.{now};
 
 use journal_store::{Disk, JournalStore, MemoryDisk, begin, may_follow};
-use raft_log::{Entry, LoggedBody};
+use raft_log::{ENTRY_LIMIT, Entry, LoggedBody};
 use stable_store::{Change, Saved, Stable, StoreFault};
 use std::alloc::{AllocError, Global};
 use std::process::Abort;
@@ -219,7 +219,7 @@ fn booted_again(alloc: Global) -> Result<JournalStore<u8, MemoryDisk>, StoreFaul
 /// The term and the body of each entry.
 fn entries(alloc: Global, saved: &Saved<u8>) -> Result<Vec<(u64, u8)>, AllocError> {
     let mut entries = Vec::new(alloc);
-    for entry in saved.log.entries() {
+    for entry in &saved.log.copied_behind(Number::new(0), ENTRY_LIMIT)? {
         entries.push((entry.term.value(), *entry.body.get()))?;
     }
     Ok(entries)

@@ -123,8 +123,8 @@ fn numbers(saved: &Saved<u8>) -> (u64, u64, u8) {
 /// The terms of the log.
 fn terms(alloc: Global, saved: &Saved<u8>) -> Result<Vec<u64>, AllocError> {
     let mut terms = Vec::new(alloc);
-    for entry in saved.log.entries() {
-        terms.push(entry.term.value())?;
+    for before in 0..saved.log.len().value() {
+        terms.push(saved.log.term_at(Number::new(before + 1)).value())?;
     }
     Ok(terms)
 }

@@ -31,10 +31,10 @@ fn goes_on<M: Hosted>(
     longest: &mut Vec<u8>,
 ) -> Result<bool, AllocError> {
     for node in 1..world.size() as u8 + 1 {
-        let Some(entries) = world.committed(node) else {
+        let Some(entries) = world.committed(node)? else {
             return Ok(false);
         };
-        let list = spelled(alloc, entries)?;
+        let list = spelled(alloc, &entries)?;
         if list.starts_with(longest) {
             *longest = list;
         } else if !longest.starts_with(&list) {

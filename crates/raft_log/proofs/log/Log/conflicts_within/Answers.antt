@@ -8,16 +8,14 @@ pub returns-then-standing-entries : goal.returns-then-standing-entries
 returns-then-standing-entries g c =
     conflicts_none c.args.self.now c.args.prev c.args.count c.args.entries.now c.standing-standing.result c.standing-standing.ensures.value (λ few within. omega (arith, c.if-standing-entries.true))
 
-pub returns-then-end-len : goal.returns-then-end-len
-returns-then-end-len g c =
-    let whole = ap (length {A = Entry g.row.B.Denot}) c.self.view_is in
+pub returns-then-end-value : goal.returns-then-end-value
+returns-then-end-value g c =
     conflicts_count c.args.self.now c.args.prev c.args.count c.args.entries.now c.standing-standing.result c.standing-standing.ensures.value
     (omega (arith, c.if-standing-entries.false, c.standing-standing.ensures.few))
-    (omega (arith, whole, c.if-end-len.true, c.len.ensures, c.value.ensures.value))
+    (omega (arith, c.if-end-value.true, c.len.ensures.value, c.value.ensures.value, c.value-2.ensures.value))
 
-pub returns-else-end-len : goal.returns-else-end-len
-returns-else-end-len g c =
-    let whole = ap (length {A = Entry g.row.B.Denot}) c.self.view_is in
-    le-ltb _ _ c.if-end-len.false
+pub returns-else-end-value : goal.returns-else-end-value
+returns-else-end-value g c =
+    le-ltb _ _ c.if-end-value.false
     ∙ conflicts_none c.args.self.now c.args.prev c.args.count c.args.entries.now c.standing-standing.result c.standing-standing.ensures.value
-    (λ few within. omega (arith, whole, c.if-end-len.false, c.len.ensures, c.value.ensures.value))
+    (λ few within. omega (arith, c.if-end-value.false, c.len.ensures.value, c.value.ensures.value, c.value-2.ensures.value))

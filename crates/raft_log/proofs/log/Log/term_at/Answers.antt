@@ -1,14 +1,25 @@
-use Rattle.std.proofs.Common.{◌-◌, ℕ, List, get_or, take, ap, ◌∙◌, arith}
-use Rattle.raft_log.specs.declared.entry.Entry.{Entry}
-use Rattle.raft_log.specs.Logs.{last_term}
-use Rattle.raft_log.proofs.Repairs.{term_at_index}
+use Rattle.std.proofs.Common.{◌≡◌, ℕ, List, Option, take, Some, None, sym, ap, ◌∙◌}
+use Rattle.std.specs.Option.{unwrap_or}
+use Rattle.raft_log.specs.declared.run.Run.{Run}
+use Rattle.raft_log.specs.Logs.{term_at}
+use Rattle.raft_log.specs.Runs.{last_run, term_runs, terms}
+use Rattle.raft_log.proofs.Changes.{keeps, term-by-runs}
 use Rattle.raft_log.proofs.log.Log.term_at.Goals as goal
 
-pub returns-else-place-eq0 : goal.returns-else-place-eq0
-returns-else-place-eq0 g c =
-    let k : ℕ = c.value-place.result in
-    let d : Entry g.row.B.Denot = c.index.result.now in
-    ap (λ (e : Entry g.row.B.Denot). e.term) c.index.ensures
-    ∙ (ap (λ (l : List (Entry g.row.B.Denot)). (get_or l (k - 1) d).term) c.self.view_is
-    ∙ (term_at_index c.args.self.now k d (omega arith) (omega arith)
-    ∙ ap (λ (i : ℕ). last_term (take i c.args.self.now)) c.value-place.ensures.value))
+pub returns-in-Some : goal.returns-in-Some
+returns-in-Some g c =
+    let k = keeps c.self.inside.runs.items c.self.inside.bodies c.args.self.now c.self.view_is c.self.invariant in
+    let begun : take c.begun_at-begun.result c.deref.result.now ≡ term_runs (take c.value.result (terms c.args.self.now)) = c.begun_at-begun.ensures.value (terms c.args.self.now) (c.deref.ensures.value ∙ k.runs) in
+    let same : c.deref-2.result.now ≡ c.deref.result.now = c.deref-2.ensures.value ∙ sym c.deref.ensures.value in
+    let last : c.last_term.result ≡ last_run (take c.begun_at-begun.result c.deref.result.now) = c.last_term.ensures ∙ ap (λ (z : List Run). last_run (take c.begun_at-begun.result z)) same in
+    let found = term-by-runs c.args.self.now c.value.result (take c.begun_at-begun.result c.deref.result.now) c.last_term.result begun last in
+    ap (λ (o : Option ℕ). unwrap_or o 0) (sym c.in-Some.is) ∙ (found ∙ ap (λ (n : ℕ). term_at c.args.self.now n) c.value.ensures.value)
+
+pub returns-in-None : goal.returns-in-None
+returns-in-None g c =
+    let k = keeps c.self.inside.runs.items c.self.inside.bodies c.args.self.now c.self.view_is c.self.invariant in
+    let begun : take c.begun_at-begun.result c.deref.result.now ≡ term_runs (take c.value.result (terms c.args.self.now)) = c.begun_at-begun.ensures.value (terms c.args.self.now) (c.deref.ensures.value ∙ k.runs) in
+    let same : c.deref-2.result.now ≡ c.deref.result.now = c.deref-2.ensures.value ∙ sym c.deref.ensures.value in
+    let last : c.last_term.result ≡ last_run (take c.begun_at-begun.result c.deref.result.now) = c.last_term.ensures ∙ ap (λ (z : List Run). last_run (take c.begun_at-begun.result z)) same in
+    let found = term-by-runs c.args.self.now c.value.result (take c.begun_at-begun.result c.deref.result.now) c.last_term.result begun last in
+    c.new.ensures ∙ (ap (λ (o : Option ℕ). unwrap_or o 0) (sym c.in-None.is) ∙ (found ∙ ap (λ (n : ℕ). term_at c.args.self.now n) c.value.ensures.value))

@@ -1,0 +1,16 @@
+-- Lists as blocks of one size, and a last one that grows.
+use Rattle.std.specs.Prelude.{◌≡◌, ◌≤◌, ℕ, List, ◌++◌, length, flat_map, All}
+
+-- how many items a full block has
+abbrev pub block_size : ℕ
+block_size = 1024
+
+module _ {A : Type 0} where
+  -- the items of the full blocks, and behind them those of the last one
+  abbrev pub joined : List (List A) → List A → List A
+  joined full last = flat_map (λ b. b) full ++ last
+
+  -- each full block is full, and the last one has no more
+  pub record AreBlocks (full : List (List A)) (last : List A) : Type 0 where
+    pub are_full : All (λ b. length b ≡ block_size) full
+    pub few : length last ≤ block_size
