@@ -1,19 +1,18 @@
 -- Runs of terms: what they are of a part of a log, of one that grows, and that they and the bodies give the log.
-use Rattle.std.proofs.Common.{◌≡◌, ◌≢◌, ℕ, zero, suc, ◌+◌, ◌-◌, ◌<◌, ◌≤◌, Bool, true, false, cond, eqb, leb, List, [], ◌∷◌, ◌++◌, map, length, take, drop, get_or, append-nil, drop-cons, Result, Ok, Err, Option, None, Some, ◌⊎◌, ⊎_elim, refl, sym, ap, subst, ◌∙◌, arith, append_assoc, length-take, length-drop, eq-eqb}
+use Rattle.std.proofs.Common.{◌≡◌, ◌≢◌, ℕ, zero, suc, ◌+◌, ◌-◌, ◌<◌, ◌≤◌, true, false, cond, eqb, leb, List, [], ◌∷◌, ◌++◌, map, length, take, drop, get_or, append-nil, drop-cons, Result, Ok, Err, Option, None, Some, ⊎_elim, refl, sym, ap, subst, ◌∙◌, arith, length-take, length-drop, eq-eqb}
 use Rattle.std.specs.Option.{unwrap_or, option_map}
 use Rattle.std.specs.List.{slice_get}
-use Rattle.std.specs.List.Sorted.{IsPartitionPoint, IsPartitionedBy, IsNonDecreasingBy}
+use Rattle.std.specs.List.Sorted.{IsPartitionPoint, IsNonDecreasingBy}
 use Rattle.std.specs.Result.{IsOk, OnOk}
-use Rattle.std.proofs.lemmas.Bool.{true≢false, cond_both, cases_Bool, cond-true, cond-false, ne_eqb}
+use Rattle.std.proofs.lemmas.Bool.{true≢false, eqb-false, cond_both, cases_Bool, cond-true, cond-false, ne_eqb}
 use Rattle.std.proofs.lemmas.Option.{none-some, get_or_from_slice_get}
-use Rattle.std.specs.List.{AllWithin}
 use Rattle.std.proofs.lemmas.List.{map-append, take-map, length-map, take_more, get_or-drop, drop_all}
 use Rattle.raft_log.specs.declared.entry.Entry.{Entry}
 use Rattle.raft_log.specs.declared.run.Run.{Run}
 use Rattle.raft_log.specs.Lists.{item}
-use Rattle.raft_log.specs.Logs.{last_after, last_term, term_at, entry_limit, standing}
+use Rattle.raft_log.specs.Logs.{last_after, term_at, entry_limit, standing}
 use Rattle.raft_log.proofs.Repairs.{term_at_index, standing_none}
-use Rattle.raft_log.specs.Runs.{goes_on, runs_behind, term_runs, last_of, last_run_of, last_run, terms, runs_of, entries_from, entries_of, IsLog}
+use Rattle.raft_log.specs.Runs.{goes_on, runs_behind, term_runs, last_of, last_run_of, last_run, Alternate, terms, runs_of, entries_from, entries_of, IsLog}
 
 -- the first of these runs begins behind k
 abbrev pub BeginsBehind : ℕ → List Run → Type 0
@@ -154,6 +153,31 @@ last-run-at o (x ∷ []) zero r e h = ap (option_map (λ (z : Run). z.term)) h
 last-run-at o (x ∷ []) (suc n) r e h = absurd (omega (arith, e))
 last-run-at o (x ∷ y ∷ rs) zero r e h = absurd (omega (arith, e))
 last-run-at o (x ∷ y ∷ rs) (suc n) r e h = last-run-at (Some x.term) (y ∷ rs) n r (omega (arith, e)) h
+
+-- the first of these runs does not go on with this term
+abbrev pub BeginsOther : Option ℕ → List Run → Type 0
+BeginsOther o [] = Unit {0}
+BeginsOther o (r ∷ rs) = goes_on o r.term ≡ false
+
+begins-other : (o : Option ℕ) (k : ℕ) (ts : List ℕ) → BeginsOther o (runs_behind o k ts)
+begins-other o k [] = tt
+begins-other o k (t ∷ ts) =
+    cond_both (goes_on o t) (runs_behind o (suc k) ts) (record { first = suc k; term = t } ∷ runs_behind (Some t) (suc k) ts) (λ z. BeginsOther o z) (λ _. begins-other o (suc k) ts) (λ c. c)
+
+alternate-cons : (r : Run) (rs : List Run) → BeginsBehind r.first rs → BeginsOther (Some r.term) rs → Alternate rs → Alternate (r ∷ rs)
+alternate-cons r [] b o h = tt
+alternate-cons r (s ∷ rs) b o h = (b, eqb-false r.term s.term o, h)
+
+alternates : (o : Option ℕ) (k : ℕ) (ts : List ℕ) → Alternate (runs_behind o k ts)
+alternates o k [] = tt
+alternates o k (t ∷ ts) =
+    let run : Run = record { first = suc k; term = t } in
+    cond_both (goes_on o t) (runs_behind o (suc k) ts) (run ∷ runs_behind (Some t) (suc k) ts) Alternate (λ _. alternates o (suc k) ts)
+    (λ _. alternate-cons run (runs_behind (Some t) (suc k) ts) (begins (Some t) (suc k) ts (suc k) (omega arith)) (begins-other (Some t) (suc k) ts) (alternates (Some t) (suc k) ts))
+
+abbrev first_index : List Run → ℕ
+first_index [] = 1
+first_index (r ∷ rs) = r.first
 
 -- one term more goes on with the last run, or begins another
 added : (ts : List ℕ) (t : ℕ) (rs : List Run) → rs ≡ term_runs ts → term_runs (ts ++ t ∷ []) ≡ rs ++ (cond (goes_on (last_run rs) t) [] (record { first = suc (length ts); term = t } ∷ []))
@@ -340,3 +364,13 @@ module _ {B : Type 0} where
 
   pub stands-end : (log es : List (Entry B)) (j : ℕ) → length es ≤ j → standing log (drop j es) ≡ 0
   stands-end log es j le = ap (λ (z : List (Entry B)). standing log z) (drop_all j es le) ∙ standing_none log
+
+  first-run : (log : List (Entry B)) → first_index (runs_of log) ≡ 1
+  first-run [] = refl
+  first-run (e ∷ log) = refl
+
+  pub first-at-1 : (log : List (Entry B)) (r : Run) (rs : List Run) → runs_of log ≡ r ∷ rs → r.first ≡ 1
+  first-at-1 log r rs h = sym (ap first_index h) ∙ first-run log
+
+  pub runs-alternate : (log : List (Entry B)) → Alternate (runs_of log)
+  runs-alternate log = alternates None 0 (terms log)

@@ -1,5 +1,5 @@
 -- Steps that leave the log as it is.
-use Rattle.std.proofs.Common.{IfOk, Result, Ok, Err, false, ◌≡◌, ℕ, ◌+◌, ◌≤◌, List, [], ◌++◌, length, take, append-nil, sym, ap, ◌∙◌, subst, arith}
+use Rattle.std.proofs.Common.{IfOk, Result, Ok, Err, false, ◌≡◌, ℕ, ◌≤◌, List, [], ◌++◌, length, take, append-nil, sym, ap, ◌∙◌, subst, arith}
 use Rattle.std.proofs.lemmas.Bool.{true≢false}
 use Rattle.std.proofs.lemmas.List.{take_all}
 use Rattle.raft_log.specs.declared.entry.Entry.{Entry}
@@ -64,7 +64,7 @@ step-as f f' s log step same h = record { prepares = λ sent. h.prepares sent �
 pub node_still : {B : Type 0} (s : Standing) (log : List (Entry B)) (sent : List (Message B)) → node_of s log (sent ++ []) ≡ node_of s log sent
 node_still {B} s log sent = ap (λ (ms : List (Message B)). node_of s log ms) (append-nil sent)
 
--- a node that does not lead keeps no places but its commit
+-- a node that does not lead keeps no indexes but its commit
 pub within-following : {last commit : ℕ} {next matched : List ℕ} (role : Role) → is_leader role ≡ false → commit ≤ last → PlacesWithin last role commit next matched
 within-following role e h =
     record {

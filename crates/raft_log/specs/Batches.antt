@@ -3,7 +3,7 @@ use Rattle.std.specs.Prelude.{ℕ, ◌+◌, ◌≤◌, List, length}
 use Rattle.raft_log.specs.declared.entry.Entry.{Entry}
 use Rattle.raft_log.specs.Logs.{entry_limit}
 
--- entries, the place before them with its term, and the sender's commit
+-- entries, the index before them with its term, and the sender's commit
 pub record BatchParts (B : Type 0) : Type 0 where
   pub prev_index : ℕ
   pub prev_term : ℕ
@@ -20,6 +20,6 @@ module _ {B : Type 0} where
   batch prev_index prev_term entries commit =
       record { prev_index = prev_index; prev_term = prev_term; entries = entries; commit = commit }
 
-  -- entries that may be sent at once, behind this place
+  -- entries that may be sent at once, behind this index
   abbrev pub MayBeSent : ℕ → List (Entry B) → Type 0
   MayBeSent prev_index entries = (length entries ≤ batch_limit) × (prev_index + length entries ≤ entry_limit)

@@ -15,7 +15,7 @@ module _ {B : Type 0} where
       prev ≤ length log → conflicts_within (drop prev log) entries k ≡ false → conflicts_within (drop prev log) entries (suc k) ≡ true
       → repair log prev entries ≡ take (prev + k) log ++ drop k entries
 
-  -- what stands up to a place stays, where no entry conflicts up to it
+  -- what stands up to an index stays, where no entry conflicts up to it
   abbrev pub KeepsBeforeConflict : List (Entry B) → ℕ → ℕ → List (Entry B) → Type 0
   KeepsBeforeConflict log prev k entries =
       prev ≤ length log → k ≤ length log → conflicts_within (drop prev log) entries (k - prev) ≡ false → take k (repair log prev entries) ≡ take k log

@@ -1,4 +1,4 @@
--- Logs: what they agree on, which one is better, and what an append leaves. Places count from 1; place 0 has term 0.
+-- Logs: what they agree on, which one is better, and what an append leaves. Indexes count from 1; index 0 has term 0.
 use Rattle.std.specs.Prelude.{ℕ, zero, suc, ◌==◌, Bool, true, false, ◌&&◌, ◌||◌, List, [], ◌∷◌, ◌++◌, length, take, drop, nat_lt, nat_le, if◌then◌else◌}
 use Rattle.raft_log.specs.declared.entry.Entry.{Entry}
 
@@ -16,15 +16,15 @@ module _ {B : Type 0} where
   abbrev pub last_term : List (Entry B) → ℕ
   last_term log = last_after 0 log
 
-  -- the term of the entry at a place, 0 at place 0
+  -- the term of the entry at an index, 0 at index 0
   abbrev pub term_at : List (Entry B) → ℕ → ℕ
   term_at log k = last_term (take k log)
 
-  -- there is an entry at this place, and it has this term
+  -- there is an entry at this index, and it has this term
   abbrev pub has_term : List (Entry B) → ℕ → ℕ → Bool
   has_term log t k = nat_le 1 k && (nat_le k (length log) && (term_at log k == t))
 
-  -- the log reaches to this place and has this term there; at place 0, before all entries, logs always agree
+  -- the log reaches to this index and has this term there; at index 0, before all entries, logs always agree
   abbrev pub agrees_at : List (Entry B) → ℕ → ℕ → Bool
   agrees_at log k t = k == 0 || (nat_le k (length log) && (term_at log k == t))
 
@@ -34,7 +34,7 @@ module _ {B : Type 0} where
   merged [] (e ∷ es) = e ∷ es
   merged (x ∷ rest) (e ∷ es) = if x.term == e.term then x ∷ merged rest es else e ∷ es
 
-  -- an entry that conflicts (same place, other term) goes with all that follow, and missing entries are added
+  -- an entry that conflicts (same index, other term) goes with all that follow, and missing entries are added
   abbrev pub repair : List (Entry B) → ℕ → List (Entry B) → List (Entry B)
   repair log prev entries = take prev log ++ merged (drop prev log) entries
 

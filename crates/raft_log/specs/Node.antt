@@ -18,8 +18,8 @@ pub record Node (B : Type 0) : Type 0 where
   pub commit : ℕ
   pub applied : ℕ
   pub voters : List Bool  -- of each node, whether it is in the set of those that voted for this one
-  pub next : List ℕ  -- of each node, the place of the next entry to send to it
-  pub matched : List ℕ  -- of each node, the place up to which its log is known to be the same
+  pub next : List ℕ  -- of each node, the index of the next entry to send to it
+  pub matched : List ℕ  -- of each node, the index up to which its log is known to be the same
   pub live : Option Live
   pub attempts : ℕ
   pub sent : List (Message B)  -- only grows, restarts included

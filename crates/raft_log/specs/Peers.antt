@@ -6,7 +6,7 @@ use Rattle.raft_log.specs.Votes.{majority}
 abbrev pub IsGroupSize : ℕ → Type 0
 IsGroupSize n = (n ≡ 3) ⊎ ((n ≡ 5) ⊎ (n ≡ 7))
 
--- of each node, whether its vote came, the next place to send from, and the place up to which its log is known to be the same
+-- of each node, whether its vote came, the next index to send from, and the index up to which its log is known to be the same
 pub record PeerLists : Type 0 where
   pub size : ℕ
   pub voters : List Bool
@@ -17,9 +17,9 @@ pub record PeerLists : Type 0 where
 abbrev pub no_peers : ℕ → PeerLists
 no_peers size = record { size = size; voters = replicate size false; next = replicate size 0; matched = replicate size 0 }
 
--- a majority's logs are known to be the same up to this place
+-- a majority's logs are known to be the same up to this index
 abbrev pub majority_has : PeerLists → ℕ → Bool
-majority_has p place = majority p.size (map (λ m. nat_le place m) p.matched)
+majority_has p index = majority p.size (map (λ m. nat_le index m) p.matched)
 
 -- seven items that begin with these
 abbrev pub padded : {A : Type 0} → A → List A → List A

@@ -1,5 +1,5 @@
 -- Runs: where the term changes from one entry to the next. They and the bodies say the whole log.
-use Rattle.std.specs.Prelude.{◌≡◌, ◌≤◌, length, ℕ, zero, suc, ◌==◌, Bool, false, List, [], ◌∷◌, Option, None, Some, map, if◌then◌else◌}
+use Rattle.std.specs.Prelude.{◌≡◌, ◌≢◌, ◌<◌, ◌≤◌, length, ℕ, suc, ◌==◌, Bool, false, List, [], ◌∷◌, Option, None, Some, map, if◌then◌else◌}
 use Rattle.raft_log.specs.declared.entry.Entry.{Entry}
 use Rattle.raft_log.specs.declared.run.Run.{Run}
 use Rattle.raft_log.specs.Logs.{entry_limit}
@@ -17,6 +17,12 @@ runs_behind last k (t ∷ ts) = if goes_on last t then runs_behind last (suc k) 
 -- the runs of a list of terms
 abbrev pub term_runs : List ℕ → List Run
 term_runs ts = runs_behind None 0 ts
+
+-- each run begins behind the one before it, in another term
+abbrev pub Alternate : List Run → Type 0
+Alternate [] = Unit {0}
+Alternate (r ∷ []) = Unit {0}
+Alternate (r ∷ s ∷ rs) = (r.first < s.first) × (r.term ≢ s.term) × Alternate (s ∷ rs)
 
 -- the last of these terms, or this one where there is none
 abbrev pub last_of : Option ℕ → List ℕ → Option ℕ

@@ -12,18 +12,18 @@ use Rattle.raft_log.specs.Node.{Node, is_leader}
 use Rattle.raft_log.specs.Positions.{role_of}
 use Rattle.raft_log.specs.Seen.{node_of}
 
--- a next place is at most one behind the last entry
+-- a next index is at most one behind the last entry
 abbrev pub IsNextWithin : ℕ → ℕ → Type 0
 IsNextWithin last next = (1 ≤ next) × (next ≤ suc last)
 
--- the commit is a place of a log that ends at this one, and so are a leader's matches; its next places are at most one behind it
+-- the commit is an index of a log that ends at this one, and so are a leader's matches; its next indexes are at most one behind it
 pub record PlacesWithin (last : ℕ) (role : Role) (commit : ℕ) (next matched : List ℕ) : Type 0 where
   pub commit_within : commit ≤ last
   pub next_within : IsTrue (is_leader role) → All (IsNextWithin last) next
   pub match_within : IsTrue (is_leader role) → All (λ m. m ≤ last) matched
 
 module _ {B : Type 0} where
-  -- the places that a node keeps are within its log
+  -- the indexes that a node keeps are within its log
   abbrev pub IsWithinLog : Standing → List (Entry B) → Type 0
   IsWithinLog s log = PlacesWithin (length log) (role_of s.position) s.commit s.peers.next s.peers.matched
 
@@ -56,7 +56,7 @@ module _ {B : Type 0} where
     pub boot : step.standing.boot ≡ standing.boot
     pub term : standing.term ≤ step.standing.term
 
-  -- where the places of a node are within its log, they are so once the step stands
+  -- where the indexes of a node are within its log, they are so once the step stands
   abbrev pub KeepsWithinLog : Standing → List (Entry B) → Step B → Type 0
   KeepsWithinLog standing log step = IsWithinLog standing log → IsWithinLog step.standing (log_after log step)
 

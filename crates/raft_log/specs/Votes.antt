@@ -14,11 +14,11 @@ abbrev pub majority : ℕ → List Bool → Bool
 majority size set = nat_lt size (tally set + tally set)
 
 module _ {B : Type 0} where
-  -- there is an entry at this place, it has this term, and a majority has it
+  -- there is an entry at this index, it has this term, and a majority has it
   abbrev pub commits : ℕ → List ℕ → List (Entry B) → ℕ → ℕ → Bool
   commits size matches log t k = majority size (map (λ m. nat_le k m) matches) && has_term log t k
 
-  -- the largest place up to k, above the commit, that commits; else the commit
+  -- the largest index up to k, above the commit, that commits; else the commit
   abbrev pub commit_place : ℕ → List ℕ → List (Entry B) → ℕ → ℕ → ℕ → ℕ
   commit_place size matches log t c zero = c
   commit_place size matches log t c (suc k) =

@@ -6,9 +6,9 @@ use std::alloc::{AllocError, Global};
 use std::marker::Model;
 use wire_bytes::{Copied, Number, Wire, copied_all};
 
-/// What an Append brings: entries, the place before them with its term, and the sender's commit.
+/// What an Append brings: entries, the index before them with its term, and the sender's commit.
 ///
-/// At most 256 entries, and none past place 1,000,000.
+/// At most 256 entries, and none past index 1,000,000.
 #[derive(Drop)]
 pub struct Batch<B: Wire> {
     prev_index: Number,
@@ -45,7 +45,7 @@ impl<B: Wire> Batch<B> {
         }
     }
 
-    /// The place before the entries.
+    /// The index before the entries.
     pub fn prev_index(&self) -> Number
         ensures value { result ≡ self.now.prev_index }
         ensures limits { MayBeSent self.now.prev_index self.now.entries }
@@ -53,7 +53,7 @@ impl<B: Wire> Batch<B> {
         self.prev_index
     }
 
-    /// The term at the place before the entries.
+    /// The term at the index before the entries.
     pub fn prev_term(&self) -> Number
         ensures { result ≡ self.now.prev_term }
     {

@@ -1,7 +1,8 @@
-//! What holds of a repair, in the words of the comparison of entries.
-ghost use Rattle.std.specs.Prelude.{ℕ, List};
+//! What holds of a repair, in the words of the comparison of entries, and of the runs of a log.
+ghost use Rattle.std.specs.Prelude.{ℕ, List, ◌≡◌, ◌∷◌};
 ghost use Rattle.raft_log.specs.declared.entry.Entry.{Entry};
 ghost use Rattle.raft_log.specs.Laws.{AddsMissing, CutsFirstConflict, KeepsBeforeConflict};
+ghost use Rattle.raft_log.specs.Runs.{Alternate, runs_of};
 
 use wire_bytes::Wire;
 
@@ -16,7 +17,13 @@ pub fn the_first_conflict_cuts<B: Wire>()
     ensures { (log : List (Entry B)) (prev k : ℕ) (es : _) → CutsFirstConflict log prev k es }
 {}
 
-/// What stands up to a place stays, where no entry conflicts up to it.
+/// What stands up to an index stays, where no entry conflicts up to it.
 pub fn what_stands_before_a_conflict_is_kept<B: Wire>()
     ensures { (log : List (Entry B)) (prev k : ℕ) (es : _) → KeepsBeforeConflict log prev k es }
+{}
+
+/// The first run of a log begins at index 1, and each other one behind the one before it, in another term.
+pub fn runs_are_where_the_term_changes<B: Wire>()
+    ensures first { (log : List (Entry B)) (r : _) (rs : _) → runs_of log ≡ r ∷ rs → r.first ≡ 1 }
+    ensures others { (log : List (Entry B)) → Alternate (runs_of log) }
 {}

@@ -26,7 +26,8 @@ pub use body::LoggedBody;
 pub use entry::Entry;
 pub use group_size::GroupSize;
 pub use laws::{
-    the_first_conflict_cuts, what_does_not_conflict_is_added, what_stands_before_a_conflict_is_kept,
+    runs_are_where_the_term_changes, the_first_conflict_cuts, what_does_not_conflict_is_added,
+    what_stands_before_a_conflict_is_kept,
 };
 pub use log::{ENTRY_LIMIT, Log};
 pub use message::{Kind, Message};

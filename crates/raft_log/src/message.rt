@@ -16,7 +16,7 @@ pub enum Kind<B: Wire> {
     },
     /// A leader's entries.
     Append(Batch<B>),
-    /// Whether entries were taken, and up to which place; where not, the place that did not agree.
+    /// Whether entries were taken, and up to which index; where not, the index that did not agree.
     AppendReply {
         ok: bool,
         place: Number,

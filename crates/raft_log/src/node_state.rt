@@ -23,9 +23,9 @@ pub struct Standing {
     pub term: Number,
     pub vote: Option<NodeId>,
     pub position: Position,
-    /// The place up to which entries are agreed, as far as the node knows.
+    /// The index up to which entries are agreed, as far as the node knows.
     pub commit: Number,
-    /// The place up to which entries were applied.
+    /// The index up to which entries were applied.
     pub applied: Number,
     pub peers: Peers,
     /// How many sessions this run had.

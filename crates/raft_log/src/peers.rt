@@ -9,14 +9,14 @@ use std::alloc::{AllocError, Global};
 use std::marker::Model;
 use wire_bytes::Number;
 
-/// What a node keeps of each node of its group: whether its vote came, the next place to send to it, and
-/// the place up to which its log is known to be the own.
+/// What a node keeps of each node of its group: whether its vote came, the next index to send to it, and
+/// the index up to which its log is known to be the own.
 ///
 /// A clause sees a list of each, of the group's size; that of node 1 is the first.
 #[derive(Clone, Copy)]
 pub struct Peers {
     size: GroupSize,
-    // of the places past the size each holds false or 0
+    // what is past the size is false or 0
     voters: [bool; 7],
     next: [Number; 7],
     matched: [Number; 7],
@@ -82,14 +82,14 @@ impl Peers {
         let _ = self.size.value();
     }
 
-    /// The next place to send from to a node, 0 past the group.
+    /// The next index to send from to a node, 0 past the group.
     pub fn next_of(self, node: NodeId) -> Number
         ensures { result ≡ item_or self.next node 0 }
     {
         self.next[node.value() as usize - 1]
     }
 
-    /// The place up to which a node's log is known to be the own, 0 past the group.
+    /// The index up to which a node's log is known to be the own, 0 past the group.
     pub fn match_of(self, node: NodeId) -> Number
         ensures { result ≡ item_or self.matched node 0 }
     {
@@ -117,7 +117,7 @@ impl Peers {
         peers.with_vote(node)
     }
 
-    /// With another next place for a node of the group.
+    /// With another next index for a node of the group.
     pub fn with_next(self, node: NodeId, next: Number) -> Peers
         ensures { result ≡ record self { next = with_item self.next node next } }
     {
@@ -129,17 +129,17 @@ impl Peers {
     }
 
     /// With another match of a node of the group.
-    pub fn with_match(self, node: NodeId, place: Number) -> Peers
-        ensures { result ≡ record self { matched = with_item self.matched node place } }
+    pub fn with_match(self, node: NodeId, index: Number) -> Peers
+        ensures { result ≡ record self { matched = with_item self.matched node index } }
     {
         let mut peers = self;
         if node.value() <= peers.size.value() {
-            peers.matched[node.value() as usize - 1] = place;
+            peers.matched[node.value() as usize - 1] = index;
         }
         peers
     }
 
-    /// As a new leader begins: it sends to each from this place on, and knows of no log that it is the same.
+    /// As a new leader begins: it sends to each from this index on, and knows of no log that it is the same.
     pub fn leading(self, next: Number) -> Peers
         ensures { result ≡ record self {
           next = replicate self.size next;
@@ -177,25 +177,25 @@ impl Peers {
         majority(size, &self.voters[..size as usize])
     }
 
-    /// Whether more than half of the logs are known to be the own up to a place.
-    pub fn majority_has(self, place: Number) -> bool
-        ensures { result ≡ majority_has self place }
+    /// Whether more than half of the logs are known to be the own up to an index.
+    pub fn majority_has(self, index: Number) -> bool
+        ensures { result ≡ majority_has self index }
     {
         let size = self.size.value();
-        reached(&self.matched[..size as usize], place) > (size / 2) as usize
+        reached(&self.matched[..size as usize], index) > (size / 2) as usize
     }
 }
 
-/// This place for each node of the group, and 0 past it.
-fn filled(size: GroupSize, place: Number) -> [Number; 7]
-    ensures items { take size result ≡ replicate size place }
+/// This index for each node of the group, and 0 past it.
+fn filled(size: GroupSize, index: Number) -> [Number; 7]
+    ensures items { take size result ≡ replicate size index }
     ensures padded { IsPadded 0 size result }
 {
     let zero = Number::new(0);
     match size.value() {
-        3 => [place, place, place, zero, zero, zero, zero],
-        5 => [place, place, place, place, place, zero, zero],
-        _ => [place; 7],
+        3 => [index, index, index, zero, zero, zero, zero],
+        5 => [index, index, index, index, index, zero, zero],
+        _ => [index; 7],
     }
 }
 
@@ -212,13 +212,13 @@ fn majority(size: u8, set: &[bool]) -> bool
     count > (size / 2) as usize
 }
 
-/// How many of the places are at least this one.
-fn reached(places: &[Number], place: Number) -> usize
-    ensures { result ≡ tally (map (λ m. nat_le place m) places.now) }
+/// How many of the indexes are at least this one.
+fn reached(indexes: &[Number], index: Number) -> usize
+    ensures { result ≡ tally (map (λ m. nat_le index m) indexes.now) }
 {
     let mut count = 0;
-    for other in places {
-        if place <= *other {
+    for other in indexes {
+        if index <= *other {
             count += 1;
         }
     }

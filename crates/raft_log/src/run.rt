@@ -7,7 +7,7 @@ use std::alloc::{AllocError, Global};
 use wire_bytes::{Copied, Number, Wire};
 
 /// Entries of one term, up to the next run or the end of the log.
-#[derive(Clone, Copy, PartialEq, Eq)]
+#[derive(Clone, Copy)]
 pub struct Run {
     /// The index of the first of them.
     pub first: Number,

@@ -1,4 +1,4 @@
-use Rattle.std.proofs.Common.{◌≡◌, ◌++◌, map}
+use Rattle.std.proofs.Common.{◌≡◌, map}
 use Rattle.raft_log.proofs.log.bodies_of.Given as goal
 
 abbrev pub invariant-loop-entry : goal.invariant-loop-entry

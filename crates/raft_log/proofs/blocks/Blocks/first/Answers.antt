@@ -1,4 +1,4 @@
-use Rattle.std.proofs.Common.{Bor, ◌≡◌, ◌-◌, ◌*◌, ◌/◌, min, length, take, List, length-take, sym, ap, ◌∙◌, arith}
+use Rattle.std.proofs.Common.{Bor, ◌≡◌, ◌-◌, ◌*◌, ◌/◌, min, length, take, List, length-take, ap, ◌∙◌, arith}
 use Rattle.raft_log.specs.Blocks.{joined}
 use Rattle.raft_log.proofs.Joining.{Cut, cut-full, cut-last}
 use Rattle.raft_log.proofs.blocks.Blocks.first.Goals.{then-shared-len, else-shared-len}

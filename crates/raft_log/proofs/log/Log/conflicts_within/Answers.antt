@@ -1,6 +1,5 @@
-use Rattle.std.proofs.Common.{length, ap, ◌∙◌, arith}
+use Rattle.std.proofs.Common.{◌∙◌, arith}
 use Rattle.std.proofs.lemmas.Bool.{le-ltb}
-use Rattle.raft_log.specs.declared.entry.Entry.{Entry}
 use Rattle.raft_log.proofs.Repairs.{conflicts_count, conflicts_none}
 use Rattle.raft_log.proofs.log.Log.conflicts_within.Goals as goal
 

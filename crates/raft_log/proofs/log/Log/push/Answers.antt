@@ -1,7 +1,6 @@
 use Rattle.std.proofs.Common.{◌≡◌, ◌≤◌, ℕ, suc, List, [], ◌∷◌, ◌++◌, length, length-append, ◌∙◌, arith}
 use Rattle.std.proofs.lemmas.List.{length-map}
 use Rattle.raft_log.specs.declared.entry.Entry.{Entry}
-use Rattle.raft_log.specs.declared.run.Run.{Run}
 use Rattle.raft_log.specs.Logs.{entry_limit}
 use Rattle.raft_log.specs.Runs.{runs_of, terms, term_runs}
 use Rattle.raft_log.proofs.Changes.{keeps, bodies, runs-more, bodies-more, log-is, log-view, made, on_ok}

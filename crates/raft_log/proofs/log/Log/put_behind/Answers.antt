@@ -1,4 +1,4 @@
-use Rattle.std.proofs.Common.{◌≡◌, ◌≤◌, length, length-append, length-take, ℕ, List, ◌++◌, Option, take, map, sym, ap, ◌∙◌, arith}
+use Rattle.std.proofs.Common.{◌≡◌, ◌≤◌, length, length-append, length-take, ℕ, List, ◌++◌, take, sym, ap, ◌∙◌, arith}
 use Rattle.raft_log.specs.declared.entry.Entry.{Entry}
 use Rattle.raft_log.specs.declared.run.Run.{Run}
 use Rattle.raft_log.specs.Logs.{entry_limit}
