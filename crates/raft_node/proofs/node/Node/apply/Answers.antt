@@ -4,6 +4,7 @@ use Rattle.raft_log.specs.declared.entry.Entry.{Entry}
 use Rattle.raft_log.specs.declared.node_state.Live.{Live}
 use Rattle.raft_log.specs.declared.node_state.NodeState.{NodeState}
 use Rattle.raft_log.specs.Lists.{item}
+use Rattle.raft_log.specs.Logs.{term_at}
 use Rattle.raft_log.specs.Positions.{live_of}
 use Rattle.raft_node.specs.Parts.{applied_bodies}
 use Rattle.raft_node.specs.Steps.{leaves}
@@ -14,8 +15,8 @@ pub invariant_of-self : goal.invariant_of-self
 invariant_of-self g c =
     let state : NodeState g.row.M-Command.Denot = c.self.inside.state in
     let place : c.new-place.result ≡ suc state.standing.applied = omega arith in
-    let e : Entry g.row.M-Command.Denot = c.entry-entry.result.now in
-    let at : item state.log (suc state.standing.applied) ≡ Some e = subst (λ (m : ℕ). item state.log m ≡ Some e) place c.entry-entry.ensures in
+    let e : Entry g.row.M-Command.Denot = record { term = term_at state.log c.new-place.result; body = c.body-body.result.now } in
+    let at : item state.log (suc state.standing.applied) ≡ Some e = subst (λ (m : ℕ). item state.log m ≡ Some e) place c.body-body.ensures in
     let lt : state.standing.applied < state.standing.commit = omega arith in
     let runs : g.M.Machine.stands c.self.inside.machine c.self.inside.setup (applied_bodies state) = runs_here _ _ _ c.args.self.now c.self.view_is c.requires.up c.self.invariant in
     let now : g.M.Machine.stands c.apply.new.self c.self.inside.setup ((c.value-2.result, c.get.result.now) ∷ applied_bodies state) = c.in-Ok.ensures.stands c.self.inside.setup (applied_bodies state) runs in
@@ -29,8 +30,8 @@ pub returns-in-Ok : goal.returns-in-Ok
 returns-in-Ok g c =
     let state : NodeState g.row.M-Command.Denot = c.self.inside.state in
     let place : c.new-place.result ≡ suc state.standing.applied = omega arith in
-    let e : Entry g.row.M-Command.Denot = c.entry-entry.result.now in
-    let at : item state.log (suc state.standing.applied) ≡ Some e = subst (λ (m : ℕ). item state.log m ≡ Some e) place c.entry-entry.ensures in
+    let e : Entry g.row.M-Command.Denot = record { term = term_at state.log c.new-place.result; body = c.body-body.result.now } in
+    let at : item state.log (suc state.standing.applied) ≡ Some e = subst (λ (m : ℕ). item state.log m ≡ Some e) place c.body-body.ensures in
     let lt : state.standing.applied < state.standing.commit = omega arith in
     let runs : g.M.Machine.stands c.self.inside.machine c.self.inside.setup (applied_bodies state) = runs_here _ _ _ c.args.self.now c.self.view_is c.requires.up c.self.invariant in
     let brought : ℕ → g.row.M-Command.Denot → List g.row.M-Effect.Denot = g.M.Machine.effects c.self.inside.setup (applied_bodies state) in
