@@ -1,7 +1,11 @@
 -- A log that a step leaves is told from the log before it by its terms.
-use Rattle.std.proofs.Common.{◌≡◌, ℕ, zero, suc, Bool, true, false, cond, eqb, eq-eqb, List, [], ◌∷◌, ◌++◌, refl, sym, ap, ◌∙◌}
+use Rattle.std.proofs.Common.{◌≡◌, ◌≢◌, ℕ, zero, suc, ◌+◌, ◌-◌, ◌<◌, Bool, true, false, cond, eqb, eq-eqb, List, [], ◌∷◌, ◌++◌, length, map, take, drop, get_or, drop-cons, refl, sym, ap, ◌∙◌, arith}
+use Rattle.std.proofs.lemmas.Bool.{cond-true, cond-false, ne_eqb}
+use Rattle.std.proofs.lemmas.List.{map_more}
 use Rattle.raft_log.specs.declared.entry.Entry.{Entry}
-use Rattle.raft_log.specs.Logs.{merged, repair}
+use Rattle.raft_log.specs.Logs.{merged, repair, term_at}
+use Rattle.raft_log.proofs.Repairs.{term_at_index}
+use Rattle.node_cells.specs.Remembering.{same_terms}
 use Rattle.node_cells.specs.Sending.{terms_of}
 
 -- logs of the same terms are the same
@@ -36,3 +40,35 @@ module _ {B : Type 0} where
   repair_tells log zero es h = merged_tells log es h
   repair_tells [] (suc prev) es h = merged_tells [] es h
   repair_tells (x ∷ log) (suc prev) es h = ap (λ (l : List (Entry B)). x ∷ l) (repair_tells log prev es (rest_is x.term x.term _ _ h))
+
+  term_there : (log : List (Entry B)) (i k : ℕ) (d : Entry B) → i < length log → k ≡ suc i → (get_or log i d).term ≡ term_at log k
+  term_there log i k d lt is =
+      let before : k - 1 ≡ i = omega (arith, is) in
+      sym (ap (λ (n : ℕ). (get_or log n d).term) before) ∙ term_at_index log k d (omega (arith, is)) (omega (arith, is))
+
+  -- one more term of a log
+  pub terms_more : (log : List (Entry B)) (i k : ℕ) → i < length log → k ≡ suc i → terms_of (take i log) ++ term_at log k ∷ [] ≡ terms_of (take (i + 1) log)
+  terms_more [] i k lt is = absurd (omega arith)
+  terms_more (x ∷ log) i k lt is =
+      sym (map_more (λ (e : Entry B). e.term) (x ∷ log) i x lt ∙ ap (λ (t : ℕ). terms_of (take i (x ∷ log)) ++ t ∷ []) (term_there (x ∷ log) i k x lt is))
+
+  compared : (ts : List ℕ) (log : List (Entry B)) (i k : ℕ) → i < length ts → i < length log → k ≡ suc i
+      → same_terms (drop i ts) (drop i log) ≡ cond (eqb (get_or ts i 0) (term_at log k)) (same_terms (drop (suc i) ts) (drop (suc i) log)) false
+  compared ts [] i k lt lt' is = absurd (omega arith)
+  compared ts (x ∷ log) i k lt lt' is =
+      let rest : Bool = same_terms (drop (suc i) ts) (drop (suc i) (x ∷ log)) in
+      ap (λ (z : List ℕ). same_terms z (drop i (x ∷ log))) (drop-cons ts i 0 lt)
+      ∙ (ap (λ (z : List (Entry B)). same_terms (get_or ts i 0 ∷ drop (suc i) ts) z) (drop-cons (x ∷ log) i x lt')
+      ∙ ap (λ (t : ℕ). cond (eqb (get_or ts i 0) t) rest false) (term_there (x ∷ log) i k x lt' is))
+
+  -- one more term is compared
+  pub same_more : (ts : List ℕ) (log : List (Entry B)) (i k j : ℕ) → i < length ts → i < length log → k ≡ suc i → j ≡ suc i → term_at log k ≡ get_or ts i 0
+      → same_terms (drop j ts) (drop j log) ≡ same_terms (drop i ts) (drop i log)
+  same_more ts log i k j lt lt' is next same =
+      ap (λ (n : ℕ). same_terms (drop n ts) (drop n log)) next
+      ∙ sym (compared ts log i k lt lt' is ∙ cond-true (eqb (get_or ts i 0) (term_at log k)) (same_terms (drop (suc i) ts) (drop (suc i) log)) false (eq-eqb (get_or ts i 0) (term_at log k) (sym same)))
+
+  pub same_other : (ts : List ℕ) (log : List (Entry B)) (i k : ℕ) → i < length ts → i < length log → k ≡ suc i → term_at log k ≢ get_or ts i 0 → same_terms (drop i ts) (drop i log) ≡ false
+  same_other ts log i k lt lt' is other =
+      compared ts log i k lt lt' is
+      ∙ cond-false (eqb (get_or ts i 0) (term_at log k)) (same_terms (drop (suc i) ts) (drop (suc i) log)) false (ne_eqb (get_or ts i 0) (term_at log k) (λ h. other (sym h)))

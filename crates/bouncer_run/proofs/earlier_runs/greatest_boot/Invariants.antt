@@ -3,6 +3,6 @@ use Rattle.bouncer_run.specs.Runs.{greatest_boot}
 use Rattle.bouncer_run.proofs.earlier_runs.greatest_boot.Given as goal
 
 -- the greatest boot so far, and that of the rest
-abbrev pub invariant-loop-entry : goal.invariant-loop-entry
-invariant-loop-entry l =
-    (max l.greatest (greatest_boot l.node (drop l.entry-index l.entries)) ≡ greatest_boot l.node l.entries) × (l.greatest ≤ 2 ^ 60)
+abbrev pub invariant-loop-before : goal.invariant-loop-before
+invariant-loop-before l =
+    (max l.greatest (greatest_boot l.node (drop l.before l.log)) ≡ greatest_boot l.node l.log) × (l.greatest ≤ 2 ^ 60)

@@ -1,7 +1,6 @@
-use Rattle.std.proofs.Common.{◌≡◌, drop, length}
+use Rattle.std.proofs.Common.{◌≡◌, drop}
 use Rattle.node_cells.specs.Remembering.{same_terms}
 use Rattle.node_cells.proofs.remembered.same_terms.Given as goal
 
-abbrev pub invariant-loop-entry : goal.invariant-loop-entry
-invariant-loop-entry g l =
-    (l.place ≡ l.entry-index) × (length l.terms ≡ length l.entries) × (same_terms (drop l.place l.terms) (drop l.entry-index l.entries) ≡ same_terms l.terms l.entries)
+abbrev pub invariant-loop-before : goal.invariant-loop-before
+invariant-loop-before g l = same_terms (drop l.before l.terms) (drop l.before l.log) ≡ same_terms l.terms l.log
