@@ -1,15 +1,15 @@
 -- A name put at its place stands where it belongs; lists that are no setup's.
-use Rattle.std.proofs.Common.{◌≡◌, ◌<◌, ℕ, ◌+◌, suc, Bool, true, false, if◌then◌else◌, List, [], ◌∷◌, length, Option, Some, None, MatchOption, refl, ap, sym, ◌∙◌, add-one}
+use Rattle.std.proofs.Common.{◌≡◌, ◌<◌, ◌≤◌, ℕ, ◌+◌, suc, Bool, true, false, if◌then◌else◌, List, [], ◌∷◌, length, Option, Some, None, MatchOption, refl, ap, sym, subst, ◌∙◌, add-one}
 use Rattle.std.proofs.lemmas.Bool.{and_parts, false≢true}
 use Rattle.std.specs.List.{insert}
 use Rattle.irc_line.specs.Names.{IsPassed, fold_name, has_channel_mark, is_channel, is_name}
 use Rattle.irc_line.specs.Keys.{is_below, put_in}
-use Rattle.toml.specs.Data.{Members}
+use Rattle.toml.specs.Data.{Items, Members}
 use Rattle.toml.specs.View.{items_view}
 use Rattle.toml.specs.declared.value.Value.{Value}
 use Rattle.raft_log.specs.Peers.{IsGroupSize}
 use Rattle.bouncer_config.specs.Found.{channel_of, place_in, item_count}
-use Rattle.bouncer_config.specs.Wrong.{IsProblem, list_at}
+use Rattle.bouncer_config.specs.Wrong.{HasFewChannels, IsProblem, list_at}
 use Rattle.bouncer_config.specs.declared.key.Key.TheVariants.{Listen, Channels}
 use Rattle.bouncer_config.specs.declared.problem.Problem.TheVariants.{ListenCount, ChannelCount}
 
@@ -40,3 +40,9 @@ no_group table vs e h = (items_view vs, e, rw (item_count-view vs) h)
 -- more channels than there may be
 pub too_many : (table : Members) (vs : List Value) → list_at Channels table ≡ Some (items_view vs) → 100 < length vs → IsProblem table ChannelCount
 too_many table vs e h = (items_view vs, e, rw (item_count-view vs) h)
+
+-- no more than there may be
+pub no_more : (table : Members) (vs : List Value) → list_at Channels table ≡ Some (items_view vs) → length vs ≤ 100 → HasFewChannels table
+no_more table vs e h ds at =
+    let same : items_view vs ≡ ds = cc (e, at) in
+    subst (λ (d : Items). item_count d ≤ 100) same (rw (item_count-view vs) h)

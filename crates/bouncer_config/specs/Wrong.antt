@@ -1,5 +1,5 @@
 -- What is wrong with a table.
-use Rattle.std.specs.Prelude.{◌≡◌, ◌<◌, IsTrue, ℕ, ℤ, Bool, true, false, not, List, [], ◌∷◌, length, Option, Some, None, is_some, option_and_then, string_bytes, if◌then◌else◌}
+use Rattle.std.specs.Prelude.{◌≡◌, ◌<◌, ◌≤◌, IsTrue, ℕ, ℤ, Bool, true, false, not, List, [], ◌∷◌, length, Option, Some, None, is_some, option_and_then, string_bytes, if◌then◌else◌}
 use Rattle.std.specs.List.{list_any}
 use Rattle.irc_line.specs.Names.{is_name, same_bytes}
 use Rattle.toml.specs.Data.{Data, Items, Members, no_members, member, as_str, as_integer, as_bool, as_array}
@@ -90,10 +90,15 @@ pub record ArePorts (table : Members) (upstream : ℕ) (ports : List ℕ) : Type
   pub server : option_and_then address_of (text_at Upstream table) ≡ Some upstream
   pub listen : option_and_then (ports_after []) (list_at Listen table) ≡ Some ports
 
--- the channels and options that a table says are those of no setup
+-- no more channels are listed than a setup may have
+abbrev pub HasFewChannels : Members → Type 0
+HasFewChannels table = (ds : Items) → list_at Channels table ≡ Some ds → item_count ds ≤ 100
+
+-- The channels and options that a table says are those of no setup, though there are not too many channels.
 pub record IsSetupFault (table : Members) (fault : SetupFault) : Type 0 where
   pub channels : List (List ℕ)
   pub options : Options
+  pub few : HasFewChannels table
   pub named : channels_in (value_at Channels table) ≡ Some channels
   pub sized : AreOptions table options
   pub refused : fault_of channels options ≡ Some fault

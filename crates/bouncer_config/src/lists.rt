@@ -7,7 +7,7 @@ ghost use Rattle.irc_line.specs.Keys.{put_in};
 ghost use Rattle.raft_log.specs.Peers.{IsGroupSize};
 ghost use Rattle.bouncer_config.specs.Found.{are_different, channel_of, channels_in, names_after, place_in, ports_after, text_at, value_at};
 ghost use Rattle.bouncer_config.specs.Texts.{address_of};
-ghost use Rattle.bouncer_config.specs.Wrong.{IsProblem, Listens, list_at};
+ghost use Rattle.bouncer_config.specs.Wrong.{HasFewChannels, IsProblem, Listens, list_at};
 
 use crate::address::Address;
 use crate::key::Key;
@@ -211,6 +211,7 @@ fn channel_values(table: &Table) -> Result<Option<&[Value]>, Problem>
 pub(crate) fn channels(alloc: Global, table: &Table) -> Result<Vec<Name>, Problem>
     ensures ok { IfOk result (λ v.
         channels_in (value_at Key.Channels (table_view table.now)) ≡ Some v.items) }
+    ensures few { IfOk result (λ _. HasFewChannels (table_view table.now)) }
     ensures err { IfErr result (IsProblem (table_view table.now)) }
 {
     let values = match channel_values(table)? {
