@@ -101,13 +101,14 @@ module _ (M : Machine) where
 
   -- requests
 
+  -- what comes of a body that is asked for, by whether it may be
+  abbrev turn_by : ℕ → Node M.Body → M.Body → Bool → Turn M
+  turn_by i s body b = if b then (if finds_leader s s.leader then asks M i s body else refused M s NoLeader) else refused M s BadOrigin
+
   asked_out : (i : ℕ) (s : Node M.Body) (body : M.Body) (out : Out M) → (asked M i s body).out ≡ out → (out ≡ Refused BadOrigin → ⊥) → may_ask i s (M.source body) ≡ true
   asked_out i s body out is fine = by (may_ask i s (M.source body)) is
     where
-      abbrev turn_by : Bool → Turn M
-      turn_by b = if b then (if finds_leader s s.leader then asks M i s body else refused M s NoLeader) else refused M s BadOrigin
-
-      by : (b : Bool) → (turn_by b).out ≡ out → b ≡ true
+      by : (b : Bool) → (turn_by i s body b).out ≡ out → b ≡ true
       by true e = refl
       by false e = absurd (fine (sym e))
 

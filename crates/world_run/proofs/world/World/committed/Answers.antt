@@ -4,8 +4,8 @@ use Rattle.world_run.proofs.Cells.{committed_at, none_at}
 use Rattle.world_run.proofs.world.World.committed.Goals.{then-place-eq0-via-then-place-eq0, then-place-eq0-via-else-place-eq0+then-place-len}
 use Rattle.world_run.proofs.world.World.committed.Goals as goal
 
-pub returns-in_ok-committed-clause-some : goal.returns-in_ok-committed-clause-some
-returns-in_ok-committed-clause-some g c =
+pub returns-clause-some : goal.returns-clause-some
+returns-clause-some g c =
     let le : c.args.node ≤ length c.self.inside.group.cells.items = omega (arith, c.if-place-len.false, c.len.ensures) in
     rw (sym c.self.view_is) (c.in_ok-committed.ensures ∙ committed_at _ _ c.index.result.now c.if-place-eq0.false le c.index.ensures)
 
