@@ -25,6 +25,14 @@ use Rattle.node_threads.specs.declared.worker_loop.telling.Told.{Told}
 use Rattle.node_threads.specs.declared.job.Job.{Job}
 use Rattle.node_threads.specs.declared.job.Job.TheVariants as job
 
+-- what was told, with what a longer log alone changes as it is now: its last index, how many notes are done, and how often a leader was heard
+abbrev pub grown : Told → Told → Told
+grown told now =
+    record {
+      status = record told.status { last = now.status.last };
+      progress = record told.progress { done = now.progress.done; contacts = now.progress.contacts };
+    }
+
 -- whether a note counts as done once the worker did it: all but what another worker tells
 abbrev pub is_counted : {B L : Type 0} → Note B L → Bool
 is_counted (note.Timeout contacts) = true

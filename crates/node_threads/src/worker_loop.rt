@@ -64,6 +64,8 @@ pub struct WorkerLoop<M: Marking, G: Drop, O: Outlet<M::Effect>> {
     pub round: Round<M::Effect>,
     /// What it told last, if that was taken.
     pub told: Option<Told>,
+    /// The last index of its node's log as the round before ended.
+    pub seen: Number,
     /// What its node had where it sent last, as the leader of its term.
     pub beaten: Option<Beaten>,
     /// Whether nothing is left to do until a job comes.
@@ -183,7 +185,9 @@ impl<M: Marking, G: Gate + Drop, O: Outlet<M::Effect>> WorkerLoop<M, G, O> {
         self.round.woken = [false; 7];
     }
 
-    /// Tells what is new. False where that was not taken, or where more is to be told.
+    /// Tells what is new. Growth of the log alone is told with what comes of it, or in the next round in
+    /// which the log does not grow: else the loop would wake for each entry twice. False where what was told
+    /// was not taken, or where more is to be told.
     fn tell<R: Wait, S: Stable<M::Command>, U: Upstream>(
         &mut self,
         rt: &R,
@@ -193,7 +197,7 @@ impl<M: Marking, G: Gate + Drop, O: Outlet<M::Effect>> WorkerLoop<M, G, O> {
         ensures all { result ≡ true → self.new.round.effects.items ≡ [] }
     {
         let now = self.stand(cell);
-        if !self.is_news(&now) {
+        if !self.is_news(&now) || self.goes_on_growing(&now) {
             return true;
         }
         let report = self.report(cell.id(), &now);
@@ -249,6 +253,22 @@ impl<M: Marking, G: Gate + Drop, O: Outlet<M::Effect>> WorkerLoop<M, G, O> {
             effects: replace(&mut self.round.effects, Vec::new(self.alloc)),
             progress: now.progress,
             fault: self.round.fault,
+        }
+    }
+
+    /// Whether the log grew in this round, and nothing else is to be told.
+    fn goes_on_growing(&mut self, now: &Told) -> bool
+        ensures none_leaves { result ≡ true → self.old.round.effects.items ≡ [] }
+        ensures round { self.new.round ≡ self.old.round }
+    {
+        let has_grown = self.seen < now.status.last;
+        self.seen = now.status.last;
+        if !has_grown || self.round.has_news() {
+            return false;
+        }
+        match &self.told {
+            Some(told) => told.has_grown_alone(now),
+            None => false,
         }
     }
 

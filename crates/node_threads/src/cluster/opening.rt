@@ -26,6 +26,7 @@ use raft_log::{GroupSize, NodeId};
 use stable_store::Stable;
 use std::alloc::Global;
 use std::sync::Arc;
+use wire_bytes::Number;
 
 /// The two ends of the inboxes of all workers, node 1's first.
 #[derive(Drop)]
@@ -148,6 +149,7 @@ fn worker_loop<M: Marking, G: Drop, O: Outlet<M::Effect>>(
         forwarded: None,
         round: Round::new(alloc),
         told: None,
+        seen: Number::new(0),
         beaten: None,
         may_wait: false,
     })

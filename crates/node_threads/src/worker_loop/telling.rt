@@ -1,6 +1,6 @@
 //! What a worker tells: the workers whose nodes it posted to, and its outlet.
-ghost use Rattle.std.specs.Prelude.{◌≡◌, ◌↔◌, IsTrue};
-ghost use Rattle.node_threads.specs.Reports.{IsStatusOf, leads_in, told_fault};
+ghost use Rattle.std.specs.Prelude.{◌≡◌, ◌<◌, ◌↔◌, IsTrue};
+ghost use Rattle.node_threads.specs.Reports.{IsStatusOf, grown, leads_in, told_fault};
 
 use crate::job::{Job, put};
 use crossbeam_channel::Sender;
@@ -60,6 +60,24 @@ impl Told {
     {
         is_same_status(&self.status, &other.status)
             && is_same_progress(&self.progress, &other.progress)
+    }
+
+    /// Whether nothing else would be told now than that the log grew, by entries that are not agreed yet, and
+    /// how many notes are done and how often a leader was heard.
+    pub fn has_grown_alone(&self, now: &Told) -> bool
+        ensures { IsTrue result ↔ (now.now.status.commit < now.now.status.last)
+            × (grown self.now now.now ≡ now.now) }
+    {
+        let status = Status {
+            last: now.status.last,
+            ..self.status
+        };
+        let progress = Progress {
+            done: now.progress.done,
+            contacts: now.progress.contacts,
+            ..self.progress
+        };
+        now.status.commit < now.status.last && Told { status, progress }.is_same(now)
     }
 }
 
