@@ -73,11 +73,11 @@ module _ {Setup Hosted Store B : Type 0} (k : Keeper Store B) where
     pub begins : Begins size (MayHaveStood k store) n.state
     pub holds : Holds k n.store n.state
 
-  -- what a start answers; a refusal says that all boots were made
+  -- what a start answers; where it went down, for a cause that what became of the store tells, and a refusal says that all boots were made
   abbrev pub IsStarted : ℕ → ℕ → Setup → Store → Result (Parts Setup Hosted Store B) NodeFault → Type 0
   IsStarted id size setup store (Ok n) = IsFirst id size setup store n
   IsStarted id size setup store (Err (Down cause)) =
-      (now : Condition) × (now.honest ≡ (k.condition store).honest) × MayFail k store now (Down cause)
+      (new : Store) × ((k.condition new).honest ≡ (k.condition store).honest) × MayFail k store (k.condition new) (Down cause)
   IsStarted id size setup store (Err (Refused refusal)) = MayFail k store (k.condition store) (Refused refusal)
 
   -- by what a restart answers; where it fails the node shows the state from before, and is down
