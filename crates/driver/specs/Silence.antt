@@ -1,5 +1,5 @@
 -- What time brings to a client.
-use Rattle.std.specs.Prelude.{◌≡◌, ◌&&◌, ◌||◌, ℕ, Bool, true, false, not, codes, if◌then◌else◌, List, [], ◌∷◌, ◌++◌}
+use Rattle.std.specs.Prelude.{◌*◌, ◌≡◌, ◌&&◌, ◌||◌, ℕ, Bool, true, false, not, codes, if◌then◌else◌, List, [], ◌∷◌, ◌++◌}
 use Rattle.std.specs.Global.{Vec}
 use Rattle.client_gate.specs.declared.settings.Settings.{Settings}
 use Rattle.client_gate.specs.Calls.{Call, gate}
