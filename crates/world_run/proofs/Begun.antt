@@ -1,18 +1,17 @@
 -- Runs of a node over a store in memory.
-use Rattle.std.proofs.Common.{◌≡◌, ℕ, List, [], Bool, true, false, refl, ap, ◌∙◌}
+use Rattle.std.proofs.Common.{◌≡◌, ℕ, List, [], true, false, refl, ap, ◌∙◌}
 use Rattle.std.specs.Prelude.{None, Result, Ok, Err, is_err}
 use Rattle.raft_log.specs.declared.message.Message.{Message}
 use Rattle.raft_log.specs.declared.node_state.NodeState.{NodeState}
-use Rattle.raft_log.specs.Node.{Node}
 use Rattle.raft_log.specs.Seen.{seen}
 use Rattle.stable_store.specs.declared.memory_store.MemoryStore.{MemoryStore}
 use Rattle.stable_store.specs.declared.saved.Saved.{Saved}
 use Rattle.stable_store.specs.Stores.{nothing_saved}
 use Rattle.raft_node.specs.declared.node_fault.NodeFault.{NodeFault}
-use Rattle.raft_node.specs.Parts.{Holds, Keeper, keeper, Parts, saved_by, size_of}
-use Rattle.raft_node.specs.Raft.{newborn, restarted}
-use Rattle.raft_node.specs.Starting.{Begins, IsFirst, IsRestarted, MayHaveStood, begun}
-use Rattle.world_run.specs.Groups.{CellParts, HasBegunAnew, node_in}
+use Rattle.raft_node.specs.Parts.{Holds, Keeper, keeper, Parts, size_of}
+use Rattle.raft_node.specs.Raft.{newborn}
+use Rattle.raft_node.specs.Starting.{Begins, IsRestarted, MayHaveStood, begun}
+use Rattle.world_run.specs.Groups.{HasBegunAnew}
 
 -- the store in memory, as the laws of a store see it
 abbrev memory : (B : Type 0) → Keeper (MemoryStore B) B

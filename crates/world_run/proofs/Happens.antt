@@ -15,7 +15,7 @@ use Rattle.world_run.specs.declared.told.Doing.{Doing}
 use Rattle.world_run.specs.declared.outcome.Outcome.{Outcome}
 use Rattle.world_run.specs.declared.outcome.Outcome.TheVariants.{Missing}
 use Rattle.world_run.specs.Groups.{CellParts, HasHappened, HasOwnedAt, nodes_in}
-use Rattle.world_run.specs.Told.{does, delivered, doing_of, input_of, told_act}
+use Rattle.world_run.specs.Told.{delivered, doing_of, input_of, told_act}
 use Rattle.world_run.specs.World as world
 
 module _ (M : Machine) where

@@ -1,5 +1,5 @@
 -- What a node's calls come to, with all that the node sent.
-use Rattle.std.proofs.Common.{◌≡◌, ℕ, zero, suc, Bool, true, false, List, [], ◌++◌, length, take, append-nil, refl, sym, ap, ◌∙◌, subst, arith}
+use Rattle.std.proofs.Common.{◌≡◌, ℕ, zero, suc, true, false, List, [], ◌++◌, length, take, append-nil, refl, sym, ap, ◌∙◌, subst, arith}
 use Rattle.std.specs.Prelude.{None, Result, Ok, Err}
 use Rattle.raft_log.specs.declared.message.Message.{Message}
 use Rattle.raft_log.specs.Node.{Node}
@@ -17,7 +17,6 @@ use Rattle.raft_node.specs.Stepping.{IsDone, IsDeclined, IsLooked, IsSameNode, I
 use Rattle.raft_node.specs.Steps.{Act, Acts, Restarts, Stops, Looks, Out, Quiet, Left, Turn, refused}
 use Rattle.std.proofs.Math.Seq.{take-append_seam}
 use Rattle.raft_node.specs.Raft.{restarted}
-use Rattle.raft_node.specs.Steps as steps
 use Rattle.world_run.specs.declared.outcome.Outcome.{Outcome}
 use Rattle.world_run.specs.declared.outcome.Outcome.TheVariants.{Looked, Refused, Quiet as Nothing}
 use Rattle.world_run.specs.Groups.{CellParts, HasActedUnsent, HasBegunAnew, HasOwned, node_in}

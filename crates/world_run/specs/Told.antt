@@ -1,5 +1,5 @@
 -- Events as the code has them, what each is by the definitions, and what happens by it to which node.
-use Rattle.std.specs.Prelude.{ℕ, Bool, List, map, Option, None, Some}
+use Rattle.std.specs.Prelude.{ℕ, List, map, Option, None, Some}
 use Rattle.raft_log.specs.declared.message.Message.{Message}
 use Rattle.raft_log.specs.Lists.{item}
 use Rattle.raft_log.specs.Node.{Node}

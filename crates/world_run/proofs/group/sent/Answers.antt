@@ -1,4 +1,4 @@
-use Rattle.std.proofs.Common.{◌≡◌, ◌≤◌, ◌-◌, length, get_or, ap, ◌∙◌, arith}
+use Rattle.std.proofs.Common.{◌≤◌, ◌-◌, length, get_or, ap, ◌∙◌, arith}
 use Rattle.raft_log.proofs.Sending.{ok_map}
 use Rattle.world_run.proofs.Cells.{sent_at, no_sender_at}
 use Rattle.world_run.proofs.group.sent.Goals as goal

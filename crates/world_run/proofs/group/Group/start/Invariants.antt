@@ -1,4 +1,4 @@
-use Rattle.std.proofs.Common.{◌≡◌, ◌+◌, ◌-◌, ◌≤◌, length, replicate}
+use Rattle.std.proofs.Common.{◌≡◌, ◌-◌, ◌≤◌, length, replicate}
 use Rattle.raft_node.specs.Raft.{newborn}
 use Rattle.world_run.specs.Groups.{AreCells, nodes_in}
 use Rattle.world_run.proofs.group.Group.start.Given as goal

@@ -1,4 +1,4 @@
-use Rattle.std.proofs.Common.{ℕ, Err, refl, sym, ap, subst, ◌∙◌}
+use Rattle.std.proofs.Common.{ℕ, Err, refl, sym, subst, ◌∙◌}
 use Rattle.world_run.specs.declared.outcome.WorldFault.TheVariants.{Memory}
 use Rattle.std.proofs.lemmas.Bool.{cond-true}
 use Rattle.world_run.specs.Groups.{HasHappened, IsGroup}
