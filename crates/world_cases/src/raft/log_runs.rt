@@ -16,12 +16,11 @@ struct Pair {
     list: Vec<Entry<u8>>,
 }
 
-impl Copied for Pair {
-    fn copy(&self, alloc: Global) -> Result<Self, AllocError> {
-        let log = self.log.copy(alloc)?;
-        let list = copied_all(alloc, &self.list)?;
-        Ok(Pair { log, list })
-    }
+/// A copy of both.
+fn copied(alloc: Global, pair: &Pair) -> Result<Pair, AllocError> {
+    let log = pair.log.copy(alloc)?;
+    let list = copied_all(alloc, &pair.list)?;
+    Ok(Pair { log, list })
 }
 
 /// The next of numbers without much order.
@@ -75,7 +74,12 @@ fn repair_list(
 }
 
 /// The log is repaired, and so is the list.
-fn repair(alloc: Global, pair: &mut Pair, prev: usize, entries: Vec<Entry<u8>>) -> Result<(), AllocError> {
+fn repair(
+    alloc: Global,
+    pair: &mut Pair,
+    prev: usize,
+    entries: Vec<Entry<u8>>,
+) -> Result<(), AllocError> {
     let len = pair.log.len().value() as usize;
     if prev <= len && entries.len() <= ENTRY_LIMIT - len {
         repair_list(&mut pair.list, prev, copied_all(alloc, &entries)?)?;
@@ -85,7 +89,12 @@ fn repair(alloc: Global, pair: &mut Pair, prev: usize, entries: Vec<Entry<u8>>) 
 }
 
 /// These entries stand behind so many, in both.
-fn put_behind(alloc: Global, pair: &mut Pair, keep: usize, entries: Vec<Entry<u8>>) -> Result<(), AllocError> {
+fn put_behind(
+    alloc: Global,
+    pair: &mut Pair,
+    keep: usize,
+    entries: Vec<Entry<u8>>,
+) -> Result<(), AllocError> {
     let len = pair.log.len().value() as usize;
     if keep <= len && entries.len() <= ENTRY_LIMIT - len {
         let mut added = copied_all(alloc, &entries)?;
@@ -116,7 +125,12 @@ fn place(seed: &mut u64, len: usize) -> usize {
 }
 
 /// Entries of the log behind a place, the last few of them other ones.
-fn nearly_standing(alloc: Global, seed: &mut u64, log: &Log<u8>, prev: usize) -> Result<Vec<Entry<u8>>, AllocError> {
+fn nearly_standing(
+    alloc: Global,
+    seed: &mut u64,
+    log: &Log<u8>,
+    prev: usize,
+) -> Result<Vec<Entry<u8>>, AllocError> {
     let mut entries = Vec::new(alloc);
     if prev <= log.len().value() as usize {
         entries = log.copied_behind(Number::new(prev as u64), (next(seed) % 200) as usize)?;
@@ -219,7 +233,10 @@ fn has_runs(runs: &[Run], list: &[Entry<u8>]) -> bool {
     for place in 0..list.len() {
         let begins = place == 0 || list[place - 1].term != list[place].term;
         if begins {
-            if run >= runs.len() || runs[run].first.value() as usize != place + 1 || runs[run].term != list[place].term {
+            if run >= runs.len()
+                || runs[run].first.value() as usize != place + 1
+                || runs[run].term != list[place].term
+            {
                 return false;
             }
             run += 1;
@@ -231,10 +248,12 @@ fn has_runs(runs: &[Run], list: &[Entry<u8>]) -> bool {
 /// Whether each answer of the log is that of the list.
 fn is_same(seed: &mut u64, pair: &Pair) -> Result<bool, AllocError> {
     let behind = place(seed, pair.list.len());
-    Ok(has_entries(&pair.log, &pair.list)
-        && has_last(&pair.log, &pair.list)
-        && has_copies(&pair.log, &pair.list, behind)?
-        && has_runs(pair.log.runs(), &pair.list))
+    Ok(
+        has_entries(&pair.log, &pair.list)
+            && has_last(&pair.log, &pair.list)
+            && has_copies(&pair.log, &pair.list, behind)?
+            && has_runs(pair.log.runs(), &pair.list),
+    )
 }
 
 /// A log without entries.
@@ -253,17 +272,17 @@ fn a_log_is_the_list_of_its_entries(rt: HostRuntime) -> Result<(), Fail> {
     let mut pair = no_entries(alloc);
     let entries = some_entries(alloc, &mut seed, 1_020)?;
     put_behind(alloc, &mut pair, 0, entries)?;
-    let mut copy = pair.copy(alloc)?;
+    let mut copy = copied(alloc, &pair)?;
     for count in 0..2_000u64 {
         change(alloc, &mut seed, &mut pair)?;
         assert!(rt; is_same(&mut seed, &pair)?);
         if count % 10 == 0 {
             // the copy is as it was, and goes on as the log
             assert!(rt; is_same(&mut seed, &copy)?);
-            copy = pair.copy(alloc)?;
+            copy = copied(alloc, &pair)?;
         }
         if count % 30 == 7 {
-            pair = copy.copy(alloc)?;
+            pair = copied(alloc, &copy)?;
         }
     }
     Ok(())
@@ -279,7 +298,10 @@ fn of_terms(alloc: Global, terms: &[u8]) -> Result<Vec<Entry<u8>>, AllocError> {
     let mut entries = Vec::new(alloc);
     for term in terms {
         let body = LoggedBody::new(alloc, 0)?;
-        entries.push(Entry { term: Number::new(*term as u64), body })?;
+        entries.push(Entry {
+            term: Number::new(*term as u64),
+            body,
+        })?;
     }
     Ok(entries)
 }
