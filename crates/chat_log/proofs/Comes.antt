@@ -1,5 +1,5 @@
 -- Entries whose bodies come one behind the other.
-use Rattle.std.proofs.Common.{◌≡◌, ℕ, suc, ◌+◌, ◌<◌, List, [], ◌∷◌, Some, length, take, get_or, map, sym, ap, subst, ◌∙◌, add-one, arith, length-take}
+use Rattle.std.proofs.Common.{◌≡◌, ℕ, ◌+◌, ◌<◌, List, [], ◌∷◌, Some, length, take, get_or, map, sym, ap, subst, ◌∙◌, add-one, arith, length-take}
 use Rattle.std.proofs.lemmas.List.{take_more, map-append, length-map}
 use Rattle.std.proofs.lemmas.Option.{get_or_from_slice_get}
 use Rattle.raft_log.specs.declared.entry.Entry.{Entry}
