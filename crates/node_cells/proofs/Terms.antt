@@ -52,23 +52,23 @@ module _ {B : Type 0} where
   terms_more (x ∷ log) i k lt is =
       sym (map_more (λ (e : Entry B). e.term) (x ∷ log) i x lt ∙ ap (λ (t : ℕ). terms_of (take i (x ∷ log)) ++ t ∷ []) (term_there (x ∷ log) i k x lt is))
 
-  compared : (ts : List ℕ) (log : List (Entry B)) (i k : ℕ) → i < length ts → i < length log → k ≡ suc i
-      → same_terms (drop i ts) (drop i log) ≡ cond (eqb (get_or ts i 0) (term_at log k)) (same_terms (drop (suc i) ts) (drop (suc i) log)) false
-  compared ts [] i k lt lt' is = absurd (omega arith)
-  compared ts (x ∷ log) i k lt lt' is =
+  compared : (ts : List ℕ) (log : List (Entry B)) (i k d : ℕ) → i < length ts → i < length log → k ≡ suc i
+      → same_terms (drop i ts) (drop i log) ≡ cond (eqb (get_or ts i d) (term_at log k)) (same_terms (drop (suc i) ts) (drop (suc i) log)) false
+  compared ts [] i k d lt lt' is = absurd (omega arith)
+  compared ts (x ∷ log) i k d lt lt' is =
       let rest : Bool = same_terms (drop (suc i) ts) (drop (suc i) (x ∷ log)) in
-      ap (λ (z : List ℕ). same_terms z (drop i (x ∷ log))) (drop-cons ts i 0 lt)
-      ∙ (ap (λ (z : List (Entry B)). same_terms (get_or ts i 0 ∷ drop (suc i) ts) z) (drop-cons (x ∷ log) i x lt')
-      ∙ ap (λ (t : ℕ). cond (eqb (get_or ts i 0) t) rest false) (term_there (x ∷ log) i k x lt' is))
+      ap (λ (z : List ℕ). same_terms z (drop i (x ∷ log))) (drop-cons ts i d lt)
+      ∙ (ap (λ (z : List (Entry B)). same_terms (get_or ts i d ∷ drop (suc i) ts) z) (drop-cons (x ∷ log) i x lt')
+      ∙ ap (λ (t : ℕ). cond (eqb (get_or ts i d) t) rest false) (term_there (x ∷ log) i k x lt' is))
 
   -- one more term is compared
-  pub same_more : (ts : List ℕ) (log : List (Entry B)) (i k j : ℕ) → i < length ts → i < length log → k ≡ suc i → j ≡ suc i → term_at log k ≡ get_or ts i 0
+  pub same_more : (ts : List ℕ) (log : List (Entry B)) (i k j d : ℕ) → i < length ts → i < length log → k ≡ suc i → j ≡ suc i → term_at log k ≡ get_or ts i d
       → same_terms (drop j ts) (drop j log) ≡ same_terms (drop i ts) (drop i log)
-  same_more ts log i k j lt lt' is next same =
+  same_more ts log i k j d lt lt' is next same =
       ap (λ (n : ℕ). same_terms (drop n ts) (drop n log)) next
-      ∙ sym (compared ts log i k lt lt' is ∙ cond-true (eqb (get_or ts i 0) (term_at log k)) (same_terms (drop (suc i) ts) (drop (suc i) log)) false (eq-eqb (get_or ts i 0) (term_at log k) (sym same)))
+      ∙ sym (compared ts log i k d lt lt' is ∙ cond-true (eqb (get_or ts i d) (term_at log k)) (same_terms (drop (suc i) ts) (drop (suc i) log)) false (eq-eqb (get_or ts i d) (term_at log k) (sym same)))
 
-  pub same_other : (ts : List ℕ) (log : List (Entry B)) (i k : ℕ) → i < length ts → i < length log → k ≡ suc i → term_at log k ≢ get_or ts i 0 → same_terms (drop i ts) (drop i log) ≡ false
-  same_other ts log i k lt lt' is other =
-      compared ts log i k lt lt' is
-      ∙ cond-false (eqb (get_or ts i 0) (term_at log k)) (same_terms (drop (suc i) ts) (drop (suc i) log)) false (ne_eqb (get_or ts i 0) (term_at log k) (λ h. other (sym h)))
+  pub same_other : (ts : List ℕ) (log : List (Entry B)) (i k d : ℕ) → i < length ts → i < length log → k ≡ suc i → term_at log k ≢ get_or ts i d → same_terms (drop i ts) (drop i log) ≡ false
+  same_other ts log i k d lt lt' is other =
+      compared ts log i k d lt lt' is
+      ∙ cond-false (eqb (get_or ts i d) (term_at log k)) (same_terms (drop (suc i) ts) (drop (suc i) log)) false (ne_eqb (get_or ts i d) (term_at log k) (λ h. other (sym h)))

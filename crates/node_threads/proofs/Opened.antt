@@ -42,7 +42,7 @@ are_new e ps new =
 module _ {Setup Store B : Type 0} (k : Keeper Store B) (size : ℕ) (setup : Setup) where
   not_started : (Hosted : Type 0) (node : ℕ) (store : Store) (fault : NodeFault) → IsStarted {Hosted = Hosted} k node size setup store (Err fault)
       → IsNotOpened k size setup node store (Node fault)
-  not_started Hosted node store (Down cause) h = tt
+  not_started Hosted node store (Down cause) h = h
   not_started Hosted node store (Refused refusal) h = h
 
 module _ {Setup Store B L T U : Type 0} (Hosted E P : Type 0) (k : Keeper Store B) where
