@@ -16,7 +16,7 @@ loop-before-preserved c =
     c.max-greatest.ensures ∙ ap (λ (n : ℕ). max c.loop-before.greatest n) (c.boot_in.ensures.boot ∙ ap (λ (b : TowerBody). boot_in c.args.node b) c.get.ensures.value)
     in (
       one_more_at c.args.node c.loop-before.greatest c.loop-before.before c.new.result (c.loop-before.before + 1) c.max-greatest.result c.args.log.now e
-      index next lt c.body-body.ensures most c.loop-before.invariant.0,
+          index next lt c.body-body.ensures most c.loop-before.invariant.0,
       omega (arith, c.max-greatest.ensures, c.boot_in.ensures.limit, c.loop-before.invariant.1),
     )
 

@@ -17,13 +17,17 @@ returns g c =
 pub returns-in_err-body : goal.returns-in_err-body
 returns-in_err-body g c =
     let p = err_from_is_err_and c.from_residual.result c.from_residual.ensures.1 in
-    rw (p.1, p.2) (λ sent. (ask c.args.id (node_of c.args.standing c.args.log.now sent) c.args.body,
-    ask_goes (node_of c.args.standing c.args.log.now sent) c.args.id c.args.source c.args.body
-    (sym c.may_ask.ensures ∙ c.if-not-may_ask.false) (sym c.finds_leader.ensures ∙ c.if-not-finds_leader.false) (sym c.has_no_room.ensures ∙ c.if-has_no_room.false)))
+    rw (p.1, p.2) (λ sent. (
+      ask c.args.id (node_of c.args.standing c.args.log.now sent) c.args.body,
+      ask_goes (node_of c.args.standing c.args.log.now sent) c.args.id c.args.source c.args.body
+          (sym c.may_ask.ensures ∙ c.if-not-may_ask.false) (sym c.finds_leader.ensures ∙ c.if-not-finds_leader.false) (sym c.has_no_room.ensures ∙ c.if-has_no_room.false),
+    ))
 
 pub returns-in_err-ask : goal.returns-in_err-ask
 returns-in_err-ask g c =
     let p = err_from_is_err_and c.from_residual-in_err-ask.result c.from_residual-in_err-ask.ensures.1 in
-    rw (p.1, p.2) (λ sent. (ask c.args.id (node_of c.args.standing c.args.log.now sent) c.args.body,
-    ask_goes (node_of c.args.standing c.args.log.now sent) c.args.id c.args.source c.args.body
-    (sym c.may_ask.ensures ∙ c.if-not-may_ask.false) (sym c.finds_leader.ensures ∙ c.if-not-finds_leader.false) (sym c.has_no_room.ensures ∙ c.if-has_no_room.false)))
+    rw (p.1, p.2) (λ sent. (
+      ask c.args.id (node_of c.args.standing c.args.log.now sent) c.args.body,
+      ask_goes (node_of c.args.standing c.args.log.now sent) c.args.id c.args.source c.args.body
+          (sym c.may_ask.ensures ∙ c.if-not-may_ask.false) (sym c.finds_leader.ensures ∙ c.if-not-finds_leader.false) (sym c.has_no_room.ensures ∙ c.if-has_no_room.false),
+    ))

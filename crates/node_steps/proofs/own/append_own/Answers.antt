@@ -15,11 +15,15 @@ returns g c =
 pub returns-in_err-body : goal.returns-in_err-body
 returns-in_err-body g c =
     let p = err_from_is_err_and c.from_residual.result c.from_residual.ensures.1 in
-    rw (p.1, p.2) (λ sent. (on_forward (record (node_of c.args.standing c.args.log.now sent) { live = c.args.live; attempts = c.args.attempts }) c.args.body,
-    own_goes_on (node_of c.args.standing c.args.log.now sent) c.args.live c.args.attempts c.args.body (sym c.is_full.ensures ∙ c.if-is_full.false)))
+    rw (p.1, p.2) (λ sent. (
+      on_forward (record (node_of c.args.standing c.args.log.now sent) { live = c.args.live; attempts = c.args.attempts }) c.args.body,
+      own_goes_on (node_of c.args.standing c.args.log.now sent) c.args.live c.args.attempts c.args.body (sym c.is_full.ensures ∙ c.if-is_full.false),
+    ))
 
 pub returns-in_err-on_forward : goal.returns-in_err-on_forward
 returns-in_err-on_forward g c =
     let p = err_from_is_err_and c.from_residual-in_err-on_forward.result c.from_residual-in_err-on_forward.ensures.1 in
-    rw (p.1, p.2) (λ sent. (on_forward (record (node_of c.args.standing c.args.log.now sent) { live = c.args.live; attempts = c.args.attempts }) c.args.body,
-    own_goes_on (node_of c.args.standing c.args.log.now sent) c.args.live c.args.attempts c.args.body (sym c.is_full.ensures ∙ c.if-is_full.false)))
+    rw (p.1, p.2) (λ sent. (
+      on_forward (record (node_of c.args.standing c.args.log.now sent) { live = c.args.live; attempts = c.args.attempts }) c.args.body,
+      own_goes_on (node_of c.args.standing c.args.log.now sent) c.args.live c.args.attempts c.args.body (sym c.is_full.ensures ∙ c.if-is_full.false),
+    ))

@@ -15,5 +15,7 @@ returns g c =
 pub returns-in_err-begin : goal.returns-in_err-begin
 returns-in_err-begin g c =
     let p = err_from_is_err_and c.from_residual.result c.from_residual.ensures.1 in
-    rw (p.1, p.2) (λ sent. (timed_out c.args.standing.peers.size c.args.id (node_of c.args.standing c.args.log.now sent),
-    election_begins (node_of c.args.standing c.args.log.now sent) c.args.standing.peers.size c.args.id (sym c.is_spent.ensures ∙ c.if-is_spent.false)))
+    rw (p.1, p.2) (λ sent. (
+      timed_out c.args.standing.peers.size c.args.id (node_of c.args.standing c.args.log.now sent),
+      election_begins (node_of c.args.standing c.args.log.now sent) c.args.standing.peers.size c.args.id (sym c.is_spent.ensures ∙ c.if-is_spent.false),
+    ))
