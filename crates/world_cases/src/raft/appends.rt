@@ -132,8 +132,8 @@ fn candidate() -> Result<Standing, Fail> {
 /// What the vote of node 5 makes of it, with a log of one entry of term 1.
 fn elected(alloc: Global) -> Result<Step<u8>, Fail> {
     let log = log_of(alloc, &[1])?;
-    let (from, blank) = (NodeId::new(5), LoggedBody::new(alloc, 0)?);
-    Ok(on_vote(alloc, candidate()?, &log, from, number(3), true, blank)?)
+    let from = NodeId::new(5);
+    Ok(on_vote(alloc, candidate()?, &log, from, number(3), true, 0)?)
 }
 
 fn check_elected(rt: &impl Abort, step: &Step<u8>) {
@@ -146,11 +146,11 @@ fn leader(alloc: Global) -> Result<NodeState<u8>, Fail>
     ensures { IfOk result (λ s. IsWithinLog s.standing s.log) }
 {
     let mut log = Log::new(alloc);
-    let (from, blank) = (NodeId::new(5), LoggedBody::new(alloc, 0)?);
+    let from = NodeId::new(5);
     let mut candidate = candidate()?;
     candidate.commit = number(0);
     candidate.position = Position::Candidate;
-    let step = on_vote(alloc, candidate, &log, from, number(3), true, blank)?;
+    let step = on_vote(alloc, candidate, &log, from, number(3), true, 0)?;
     let standing = step.standing;
     log.put_behind(step.keep, step.entries)?;
     Ok(NodeState { standing, log })

@@ -21,8 +21,11 @@ fn number(value: u8) -> Number
     Number::new(value as u64)
 }
 
+/// What is asked, and what a leader's first entry has.
+const BODY: u8 = 9;
+
 fn body(alloc: Global) -> Result<LoggedBody<u8>, AllocError> {
-    LoggedBody::new(alloc, 9)
+    LoggedBody::new(alloc, BODY)
 }
 
 /// A node of term 4 in a group of three, in its second run, which opened one session.
@@ -124,7 +127,7 @@ fn ask(alloc: Global, position: Position, source: Source) -> Result<Option<Refus
     let log = log(alloc)?;
     let id = NodeId::new(1);
     let standing = standing(position)?;
-    Ok(refusal(&on_ask(alloc, standing, &log, id, source, body(alloc)?)))
+    Ok(refusal(&on_ask(alloc, standing, &log, id, source, BODY)))
 }
 
 #[test]
@@ -148,7 +151,7 @@ fn an_ask_is_refused_where_no_leader_is_known_or_its_origin_is_another(
 fn appended(alloc: Global) -> Result<Step<u8>, Fail> {
     let leader = standing(Position::Leader(None))?;
     let (id, source) = (NodeId::new(1), Source::Run(1, 2));
-    prepared(on_ask(alloc, leader, &log(alloc)?, id, source, body(alloc)?))
+    prepared(on_ask(alloc, leader, &log(alloc)?, id, source, BODY))
 }
 
 /// A step leaves this session and adds an entry of term 4 with this body.
@@ -227,7 +230,7 @@ fn requested(alloc: Global, to: u8) -> Result<(u64, Option<u8>), Fail> {
         to,
         kind,
     };
-    let step = on_message(alloc, &state, NodeId::new(1), message, body(alloc)?)?;
+    let step = on_message(alloc, &state, NodeId::new(1), message, BODY)?;
     Ok(voted(&step))
 }
 
