@@ -1,4 +1,3 @@
 mod Seating
 pub mod New
 pub mod Lengths
-mod Appending
