@@ -1,5 +1,5 @@
 -- What a worker tells its outlet.
-use Rattle.std.specs.Prelude.{◌≡◌, ◌↔◌, ◌&&◌, ◌||◌, ◌++◌, ℕ, length, Bool, true, false, not, nat_eq, nat_lt, List, Option, Some, None}
+use Rattle.std.specs.Prelude.{◌≡◌, ◌↔◌, ◌<◌, ◌≤◌, ◌-◌, ◌&&◌, ◌||◌, ◌++◌, ⊥, ℕ, length, Bool, true, false, not, nat_eq, nat_lt, List, Option, Some, None}
 use Rattle.raft_log.specs.declared.role.Role.{Role}
 use Rattle.raft_log.specs.declared.role.Role.TheVariants.{Follower, Candidate, Leader}
 use Rattle.raft_log.specs.Positions.{role_of}
@@ -22,6 +22,7 @@ use Rattle.node_threads.specs.declared.beats.Beats.{Beats}
 use Rattle.node_threads.specs.declared.beats.Beats.TheVariants.{OnNews, WhenTold}
 use Rattle.node_threads.specs.declared.worker_loop.Beaten.{Beaten}
 use Rattle.node_threads.specs.declared.worker_loop.telling.Told.{Told}
+use Rattle.node_threads.specs.declared.worker_loop.telling.TheConstants.{MOST_UNTOLD}
 use Rattle.node_threads.specs.declared.job.Job.{Job}
 use Rattle.node_threads.specs.declared.job.Job.TheVariants as job
 
@@ -32,6 +33,16 @@ grown told now =
       status = record told.status { last = now.status.last };
       progress = record told.progress { done = now.progress.done; contacts = now.progress.contacts };
     }
+
+-- nothing else is new behind what was told last than that the log grew, by entries that are not agreed yet, how often a leader was heard, and that a few notes are done
+abbrev pub IsGrownAlone : Told → Told → Type 0
+IsGrownAlone told now =
+    (now.status.commit < now.status.last) × ((now.progress.done - told.progress.done) ≤ MOST_UNTOLD) × (grown told now ≡ now)
+
+-- so it is, where anything was told
+abbrev pub HasGrownAlone : Option Told → Told → Type 0
+HasGrownAlone None now = ⊥
+HasGrownAlone (Some told) now = IsGrownAlone told now
 
 -- whether a note counts as done once the worker did it: all but what another worker tells
 abbrev pub is_counted : {B L : Type 0} → Note B L → Bool

@@ -1,9 +1,7 @@
 //! What a worker has beside its node's cell, and what it does with it, in rounds.
-ghost use Rattle.std.specs.Prelude.{◌≡◌, ◌&&◌, [], false, length, true};
+ghost use Rattle.std.specs.Prelude.{◌≡◌, ◌&&◌, false, length, true};
 ghost use Rattle.node_threads.specs.Homes.{IsSameHome};
-ghost use Rattle.node_threads.specs.Reports.{IsReport, IsStatusOf, TellsFirst, has_grown, is_news};
-ghost use Rattle.node_threads.specs.Requests.{in_term, queue_of};
-ghost use Rattle.node_threads.specs.Rounds.{leaving};
+ghost use Rattle.node_threads.specs.Reports.{has_grown, is_news};
 ghost use Rattle.node_threads.specs.Work.{HasBeaten, HasGoneRound};
 
 use crate::beats::Beats;
@@ -12,19 +10,16 @@ use crate::job::Job;
 use crate::outlet::Outlet;
 use crate::worker_loop::requests::Requests;
 use crate::worker_loop::round::Round;
-use crate::worker_loop::telling::{Told, leads, status, wake};
+use crate::worker_loop::telling::{Told, leads, wake};
 use crossbeam_channel::{Receiver, Sender};
 use machine_laws::{Hosted, Machine, Marking};
 use marked_cells::MarkedCell;
 use node_cells::Upstream;
-use node_notes::{Progress, Report};
 use raft_log::NodeId;
 use raft_node::Described;
 use stable_store::Stable;
 use std::alloc::Global;
-use std::mem::replace;
 use std::sync::{Arc, Wait};
-use std::thread;
 use wire_bytes::Number;
 use world_views::NodeInput;
 
@@ -33,6 +28,7 @@ mod forwarding;
 mod gathering;
 mod jobs;
 mod messages;
+mod reporting;
 pub mod requests;
 pub mod round;
 mod telling;
@@ -66,6 +62,8 @@ pub struct WorkerLoop<M: Marking, G: Drop, O: Outlet<M::Effect>> {
     pub told: Option<Told>,
     /// The last index of its node's log as the round before ended.
     pub seen: Number,
+    /// Whether it did a beat that the clock ordered, and has not told so.
+    pub has_untold_beat: bool,
     /// What its node had where it sent last, as the leader of its term.
     pub beaten: Option<Beaten>,
     /// Whether nothing is left to do until a job comes.
@@ -183,107 +181,6 @@ impl<M: Marking, G: Gate + Drop, O: Outlet<M::Effect>> WorkerLoop<M, G, O> {
             }
         }
         self.round.woken = [false; 7];
-    }
-
-    /// Tells what is new. Growth of the log alone is told with what comes of it, or in the next round in
-    /// which the log does not grow: else the loop would wake for each entry twice. False where what was told
-    /// was not taken, or where more is to be told.
-    fn tell<R: Wait, S: Stable<M::Command>, U: Upstream>(
-        &mut self,
-        rt: &R,
-        cell: &MarkedCell<M, S, U>,
-    ) -> bool
-        ensures order { TellsFirst (leaving self.old.round) (leaving self.new.round) }
-        ensures all { result ≡ true → self.new.round.effects.items ≡ [] }
-    {
-        let now = self.stand(cell);
-        if !self.is_news(&now) || self.goes_on_growing(&now) {
-            return true;
-        }
-        let report = self.report(cell.id(), &now);
-        match self.outlet.report(rt, report) {
-            Ok(()) => {
-                self.told = Some(now);
-                self.round.go_on(self.alloc);
-                !self.round.has_news()
-            }
-            Err(back) => {
-                self.round.effects = back.effects;
-                thread::yield_now();
-                false
-            }
-        }
-    }
-
-    /// How the node stands, and how far its worker is.
-    fn stand<S: Stable<M::Command>, U: Upstream>(&mut self, cell: &MarkedCell<M, S, U>) -> Told
-        ensures status { IsStatusOf M.next_claim cell.now.parts result.status }
-        ensures progress { result.progress ≡ record {
-          done = self.old.done;
-          waiting = length self.old.requests.waiting.items;
-          lost = (in_term cell.now.parts.node.state.standing.term
-              (queue_of self.old.requests)).lost;
-          contacts = self.old.contacts;
-        } }
-        ensures requests { queue_of self.new.requests
-            ≡ in_term cell.now.parts.node.state.standing.term (queue_of self.old.requests) }
-        ensures round { self.new.round ≡ self.old.round }
-    {
-        let status = status(cell);
-        self.requests.see(status.term);
-        let progress = Progress {
-            done: self.done,
-            waiting: self.requests.waiting.len() as u64,
-            lost: self.requests.lost,
-            contacts: self.contacts,
-        };
-        Told { status, progress }
-    }
-
-    /// What is told, of what left and the first fault.
-    fn report(&mut self, node: NodeId, now: &Told) -> Report<M::Effect>
-        ensures report { IsReport node now.now self.old.round.effects.items self.old.round.fault
-            result }
-        ensures effects { self.new.round.effects.items ≡ [] }
-        ensures further { self.new.round.further ≡ self.old.round.further }
-    {
-        Report {
-            node,
-            status: now.status,
-            effects: replace(&mut self.round.effects, Vec::new(self.alloc)),
-            progress: now.progress,
-            fault: self.round.fault,
-        }
-    }
-
-    /// Whether the log grew in this round, and nothing else is to be told.
-    fn goes_on_growing(&mut self, now: &Told) -> bool
-        ensures none_leaves { result ≡ true → self.old.round.effects.items ≡ [] }
-        ensures round { self.new.round ≡ self.old.round }
-    {
-        let has_grown = self.seen < now.status.last;
-        self.seen = now.status.last;
-        if !has_grown || self.round.has_news() {
-            return false;
-        }
-        match &self.told {
-            Some(told) => told.has_grown_alone(now),
-            None => false,
-        }
-    }
-
-    /// Whether this is to be told: something leaves, a turn did nothing, or the node or its worker stands
-    /// as was not told last.
-    fn is_news(&self, now: &Told) -> bool
-        ensures { result ≡ false → self.now.round.effects.items ≡ [] }
-    {
-        if self.round.has_news() {
-            return true;
-        }
-        match &self.told {
-            Some(told) => !told.is_same(now),
-            None => true,
-        }
     }
 }
 

@@ -150,6 +150,7 @@ fn worker_loop<M: Marking, G: Drop, O: Outlet<M::Effect>>(
         round: Round::new(alloc),
         told: None,
         seen: Number::new(0),
+        has_untold_beat: false,
         beaten: None,
         may_wait: false,
     })

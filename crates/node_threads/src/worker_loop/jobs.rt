@@ -163,6 +163,7 @@ impl<M: Marking, G: Gate + Drop, O: Outlet<M::Effect>> WorkerLoop<M, G, O> {
                 let _ = cell.restart();
             }
             Note::Beat => {
+                self.has_untold_beat = true;
                 self.turn(rt, cell, NodeInput::Beat);
             }
             Note::Opened => {

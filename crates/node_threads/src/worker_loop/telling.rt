@@ -1,6 +1,6 @@
 //! What a worker tells: the workers whose nodes it posted to, and its outlet.
-ghost use Rattle.std.specs.Prelude.{◌≡◌, ◌<◌, ◌↔◌, IsTrue};
-ghost use Rattle.node_threads.specs.Reports.{IsStatusOf, grown, leads_in, told_fault};
+ghost use Rattle.std.specs.Prelude.{◌≡◌, ◌↔◌, IsTrue};
+ghost use Rattle.node_threads.specs.Reports.{IsGrownAlone, IsStatusOf, leads_in, told_fault};
 
 use crate::job::{Job, put};
 use crossbeam_channel::Sender;
@@ -11,6 +11,10 @@ use node_notes::{Note, Progress, Status};
 use raft_node::{Cause, NodeFault};
 use stable_store::Stable;
 use std::sync::Wait;
+
+/// The most notes that are done without that being told. The driver stops at 256 of which it does not know
+/// that they are done, and is to hear of them well before.
+const MOST_UNTOLD: u64 = 64;
 
 /// The worker of the node of this number is to look into its mailboxes.
 pub fn wake<M: Hosted>(rt: &impl Wait, inboxes: &[Sender<Job<M>>], node: u8) {
@@ -62,11 +66,10 @@ impl Told {
             && is_same_progress(&self.progress, &other.progress)
     }
 
-    /// Whether nothing else would be told now than that the log grew, by entries that are not agreed yet, and
-    /// how many notes are done and how often a leader was heard.
+    /// Whether nothing else would be told now than that the log grew, by entries that are not agreed yet, how
+    /// often a leader was heard, and that a few notes are done.
     pub fn has_grown_alone(&self, now: &Told) -> bool
-        ensures { IsTrue result ↔ (now.now.status.commit < now.now.status.last)
-            × (grown self.now now.now ≡ now.now) }
+        ensures { IsTrue result ↔ IsGrownAlone self.now now.now }
     {
         let status = Status {
             last: now.status.last,
@@ -77,7 +80,9 @@ impl Told {
             contacts: now.progress.contacts,
             ..self.progress
         };
-        now.status.commit < now.status.last && Told { status, progress }.is_same(now)
+        now.status.commit < now.status.last
+            && now.progress.done.saturating_sub(self.progress.done) <= MOST_UNTOLD
+            && Told { status, progress }.is_same(now)
     }
 }
 

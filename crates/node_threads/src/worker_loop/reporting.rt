@@ -1,0 +1,138 @@
+//! What a worker tells its outlet, once a round.
+ghost use Rattle.std.specs.Prelude.{◌≡◌, ◌<◌, ◌↔◌, [], IsTrue, None, false, length, true};
+ghost use Rattle.node_threads.specs.Reports.{HasGrownAlone, IsReport, IsStatusOf, TellsFirst};
+ghost use Rattle.node_threads.specs.Requests.{in_term, queue_of};
+ghost use Rattle.node_threads.specs.Rounds.{leaving};
+
+use crate::gate::Gate;
+use crate::outlet::Outlet;
+use crate::worker_loop::WorkerLoop;
+use crate::worker_loop::telling::{Told, status};
+use machine_laws::{Hosted, Machine, Marking};
+use marked_cells::MarkedCell;
+use node_cells::Upstream;
+use node_notes::{Progress, Report};
+use raft_log::NodeId;
+use raft_node::Described;
+use stable_store::Stable;
+use std::mem::replace;
+use std::sync::Wait;
+use std::thread;
+
+impl<M: Marking, G: Gate + Drop, O: Outlet<M::Effect>> WorkerLoop<M, G, O> {
+    /// Tells what is new. Growth of the log alone is told with what comes of it, with the next beat of the
+    /// clock, or in the next round in which the log does not grow: else the loop would wake for each entry
+    /// twice. False where what was told was not taken, or where more is to be told.
+    pub fn tell<R: Wait, S: Stable<M::Command>, U: Upstream>(
+        &mut self,
+        rt: &R,
+        cell: &MarkedCell<M, S, U>,
+    ) -> bool
+        ensures order { TellsFirst (leaving self.old.round) (leaving self.new.round) }
+        ensures all { result ≡ true → self.new.round.effects.items ≡ [] }
+    {
+        let now = self.stand(cell);
+        let has_grown = self.has_grown(&now);
+        if !self.is_news(&now) || (has_grown && self.may_tell_later(&now)) {
+            return true;
+        }
+        self.has_untold_beat = false;
+        let report = self.report(cell.id(), &now);
+        match self.outlet.report(rt, report) {
+            Ok(()) => {
+                self.told = Some(now);
+                self.round.go_on(self.alloc);
+                !self.round.has_news()
+            }
+            Err(back) => {
+                self.round.effects = back.effects;
+                thread::yield_now();
+                false
+            }
+        }
+    }
+
+    /// How the node stands, and how far its worker is.
+    fn stand<S: Stable<M::Command>, U: Upstream>(&mut self, cell: &MarkedCell<M, S, U>) -> Told
+        ensures status { IsStatusOf M.next_claim cell.now.parts result.status }
+        ensures progress { result.progress ≡ record {
+          done = self.old.done;
+          waiting = length self.old.requests.waiting.items;
+          lost = (in_term cell.now.parts.node.state.standing.term
+              (queue_of self.old.requests)).lost;
+          contacts = self.old.contacts;
+        } }
+        ensures requests { queue_of self.new.requests
+            ≡ in_term cell.now.parts.node.state.standing.term (queue_of self.old.requests) }
+        ensures round { self.new.round ≡ self.old.round }
+    {
+        let status = status(cell);
+        self.requests.see(status.term);
+        let progress = Progress {
+            done: self.done,
+            waiting: self.requests.waiting.len() as u64,
+            lost: self.requests.lost,
+            contacts: self.contacts,
+        };
+        Told { status, progress }
+    }
+
+    /// What is told, of what left and the first fault.
+    fn report(&mut self, node: NodeId, now: &Told) -> Report<M::Effect>
+        ensures report { IsReport node now.now self.old.round.effects.items self.old.round.fault
+            result }
+        ensures effects { self.new.round.effects.items ≡ [] }
+        ensures further { self.new.round.further ≡ self.old.round.further }
+    {
+        Report {
+            node,
+            status: now.status,
+            effects: replace(&mut self.round.effects, Vec::new(self.alloc)),
+            progress: now.progress,
+            fault: self.round.fault,
+        }
+    }
+
+    /// Whether the log is longer than it was as the round before ended.
+    fn has_grown(&mut self, now: &Told) -> bool
+        ensures grown { IsTrue result ↔ (self.old.seen < now.now.status.last) }
+        ensures seen { self.new.seen ≡ now.now.status.last }
+        ensures told { self.new.told ≡ self.old.told }
+        ensures round { self.new.round ≡ self.old.round }
+    {
+        let has_grown = self.seen < now.status.last;
+        self.seen = now.status.last;
+        has_grown
+    }
+
+    /// Whether nothing is to be told but that the log grew by a few notes, of which none is a beat: the
+    /// clock waits for that before it orders the next one.
+    fn may_tell_later(&self, now: &Told) -> bool
+        ensures none_leaves { result ≡ true → self.now.round.effects.items ≡ [] }
+        ensures no_fault { result ≡ true → self.now.round.fault ≡ None }
+        ensures no_beat { result ≡ true → self.now.has_untold_beat ≡ false }
+        ensures grown { result ≡ true → HasGrownAlone self.now.told now.now }
+    {
+        if self.round.has_news() || self.has_untold_beat {
+            return false;
+        }
+        match &self.told {
+            Some(told) => told.has_grown_alone(now),
+            None => false,
+        }
+    }
+
+    /// Whether this is to be told: something leaves, a turn did nothing, or the node or its worker stands
+    /// as was not told last.
+    fn is_news(&self, now: &Told) -> bool
+        ensures { result ≡ false → self.now.round.effects.items ≡ [] }
+    {
+        if self.round.has_news() {
+            return true;
+        }
+        match &self.told {
+            Some(told) => !told.is_same(now),
+            None => true,
+        }
+    }
+}
