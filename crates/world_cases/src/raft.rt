@@ -2,6 +2,7 @@
 mod appends;
 mod elections;
 mod failing;
+mod log_pairs;
 mod log_runs;
 mod logs;
 mod nodes;
