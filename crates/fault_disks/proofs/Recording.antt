@@ -39,13 +39,13 @@ failed_failed (c ∷ calls) call = ap (λ (n : ℕ). if c.passed then n else suc
 pub cause_of : {T : Type 0} (r : Result T DiskFault) (call : Call) (old new : Recorded) → IsCalled r call old new → HasCause (failed old.calls) (failed new.calls) r
 cause_of (Ok x) call old new is =
     let same : failed new.calls ≡ failed old.calls = ap (λ (d : Recorded). failed d.calls) is.1 ∙ failed_passed old.calls call in
-    record { later = omega (arith, same); failed = λ e. absurd cc }
+    record { later = omega (arith, same); failed = λ e. absurd cc; lacked = λ e. absurd cc; passed = same }
 cause_of (Err Device) call old new is =
     let more : failed new.calls ≡ suc (failed old.calls) = ap (λ (d : Recorded). failed d.calls) is.1 ∙ failed_failed old.calls call in
-    record { later = omega (arith, more); failed = λ e. inl (omega (arith, more)) }
+    record { later = omega (arith, more); failed = λ e. inl (omega (arith, more)); lacked = λ e. absurd cc; passed = tt }
 cause_of (Err Memory) call old new is =
     let same : failed new.calls ≡ failed old.calls = ap (λ (d : Recorded). failed d.calls) is in
-    record { later = omega (arith, same); failed = λ e. absurd cc }
+    record { later = omega (arith, same); failed = λ e. absurd cc; lacked = λ e. same; passed = tt }
 
 -- what is written over lies within what a write may leave
 written_within : (s : DiskState) (place : ℕ) (bytes : List ℕ) → place ≤ length s.bytes → Within (written place bytes s) (writing place (length bytes) s)
@@ -99,11 +99,11 @@ looked_same (Err Memory) call old new looks is = ap moments is
 
 -- the same cause of another result
 pub cause_err : {T U : Type 0} (e : DiskFault) (before after : ℕ) → HasCause {T = T} before after (Err e) → HasCause {T = U} before after (Err e)
-cause_err Device before after h = record { later = h.later; failed = λ is. h.failed refl }
-cause_err Memory before after h = record { later = h.later; failed = λ is. absurd cc }
+cause_err Device before after h = record { later = h.later; failed = λ is. h.failed refl; lacked = λ is. absurd cc; passed = tt }
+cause_err Memory before after h = record { later = h.later; failed = λ is. absurd cc; lacked = λ is. h.lacked refl; passed = tt }
 
 pub cause_ok : {T U : Type 0} (x : T) (y : U) (before after : ℕ) → HasCause before after (Ok x) → HasCause before after (Ok y)
-cause_ok x y before after h = record { later = h.later; failed = λ is. absurd cc }
+cause_ok x y before after h = record { later = h.later; failed = λ is. absurd cc; lacked = λ is. absurd cc; passed = h.passed }
 
 pub cause_memory : {T : Type 0} (e : DiskFault) (before : ℕ) → e ≡ Memory → HasCause {T = T} before before (Err e)
-cause_memory e before is = record { later = omega arith; failed = λ failed. absurd cc }
+cause_memory e before is = record { later = omega arith; failed = λ failed. absurd cc; lacked = λ lacked. refl; passed = tt }

@@ -17,10 +17,10 @@ short_is e is h = short_not (sym is ∙ h)
 pub bad_is : (e : WireFault) (n : ℕ) → e ≡ WireFault.Bad n → e ≢ WireFault.Memory
 bad_is e n is h = bad_not n (sym is ∙ h)
 
-pub weigh : {X : Type 0} (r : Result X StoreFault) (P Q R : StoreFault → Type 0) → ((e : StoreFault) → P e → Q e) → IfErr r (λ e. e ≢ Memory → P e) → IfErr r (λ e. ((e ≡ Memory) ⊎ R e) ⊎ Q e)
-weigh (Ok x) P Q R to h = tt
-weigh (Err Device) P Q R to h = inr (to Device (h (λ e. absurd cc)))
-weigh (Err NotAStore) P Q R to h = inr (to NotAStore (h (λ e. absurd cc)))
-weigh (Err Version) P Q R to h = inr (to Version (h (λ e. absurd cc)))
-weigh (Err (Damaged n)) P Q R to h = inr (to (Damaged n) (h (λ e. absurd cc)))
-weigh (Err Memory) P Q R to h = inl (inl refl)
+pub weigh : {X : Type 0} (r : Result X StoreFault) (S : Type 0) (P Q R : StoreFault → Type 0) → S → ((e : StoreFault) → P e → Q e) → IfErr r (λ e. e ≢ Memory → P e) → IfErr r (λ e. (((e ≡ Memory) × S) ⊎ R e) ⊎ Q e)
+weigh (Ok x) S P Q R is to h = tt
+weigh (Err Device) S P Q R is to h = inr (to Device (h (λ e. absurd cc)))
+weigh (Err NotAStore) S P Q R is to h = inr (to NotAStore (h (λ e. absurd cc)))
+weigh (Err Version) S P Q R is to h = inr (to Version (h (λ e. absurd cc)))
+weigh (Err (Damaged n)) S P Q R is to h = inr (to (Damaged n) (h (λ e. absurd cc)))
+weigh (Err Memory) S P Q R is to h = inl (inl (refl, is))

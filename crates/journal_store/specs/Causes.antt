@@ -1,21 +1,23 @@
 -- Why a disk's call fails.
-use Rattle.std.specs.Prelude.{◌≡◌, ℕ, ◌≤◌, ◌⊎◌, Result, IsErrOf}
+use Rattle.std.specs.Prelude.{◌≡◌, ℕ, ◌≤◌, ◌⊎◌, Result, IsErrOf, OnOk}
 use Rattle.stable_store.specs.declared.store_fault.StoreFault.{StoreFault}
 use Rattle.stable_store.specs.declared.store_fault.StoreFault.TheVariants.{Device, Memory}
 use Rattle.stable_store.specs.Stores.{HasRisen}
 use Rattle.journal_store.specs.declared.disk_fault.DiskFault.{DiskFault}
 use Rattle.journal_store.specs.declared.disk_fault.DiskFault.TheVariants.{Device as DiskFailed, Memory as NoMemory}
 
--- the count of failures does not sink, and `Device` is answered only where it has risen
+-- the count of failures does not sink, `Device` is answered only where it has risen, and anything else only where it stayed
 pub record HasCause {T : Type 0} (before after : ℕ) (result : Result T DiskFault) : Type 0 where
   pub later : before ≤ after
   pub failed : IsErrOf result DiskFailed → HasRisen before after
+  pub lacked : IsErrOf result NoMemory → after ≡ before
+  pub passed : OnOk result (after ≡ before)
 
 -- what a disk's fault is to its store
 abbrev pub store_fault : DiskFault → StoreFault
 store_fault DiskFailed = Device
 store_fault NoMemory = Memory
 
--- memory is wanting, or the count of failures has risen
+-- memory is wanting and the count of failures stayed, or it has risen
 abbrev pub IsMet : ℕ → ℕ → StoreFault → Type 0
-IsMet before after fault = (fault ≡ Memory) ⊎ ((fault ≡ Device) × HasRisen before after)
+IsMet before after fault = ((fault ≡ Memory) × (after ≡ before)) ⊎ ((fault ≡ Device) × HasRisen before after)

@@ -1,5 +1,5 @@
 //! What a disk holds, read anew.
-ghost use Rattle.std.specs.Prelude.{◌≡◌, ◌≤◌, ◌⊎◌, IsTrue, IfOk, IfErr};
+ghost use Rattle.std.specs.Prelude.{◌≡◌, ◌≤◌, ◌⊎◌, IsTrue, IfOk, IfErr, OnOk};
 ghost use Rattle.stable_store.specs.Stores.{HasRisen};
 ghost use Rattle.journal_store.specs.Disks.{now, settled_at, Runs};
 ghost use Rattle.journal_store.specs.Causes.{HasCause, IsMet};
@@ -28,6 +28,7 @@ pub fn read_anew<B: Wire, D: Disk>(
         ⊎ IsRefused B.taken (now (D.states disk.old)) e) }
     ensures honest { D.honest disk.new ≡ D.honest disk.old }
     ensures counts { D.failures disk.old ≤ D.failures disk.new }
+    ensures passed { OnOk result (D.failures disk.new ≡ D.failures disk.old) }
 {
     let file = read_whole(alloc, disk)?;
     find(alloc, &file)

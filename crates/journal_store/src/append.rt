@@ -77,6 +77,7 @@ pub fn append<B: Wire, D: Disk>(
         → IfOk result (IsSettled B.taken (D.states disk.new) (changed s change.now)) }
     ensures fault { IfErr result (IsMet (D.failures disk.old) (D.failures disk.new)) }
     ensures counts { D.failures disk.old ≤ D.failures disk.new }
+    ensures passed { OnOk result (D.failures disk.new ≡ D.failures disk.old) }
     ensures honest { D.honest disk.new ≡ D.honest disk.old }
 {
     let bytes = record(alloc, change)?;

@@ -2,6 +2,7 @@
 use Rattle.std.proofs.Common.{◌≡◌, ℕ, suc, ◌≤◌, ◌↔◌, ◌⊎◌, List, [], ◌++◌, inl, inr, ⊎_elim, IsTrue, Bool, true, false, length, take, Option, Result, Ok, Err, sym, ap, subst, ◌∙◌, arith, append-nil}
 use Rattle.std.proofs.Math.Seq.{take-length}
 use Rattle.std.proofs.lemmas.Bool.{cases_lt}
+use Rattle.std.proofs.lemmas.Result.{on_ok_weaker}
 use Rattle.node_steps.specs.declared.refusal.Refusal.TheVariants.{LogFull, TermsSpent, NoLeader, Behind, BadOrigin}
 use Rattle.raft_log.specs.declared.entry.Entry.{Entry}
 use Rattle.raft_log.specs.declared.node_state.NodeState.{NodeState}
@@ -94,6 +95,7 @@ module _ {Store B : Type 0} (k : Keeper Store B) (sure : (s : Store) (v : Saved 
         record {
           honest = t.honest;
           counts = t.counts;
+          passed = t.passed;
           answers = (
             (v, stood, began, s),
             λ honest.
@@ -106,9 +108,9 @@ module _ {Store B : Type 0} (k : Keeper Store B) (sure : (s : Store) (v : Saved 
 
     fails : {A : Type 0} (cause : Cause) → IsTaken k old c new (failed {A = A} cause) → IsBegun k size old (Err (Down cause)) new
     fails {A} StoreFailed t =
-        record { honest = t.honest; counts = t.counts; answers = λ honest. inl (t.blamed honest); may_begin = after_save (failed {A = A} StoreFailed) t }
+        record { honest = t.honest; counts = t.counts; passed = λ honest. tt; answers = λ honest. inl (t.blamed honest); may_begin = after_save (failed {A = A} StoreFailed) t }
     fails {A} Memory t =
-        record { honest = t.honest; counts = t.counts; answers = tt; may_begin = after_save (failed {A = A} Memory) t }
+        record { honest = t.honest; counts = t.counts; passed = λ honest. tt; answers = t.blamed; may_begin = after_save (failed {A = A} Memory) t }
 
     pub fails_unsaved : {A : Type 0} (cause : Cause) (x : ChangeParts B) → x ≡ c → IsTaken k old x new (failed {A = A} cause) → IsBegun k size old (Err (Down cause)) new
     fails_unsaved {A} cause x e h =
@@ -117,7 +119,8 @@ module _ {Store B : Type 0} (k : Keeper Store B) (sure : (s : Store) (v : Saved 
 module _ {Store B : Type 0} (k : Keeper Store B) (size : ℕ) (old mid new : Store)
     (still : IsHonest (k.condition old) → MayStandStill (k.may_stand old) (k.may_stand mid))
     (honest : (k.condition mid).honest ≡ (k.condition old).honest) (counts : (k.condition old).failures ≤ (k.condition mid).failures)
-    (mended : IsHonest (k.condition old) → (k.condition mid).broken ≡ false) where
+    (mended : IsHonest (k.condition old) → (k.condition mid).broken ≡ false)
+    (passed : IsHonest (k.condition old) → (k.condition mid).failures ≡ (k.condition old).failures) where
   here : IsHonest (k.condition old) → IsHonest (k.condition mid)
   here h = subst (λ (b : Bool). IsTrue b) (sym honest) h
 
@@ -127,7 +130,7 @@ module _ {Store B : Type 0} (k : Keeper Store B) (size : ℕ) (old mid new : Sto
       ⊎_elim (λ lt. inl (omega (arith, lt, top, more))) (λ ge. inr (omega (arith, ge, le, top))) (cases_lt a b)
 
   still_fails : (fault : NodeFault) → (k.condition mid).failures ≤ (k.condition new).failures → MayFail k mid (k.condition new) fault → MayFail k old (k.condition new) fault
-  still_fails (Down Memory) le h = tt
+  still_fails (Down Memory) le h = λ was. h (here was) ∙ passed was
   still_fails (Down StoreFailed) le h = λ was.
       ⊎_elim
       (λ r. inl (risen _ _ _ counts le r))
@@ -149,6 +152,7 @@ module _ {Store B : Type 0} (k : Keeper Store B) (size : ℕ) (old mid new : Sto
       record {
         honest = h.honest ∙ honest;
         counts = omega (arith, counts, h.counts);
+        passed = λ was. on_ok_weaker {P = (k.condition new).failures ≡ (k.condition mid).failures} {Q = (k.condition new).failures ≡ (k.condition old).failures} result (λ e. e ∙ passed was) (h.passed (here was));
         answers = answers result h.counts h.answers;
         may_begin = λ was v m.
             ⊎_elim (λ x. inl (still was v x)) (λ x. inr (x.0, still was x.0 x.1, x.2)) (h.may_begin (here was) v m);

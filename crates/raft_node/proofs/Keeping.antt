@@ -57,6 +57,7 @@ module _ {Store B : Type 0} (k : Keeper Store B) where
   -- A step of a state stands in the store, or did before.
   pub record IsSaved (old : Store) (state after : NodeState B) (new : Store) : Type 0 where
     pub honest : (k.condition new).honest ≡ (k.condition old).honest
+    pub passed : IsHonest (k.condition old) → (k.condition new).failures ≡ (k.condition old).failures
     pub stands : Holds k new after
     pub may_hold : MayHold k new state (seen after [])
 
@@ -67,6 +68,7 @@ module _ {Store B : Type 0} (k : Keeper Store B) where
       subst (λ (x : Store). IsSaved old state (after state step) x) (sym e)
       (record {
         honest = refl;
+        passed = λ honest. refl;
         stands = λ honest. let r = h honest in (r.0, r.1 ∙ saved_still state step s t);
         may_hold = λ honest v m. let r = h honest in inl ((sure old v r.0).0 m ∙ r.1);
       })
@@ -76,6 +78,7 @@ module _ {Store B : Type 0} (k : Keeper Store B) where
   taken_saves a old mid new state step h t e =
       subst (λ (x : Store). IsSaved old state (after state step) x) (sym e) (record {
         honest = t.honest;
+        passed = t.passed;
         stands = λ honest.
             let was : IsHonest (k.condition old) = honest_before honest in
             let d = t.done was in
@@ -101,4 +104,4 @@ module _ {Store B : Type 0} (k : Keeper Store B) where
   pub not_kept : {A : Type 0} (old new : Store) (state now : NodeState B) (step : Step B) → IsSaved old state (after state step) new
       → now ≡ state → IsKept k {A = A} old state (after state step) new now (Err Memory)
   not_kept old new state now step h e =
-      record { honest = h.honest; stands = tt; blamed = (e, tt); may_hold = h.may_hold }
+      record { honest = h.honest; stands = tt; blamed = (e, h.passed); may_hold = h.may_hold }

@@ -142,7 +142,7 @@ module _ (M : Machine) {Setup Hosted Store : Type 0} (inputs : List (Input M.Bod
             was_up = up_here;
             is_down = refl;
             same = refl;
-            blamed = tt;
+            blamed = λ honest. refl;
             may_hold = λ honest v m. let r = w.holds up_here honest in inl ((sure n.store v r.0).0 m ∙ r.1);
           }
 

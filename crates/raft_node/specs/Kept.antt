@@ -19,11 +19,12 @@ module _ {Store B : Type 0} (k : Keeper Store B) where
   abbrev pub MayTake : Store → ChangeParts B → Type 0
   MayTake store c = IsHonest (k.condition store) → Serves (k.condition store) × MayFollow (k.saved store) c
 
-  -- A change was saved, or was not: it stands after Ok, and else what stood before or it may stand.
+  -- A change was saved, or was not: it stands after Ok, and no call of the device failed; else what stood before or it may stand.
   pub record IsTaken {A : Type 0} (old : Store) (c : ChangeParts B) (new : Store) (result : Result A Cause) : Type 0 where
     pub honest : (k.condition new).honest ≡ (k.condition old).honest
     pub counts : (k.condition old).failures ≤ (k.condition new).failures
     pub done : IsHonest (k.condition old) → OnOk result (Serves (k.condition new) × (k.saved new ≡ changed (k.saved old) c))
+    pub passed : IsHonest (k.condition old) → OnOk result ((k.condition new).failures ≡ (k.condition old).failures)
     pub blamed : IfErr result (λ cause. IsBlamed cause (k.condition old) (k.condition new))
     pub may_stand : IsHonest (k.condition old) → (v : Saved B) → k.may_stand new v → (v ≡ k.saved old) ⊎ (v ≡ changed (k.saved old) c)
 

@@ -56,9 +56,9 @@ module _ {Store B : Type 0} where
       IsHonest (k.condition store) → (v : Saved B) → k.may_stand store v
       → (v ≡ saved_by (seen state [])) ⊎ (v ≡ saved_by after)
 
--- an honest store is the cause only where one more of its device's calls failed
+-- an honest store is the cause only where one more of its device's calls failed, and want of memory only where none did
 abbrev pub IsBlamed : Cause → Condition → Condition → Type 0
-IsBlamed Memory old new = Unit {0}
+IsBlamed Memory old new = IsHonest old → new.failures ≡ old.failures
 IsBlamed StoreFailed old new = IsHonest old → HasRisen old.failures new.failures
 
 -- Its number is one of the group, its state is sound, and the lines of a live session are entries. While it is up its machine

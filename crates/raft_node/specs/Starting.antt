@@ -1,5 +1,5 @@
 -- What comes of a start of a node from its store.
-use Rattle.std.specs.Prelude.{◌≡◌, ◌≤◌, ◌^◌, ◌⊎◌, ℕ, suc, IsTrue, List, [], None, Some, Result, Ok, Err}
+use Rattle.std.specs.Prelude.{◌≡◌, ◌≤◌, ◌^◌, ◌⊎◌, ℕ, suc, IsTrue, List, [], None, Some, Result, Ok, Err, OnOk}
 use Rattle.raft_log.specs.declared.message.Message.{Message}
 use Rattle.raft_log.specs.declared.node_state.NodeState.{NodeState}
 use Rattle.raft_log.specs.Node.{Node}
@@ -29,9 +29,9 @@ module _ {B : Type 0} where
   Begins size stood state = (v : Saved B) × stood v × BeganWith size v state × (size_of state ≡ size)
 
 module _ {Store B : Type 0} (k : Keeper Store B) where
-  -- why a start from an honest store fails: all boots were made, its device failed in this call or had failed before, or there was no memory
+  -- why a start from an honest store fails: all boots were made, its device failed in this call or had failed before, or there was no memory and no call of its device failed
   abbrev pub MayFail : Store → Condition → NodeFault → Type 0
-  MayFail old now (Down Memory) = Unit {0}
+  MayFail old now (Down Memory) = IsHonest (k.condition old) → now.failures ≡ (k.condition old).failures
   MayFail old now (Down StoreFailed) =
       IsHonest (k.condition old) → HasRisen (k.condition old).failures now.failures ⊎ IsTrue (k.condition old).broken
   MayFail old now (Refused TermsSpent) =
@@ -56,10 +56,11 @@ module _ {Store B : Type 0} (k : Keeper Store B) where
   HasBegun size old (Ok state) new = Begins size (MayHaveStood old) state × Holds k new state
   HasBegun size old (Err fault) new = MayFail old (k.condition new) fault
 
-  -- A run began over a store, or did not.
+  -- A run began over a store, and no call of its device failed, or did not.
   pub record IsBegun (size : ℕ) (old : Store) (result : Result (NodeState B) NodeFault) (new : Store) : Type 0 where
     pub honest : (k.condition new).honest ≡ (k.condition old).honest
     pub counts : (k.condition old).failures ≤ (k.condition new).failures
+    pub passed : IsHonest (k.condition old) → OnOk result ((k.condition new).failures ≡ (k.condition old).failures)
     pub answers : HasBegun size old result new
     pub may_begin : MayBegin size old new
 

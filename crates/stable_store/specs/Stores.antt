@@ -67,12 +67,13 @@ Serves c = IsHonest c × (c.broken ≡ false)
 abbrev pub HasRisen : ℕ → ℕ → Type 0
 HasRisen old new = (old < new) ⊎ (old ≡ 18446744073709551615)
 
--- an honest store lacks memory, or its device failed in this call or before it, unmended
+-- an honest store lacks memory, and no call of its device failed; or its device failed in this call or before it, unmended
 abbrev pub IsAllowed : Condition → Condition → StoreFault → Type 0
-IsAllowed old new fault = IsHonest old → (fault ≡ Memory) ⊎ ((fault ≡ Device) × (HasRisen old.failures new.failures ⊎ IsTrue old.broken))
+IsAllowed old new fault = IsHonest old → ((fault ≡ Memory) × (new.failures ≡ old.failures)) ⊎ ((fault ≡ Device) × (HasRisen old.failures new.failures ⊎ IsTrue old.broken))
 
--- a call leaves honesty as it is, counts failures up, and where it answers Ok all is mended
+-- a call leaves honesty as it is, counts failures up, and where it answers Ok none came and all is mended
 pub record MayBecome {A E : Type 0} (result : Result A E) (old new : Condition) : Type 0 where
   pub honest : new.honest ≡ old.honest
   pub counts : old.failures ≤ new.failures
   pub mended : IsHonest old → OnOk result (new.broken ≡ false)
+  pub passed : IsHonest old → OnOk result (new.failures ≡ old.failures)

@@ -15,9 +15,10 @@ pub returns-clause-fault : goal.returns-clause-fault
 returns-clause-fault g c = λ h.
     let whole = c.in_ok-file.ensures.settled h in
     let settled : now (g.D.Disk.states c.read_whole.new.disk) ≡ settled_at c.deref.result.now = search (rules, whole) in
-    weigh c.find.result (λ e. found (payloads g.B.Wire.taken) nothing_saved c.deref.result.now ≡ Err e) (IsRefused g.B.Wire.taken (now (g.D.Disk.states c.args.disk.now)))
+    let passed : g.D.Disk.failures c.read_whole.new.disk ≡ g.D.Disk.failures c.args.disk.now = search (rules, c.read_whole.ensures.cause.passed) in
+    weigh c.find.result (g.D.Disk.failures c.read_whole.new.disk ≡ g.D.Disk.failures c.args.disk.now) (λ e. found (payloads g.B.Wire.taken) nothing_saved c.deref.result.now ≡ Err e) (IsRefused g.B.Wire.taken (now (g.D.Disk.states c.args.disk.now)))
     (λ e. (e ≡ Device) × HasRisen (g.D.Disk.failures c.args.disk.now) (g.D.Disk.failures c.read_whole.new.disk))
-    (λ e is. record { file = c.deref.result.now; image = settled_from _ _ _ (c.read_whole.ensures.runs h) settled; refused = is }) c.find.ensures.fault
+    passed (λ e is. record { file = c.deref.result.now; image = settled_from _ _ _ (c.read_whole.ensures.runs h) settled; refused = is }) c.find.ensures.fault
 
 pub returns-clause-found : goal.returns-clause-found
 returns-clause-found g c = λ h.

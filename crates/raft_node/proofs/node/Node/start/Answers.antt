@@ -10,9 +10,9 @@ invariant_of-result g c =
 pub returns-in_err-setup : goal.returns-in_err-setup
 returns-in_err-setup g c =
     let p = err_from_is_err_and c.from_residual.result c.from_residual.ensures.1 in
-    rw (p.1, p.2) (c.args.store, refl, tt)
+    rw (p.1, p.2) (c.args.store, refl, λ honest. refl)
 
 pub returns-in_err-machine : goal.returns-in_err-machine
 returns-in_err-machine g c =
     let p = err_from_is_err_and c.from_residual-in_err-machine.result c.from_residual-in_err-machine.ensures.1 in
-    rw (p.1, p.2) (c.args.store, refl, tt)
+    rw (p.1, p.2) (c.args.store, refl, λ honest. refl)
