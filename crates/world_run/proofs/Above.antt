@@ -3,7 +3,7 @@ use Rattle.std.proofs.Common.{pred, take, ◌≡◌, ℕ, zero, suc, ◌<◌, �
 use Rattle.std.proofs.lemmas.Bool.{cases_lt}
 use Rattle.raft_log.specs.Lists.{item}
 use Rattle.raft_log.specs.declared.entry.Entry.{Entry}
-use Rattle.agreement.specs.World.{committed, Begins}
+use Rattle.agreement.specs.World.{committed, Begins, start}
 use Rattle.raft_node.specs.Machine.{Machine}
 use Rattle.world_run.specs.World.{Event, Brought, moment, agreed}
 use Rattle.agreement.proofs.Lists.{begins_length, begins_trans, begins_shorter, begins_take, length_take}
@@ -43,8 +43,8 @@ module _ (M : Machine) where
       let up : Begins (agreed M size early) (agreed M size (early ++ late)) = agreed_grows M size early late in
       let within : p ≤ length (agreed M size early) = omega (arith, h, begins_length _ (agreed M size early) (in_agreed M size early k a)) in
       let here : item (agreed M size early) p ≡ Some e = item_front (agreed M size early) (agreed M size (early ++ late)) p e up within at in
-      let of : (e.body ≡ M.blank) ⊎ Brought M early e.body = each_brought M size early p e here in
-      absurd (⊎_elim (λ x. full (sym is ∙ x)) (λ x. new (subst (λ z. Brought M early z) is x)) of))
+      let of : (e.body ≡ M.blank) ⊎ Brought M early (start size) e.body = each_brought M size early p e here in
+      absurd (⊎_elim (λ x. full (sym is ∙ x)) (λ x. new (subst (λ z. Brought M early (start size) z) is x)) of))
       (cases_lt (length (committed (moment M size early k) a)) p)
 
   old_in : (size : ℕ) (early late : List (Event M)) (k a : ℕ) → Begins (committed (moment M size early k) a) (agreed M size (early ++ late))
@@ -52,7 +52,7 @@ module _ (M : Machine) where
 
   -- any beginning of the agreed list that has the body
   has_all : (size : ℕ) (early late : List (Event M)) (b : M.Body) (theirs : List (Entry M.Body)) (p : ℕ) (e : Entry M.Body) → Begins theirs (agreed M size (early ++ late))
-      → (b ≡ M.blank → ⊥) → (Brought M early b → ⊥) → item theirs p ≡ Some e → e.body ≡ b → (k a : ℕ) → Begins (committed (moment M size early k) a) (take (pred p) theirs)
+      → (b ≡ M.blank → ⊥) → (Brought M early (start size) b → ⊥) → item theirs p ≡ Some e → e.body ≡ b → (k a : ℕ) → Begins (committed (moment M size early k) a) (take (pred p) theirs)
   has_all size early late b theirs p e theirs_in full new at is k a =
       let l : List (Entry M.Body) = agreed M size (early ++ late) in
       let r : (p ≤ length theirs) × (item l p ≡ Some e) = item_more theirs l p e theirs_in at in

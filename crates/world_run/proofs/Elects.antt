@@ -3,7 +3,7 @@ use Rattle.std.proofs.Common.{◌≡◌, ℕ, List, [], refl, sym, subst}
 use Rattle.raft_log.specs.declared.role.Role.TheVariants.{Leader}
 use Rattle.raft_log.specs.Node.{Node}
 use Rattle.raft_node.specs.Machine.{Machine}
-use Rattle.raft_node.specs.Steps.{Act, Expires, Beats, Hears, Asks, Opens, Closes, HearsLine, Claims, Applies, Looks, Idles, turn}
+use Rattle.raft_node.specs.Steps.{Act, Expires, Beats, Hears, Asks, Opens, Closes, HearsLine, Claims, Applies, Looks, Idles, Turn, turn}
 use Rattle.agreement.specs.World as core
 use Rattle.agreement.specs.Laws as core_laws
 use Rattle.agreement.proofs.Elected as elected
@@ -17,8 +17,8 @@ module _ (M : Machine) where
     by : core.Act M.Body
     does : core.acted M.blank n i by s ≡ s'
 
-  of_low : (n i : ℕ) (w : List (Node M.Body)) (K : M.Body → Type 0) (s s' : Node M.Body) → Low M n i w K s s' → ByCore n i s s'
-  of_low n i w K s s' l = record { by = core.act_of w l.by; does = l.does }
+  of_low : (n i : ℕ) (w : List (Node M.Body)) (K : M.Body → Type 0) (s : Node M.Body) (t : Turn M) → Low M n i w K s t → ByCore n i s t.node
+  of_low n i w K s t l = record { by = core.act_of w l.by; does = l.does }
 
   by_core : (n i : ℕ) (a : Act M) (s : Node M.Body) → ByCore n i s (turn M n i a s).node
   by_core n i Expires s = of_low n i [] _ s _ (low_input M n [] (world.Timeout i) s)

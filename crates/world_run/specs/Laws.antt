@@ -12,7 +12,7 @@ use Rattle.node_steps.specs.declared.refusal.Refusal.TheVariants.{BadOrigin}
 use Rattle.node_steps.specs.Asking.{may_ask, new_session}
 use Rattle.raft_node.specs.Steps.{Out, Left, Looked, Refused, leaving, Act, Stops, turn, own}
 use Rattle.raft_node.specs.Sound.{IsSound}
-use Rattle.agreement.specs.World.{Begins, committed}
+use Rattle.agreement.specs.World.{Begins, committed, start}
 use Rattle.agreement.specs.Laws.{LeadsAnew, StopSaves}
 use Rattle.world_run.specs.World.{Event, Does, Look, Apply, Ask, Brought, count, stepper, begins_run, moment, outputs, agreed, left}
 
@@ -36,16 +36,16 @@ module _ (M : Machine) where
   abbrev pub AgreedGrows : ℕ → List (Event M) → Type 0
   AgreedGrows size early = (late : List (Event M)) → Begins (agreed M size early) (agreed M size (early ++ late))
 
-  -- each body in it is blank, or was brought by an event
+  -- each body in it is blank, or was brought by an event that its node took
   abbrev pub EachBrought : ℕ → List (Event M) → Type 0
-  EachBrought size es = (place : ℕ) (e : Entry M.Body) → item (agreed M size es) place ≡ Some e → (e.body ≡ M.blank) ⊎ Brought M es e.body
+  EachBrought size es = (place : ℕ) (e : Entry M.Body) → item (agreed M size es) place ≡ Some e → (e.body ≡ M.blank) ⊎ Brought M es (start size) e.body
 
   -- a body, not blank, that no event brought so far: each place of it in what is agreed later
   -- is above all that any node has committed, now or at any earlier moment
   abbrev pub LaterIsAbove : ℕ → List (Event M) → Type 0
   LaterIsAbove size early =
       (late : List (Event M)) (b : M.Body) (p : ℕ) (e : Entry M.Body) →
-      (b ≡ M.blank → ⊥) → (Brought M early b → ⊥) →
+      (b ≡ M.blank → ⊥) → (Brought M early (start size) b → ⊥) →
       item (agreed M size (early ++ late)) p ≡ Some e → e.body ≡ b →
       (k a : ℕ) → length (committed (moment M size early k) a) < p
 
@@ -53,7 +53,7 @@ module _ (M : Machine) where
   abbrev pub ConfirmedHas : ℕ → List (Event M) → Type 0
   ConfirmedHas size early =
       (late : List (Event M)) (b : M.Body) (m c p : ℕ) (e : Entry M.Body) →
-      (b ≡ M.blank → ⊥) → (Brought M early b → ⊥) →
+      (b ≡ M.blank → ⊥) → (Brought M early (start size) b → ⊥) →
       item (committed (moment M size (early ++ late) m) c) p ≡ Some e → e.body ≡ b →
       (k a : ℕ) → Begins (committed (moment M size early k) a) (take (pred p) (committed (moment M size (early ++ late) m) c))
 
@@ -61,7 +61,7 @@ module _ (M : Machine) where
   abbrev pub AppliedHas : ℕ → List (Event M) → Type 0
   AppliedHas size early =
       (late : List (Event M)) (b : M.Body) (m c p : ℕ) (s : Node M.Body) (e : Entry M.Body) →
-      (b ≡ M.blank → ⊥) → (Brought M early b → ⊥) →
+      (b ≡ M.blank → ⊥) → (Brought M early (start size) b → ⊥) →
       item (moment M size (early ++ late) m) c ≡ Some s → item (take s.applied s.log) p ≡ Some e → e.body ≡ b →
       (k a : ℕ) → Begins (committed (moment M size early k) a) (take (pred p) (take s.applied s.log))
 
@@ -69,7 +69,7 @@ module _ (M : Machine) where
   abbrev pub LookHas : ℕ → List (Event M) → Type 0
   LookHas size early =
       (late : List (Event M)) (b : M.Body) (p : ℕ) (e : Entry M.Body) (j i from place : ℕ) (target : M.Target) (lines : List M.Played) →
-      (b ≡ M.blank → ⊥) → (Brought M early b → ⊥) →
+      (b ≡ M.blank → ⊥) → (Brought M early (start size) b → ⊥) →
       item (agreed M size (early ++ late)) p ≡ Some e → e.body ≡ b → p ≤ place →
       item (early ++ late) j ≡ Some (Does (Look i from target)) → item (outputs M size (early ++ late)) j ≡ Some (Looked place lines) →
       (k a : ℕ) → (lines ≡ M.playback (history (take place (agreed M size (early ++ late)))) target) × Begins (committed (moment M size early k) a) (take place (agreed M size (early ++ late)))

@@ -1,14 +1,16 @@
 -- A group of whole nodes, what may happen to it, and what comes out.
 use Rattle.std.specs.Prelude.{◌≡◌, ◌⊎◌, ℕ, suc, Bool, true, false, if◌then◌else◌, List, [], ◌∷◌, ◌++◌, length, map, take, Option, Some, None}
 use Rattle.irc_line.specs.Lines.{Parts}
-use Rattle.wire_bytes.specs.declared.session_id.SessionId.{SessionId}
 use Rattle.machine_laws.specs.Classes.{handed_by}
 use Rattle.raft_log.specs.declared.entry.Entry.{Entry}
 use Rattle.raft_log.specs.declared.message.Message.{Message}
 use Rattle.raft_log.specs.Lists.{item, with_item}
-use Rattle.raft_log.specs.Node.{Node}
+use Rattle.raft_log.specs.declared.node_state.Live.{Live}
+use Rattle.raft_log.specs.Node.{Node, is_leader}
+use Rattle.node_steps.specs.declared.refusal.Refusal.{Refusal}
+use Rattle.node_steps.specs.Asking.{new_session}
 use Rattle.raft_node.specs.Machine.{Machine}
-use Rattle.raft_node.specs.Steps.{Out, Missing, effects_of, Act, Expires, Beats, Hears, Asks, Opens, Closes, HearsLine, Claims, Applies, Looks, Idles, Own, Acts, Restarts, Stops, own}
+use Rattle.raft_node.specs.Steps.{Out, Missing, Refused, effects_of, Act, Expires, Beats, Hears, Asks, Opens, Closes, HearsLine, Claims, Applies, Looks, Idles, Own, Acts, Restarts, Stops, applied_history, own, turn}
 use Rattle.agreement.specs.World.{sent_of, to_of, start}
 use Rattle.agreement.specs.Laws.{longer, longest_now}
 
@@ -152,30 +154,45 @@ module _ (M : Machine) where
   abbrev pub handed : ℕ → List (Event M) → List (ℕ × Parts)
   handed size es = hands (left size es)
 
-  -- an input may bring this body into the logs
-  abbrev pub BringsIn : Input M → M.Body → Type 0
-  BringsIn (Timeout i) body = ⊥
-  BringsIn (Beat i) body = ⊥
-  BringsIn (Deliver j k) body = ⊥
-  BringsIn (Ask i asked) body = body ≡ asked
-  BringsIn (Opened i) body = (id : SessionId) × (body ≡ M.opened id)
-  BringsIn (Closed i) body = (id : SessionId) × (body ≡ M.shut id)
-  BringsIn (Heard i at line) body = (id : SessionId) × (number : ℕ) × (body ≡ M.heard id number at line)
-  BringsIn (Claim i) body = (id : SessionId) × (number : ℕ) × (body ≡ M.claim id number)
-  BringsIn (Apply i) body = ⊥
-  BringsIn (Look i from_place target) body = ⊥
+  -- an input that is not refused brings this body into the logs, at a node in this state: the body of a request; and at a leader the opening
+  -- of its next session, or the end, the next line or the next claim of its live one
+  abbrev pub BringsAt : Node M.Body → Input M → M.Body → Type 0
+  BringsAt s (Timeout i) body = ⊥
+  BringsAt s (Beat i) body = ⊥
+  BringsAt s (Deliver j k) body = ⊥
+  BringsAt s (Ask i asked) body = body ≡ asked
+  BringsAt s (Opened i) body = (is_leader s.role ≡ true) × (s.live ≡ None) × (body ≡ M.opened (new_session s).id)
+  BringsAt s (Closed i) body = (is_leader s.role ≡ true) × (live : Live) × (s.live ≡ Some live) × (body ≡ M.shut live.id)
+  BringsAt s (Heard i at line) body =
+      (is_leader s.role ≡ true) × (live : Live) × (s.live ≡ Some live) × (body ≡ M.heard live.id live.next at line)
+  BringsAt s (Claim i) body =
+      (is_leader s.role ≡ true) × (live : Live) × (s.live ≡ Some live)
+      × (number : ℕ) × (M.next_claim (applied_history M s) ≡ Some number) × (body ≡ M.claim live.id number)
+  BringsAt s (Apply i) body = ⊥
+  BringsAt s (Look i from_place target) body = ⊥
 
-  -- an event may; a stop before its input is saved brings nothing
-  abbrev pub Brings : Event M → M.Body → Type 0
-  Brings (Does x) body = BringsIn x body
-  Brings (Restart i) body = ⊥
-  Brings (StopIn x false) body = ⊥
-  Brings (StopIn x true) body = BringsIn x body
+  -- what comes out is no refusal
+  abbrev pub IsAccepted : Out M → Type 0
+  IsAccepted out = (refusal : Refusal) → out ≡ Refused refusal → ⊥
 
-  -- one of these events may
-  abbrev pub Brought : List (Event M) → M.Body → Type 0
-  Brought [] body = ⊥
-  Brought (e ∷ es) body = Brings e body ⊎ Brought es body
+  -- An input brings this body into the logs of a world: its node is there, takes the input, and is in a state in which it brings it.
+  pub record BringsIn (w : World) (x : Input M) (body : M.Body) : Type 0 where
+    pub node : Node M.Body
+    pub there : item w (actor w x) ≡ Some node
+    pub accepted : IsAccepted (turn M (length w) (actor w x) (act_of w x) node).out
+    pub brings : BringsAt node x body
+
+  -- an event does; a stop before its input is saved brings nothing
+  abbrev pub Brings : World → Event M → M.Body → Type 0
+  Brings w (Does x) body = BringsIn w x body
+  Brings w (Restart i) body = ⊥
+  Brings w (StopIn x false) body = ⊥
+  Brings w (StopIn x true) body = BringsIn w x body
+
+  -- one of these events does, in the world in which it happens
+  abbrev pub Brought : List (Event M) → World → M.Body → Type 0
+  Brought [] w body = ⊥
+  Brought (e ∷ es) w body = Brings w e body ⊎ Brought es (happens w e) body
 
   -- a restart or a stop, which begins a new run of a node
   abbrev pub begins_run : Event M → Bool
