@@ -38,14 +38,15 @@ module _ {Setup Hosted Store B L T E P U : Type 0} where
   TellsCause (Err (OfNode (Down cause))) d = cause ≡ own_cause d.node.down
 
   module _ (k : Keeper Store B) where
-    -- So does a turn; and where the node went down in it, an honest store is the cause only where it failed.
+    -- So does a turn; and where the node itself went down in it, an honest store is the cause only where it failed, and want of memory
+    -- only where it did not.
     abbrev pub HasCause : {A : Type 0} → CellParts Setup Hosted Store B L T E P U → Result A CellFault → CellParts Setup Hosted Store B L T E P U → Type 0
     HasCause c (Ok x) d = Unit {0}
     HasCause c (Err Memory) d = Unit {0}
     HasCause c (Err Spent) d = Unit {0}
     HasCause c (Err (OfNode (Declined refusal))) d = Unit {0}
     HasCause c (Err (OfNode (Down cause))) d =
-        (cause ≡ own_cause d.node.down) × (c.phase ≡ Up → IsBlamed cause (k.condition c.node.store) (k.condition d.node.store))
+        (cause ≡ own_cause d.node.down) × (c.phase ≡ Up → d.node.down ≡ Some cause → IsBlamed cause (k.condition c.node.store) (k.condition d.node.store))
 
     -- where a restart fails, the node is down by the fault that is told, which a restart from this store may have
     abbrev pub MayNotRestart : CellParts Setup Hosted Store B L T E P U → Result (Unit {0}) CellFault → CellParts Setup Hosted Store B L T E P U → Type 0

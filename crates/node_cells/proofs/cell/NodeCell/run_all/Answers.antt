@@ -130,5 +130,5 @@ returns-in-Err-clause-cause g c =
     let failed = have_failed g _ i.book.ether.setup c.args.taken.items c.args.copies.items i.node c.step_all.new.self c.in-Err.field-0 c.self.invariant.setup c.requires.taken c.in-Err.ensures.failed in
     let falls = downed_here (machine g i.book.ether.setup) (kept g) c.args.copies.items i.node c.step_all.new.self c.in-Err.field-0 failed (c.self.invariant.up up) in (
       sym (ap own_cause falls.is_down),
-      λ was. subst (λ (z : RoomOf g). IsBlamed c.in-Err.field-0.cause (g.S.Stable.condition z.parts.node.store) (g.S.Stable.condition c.step_all.new.self.store)) c.self.view_is falls.blamed,
+      λ was is. subst (λ (z : RoomOf g). IsBlamed c.in-Err.field-0.cause (g.S.Stable.condition z.parts.node.store) (g.S.Stable.condition c.step_all.new.self.store)) c.self.view_is falls.blamed,
     )
