@@ -1,5 +1,5 @@
 -- What a worker tells its outlet.
-use Rattle.std.specs.Prelude.{◌≡◌, ◌↔◌, ◌<◌, ◌≤◌, ◌-◌, ◌&&◌, ◌||◌, ◌++◌, ⊥, ℕ, length, Bool, true, false, not, nat_eq, nat_lt, List, Option, Some, None}
+use Rattle.std.specs.Prelude.{◌≡◌, ◌↔◌, ◌<◌, ◌≤◌, ◌-◌, ◌&&◌, ◌||◌, ◌++◌, ℕ, length, Bool, true, false, not, nat_eq, nat_lt, List, Option, Some, None}
 use Rattle.raft_log.specs.declared.role.Role.{Role}
 use Rattle.raft_log.specs.declared.role.Role.TheVariants.{Follower, Candidate, Leader}
 use Rattle.raft_log.specs.Positions.{role_of}
