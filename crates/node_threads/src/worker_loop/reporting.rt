@@ -36,11 +36,11 @@ impl<M: Marking, G: Gate + Drop, O: Outlet<M::Effect>> WorkerLoop<M, G, O> {
         if !self.is_news(&now) || (has_grown && self.may_tell_later(&now)) {
             return true;
         }
-        self.has_untold_beat = false;
         let report = self.report(cell.id(), &now);
         match self.outlet.report(rt, report) {
             Ok(()) => {
                 self.told = Some(now);
+                self.has_untold_beat = false;
                 self.round.go_on(self.alloc);
                 !self.round.has_news()
             }
