@@ -5,3 +5,4 @@ pub mod Others
 pub mod Sending
 pub mod Changes
 pub mod Joining
+pub mod Same

@@ -1,9 +1,10 @@
 -- Lists as blocks of one size, and a last one that grows.
 use Rattle.std.specs.Prelude.{◌≡◌, ◌≤◌, ℕ, List, ◌++◌, length, flat_map, All}
+use Rattle.raft_log.specs.declared.block.TheConstants.{BLOCK_SIZE}
 
 -- how many items a full block has
 abbrev pub block_size : ℕ
-block_size = 1024
+block_size = BLOCK_SIZE
 
 module _ {A : Type 0} where
   -- the items of the full blocks, and behind them those of the last one

@@ -1,10 +1,11 @@
 -- Logs: what they agree on, which one is better, and what an append leaves. Indexes count from 1; index 0 has term 0.
 use Rattle.std.specs.Prelude.{ℕ, zero, suc, ◌==◌, Bool, true, false, ◌&&◌, ◌||◌, List, [], ◌∷◌, ◌++◌, length, take, drop, nat_lt, nat_le, if◌then◌else◌}
 use Rattle.raft_log.specs.declared.entry.Entry.{Entry}
+use Rattle.raft_log.specs.declared.log.TheConstants.{ENTRY_LIMIT}
 
 -- how many entries a log has at most
 abbrev pub entry_limit : ℕ
-entry_limit = 1000000
+entry_limit = ENTRY_LIMIT
 
 module _ {B : Type 0} where
   -- the term of the last entry, or this number where there is none

@@ -3,10 +3,12 @@ ghost use Rattle.std.specs.Prelude.{IfOk, OnOk, OnErr, slice_get};
 ghost use Rattle.raft_log.specs.Blocks.{block_size};
 
 use crate::block::{BLOCK_SIZE, Block};
+use crate::body::LoggedBody;
+use crate::sharing::share_each;
 use crate::tail::replace_tail;
 use std::alloc::{AllocError, Global};
 use std::marker::Model;
-use wire_bytes::{Copied, copied_all};
+use wire_bytes::{Copied, Wire, copied_all};
 
 /// A list as blocks: full ones, which copies of it share, and behind them the last one, which grows.
 #[derive(Drop)]
@@ -109,6 +111,17 @@ impl<T: Copied> Blocks<T> {
             self.push(item)?;
         }
         Ok(self)
+    }
+}
+
+impl<B: Wire> Blocks<LoggedBody<B>> {
+    /// The full blocks from this one on that hold what another list has in its own are shared with it. Answers how
+    /// many full blocks there are.
+    pub fn share(&mut self, from: usize, other: &Self) -> Result<usize, AllocError>
+        ensures { self.new ≡ self.old }
+    {
+        share_each(&mut self.full, from, &other.full)?;
+        Ok(self.full.len())
     }
 }
 

@@ -1,4 +1,4 @@
-ghost use Rattle.std.specs.Prelude.{◌≡◌, ◌+◌, ◌≤◌, IfOk, length, vec_capacity};
+ghost use Rattle.std.specs.Prelude.{◌≡◌, ◌+◌, ◌≤◌, IfOk, length, true, vec_capacity};
 ghost use Rattle.raft_log.specs.Spellings.{written_over};
 
 use std::alloc::{AllocError, Global};
@@ -40,6 +40,18 @@ impl<B: Wire> LoggedBody<B> {
         ensures short { length (B.spelled self.now) ≤ 65536 }
     {
         &self.body
+    }
+
+    /// Whether another body is the same, by what both are spelled as, which is put here.
+    pub fn is_same(&self, other: &Self, texts: &mut Vec<u8>) -> Result<bool, AllocError>
+        ensures { IfOk result (λ same. same ≡ true → self.now ≡ other.now) }
+    {
+        texts.clear();
+        self.get().put(texts)?;
+        let middle = texts.len();
+        other.get().put(texts)?;
+        let (one, two) = texts.split_at(middle);
+        Ok(one == two)
     }
 }
 

@@ -18,6 +18,7 @@ mod peers;
 mod position;
 mod role;
 mod run;
+mod sharing;
 mod step;
 mod tail;
 

@@ -246,6 +246,14 @@ impl<B: Wire> Log<B> {
         let (keep, rest) = self.repaired(prev, entries);
         self.put_behind(keep, rest)
     }
+
+    /// The full blocks of bodies from this one on that another log has at the same places are one value in memory
+    /// with it from now on. Answers how many full blocks there are.
+    pub fn share(&mut self, from: usize, other: &Self) -> Result<usize, AllocError>
+        ensures { self.new ≡ self.old }
+    {
+        self.bodies.share(from, &other.bodies)
+    }
 }
 
 /// A copy shares the full blocks of bodies.
