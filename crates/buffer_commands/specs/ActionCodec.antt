@@ -1,6 +1,6 @@
 -- Verbs, names of channels, sizes and actions are codecs.
 use Rattle.std.proofs.Common.{◌≡◌, ℕ, ◌^◌, zero, suc, ◌≤◌, Bool, true, false, List, [], ◌∷◌, ◌++◌, IsTrue, refl, subst, arith}
-use Rattle.std.specs.Prelude.{◌==◌, is_some}
+use Rattle.std.specs.Prelude.{◌==◌, Some, None, is_some}
 use Rattle.std.specs.Int.{w16}
 use Rattle.irc_line.specs.Names.{is_name, is_channel, is_text}
 use Rattle.wire_bytes.specs.Fields.{through, both, reading_of, byte_within}
@@ -10,7 +10,7 @@ use Rattle.wire_bytes.specs.FieldCodecs.{both_true, byte-codec, number-codec, wi
 use Rattle.wire_bytes.specs.ContentCodecs.{name_is_codec, sized_some, text_is_codec}
 use Rattle.wire_bytes.specs.LineCodec.{line_is_codec}
 use Rattle.wire_bytes.specs.Contents.{sized, name, text, FitsLine, line}
-use Rattle.buffer_commands.specs.Spellings.{verb_of, spelled_verb, verb, FitsChannel, channel_name, FitsSize, spelled_size, buffer_size, action_kind, action_body, spelled_action, FitsAction, say_of, set_of, action_cases, action}
+use Rattle.buffer_commands.specs.Spellings.{verb_of, spelled_verb, verb, FitsChannel, channel_name, FitsSize, spelled_size, buffer_size, action_kind, action_body, spelled_action, FitsAction, say_of, set_of, attach_as, action_cases, action}
 use Rattle.buffer_commands.specs.declared.command.Verb.{Verb}
 use Rattle.buffer_commands.specs.declared.command.Verb.TheVariants.{Privmsg, Notice}
 use Rattle.buffer_commands.specs.declared.command.Action.{Action}
@@ -77,7 +77,7 @@ SetFits p = IsTrue (is_name p.0) × FitsSize p.1
 -- what an action of a kind is made of
 abbrev MadeAs : ℕ → Action → Type 0
 MadeAs k a =
-    IfKind (k == 1) (Attach ≡ a)
+    IfKind (k == 1) (Attach None ≡ a)
     (IfKind (k == 2) (Leave ≡ a)
     (IfKind (k == 3) (IsMade SaidFits say_of a)
     (IfKind (k == 4) (IsMade FitsChannel Join a)
@@ -90,10 +90,12 @@ MadeAs k a =
     (IfKind (k == 11) (ClearQueries ≡ a)
     (IfKind (k == 12) (ClearAll ≡ a)
     (IfKind (k == 13) (IsMade SetFits set_of a)
-    (IsMade FitsLine Pass a)))))))))))))
+    (IfKind (k == 14) (IsMade FitsLine Pass a)
+    (IsMade (λ n. IsTrue (is_name n)) attach_as a))))))))))))))
 
 made_as_its_kind : (a : Action) → FitsAction a → MadeAs (action_kind a) a
-made_as_its_kind Attach h = refl
+made_as_its_kind (Attach None) h = refl
+made_as_its_kind (Attach (Some id)) h = (id, h, refl)
 made_as_its_kind Leave h = refl
 made_as_its_kind (Say v n t) h = (((v, n), t), h, refl)
 made_as_its_kind (Join c) h = (c, h, refl)
@@ -132,7 +134,8 @@ target_case : (k : ℕ) (make : List ℕ → Action) → ((n : List ℕ) → IsT
 target_case k make makes spells splits = through-codec action_body (λ a. FitsAction a × (action_kind a ≡ k)) sized (λ n. IsTrue (is_name n)) name make name_is_codec makes (λ n h. spells n) splits
 
 action_listed : (a : Action) → FitsAction a → IsTrue (is_some (reading_of (action_kind a) action_cases))
-action_listed Attach h = refl
+action_listed (Attach None) h = refl
+action_listed (Attach (Some id)) h = refl
 action_listed Leave h = refl
 action_listed (Say v n t) h = refl
 action_listed (Join c) h = refl
@@ -155,7 +158,7 @@ pub action_is_codec : IsCodec spelled_action FitsAction action
 unfolding action spelled_action
 action_is_codec =
     choice-codec action_kind action_body FitsAction action_cases (
-      done-codec action_body (OfKind 1) Attach (tt, refl) refl (made_as 1),
+      done-codec action_body (OfKind 1) (Attach None) (tt, refl) refl (made_as 1),
       (
         done-codec action_body (OfKind 2) Leave (tt, refl) refl (made_as 2),
         (
@@ -180,7 +183,10 @@ action_is_codec =
                             done-codec action_body (OfKind 12) ClearAll (tt, refl) refl (made_as 12),
                             (
                               through-codec action_body (OfKind 13) _ _ (both name buffer_size) set_of set_codec (λ p h. (h, refl)) (λ p h. refl) (made_as 13),
-                              (through-codec action_body (OfKind 14) _ _ line Pass line_is_codec (λ p h. (h, refl)) (λ p h. refl) (made_as 14), tt),
+                              (
+                                through-codec action_body (OfKind 14) _ _ line Pass line_is_codec (λ p h. (h, refl)) (λ p h. refl) (made_as 14),
+                                (target_case 15 attach_as (λ n h. (h, refl)) (λ n. refl) (made_as 15), tt),
+                              ),
                             ),
                           ),
                         ),

@@ -1,5 +1,5 @@
 -- Actions and commands as bytes: a kind byte, and behind it what is of that kind.
-use Rattle.std.specs.Prelude.{ℕ, ◌≤◌, ◌==◌, if◌then◌else◌, List, [], ◌∷◌, ◌++◌, IsTrue}
+use Rattle.std.specs.Prelude.{ℕ, ◌≤◌, ◌==◌, if◌then◌else◌, List, [], ◌∷◌, ◌++◌, Some, None, IsTrue}
 use Rattle.std.specs.Int.{w16, to_be_bytes}
 use Rattle.irc_line.specs.Names.{is_name, is_channel, is_text}
 use Rattle.irc_line.specs.Lines.{Parts}
@@ -60,9 +60,9 @@ buffer_size = number_to w16 65535
 
 -- Actions
 
--- the kind byte of an action, 1 to 14
+-- the kind byte of an action, 1 to 15; an Attach with a name has the last
 abbrev pub action_kind : Action → ℕ
-action_kind Attach = 1
+action_kind (Attach None) = 1
 action_kind Leave = 2
 action_kind (Say v n t) = 3
 action_kind (Join c) = 4
@@ -76,6 +76,7 @@ action_kind ClearQueries = 11
 action_kind ClearAll = 12
 action_kind (SetBuffer n k) = 13
 action_kind (Pass p) = 14
+action_kind (Attach (Some id)) = 15
 
 -- verb, name and text of a Say
 abbrev pub said : Verb → List ℕ → List ℕ → List ℕ
@@ -83,7 +84,8 @@ said v n t = (spelled_verb v ++ sized n) ++ sized t
 
 -- verb, name, text; or name; or name, size; or line
 abbrev pub action_body : Action → List ℕ
-action_body Attach = []
+action_body (Attach None) = []
+action_body (Attach (Some id)) = sized id
 action_body Leave = []
 action_body (Say v n t) = said v n t
 action_body (Join c) = sized c
@@ -104,7 +106,8 @@ spelled_action a = action_kind a ∷ action_body a
 
 -- the names, the text, the size or the line of an action are within their limits
 abbrev pub FitsAction : Action → Type 0
-FitsAction Attach = Unit {0}
+FitsAction (Attach None) = Unit {0}
+FitsAction (Attach (Some id)) = IsTrue (is_name id)
 FitsAction Leave = Unit {0}
 FitsAction (Say v n t) = (Unit {0} × IsTrue (is_name n)) × IsTrue (is_text t)
 FitsAction (Join c) = FitsChannel c
@@ -139,10 +142,14 @@ set_buffer_taken = through set_of (both name buffer_size)
 abbrev pub pass_taken : Reading Action
 pass_taken = through Pass line
 
+-- an Attach of a client with a name
+abbrev pub attach_as : List ℕ → Action
+attach_as id = Attach (Some id)
+
 -- what may stand behind each kind byte
 abbrev pub action_cases : List (ℕ × Reading Action)
 action_cases =
-    (1, done Attach)
+    (1, done (Attach None))
     ∷ (2, done Leave)
     ∷ (3, say_taken)
     ∷ (4, through Join channel_name)
@@ -156,6 +163,7 @@ action_cases =
     ∷ (12, done ClearAll)
     ∷ (13, set_buffer_taken)
     ∷ (14, pass_taken)
+    ∷ (15, through attach_as name)
     ∷ []
 
 -- an action wants memory for what stands whole behind its kind byte
@@ -179,6 +187,7 @@ action_wants =
     ∷ (9, once_whole name)
     ∷ (13, set_buffer_wants)
     ∷ (14, once_whole line)
+    ∷ (15, once_whole name)
     ∷ [])
 
 -- the action at the front of an input

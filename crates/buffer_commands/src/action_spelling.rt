@@ -32,8 +32,8 @@ impl Action {
             | Action::Reattach(channel) => {
                 channel.name();
             }
-            Action::Play(target) | Action::Clear(target) => {
-                target.as_bytes();
+            Action::Attach(Some(name)) | Action::Play(name) | Action::Clear(name) => {
+                name.as_bytes();
             }
             Action::SetBuffer(target, size) => {
                 target.as_bytes();
@@ -47,9 +47,10 @@ impl Action {
     }
 }
 
-/// Attach is 1, Leave 2, Say 3 with verb, target and text, Join 4, Part 5, Detach 6 and Reattach 7
+/// Attach without a name is 1, Leave 2, Say 3 with verb, target and text, Join 4, Part 5, Detach 6 and Reattach 7
 /// with their channel, Play 8 and Clear 9 with their target, ClearChannels 10, ClearQueries 11,
-/// ClearAll 12, SetBuffer 13 with its target and size, and Pass 14 with its line.
+/// ClearAll 12, SetBuffer 13 with its target and size, Pass 14 with its line, and Attach with a name
+/// 15.
 impl Wire for Action {
     ghost use Rattle.buffer_commands.specs.Spellings.{spelled_action, FitsAction, action, action_wants};
     ghost use Rattle.buffer_commands.specs.ActionCodec.{action_is_codec};
@@ -66,7 +67,8 @@ impl Wire for Action {
     fn put(&self, out: &mut Vec<u8>) -> Result<(), AllocError> {
         let len = out.len();
         match self {
-            Action::Attach => Ok(out.push(1)?),
+            Action::Attach(None) => Ok(out.push(1)?),
+            Action::Attach(Some(id)) => put_kind(out, 15, id),
             Action::Leave => Ok(out.push(2)?),
             Action::Say(verb, target, text) => {
                 out.push(3)?;
@@ -95,7 +97,7 @@ impl Wire for Action {
     fn take(alloc: Global, input: &[u8]) -> Result<(Self, usize), WireFault> {
         match input {
             [] => Err(WireFault::Short),
-            [1, ..] => Ok((Action::Attach, 1)),
+            [1, ..] => Ok((Action::Attach(None), 1)),
             [2, ..] => Ok((Action::Leave, 1)),
             [3, ..] => take_say(alloc, input),
             [4, ..] => {
@@ -127,6 +129,10 @@ impl Wire for Action {
             [12, ..] => Ok((Action::ClearAll, 1)),
             [13, ..] => take_set_buffer(alloc, input),
             [14, ..] => take_pass(alloc, input),
+            [15, ..] => {
+                let (id, end) = take_behind::<Name>(alloc, input, 1)?;
+                Ok((Action::Attach(Some(id)), end))
+            }
             _ => Err(WireFault::Bad(0)),
         }
     }

@@ -15,7 +15,8 @@ pub enum Verb {
 /// What a client asks for.
 #[derive(Drop)]
 pub enum Action {
-    Attach,
+    /// That the client is shown what comes; one with a name is shown what the name has not seen.
+    Attach(Option<Name>),
     Leave,
     /// A message to a channel or a nick.
     Say(Verb, Name, Text),
@@ -61,7 +62,8 @@ pub enum Command {
 impl Copied for Action {
     fn copy(&self, alloc: Global) -> Result<Self, AllocError> {
         match self {
-            Action::Attach => Ok(Action::Attach),
+            Action::Attach(None) => Ok(Action::Attach(None)),
+            Action::Attach(Some(id)) => Ok(Action::Attach(Some(id.copy(alloc)?))),
             Action::Leave => Ok(Action::Leave),
             Action::Say(verb, target, text) => {
                 Ok(Action::Say(*verb, target.copy(alloc)?, text.copy(alloc)?))

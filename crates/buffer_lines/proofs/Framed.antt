@@ -1,6 +1,8 @@
 -- What a playback of some lines shows.
-use Rattle.std.proofs.Common.{◌≡◌, ℕ, ◌≢◌, List, [], ◌∷◌, ◌++◌, map, length, refl, ap}
-use Rattle.std.specs.Prelude.{codes}
+use Rattle.std.proofs.Common.{◌≡◌, ℕ, zero, suc, ◌-◌, ◌≢◌, List, [], ◌∷◌, ◌++◌, map, length, refl, ap, arith, take, length-drop}
+use Rattle.std.proofs.Math.Seq.{take-length}
+use Rattle.std.proofs.lemmas.List.{append_assoc, map-append}
+use Rattle.std.specs.Prelude.{codes, drop, min}
 use Rattle.irc_line.specs.Lines.{Parts, spelling}
 use Rattle.buffer_lines.specs.Stamps.{timed, frame, framed}
 
@@ -12,3 +14,28 @@ pub framed_some : (offset : ℕ) (target : List ℕ) (ks : List (ℕ × Parts)) 
     → map spelling (framed offset target ks) ≡ spelling (frame target (codes "Buffer Playback...")) ∷ (map (λ k. spelling (timed offset k)) ks ++ spelling (frame target (codes "Playback Complete.")) ∷ [])
 framed_some offset target [] h = absurd (h refl)
 framed_some offset target (k ∷ ks) h = ap (λ xs. spelling (frame target (codes "Buffer Playback...")) ∷ xs) (map_shown offset (frame target (codes "Playback Complete.")) (k ∷ ks))
+
+-- what is shown of two lists behind so many older lines
+shown_two : (offset older : ℕ) (xs ys : List (ℕ × Parts))
+    → map (λ k. spelling (timed offset k)) (drop older (xs ++ ys)) ≡ map (λ k. spelling (timed offset k)) (drop (min older (length xs)) xs) ++ map (λ k. spelling (timed offset k)) (drop (older - min older (length xs)) ys)
+shown_two offset older [] ys =
+    let e : min older 0 ≡ 0 = omega arith in
+    let f : older - 0 ≡ older = omega arith in
+    rw (e, f) refl
+shown_two offset zero (x ∷ xs) ys =
+    let e : min 0 (suc (length xs)) ≡ 0 = omega arith in
+    rw e (ap (λ zs. spelling (timed offset x) ∷ zs) (map-append (λ k. spelling (timed offset k)) xs ys))
+shown_two offset (suc older) (x ∷ xs) ys =
+    let e : min (suc older) (suc (length xs)) ≡ suc (min older (length xs)) = omega arith in
+    let f : suc older - suc (min older (length xs)) ≡ older - min older (length xs) = omega arith in
+    rw (e, f) (shown_two offset older xs ys)
+
+-- what is appended of two lists behind so many older lines is what is shown of both
+pub shown_behind : (offset older cut : ℕ) (before xs ys : List (ℕ × Parts)) (all : List (List ℕ)) → cut ≡ min older (length xs) → xs ++ ys ≡ before
+    → (all ++ map (λ k. spelling (timed offset k)) (drop cut xs)) ++ map (λ k. spelling (timed offset k)) (drop (older - cut) ys) ≡ all ++ map (λ k. spelling (timed offset k)) (drop older before)
+shown_behind offset older cut before xs ys all e f =
+    rw (e, ← f, shown_two offset older xs ys) (append_assoc all _ _)
+
+-- all that is left behind so many
+pub rest_of : {A : Type 0} (n : ℕ) (xs : List A) → take (length xs - n) (drop n xs) ≡ drop n xs
+rest_of n xs = rw (← length-drop n xs) (take-length (drop n xs))

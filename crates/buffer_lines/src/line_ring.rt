@@ -1,4 +1,4 @@
-ghost use Rattle.std.specs.Prelude.{◌≡◌, ◌≤◌, [], ◌++◌, codes, IfOk, IsOk, OnOk, OnErr};
+ghost use Rattle.std.specs.Prelude.{◌≡◌, ◌≤◌, ◌<◌, ◌^◌, [], ◌++◌, codes, drop, length, IfOk, IsOk, OnOk, OnErr};
 ghost use Rattle.irc_line.specs.Lines.{spelling};
 ghost use Rattle.buffer_lines.specs.Stamps.{frame, of_size, ring, shown_framed, shown_timed, with_line};
 
@@ -84,40 +84,78 @@ impl LineRing {
     pub fn play(&self, offset: Offset, target: &[u8]) -> Result<Vec<Shown>, AllocError>
         ensures { IfOk result (λ v. v.items ≡ shown_framed offset target.now self.now.lines) }
     {
-        played(self.alloc, offset, target, &self.lines)
+        played(self.alloc, offset, target, &self.lines, 0)
+    }
+
+    /// The same of the lines behind so many older ones.
+    pub fn play_behind(
+        &self,
+        older: usize,
+        offset: Offset,
+        target: &[u8],
+    ) -> Result<Vec<Shown>, AllocError>
+        ensures { IfOk result (λ v. v.items ≡
+            shown_framed offset target.now (drop older self.now.lines)) }
+    {
+        played(self.alloc, offset, target, &self.lines, older)
+    }
+
+    /// How many lines are kept.
+    pub fn count(&self) -> usize
+        ensures count { result ≡ length self.now.lines }
+        ensures within { result < 2 ^ 63 }
+    {
+        self.lines.len()
     }
 }
 
-/// Kept lines with their times, between the two frame lines.
+/// Kept lines with their times, between the two frame lines, behind so many older ones.
 #[tactic(auto, using(crate::proofs::Framed::framed_some))]
 fn played(
     alloc: Global,
     offset: Offset,
     target: &[u8],
     lines: &HeapCircularBuffer<KeptLine>,
+    older: usize,
 ) -> Result<Vec<Shown>, AllocError>
-    ensures { IfOk result (λ v. v.items ≡ shown_framed offset target.now lines.now.items) }
+    ensures { IfOk result (λ v. v.items ≡
+        shown_framed offset target.now (drop older lines.now.items)) }
 {
-    if lines.is_empty() {
+    if lines.len() <= older {
         return Ok(Vec::new(alloc));
     }
-    let mut all = Vec::with_capacity(alloc, lines.len().saturating_add(2))?;
+    let mut all = Vec::with_capacity(alloc, (lines.len() - older).saturating_add(2))?;
     all.push(frame_line(alloc, target, b"Buffer Playback...")?)?;
-    push_played(&mut all, offset, lines)?;
+    push_behind(&mut all, offset, lines, older)?;
     all.push(frame_line(alloc, target, b"Playback Complete.")?)?;
     Ok(all)
 }
 
-/// Appends what is shown of kept lines.
-fn push_played(
+/// Appends what is shown of the lines of a ring, behind so many older ones.
+#[tactic(auto, using(crate::proofs::Framed::shown_behind))]
+fn push_behind(
     all: &mut Vec<Shown>,
     offset: Offset,
     lines: &HeapCircularBuffer<KeptLine>,
+    older: usize,
 ) -> Result<(), AllocError>
-    ensures { OnOk result (all.new.items ≡ all.old.items ++ shown_timed offset lines.now.items) }
+    requires { older ≤ length lines.now.items }
+    ensures { OnOk result (all.new.items ≡
+        all.old.items ++ shown_timed offset (drop older lines.now.items)) }
+{
+    let (front, back) = lines.as_slices();
+    let cut = older.min(front.len());
+    push_played(all, offset, &front[cut..])?;
+    push_played(all, offset, &back[older - cut..])?;
+    Ok(())
+}
+
+/// Appends what is shown of kept lines.
+fn push_played(all: &mut Vec<Shown>, offset: Offset, lines: &[KeptLine]) -> Result<(), AllocError>
+    ensures { OnOk result (all.new.items ≡ all.old.items ++ shown_timed offset lines.now) }
 {
     let alloc = *all.allocator();
-    for line in lines.iter() {
+    for line in lines {
         all.push(line.played(alloc, offset)?)?;
     }
     Ok(())

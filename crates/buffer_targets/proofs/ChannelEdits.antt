@@ -11,7 +11,7 @@ use Rattle.irc_line.proofs.Booleans.{and_left}
 use Rattle.irc_line.proofs.Order.{below-asym}
 use Rattle.buffer_lines.specs.Stamps.{ring}
 use Rattle.buffer_targets.specs.Places.{IsPlace, IsGap}
-use Rattle.buffer_targets.specs.Targets.{ChannelKeeps, ChannelLines, KeepsSoMany, at_channel, channel_names, channel_of_key, has_key, put_channel, without_channel, over, cleared, channel, target, joined_by, with_joined}
+use Rattle.buffer_targets.specs.Targets.{ChannelKeeps, ChannelLines, KeepsSoMany, at_channel, channel_names, channel_of_key, has_key, put_channel, without_channel, over, cleared, channel, target, joined_by, with_joined, none_seen, seen_all}
 use Rattle.buffer_targets.proofs.Rising.{none_at_gap, some_at_place, rising_are_different, rising-insert, rising-filter}
 use Rattle.buffer_targets.proofs.Edits.{none_changed, none_removed, none_found, any_is, changed, removed, found, names_stay, names_set, names-insert}
 use Rattle.buffer_targets.proofs.Search.{searched}
@@ -74,7 +74,7 @@ open_name c = open_name_by c (c.detached)
     open_name_by c true = refl
     open_name_by c false = refl
 
-pub made_names : (size : ℕ) (names : List (List ℕ)) → channel_names (map (λ n. channel (target n (ring [] size)) false false) names) ≡ names
+pub made_names : (size : ℕ) (names : List (List ℕ)) → channel_names (map (λ n. channel (target n (ring [] size) none_seen) false false) names) ≡ names
 made_names size [] = refl
 made_names size (n ∷ ns) = ap (λ ms. n ∷ ms) (made_names size ns)
 
@@ -124,12 +124,20 @@ channel_joined name size key cs at x y k rises place e h =
     rw (channel_known (fold_name name) cs at rises place) (channel_set (fold_name name) cs at rises place (with_joined true) x y e h)
 
 pub channel_made : (name : List ℕ) (size : ℕ) (key : List ℕ) (cs : List ChannelLines) (at : ℕ) (c : ChannelLines) → key ≡ fold_name name → IsGap key (channel_names cs) at
-    → c ≡ channel (target name (ring [] size)) true false → insert cs at c ≡ joined_by name size cs
+    → c ≡ channel (target name (ring [] size) none_seen) true false → insert cs at c ≡ joined_by name size cs
 channel_made name size key cs at c k gap h =
     let gap : IsGap (fold_name name) (channel_names cs) at = subst (λ f. IsGap f (channel_names cs) at) k gap in
-    rw (h, channel_unknown (fold_name name) cs at gap) (channel_put (channel (target name (ring [] size)) true false) cs at gap)
+    rw (h, channel_unknown (fold_name name) cs at gap) (channel_put (channel (target name (ring [] size) none_seen) true false) cs at gap)
 
 pub rising_made : (name : List ℕ) (key : List ℕ) (cs : List ChannelLines) (at : ℕ) (c : ChannelLines) → key ≡ fold_name name → IsGap key (channel_names cs) at → c.target.name ≡ name
     → are_rising (channel_names cs) ≡ true → are_rising (channel_names (insert cs at c)) ≡ true
 rising_made name key cs at c k gap h rises =
     rising_put c cs at (subst (λ f. IsGap f (channel_names cs) at) (k ∙ ap fold_name (sym h)) gap) rises
+
+-- what a channel that is seen, if clients are shown it, is named
+pub open_seen_name : (here : List Bool) (c : ChannelLines) → (if c.detached then c else over (seen_all here) c).target.name ≡ c.target.name
+open_seen_name here c = by (c.detached)
+  where
+    by : (b : Bool) → (if b then c else over (seen_all here) c).target.name ≡ c.target.name
+    by true = refl
+    by false = refl

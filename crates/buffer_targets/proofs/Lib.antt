@@ -5,3 +5,4 @@ pub mod Keys
 mod QueryEdits
 pub mod Rising
 mod Search
+mod Counts

@@ -1,5 +1,5 @@
 -- What an edit at the place of a key does to queries.
-use Rattle.std.proofs.Common.{◌≡◌, ℕ, ◌<◌, ◌≤◌, true, false, List, [], ◌∷◌, ◌++◌, map, get_or, set, drop, length, refl, sym, ap, ◌∙◌, subst, Result, Ok, Err, OnOk, OnErr, Some, None}
+use Rattle.std.proofs.Common.{◌≡◌, ℕ, ◌<◌, ◌≤◌, Bool, true, false, List, [], ◌∷◌, ◌++◌, map, get_or, set, drop, length, refl, sym, ap, ◌∙◌, subst, Result, Ok, Err, OnOk, OnErr, Some, None}
 use Rattle.std.specs.List.{insert, list_any}
 use Rattle.std.proofs.lemmas.List.{map_push, length-map, drop-map, get_or_default}
 use Rattle.irc_line.specs.Names.{fold_name}
@@ -7,7 +7,7 @@ use Rattle.irc_line.specs.Lines.{Parts}
 use Rattle.irc_line.specs.Keys.{is_in}
 use Rattle.buffer_lines.specs.Stamps.{ring}
 use Rattle.buffer_targets.specs.Places.{IsPlace, IsGap, IsIndex, are_different, lowered, names_at}
-use Rattle.buffer_targets.specs.Targets.{KeepsSoMany, QueryKeeps, TargetLines, at_query, has_name_key, newest, pushed, query_names, query_of_key, query_stored, target}
+use Rattle.buffer_targets.specs.Targets.{KeepsSoMany, QueryKeeps, TargetLines, at_query, has_name_key, newest, none_seen, pushed, query_names, query_of_key, query_stored, target}
 use Rattle.buffer_targets.proofs.Rising.{some_at_place}
 use Rattle.buffer_targets.proofs.Edits.{none_changed, none_found, any_is, changed, found, names_stay, names_set}
 use Rattle.buffer_targets.proofs.Indexes.{found_in_index, index_pushed, index_dropped}
@@ -66,15 +66,15 @@ pub index_newest : (k : ℕ) (ts : List TargetLines) (places : List ℕ) → IsI
 index_newest k ts places index = rw (← drop-map name_of k ts) (index_dropped k (query_names ts) places index)
 
 -- what a stored line does, where there is a query of the name and where there is none
-pub query_pushed : (most size : ℕ) (name : List ℕ) (line : ℕ × Parts) (key : List ℕ) (ts : List TargetLines) (at : ℕ) (x y : TargetLines) → key ≡ fold_name name
-    → are_different (query_names ts) ≡ true → IsPlace key (query_names ts) at → x ≡ get_or ts at x → y ≡ pushed line x → set ts at y ≡ query_stored most size name line ts
-query_pushed most size name line key ts at x y k different place e h =
+pub query_pushed : (most size : ℕ) (name : List ℕ) (line : ℕ × Parts) (here : List Bool) (key : List ℕ) (ts : List TargetLines) (at : ℕ) (x y : TargetLines) → key ≡ fold_name name
+    → are_different (query_names ts) ≡ true → IsPlace key (query_names ts) at → x ≡ get_or ts at x → y ≡ pushed line here x → set ts at y ≡ query_stored most size name line here ts
+query_pushed most size name line here key ts at x y k different place e h =
     let place : IsPlace (fold_name name) (query_names ts) at = subst (λ f. IsPlace f (query_names ts) at) k place in
-    rw (any_is name_of (fold_name name) ts, some_at_place (fold_name name) (query_names ts) at place) (query_set (fold_name name) ts at different place (pushed line) x y e h)
+    rw (any_is name_of (fold_name name) ts, some_at_place (fold_name name) (query_names ts) at place) (query_set (fold_name name) ts at different place (pushed line here) x y e h)
 
-pub query_made : (most size : ℕ) (name : List ℕ) (line : ℕ × Parts) (key : List ℕ) (ts us : List TargetLines) (t : TargetLines) → key ≡ fold_name name → is_in key (query_names ts) ≡ false
-    → t ≡ pushed line (target name (ring [] size)) → us ≡ ts ++ t ∷ [] → newest most us ≡ query_stored most size name line ts
-query_made most size name line key ts us t k absent h e =
+pub query_made : (most size : ℕ) (name : List ℕ) (line : ℕ × Parts) (here : List Bool) (key : List ℕ) (ts us : List TargetLines) (t : TargetLines) → key ≡ fold_name name → is_in key (query_names ts) ≡ false
+    → t ≡ pushed line here (target name (ring [] size) none_seen) → us ≡ ts ++ t ∷ [] → newest most us ≡ query_stored most size name line here ts
+query_made most size name line here key ts us t k absent h e =
     let absent : is_in (fold_name name) (query_names ts) ≡ false = subst (λ f. is_in f (query_names ts) ≡ false) k absent in
     rw (any_is name_of (fold_name name) ts, absent, e, h) refl
 

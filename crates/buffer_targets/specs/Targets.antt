@@ -1,5 +1,6 @@
--- What is held of a target: the spelling of its making and its last lines. And what is done to one.
-use Rattle.std.specs.Prelude.{◌≡◌, ℕ, ◌-◌, ◌<◌, ◌≤◌, Bool, true, false, not, if◌then◌else◌, List, [], ◌∷◌, ◌++◌, length, drop, map, filter, find, Option, None, Some, option_map, refl}
+-- What is held of a target: the spelling of its making, its last lines, and how many of them each reader has seen. And what is done
+-- to one. Readers are numbered from 0, 64 at most.
+use Rattle.std.specs.Prelude.{◌≡◌, ℕ, suc, ◌-◌, replicate, slice_index, slice_set, ◌<◌, ◌≤◌, Bool, true, false, not, if◌then◌else◌, List, [], ◌∷◌, ◌++◌, length, drop, map, filter, find, Option, None, Some, option_map, refl}
 use Rattle.std.specs.List.{list_any}
 use Rattle.std.specs.Coded.{Coded, code_by, coded×, coded_list, coded_ℕ, coded_bool}
 use Rattle.circular_buffer.specs.Buffer.{keep_last}
@@ -8,31 +9,77 @@ use Rattle.irc_line.specs.Names.{fold_name}
 use Rattle.irc_line.specs.Lines.{Parts}
 use Rattle.buffer_lines.specs.Stamps.{Ring, ring, ring_code}
 use Rattle.buffer_targets.specs.Places.{IsPlace, IsGap, names_at}
+use Rattle.buffer_targets.specs.declared.seen.TheConstants.{READERS}
 
 -- a target by the spelling of its making, with its last lines
 pub record TargetLines : Type 0 where
   pub name : List ℕ
   pub lines : Ring
+  pub seen : List ℕ
 
--- a target, of its two parts
-abbrev pub target : List ℕ → Ring → TargetLines
-target name lines = record { name = name; lines = lines }
+-- a target, of its three parts
+abbrev pub target : List ℕ → Ring → List ℕ → TargetLines
+target name lines seen = record { name = name; lines = lines; seen = seen }
 
--- a target is stored as the pair of its fields
+-- how many readers there may be
+abbrev pub readers : ℕ
+readers = READERS
+
+-- no reader has seen a line
+abbrev pub none_seen : List ℕ
+none_seen = replicate readers 0
+
+-- how many one has seen, by whether it is here, if that is told
+abbrev pub counted_one : ℕ → ℕ → Option Bool → ℕ → ℕ
+counted_one all gone None n = n
+counted_one all gone (Some true) n = all
+counted_one all gone (Some false) n = n - gone
+
+-- how many lines each has seen, where these many are there now and so many of the oldest went: those who are here see all
+abbrev pub counted : ℕ → ℕ → List Bool → List ℕ → List ℕ
+counted all gone [] seen = seen
+counted all gone (h ∷ hs) [] = []
+counted all gone (h ∷ hs) (n ∷ ns) = counted_one all gone (Some h) n ∷ counted all gone hs ns
+
+-- so many of the oldest lines went
+abbrev pub fewer : ℕ → List ℕ → List ℕ
+fewer gone seen = map (λ n. n - gone) seen
+
+-- a target is stored as its three parts
 abbrev pub target_code : Coded TargetLines
-target_code = code_by (List ℕ × Ring) (coded× (coded_list coded_ℕ) ring_code) (λ t. (t.name, t.lines)) (λ p. target p.0 p.1) (λ _. refl)
+target_code =
+    code_by (List ℕ × (Ring × List ℕ)) (coded× (coded_list coded_ℕ) (coded× ring_code (coded_list coded_ℕ))) (λ t. (t.name, (t.lines, t.seen)))
+    (λ p. target p.0 p.1.0 p.1.1) (λ _. refl)
 
 -- it keeps nothing, and as many lines as before from now on
 abbrev pub cleared : TargetLines → TargetLines
-cleared t = target t.name (ring [] t.lines.size)
+cleared t = target t.name (ring [] t.lines.size) none_seen
 
 -- it keeps so many lines from now on
 abbrev pub resized : ℕ → TargetLines → TargetLines
-resized n t = target t.name (ring (keep_last n t.lines.lines) n)
+resized n t = target t.name (ring (keep_last n t.lines.lines) n) (fewer (length t.lines.lines - n) t.seen)
 
--- one line more came, with its moment
-abbrev pub pushed : ℕ × Parts → TargetLines → TargetLines
-pushed line t = target t.name (ring (keep_last t.lines.size (t.lines.lines ++ line ∷ [])) t.lines.size)
+-- one line more in a ring, with its moment
+abbrev pub ring_pushed : ℕ × Parts → Ring → Ring
+ring_pushed line r = ring (keep_last r.size (r.lines ++ line ∷ [])) r.size
+
+-- one line more came, with its moment, and these readers are here
+abbrev pub pushed : ℕ × Parts → List Bool → TargetLines → TargetLines
+pushed line here t =
+    target t.name (ring_pushed line t.lines)
+    (counted (length (ring_pushed line t.lines).lines) (suc (length t.lines.lines) - length (ring_pushed line t.lines).lines) here t.seen)
+
+-- these readers have seen all that is kept
+abbrev pub seen_all : List Bool → TargetLines → TargetLines
+seen_all here t = target t.name t.lines (counted (length t.lines.lines) 0 here t.seen)
+
+-- a reader alone, of all that there may be
+abbrev pub reader : ℕ → List Bool
+reader i = slice_set (replicate readers false) i true
+
+-- the lines that a reader has not seen
+abbrev pub unseen_of : ℕ → TargetLines → List (ℕ × Parts)
+unseen_of i t = drop (slice_index t.seen i) t.lines.lines
 
 -- a target that is found keeps so many lines, or more; or none is found
 abbrev pub KeepsSoMany : ℕ → Option TargetLines → Type 0
@@ -97,8 +144,8 @@ abbrev pub IsChannelAt : List ChannelLines → Option ℕ → Option ChannelLine
 IsChannelAt cs place found = (key : List ℕ) → StandsAt key cs place → found ≡ channel_of_key key cs
 
 -- a line stored at the place of a key is stored in the channel of the key
-abbrev pub IsStoredAt : Option ℕ → ℕ × Parts → List ChannelLines → List ChannelLines → Type 0
-IsStoredAt place line cs new = (key : List ℕ) → StandsAt key cs place → new ≡ at_channel key (over (pushed line)) cs
+abbrev pub IsStoredAt : Option ℕ → ℕ × Parts → List Bool → List ChannelLines → List ChannelLines → Type 0
+IsStoredAt place line here cs new = (key : List ℕ) → StandsAt key cs place → new ≡ at_channel key (over (pushed line here)) cs
 
 -- some channel has this key
 abbrev pub has_channel : List ℕ → List ChannelLines → Bool
@@ -110,7 +157,7 @@ channel_resized key size cs = at_channel key (over (resized size)) cs
 
 -- channels of these names that are shown to clients and that the own nick is not in, with so many lines to keep and none kept
 abbrev pub unjoined : ℕ → List (List ℕ) → List ChannelLines
-unjoined size names = map (λ c. channel (target c (ring [] size)) false false) names
+unjoined size names = map (λ c. channel (target c (ring [] size) none_seen) false false) names
 
 -- a channel put where its key belongs
 abbrev pub put_channel : ChannelLines → List ChannelLines → List ChannelLines
@@ -122,7 +169,7 @@ abbrev pub joined_by : List ℕ → ℕ → List ChannelLines → List ChannelLi
 joined_by name size cs =
     if list_any (has_key (fold_name name)) cs
     then at_channel (fold_name name) (with_joined true) cs
-    else put_channel (channel (target name (ring [] size)) true false) cs
+    else put_channel (channel (target name (ring [] size) none_seen) true false) cs
 
 -- the channel of a key goes with all that it has
 abbrev pub without_channel : List ℕ → List ChannelLines → List ChannelLines
@@ -131,6 +178,10 @@ without_channel key cs = filter (λ c. not (has_key key c)) cs
 -- the channels that clients are shown are emptied
 abbrev pub open_cleared : List ChannelLines → List ChannelLines
 open_cleared cs = map (λ c. if c.detached then c else over cleared c) cs
+
+-- of the channels that clients are shown these readers have seen all
+abbrev pub open_seen : List Bool → List ChannelLines → List ChannelLines
+open_seen here cs = map (λ c. if c.detached then c else over (seen_all here) c) cs
 
 -- Queries, in order of making
 
@@ -180,8 +231,8 @@ newest n xs = drop (length xs - n) xs
 
 -- a line stored in the query of a name, which is made where there is none, with so many lines to keep; past the most that
 -- there may be, the oldest made goes
-abbrev pub query_stored : ℕ → ℕ → List ℕ → ℕ × Parts → List TargetLines → List TargetLines
-query_stored most size name line ts =
+abbrev pub query_stored : ℕ → ℕ → List ℕ → ℕ × Parts → List Bool → List TargetLines → List TargetLines
+query_stored most size name line here ts =
     if list_any (has_name_key (fold_name name)) ts
-    then at_query (fold_name name) (pushed line) ts
-    else newest most (ts ++ pushed line (target name (ring [] size)) ∷ [])
+    then at_query (fold_name name) (pushed line here) ts
+    else newest most (ts ++ pushed line here (target name (ring [] size) none_seen) ∷ [])

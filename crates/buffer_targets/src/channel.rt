@@ -1,6 +1,6 @@
 ghost use Rattle.std.specs.Prelude.{◌≡◌, ◌≤◌, [], false, if◌then◌else◌, IfOk, IsOk, OnOk, OnErr};
 ghost use Rattle.buffer_lines.specs.Stamps.{ring};
-ghost use Rattle.buffer_targets.specs.Targets.{channel, cleared, over, pushed, resized, target, with_detached, with_joined};
+ghost use Rattle.buffer_targets.specs.Targets.{channel, cleared, none_seen, over, pushed, resized, seen_all, target, with_detached, with_joined};
 
 use crate::target::Target;
 use buffer_lines::KeptLine;
@@ -34,7 +34,7 @@ impl Channel {
         size: usize,
         joined: bool,
     ) -> Result<Channel, AllocError>
-        ensures { IfOk result (λ c. c ≡ channel (target name.now (ring [] size)) joined false) }
+        ensures { IfOk result (λ c. c ≡ channel (target name.now (ring [] size) none_seen) joined false) }
     {
         Ok(Channel {
             target: Target::new(alloc, name, size)?,
@@ -89,11 +89,29 @@ impl Channel {
         self.target.resize(size)
     }
 
-    /// Keeps one line more.
-    pub(crate) fn push(&mut self, line: KeptLine)
-        ensures { self.new ≡ over (pushed line) self.old }
+    /// Keeps one line more, which those readers see who are here.
+    pub(crate) fn push(&mut self, line: KeptLine, here: &[bool])
+        ensures { self.new ≡ over (pushed line here.now) self.old }
     {
-        self.target.push(line);
+        self.target.push(line, here);
+    }
+
+    /// Notes that those readers who are here have seen all that is kept.
+    pub(crate) fn see(&mut self, here: &[bool])
+        ensures { self.new ≡ over (seen_all here.now) self.old }
+    {
+        self.target.see(here);
+    }
+
+    /// The same, where clients are shown the channel.
+    pub(crate) fn see_if_open(&mut self, here: &[bool])
+        ensures { self.new ≡
+            (if self.old.detached then self.old else over (seen_all here.now) self.old) }
+    {
+        if self.detached {
+            return;
+        }
+        self.target.see(here);
     }
 
     pub(crate) fn set_joined(&mut self, joined: bool)

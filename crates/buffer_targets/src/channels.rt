@@ -5,7 +5,7 @@ ghost use Rattle.irc_line.specs.Keys.{are_rising};
 ghost use Rattle.irc_line.specs.Names.{fold_name};
 ghost use Rattle.buffer_lines.specs.Stamps.{ring};
 ghost use Rattle.buffer_targets.specs.Places.{IsGap, IsPlace, IsSearched};
-ghost use Rattle.buffer_targets.specs.Targets.{StandsAt, at_channel, channel, channel_names, channel_of_key, cleared, has_key, joined_by, open_cleared, over, pushed, resized, target, with_detached, with_joined, without_channel, IsChannelAt, has_channel, unjoined, channel_resized, ChannelKeeps, IsStoredAt};
+ghost use Rattle.buffer_targets.specs.Targets.{StandsAt, at_channel, channel, channel_names, channel_of_key, cleared, has_key, joined_by, open_cleared, open_seen, over, pushed, resized, seen_all, target, with_detached, with_joined, without_channel, IsChannelAt, has_channel, unjoined, channel_resized, ChannelKeeps, IsStoredAt};
 
 use crate::channel::Channel;
 use buffer_lines::KeptLine;
@@ -118,14 +118,14 @@ impl Channels {
         }
     }
 
-    /// Keeps one line more in the channel that stands at a place.
-    pub fn store_at(&mut self, place: Option<usize>, line: KeptLine)
-        ensures { IsStoredAt place line self.old self.new }
+    /// Keeps one line more in the channel that stands at a place, which those readers see who are here.
+    pub fn store_at(&mut self, place: Option<usize>, line: KeptLine, here: &[bool])
+        ensures { IsStoredAt place line here.now self.old self.new }
     {
         match place {
             Some(at) => {
                 if at < self.channels.len() {
-                    self.channels[at].push(line);
+                    self.channels[at].push(line, here);
                 }
             }
             None => {}
@@ -197,6 +197,23 @@ impl Channels {
         clear_each_open(self.channels.as_mut_slice());
     }
 
+    /// Notes of the channel of a name that those readers who are here have seen all that is kept.
+    pub fn see_at(&mut self, name: &[u8], here: &[bool])
+        ensures { self.new ≡ at_channel (fold_name name.now) (over (seen_all here.now)) self.old }
+    {
+        match self.search(name) {
+            Ok(at) => self.channels[at].see(here),
+            Err(_) => {}
+        }
+    }
+
+    /// Notes of the channels that clients are shown that those readers who are here have seen all that is kept.
+    pub fn see_open(&mut self, here: &[bool])
+        ensures { self.new ≡ open_seen here.now self.old }
+    {
+        see_each_open(self.channels.as_mut_slice(), here);
+    }
+
     /// Notes that the own nick is in no channel.
     pub fn leave_all(&mut self)
         ensures { self.new ≡ map (with_joined false) self.old }
@@ -218,6 +235,14 @@ fn clear_each_open(channels: &mut [Channel])
 {
     for channel in channels.iter_mut() {
         channel.clear_if_open();
+    }
+}
+
+fn see_each_open(channels: &mut [Channel], here: &[bool])
+    ensures { channels.new ≡ open_seen here.now channels.old }
+{
+    for channel in channels.iter_mut() {
+        channel.see_if_open(here);
     }
 }
 

@@ -7,9 +7,11 @@ mod channel;
 mod channels;
 mod index;
 mod queries;
+mod seen;
 mod target;
 
 pub use channel::Channel;
 pub use channels::Channels;
 pub use queries::Queries;
+pub use seen::READERS;
 pub use target::Target;

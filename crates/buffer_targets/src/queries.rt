@@ -3,7 +3,7 @@ ghost use Rattle.std.specs.List.{list_any};
 ghost use Rattle.irc_line.specs.Names.{fold_name};
 ghost use Rattle.buffer_lines.specs.Stamps.{ring};
 ghost use Rattle.buffer_targets.specs.Places.{are_different};
-ghost use Rattle.buffer_targets.specs.Targets.{at_query, cleared, has_name_key, pushed, query_names, query_of_key, query_stored, resized, target, query_resized, has_query, QueryKeeps};
+ghost use Rattle.buffer_targets.specs.Targets.{at_query, cleared, has_name_key, none_seen, pushed, query_names, seen_all, query_of_key, query_stored, resized, target, query_resized, has_query, QueryKeeps};
 
 use crate::index;
 use crate::target::Target;
@@ -92,24 +92,44 @@ impl Queries {
         clear_each(self.targets.as_mut_slice());
     }
 
-    /// Keeps one line more in the query of this name, which is made where there is none of its key, with so many lines to keep.
+    /// Notes of the query of a name that those readers who are here have seen all that is kept.
+    pub fn see_at(&mut self, name: &[u8], here: &[bool])
+        ensures { self.new ≡ at_query (fold_name name.now) (seen_all here.now) self.old }
+    {
+        match index::search(&self.targets, &self.places, name) {
+            Ok(place) => self.targets[place].see(here),
+            Err(_) => {}
+        }
+    }
+
+    /// Notes of all queries that those readers who are here have seen all that is kept.
+    pub fn see_all(&mut self, here: &[bool])
+        ensures { self.new ≡ map (seen_all here.now) self.old }
+    {
+        see_each(self.targets.as_mut_slice(), here);
+    }
+
+    /// Keeps one line more in the query of this name, which is made where there is none of its key, with so many lines to keep;
+    /// those readers see it who are here.
     /// Past the most queries that there may be, the oldest made goes. After an error, of memory for a query that is made, nothing
     /// has changed, and the line is lost.
     pub fn store(
         &mut self,
         name: &Name,
         line: KeptLine,
+        here: &[bool],
         size: usize,
         most: usize,
     ) -> Result<(), AllocError>
-        ensures ok { OnOk result (self.new ≡ query_stored most size name.now line self.old) }
+        ensures ok { OnOk result (self.new ≡
+            query_stored most size name.now line here.now self.old) }
         ensures err { OnErr result (self.new ≡ self.old) }
         ensures known { has_query (fold_name name.now) self.old ≡ true → IsOk result }
     {
         match index::search(&self.targets, &self.places, name.as_bytes()) {
-            Ok(place) => Ok(self.targets[place].push(line)),
+            Ok(place) => Ok(self.targets[place].push(line, here)),
             Err(gap) => {
-                let target = new_query(*self.targets.allocator(), name, line, size)?;
+                let target = new_query(*self.targets.allocator(), name, line, here, size)?;
                 index::insert(&mut self.targets, &mut self.places, gap, target)?;
                 index::keep_newest(&mut self.targets, &mut self.places, most);
                 Ok(())
@@ -126,10 +146,25 @@ fn clear_each(targets: &mut [Target])
     }
 }
 
-fn new_query(alloc: Global, name: &Name, line: KeptLine, size: usize) -> Result<Target, AllocError>
-    ensures { IfOk result (λ t. t ≡ pushed line (target name.now (ring [] size))) }
+fn see_each(targets: &mut [Target], here: &[bool])
+    ensures { targets.new ≡ map (seen_all here.now) targets.old }
+{
+    for target in targets.iter_mut() {
+        target.see(here);
+    }
+}
+
+fn new_query(
+    alloc: Global,
+    name: &Name,
+    line: KeptLine,
+    here: &[bool],
+    size: usize,
+) -> Result<Target, AllocError>
+    ensures { IfOk result (λ t. t ≡
+        pushed line here.now (target name.now (ring [] size) none_seen)) }
 {
     let mut target = Target::new(alloc, name, size)?;
-    target.push(line);
+    target.push(line, here);
     Ok(target)
 }

@@ -2,10 +2,11 @@ ghost use Rattle.std.specs.Prelude.{◌≡◌, ◌≤◌, [], IfOk, IsOk, OnOk, 
 ghost use Rattle.std.specs.Cmp.Lexicographic.{slice_cmp};
 ghost use Rattle.std.specs.Ordering.{nat_cmp};
 ghost use Rattle.irc_line.specs.Names.{fold_name};
-ghost use Rattle.buffer_lines.specs.Stamps.{ring};
-ghost use Rattle.buffer_targets.specs.Targets.{cleared, pushed, resized, target};
+ghost use Rattle.buffer_lines.specs.Stamps.{ring, shown_framed};
+ghost use Rattle.buffer_targets.specs.Targets.{cleared, none_seen, pushed, resized, seen_all, target, unseen_of};
 
-use buffer_lines::{KeptLine, LineRing};
+use crate::seen::Seen;
+use buffer_lines::{KeptLine, LineRing, Offset, Shown};
 use irc_line::{Name, compare_names};
 use std::alloc::{AllocError, Global};
 use std::cmp::Ordering;
@@ -16,6 +17,7 @@ use std::marker::Model;
 pub struct Target {
     name: Name,
     lines: LineRing,
+    seen: Seen,
 }
 
 impl Model for Target {
@@ -25,17 +27,18 @@ impl Model for Target {
 
     ghost coded = { target_code };
 
-    ghost view = { λ t. target t.name t.lines };
+    ghost view = { λ t. target t.name t.lines t.seen };
 }
 
 impl Target {
     /// A target of this name, with no lines.
     pub(crate) fn new(alloc: Global, name: &Name, size: usize) -> Result<Target, AllocError>
-        ensures { IfOk result (λ t. t ≡ target name.now (ring [] size)) }
+        ensures { IfOk result (λ t. t ≡ target name.now (ring [] size) none_seen) }
     {
         Ok(Target {
             name: name.copy(alloc)?,
             lines: LineRing::new(alloc, size)?,
+            seen: Seen::new(),
         })
     }
 
@@ -64,6 +67,7 @@ impl Target {
         ensures { self.new ≡ cleared self.old }
     {
         self.lines.clear();
+        self.seen.clear();
     }
 
     /// Keeps at most so many lines from now on. A refused call changes nothing.
@@ -72,13 +76,36 @@ impl Target {
         ensures err { OnErr result (self.new ≡ self.old) }
         ensures smaller { size ≤ self.old.lines.size → IsOk result }
     {
-        self.lines.set_size(size)
+        let before = self.lines.count();
+        self.lines.set_size(size)?;
+        self.seen.lose(before.saturating_sub(size));
+        Ok(())
     }
 
-    /// Keeps one line more.
-    pub(crate) fn push(&mut self, line: KeptLine)
-        ensures { self.new ≡ pushed line self.old }
+    /// Keeps one line more, which those readers see who are here: one or none for each.
+    pub(crate) fn push(&mut self, line: KeptLine, here: &[bool])
+        ensures { self.new ≡ pushed line here.now self.old }
     {
+        let before = self.lines.count();
         self.lines.push(line);
+        let all = self.lines.count();
+        self.seen
+            .note(all, before.saturating_add(1).saturating_sub(all), here);
+    }
+
+    /// Notes that those readers who are here have seen all that is kept.
+    pub(crate) fn see(&mut self, here: &[bool])
+        ensures { self.new ≡ seen_all here.now self.old }
+    {
+        self.seen.note(self.lines.count(), 0, here);
+    }
+
+    /// What is kept that a reader has not seen, with its times, between the two frame lines; nothing where it has seen all.
+    pub fn play_unseen(&self, reader: usize, offset: Offset) -> Result<Vec<Shown>, AllocError>
+        ensures { IfOk result (λ v. v.items ≡
+            shown_framed offset self.now.name (unseen_of reader self.now)) }
+    {
+        let name = self.name.as_bytes();
+        self.lines.play_behind(self.seen.of(reader), offset, name)
     }
 }

@@ -8,7 +8,7 @@ invariant_of-self c = rising_set _ c.in-Some.at _ _ c.self.invariant c.index_mut
 
 pub returns-then-at-len : goal.returns-then-at-len
 returns-then-at-len c = λ key stands.
-    rw (← c.self.view_is) (channel_set key _ c.in-Some.at c.self.invariant (rw (c.in-Some.is, ← c.self.view_is) at stands) (over (pushed c.args.line)) _ _ c.index_mut.ensures.value c.push.ensures)
+    rw (← c.self.view_is) (channel_set key _ c.in-Some.at c.self.invariant (rw (c.in-Some.is, ← c.self.view_is) at stands) (over (pushed c.args.line c.args.here.now)) _ _ c.index_mut.ensures.value c.push.ensures)
 
 pub returns-else-at-len : goal.returns-else-at-len
 returns-else-at-len c = λ key stands.
@@ -17,4 +17,4 @@ returns-else-at-len c = λ key stands.
     absurd (omega (arith, within, many, c.if-at-len.false))
 
 pub returns-in-None : goal.returns-in-None
-returns-in-None c = λ key stands. none_set key c.args.self.now (rw c.in-None.is at stands) (over (pushed c.args.line))
+returns-in-None c = λ key stands. none_set key c.args.self.now (rw c.in-None.is at stands) (over (pushed c.args.line c.args.here.now))

@@ -9,11 +9,11 @@ invariant_of-self c =
 
 pub returns-in-Ok-clause-ok : goal.returns-in-Ok-clause-ok
 returns-in-Ok-clause-ok c =
-    rw (← c.self.view_is) (query_pushed c.args.most c.args.size c.args.name.now c.args.line _ c.self.inside.targets.items c.in-Ok.place _ _ (ap fold_name c.as_bytes.ensures.value) c.self.invariant.different (rw c.deref.ensures.value at c.in-Ok.ensures.found.1) c.index_mut.ensures.value c.push.ensures)
+    rw (← c.self.view_is) (query_pushed c.args.most c.args.size c.args.name.now c.args.line c.args.here.now _ c.self.inside.targets.items c.in-Ok.place _ _ (ap fold_name c.as_bytes.ensures.value) c.self.invariant.different (rw c.deref.ensures.value at c.in-Ok.ensures.found.1) c.index_mut.ensures.value c.push.ensures)
 
 pub returns-in_ok-insert-in-Err-clause-ok : goal.returns-in_ok-insert-in-Err-clause-ok
 returns-in_ok-insert-in-Err-clause-ok c =
-    rw (← c.self.view_is, c.keep_newest.ensures.items) (query_made c.args.most c.args.size c.args.name.now c.args.line _ c.self.inside.targets.items _ _ (ap fold_name c.as_bytes.ensures.value) (rw c.deref.ensures.value at c.in-Err.ensures.absent.2) c.in_ok-target-in-Err.ensures c.in_ok-insert-in-Err.ensures.ok)
+    rw (← c.self.view_is, c.keep_newest.ensures.items) (query_made c.args.most c.args.size c.args.name.now c.args.line c.args.here.now _ c.self.inside.targets.items _ _ (ap fold_name c.as_bytes.ensures.value) (rw c.deref.ensures.value at c.in-Err.ensures.absent.2) c.in_ok-target-in-Err.ensures c.in_ok-insert-in-Err.ensures.ok)
 
 pub returns-in_err-target-in-Err-clause-known : goal.returns-in_err-target-in-Err-clause-known
 returns-in_err-target-in-Err-clause-known c = λ known.
