@@ -1,5 +1,5 @@
 -- One step of the machine holds the channels of a history, where a channel comes or goes too.
-use Rattle.std.proofs.Common.{◌≡◌, ℕ, List, [], ◌∷◌, map, refl, ap, ◌∙◌, sym, Bool, true, false, not, ◌&&◌, ◌||◌, subst}
+use Rattle.std.proofs.Common.{◌≡◌, ℕ, List, [], ◌∷◌, length, map, refl, ap, ◌∙◌, sym, Bool, true, false, not, ◌&&◌, ◌||◌, subst}
 use Rattle.std.specs.Prelude.{Some, None, if◌then◌else◌, filter, codes}
 use Rattle.std.specs.List.{list_all, list_any}
 use Rattle.irc_line.specs.Names.{fold_name, is_channel}
@@ -7,25 +7,31 @@ use Rattle.irc_line.specs.Keys.{at_key, is_in, is_below, put_in}
 use Rattle.irc_line.specs.Lines.{Parts, parameter}
 use Rattle.irc_line.proofs.Booleans.{and_left, and_right, and_true, not_true, and_false, not_from}
 use Rattle.buffer_lines.specs.Stamps.{ring}
-use Rattle.buffer_targets.specs.Targets.{ChannelLines, channel, target, with_joined, has_key, at_channel, channel_of_key, joined_by, put_channel, without_channel}
+use Rattle.buffer_targets.specs.Targets.{ChannelLines, channel, counted, none_seen, target, with_joined, has_key, at_channel, channel_of_key, joined_by, put_channel, without_channel}
 use Rattle.wire_bytes.specs.declared.origin.Origin.{Origin}
 use Rattle.buffer_commands.specs.Settings.{Settings}
 use Rattle.buffer_commands.specs.declared.command.Action.TheVariants.{Attach, Leave, Say, Join, Part, Detach, Reattach, Play, Clear, ClearChannels, ClearQueries, ClearAll, SetBuffer, Pass}
 use Rattle.buffer_commands.specs.declared.command.Command.{Command}
 use Rattle.buffer_commands.specs.declared.command.Command.TheVariants.{Client, Upstream, NodeGone, Up, Down}
 use Rattle.buffer_machine.specs.Messages.{has_command, is_among, is_by, is_own, is_own_kick, is_storable}
-use Rattle.buffer_machine.specs.Buffers.{floor, is_taken, attached, nick, channels, joined, joined_after, detached, size, kept, said, made_by, with_made, is_own_at, is_removed}
-use Rattle.buffer_machine.specs.Steps.{keeps, channels_storing, let_go, channels_after}
-use Rattle.buffer_machine.specs.Held.{IsSound, channel_held, held}
+use Rattle.buffer_machine.specs.Buffers.{keeps, nick, channels, joined, joined_after, detached, size, kept, said, made_by, with_made, is_own_at, is_removed}
+use Rattle.buffer_machine.specs.Crowd.{attached, floor, ids}
+use Rattle.buffer_commands.specs.declared.command.Verb.{Verb}
+use Rattle.buffer_machine.specs.Steps.{channels_storing, let_go, channels_after}
+use Rattle.buffer_machine.specs.NameSteps.{here_of}
+use Rattle.buffer_machine.specs.Held.{IsSound, channel_held, held, names_held, seen_held}
+use Rattle.buffer_machine.proofs.SeenLists.{again_list}
+use Rattle.buffer_machine.proofs.Unnamed.{ids-more}
 use Rattle.buffer_machine.proofs.Lists.{map_at}
 use Rattle.buffer_machine.proofs.Names.{all-at, in-filter, all-filter}
 use Rattle.buffer_machine.proofs.Standing.{channels-more, channels-are}
 use Rattle.buffer_machine.proofs.Kept.{other_command, not_storable}
-use Rattle.buffer_machine.proofs.Unknown.{removed-is}
-use Rattle.buffer_machine.proofs.Next.{next_channel, channel-next, channel-made, no_part, no_kick, join_removes}
+use Rattle.buffer_machine.proofs.Unknown.{removed-is, stored-not_storable}
+use Rattle.buffer_machine.proofs.Next.{StoresAlone, next_channel, seen-channel, unsaid, channel-next, channel-made, no_part, no_kick, join_removes}
 use Rattle.buffer_machine.proofs.Found.{found-joined, found-known}
 use Rattle.buffer_machine.proofs.OneChannel.{one, upon, same}
-use Rattle.buffer_machine.proofs.ChannelsStep.{filter_all, mapped, quiet_held, attach-held, play-held, clear-held, clear_channels-held, clear_all-held, clear_queries-held, size-held, detach-held, again-held, storing-held, lines, fits}
+use Rattle.buffer_machine.proofs.ChannelsStep.{empties_channels, quiet_told, filter_all, mapped, quiet_held, attach-held, play-held, clear-held, clear_channels-held, clear_all-held, clear_queries-held, size-held, detach-held, again-held, lines, fits}
+use Rattle.buffer_machine.proofs.ChannelsStoring.{storing-held}
 use Rattle.irc_line.proofs.Order.{key_is, at_key-sym, in-own}
 use Rattle.buffer_machine.proofs.Filters.{filter_same, filter_map, filter_absent}
 
@@ -33,10 +39,12 @@ use Rattle.buffer_machine.proofs.Filters.{filter_same, filter_map, filter_absent
 
 -- what is held of the channels that stay, where a command does nothing to them
 staying : (s : Settings) → IsSound s → (earlier : List Command) (x : Command) → with_made (made_by (nick s earlier) x) (channels s earlier) ≡ channels s earlier
-    → ((c : List ℕ) → is_removed s earlier (fold_name c) x ≡ false → next_channel s (is_taken (floor earlier) (attached s earlier) x) (attached s earlier) (nick s earlier) x (channel_held s earlier c)
-    ≡ upon c (kept s earlier (fold_name c)) (size s (fold_name c) earlier) (s.clears_channels && false) None (joined s earlier (fold_name c)) (detached s earlier (fold_name c)))
+    → ((c : List ℕ) → is_removed s earlier (fold_name c) x ≡ false → next_channel s earlier x (channel_held s earlier c)
+    ≡ upon c (kept s earlier (fold_name c)) (size s (fold_name c) earlier) (empties_channels s earlier x && false) None (seen_held s (x ∷ earlier) (fold_name c)) (joined s earlier (fold_name c)) (detached s earlier (fold_name c)))
+    → ((c : List ℕ) → is_channel c ≡ true → is_in (fold_name c) (channels s earlier) ≡ true → is_removed s earlier (fold_name c) x ≡ false
+    → (if empties_channels s earlier x && false then none_seen else seen_held s earlier (fold_name c)) ≡ seen_held s (x ∷ earlier) (fold_name c))
     → map (channel_held s earlier) (filter (λ c. not (is_removed s earlier (fold_name c) x)) (channels s earlier)) ≡ map (channel_held s (x ∷ earlier)) (channels s (x ∷ earlier))
-staying s sound earlier x m h =
+staying s sound earlier x m h q =
     let names = channels-more s earlier x ∙ ap (λ cs. filter (λ c. not (is_removed s earlier (fold_name c) x)) cs) m in
     map_at (channel_held s earlier) (channel_held s (x ∷ earlier)) (filter (λ c. not (is_removed s earlier (fold_name c) x)) (channels s earlier))
     (λ front c back e.
@@ -44,7 +52,7 @@ staying s sound earlier x m h =
     let both : (is_in (fold_name c) (channels s earlier) && not (is_removed s earlier (fold_name c) x)) ≡ true = sym (in-filter (λ k. is_removed s earlier k x) (fold_name c) (channels s earlier)) ∙ here in
     let stays : is_removed s earlier (fold_name c) x ≡ false = not_true _ (and_right (is_in (fold_name c) (channels s earlier)) _ both) in
     let channel_name : is_channel c ≡ true = all-at is_channel front c back (subst (λ cs. list_all is_channel cs ≡ true) e (all-filter is_channel (λ d. not (is_removed s earlier (fold_name d) x)) (channels s earlier) (channels-are s sound earlier))) in
-    same c (lines s earlier c) (size s (fold_name c) earlier) (fits s earlier c) (joined s earlier (fold_name c)) (detached s earlier (fold_name c)) (s.clears_channels && false) (and_false s.clears_channels)
+    same c (lines s earlier c) (size s (fold_name c) earlier) (fits s earlier c) (seen_held s earlier (fold_name c)) (seen_held s (x ∷ earlier) (fold_name c)) (joined s earlier (fold_name c)) (detached s earlier (fold_name c)) (empties_channels s earlier x && false) (and_false (empties_channels s earlier x)) (q c channel_name (and_left _ _ both) stays)
     ∙ (sym (h c stays) ∙ sym (channel-next s earlier x c channel_name (and_left _ _ both) stays)))
     ∙ ap (map (channel_held s (x ∷ earlier))) (sym names)
 
@@ -79,7 +87,7 @@ part-held s sound earlier o at t =
     (filter_same (λ c. not (at_key (fold_name t) c && (is_among o (attached s earlier) && not (joined s earlier (fold_name t))))) (λ c. not (is_removed s earlier (fold_name c) (Client o at (Part t)))) (channels s earlier)
     (λ c. ap (λ b. not (b && (is_among o (attached s earlier) && not (joined s earlier (fold_name t))))) (at_key-sym t c)
     ∙ (sym (part_test_by s earlier (is_among o (attached s earlier)) c t (at_key (fold_name c) t) refl) ∙ ap not (sym (removed-is s earlier (fold_name c) (Client o at (Part t)))))))
-    ∙ staying s sound earlier (Client o at (Part t)) refl (λ c r. refl)))
+    ∙ staying s sound earlier (Client o at (Part t)) refl (λ c r. refl) (λ c k i r. quiet_told s sound earlier (Client o at (Part t)) c k i r (unsaid s earlier (Client o at (Part t)) (fold_name c) refl) refl refl)))
 
 -- ---- lines from upstream
 
@@ -92,12 +100,21 @@ joined_still : (own k : List ℕ) (was : Bool) (at : ℕ) (line : Parts) → is_
     → joined_after own k was (Upstream at line) ≡ was
 joined_still own k was at line e f g = rw (e, f, g) (and_true_twice was)
 
+-- a line from upstream plays nothing, clears nothing and sets no size
+pub line_alone : (s : Settings) (earlier : List Command) (at : ℕ) (line : Parts) → StoresAlone s earlier (Upstream at line)
+line_alone s earlier at line = record { plays_none = λ det known k. refl; clears_none = λ c known k. refl; sizes_none = λ b k n. refl; names_none = ids-more s (Upstream at line) earlier }
+
+-- nor does what a client says
+pub said_alone : (s : Settings) (earlier : List Command) (o : Origin) (at : ℕ) (verb : Verb) (name text : List ℕ) → StoresAlone s earlier (Client o at (Say verb name text))
+said_alone s earlier o at verb name text = record { plays_none = λ det known k. refl; clears_none = λ c known k. refl; sizes_none = λ b k n. refl; names_none = ids-more s (Client o at (Say verb name text)) earlier }
+
 other-held : (s : Settings) → IsSound s → (earlier : List Command) (at : ℕ) (line : Parts) → is_own (codes "JOIN") (nick s earlier) line ≡ false → is_own (codes "PART") (nick s earlier) line ≡ false → is_own_kick (nick s earlier) line ≡ false
     → channels_storing s (held s earlier) (Some (at, line)) ≡ map (channel_held s (Upstream at line ∷ earlier)) (channels s (Upstream at line ∷ earlier))
 other-held s sound earlier at line e f g =
     storing-held s sound earlier (Upstream at line) (Some (at, line))
     (λ k. removed-is s earlier k (Upstream at line) ∙ rw f refl)
     (rw e refl)
+    refl (line_alone s earlier at line)
     (λ c. rw (joined_still (nick s earlier) (fold_name c) (joined s earlier (fold_name c)) at line e f g) refl)
 
 unstored_by : (b : Bool) (k : Bool) (line : ℕ × Parts) → (if b && (false && k) then Some line else None) ≡ None
@@ -106,10 +123,15 @@ unstored_by false k line = refl
 
 -- a line that is not stored, and does nothing to a channel but what it does to whether it is joined
 line_held : (s : Settings) (earlier : List Command) (at : ℕ) (line : Parts) (c : List ℕ) (j : Bool) → is_storable line ≡ false → joined_after (nick s earlier) (fold_name c) (joined s earlier (fold_name c)) (Upstream at line) ≡ j
-    → next_channel s (is_taken (floor earlier) (attached s earlier) (Upstream at line)) (attached s earlier) (nick s earlier) (Upstream at line) (channel_held s earlier c)
-    ≡ upon c (kept s earlier (fold_name c)) (size s (fold_name c) earlier) (s.clears_channels && false) None j (detached s earlier (fold_name c))
+    → next_channel s earlier (Upstream at line) (channel_held s earlier c)
+    ≡ upon c (kept s earlier (fold_name c)) (size s (fold_name c) earlier) (empties_channels s earlier (Upstream at line) && false) None (seen_held s (Upstream at line ∷ earlier) (fold_name c)) j (detached s earlier (fold_name c))
 line_held s earlier at line c j e f =
-    rw (f, e, unstored_by (keeps s.clears_channels (attached s earlier) || detached s earlier (fold_name c)) (at_key (fold_name c) (parameter 0 line)) (at, line)) refl
+    rw (f, e, unstored_by (keeps s.clears_channels (attached s earlier) (ids s earlier) || detached s earlier (fold_name c)) (at_key (fold_name c) (parameter 0 line)) (at, line)) refl
+
+-- nor does it tell any name of anything
+line_told : (s : Settings) → IsSound s → (earlier : List Command) (at : ℕ) (line : Parts) (c : List ℕ) → is_channel c ≡ true → is_in (fold_name c) (channels s earlier) ≡ true → is_removed s earlier (fold_name c) (Upstream at line) ≡ false → is_storable line ≡ false
+    → (if empties_channels s earlier (Upstream at line) && false then none_seen else seen_held s earlier (fold_name c)) ≡ seen_held s (Upstream at line ∷ earlier) (fold_name c)
+line_told s sound earlier at line c k i r e = quiet_told s sound earlier (Upstream at line) c k i r (stored-not_storable s earlier at line (fold_name c) e) refl refl
 
 word_of : (word own : List ℕ) (line : Parts) → is_own word own line ≡ true → has_command word line ≡ true
 word_of word own line e = and_left _ (is_by own line) (and_left _ (is_channel (parameter 0 line)) e)
@@ -137,7 +159,8 @@ part_line-held s sound earlier at line e =
     (λ c. ap not (at_key-sym (parameter 0 line) c ∙ sym (removed-is s earlier (fold_name c) (Upstream at line) ∙ rw e refl))))
     ∙ staying s sound earlier (Upstream at line) (rw (other_command (codes "PART") (codes "JOIN") line w refl) refl)
     (λ c r. line_held s earlier at line c (joined s earlier (fold_name c)) (not_storable (codes "PART") line w refl refl)
-    (part_joined (nick s earlier) (fold_name c) (joined s earlier (fold_name c)) at line w (sym (removed-is s earlier (fold_name c) (Upstream at line)) ∙ r))))
+    (part_joined (nick s earlier) (fold_name c) (joined s earlier (fold_name c)) at line w (sym (removed-is s earlier (fold_name c) (Upstream at line)) ∙ r)))
+    (λ c k i r. line_told s sound earlier at line c k i r (not_storable (codes "PART") line w refl refl)))
 
 -- KICK of the own nick
 
@@ -147,9 +170,9 @@ kick_joined true false = refl
 kick_joined false true = refl
 kick_joined false false = refl
 
-joined_if : (b : Bool) (c : List ℕ) (ks : List (ℕ × Parts)) (n : ℕ) (j v d : Bool) → (if b then with_joined v (one c ks n j d) else one c ks n j d) ≡ one c ks n (if b then v else j) d
-joined_if true c ks n j v d = refl
-joined_if false c ks n j v d = refl
+joined_if : (b : Bool) (c : List ℕ) (ks : List (ℕ × Parts)) (n : ℕ) (seen : List ℕ) (j v d : Bool) → (if b then with_joined v (one c ks n seen j d) else one c ks n seen j d) ≡ one c ks n seen (if b then v else j) d
+joined_if true c ks n seen j v d = refl
+joined_if false c ks n seen j v d = refl
 
 kick-held : (s : Settings) → IsSound s → (earlier : List Command) (at : ℕ) (line : Parts) → is_own_kick (nick s earlier) line ≡ true
     → at_channel (fold_name (parameter 0 line)) (with_joined false) (map (channel_held s earlier) (channels s earlier)) ≡ map (channel_held s (Upstream at line ∷ earlier)) (channels s (Upstream at line ∷ earlier))
@@ -158,10 +181,10 @@ kick-held s sound earlier at line e =
     mapped s sound earlier (Upstream at line) (λ c. if has_key (fold_name (parameter 0 line)) c then with_joined false c else c)
     (λ k. removed-is s earlier k (Upstream at line) ∙ rw (other_command (codes "KICK") (codes "PART") line w refl) refl)
     (rw (other_command (codes "KICK") (codes "JOIN") line w refl) refl)
-    (λ c i.
+    (λ c k i.
     rw (at_key-sym (parameter 0 line) c)
-    (joined_if (at_key (fold_name c) (parameter 0 line)) c (lines s earlier c) (size s (fold_name c) earlier) (joined s earlier (fold_name c)) false (detached s earlier (fold_name c))
-    ∙ (same c (lines s earlier c) (size s (fold_name c) earlier) (fits s earlier c) (if at_key (fold_name c) (parameter 0 line) then false else joined s earlier (fold_name c)) (detached s earlier (fold_name c)) (s.clears_channels && false) (and_false s.clears_channels)
+    (joined_if (at_key (fold_name c) (parameter 0 line)) c (lines s earlier c) (size s (fold_name c) earlier) (seen_held s earlier (fold_name c)) (joined s earlier (fold_name c)) false (detached s earlier (fold_name c))
+    ∙ (same c (lines s earlier c) (size s (fold_name c) earlier) (fits s earlier c) (seen_held s earlier (fold_name c)) (seen_held s (Upstream at line ∷ earlier) (fold_name c)) (if at_key (fold_name c) (parameter 0 line) then false else joined s earlier (fold_name c)) (detached s earlier (fold_name c)) (empties_channels s earlier (Upstream at line) && false) (and_false (empties_channels s earlier (Upstream at line))) (line_told s sound earlier at line c k i (removed-is s earlier (fold_name c) (Upstream at line) ∙ rw (other_command (codes "KICK") (codes "PART") line w refl) refl) (not_storable (codes "KICK") line w refl refl))
     ∙ sym (line_held s earlier at line c (if at_key (fold_name c) (parameter 0 line) then false else joined s earlier (fold_name c)) (not_storable (codes "KICK") line w refl refl)
     (rw (other_command (codes "KICK") (codes "JOIN") line w refl, other_command (codes "KICK") (codes "PART") line w refl, e) (kick_joined (joined s earlier (fold_name c)) (at_key (fold_name c) (parameter 0 line))))))))
 
@@ -187,10 +210,10 @@ join_known-held s sound earlier at line e u =
     mapped s sound earlier (Upstream at line) (λ c. if has_key (fold_name (parameter 0 line)) c then with_joined true c else c)
     (λ k. join_removes s earlier at line k e)
     (rw (e, u) refl)
-    (λ c i.
+    (λ c k i.
     rw (at_key-sym (parameter 0 line) c)
-    (joined_if (at_key (fold_name c) (parameter 0 line)) c (lines s earlier c) (size s (fold_name c) earlier) (joined s earlier (fold_name c)) true (detached s earlier (fold_name c))
-    ∙ (same c (lines s earlier c) (size s (fold_name c) earlier) (fits s earlier c) (if at_key (fold_name c) (parameter 0 line) then true else joined s earlier (fold_name c)) (detached s earlier (fold_name c)) (s.clears_channels && false) (and_false s.clears_channels)
+    (joined_if (at_key (fold_name c) (parameter 0 line)) c (lines s earlier c) (size s (fold_name c) earlier) (seen_held s earlier (fold_name c)) (joined s earlier (fold_name c)) true (detached s earlier (fold_name c))
+    ∙ (same c (lines s earlier c) (size s (fold_name c) earlier) (fits s earlier c) (seen_held s earlier (fold_name c)) (seen_held s (Upstream at line ∷ earlier) (fold_name c)) (if at_key (fold_name c) (parameter 0 line) then true else joined s earlier (fold_name c)) (detached s earlier (fold_name c)) (empties_channels s earlier (Upstream at line) && false) (and_false (empties_channels s earlier (Upstream at line))) (line_told s sound earlier at line c k i (join_removes s earlier at line (fold_name c) e) (not_storable (codes "JOIN") line w refl refl))
     ∙ sym (line_held s earlier at line c (if at_key (fold_name c) (parameter 0 line) then true else joined s earlier (fold_name c)) (not_storable (codes "JOIN") line w refl refl)
     (joined_next (nick s earlier) (fold_name c) (joined s earlier (fold_name c)) at line e)))))
 
@@ -226,14 +249,14 @@ beside s sound earlier at line e u =
     let w = word_of (codes "JOIN") (nick s earlier) line e in
     let here : is_in (fold_name c) (channels s earlier) ≡ true = subst (λ cs. is_in (fold_name c) cs ≡ true) (sym h) (in-own front c back) in
     let channel_name : is_channel c ≡ true = all-at is_channel front c back (subst (λ cs. list_all is_channel cs ≡ true) h (channels-are s sound earlier)) in
-    same c (lines s earlier c) (size s (fold_name c) earlier) (fits s earlier c) (joined s earlier (fold_name c)) (detached s earlier (fold_name c)) (s.clears_channels && false) (and_false s.clears_channels)
+    same c (lines s earlier c) (size s (fold_name c) earlier) (fits s earlier c) (seen_held s earlier (fold_name c)) (seen_held s (Upstream at line ∷ earlier) (fold_name c)) (joined s earlier (fold_name c)) (detached s earlier (fold_name c)) (empties_channels s earlier (Upstream at line) && false) (and_false (empties_channels s earlier (Upstream at line))) (line_told s sound earlier at line c channel_name here (join_removes s earlier at line (fold_name c) e) (not_storable (codes "JOIN") line w refl refl))
     ∙ (sym (line_held s earlier at line c (joined s earlier (fold_name c)) (not_storable (codes "JOIN") line w refl refl)
     (joined_next (nick s earlier) (fold_name c) (joined s earlier (fold_name c)) at line e
     ∙ ap (λ b. if b then true else joined s earlier (fold_name c)) (apart s earlier c (parameter 0 line) (at_key (fold_name c) (parameter 0 line)) refl here u)))
     ∙ sym (channel-next s earlier (Upstream at line) c channel_name here (join_removes s earlier at line (fold_name c) e))))
 
 join_new-held : (s : Settings) → IsSound s → (earlier : List Command) (at : ℕ) (line : Parts) → is_own (codes "JOIN") (nick s earlier) line ≡ true → is_in (fold_name (parameter 0 line)) (channels s earlier) ≡ false
-    → put_channel (channel (target (parameter 0 line) (ring [] s.channel_size)) true false) (map (channel_held s earlier) (channels s earlier)) ≡ map (channel_held s (Upstream at line ∷ earlier)) (channels s (Upstream at line ∷ earlier))
+    → put_channel (channel (target (parameter 0 line) (ring [] s.channel_size) none_seen) true false) (map (channel_held s earlier) (channels s earlier)) ≡ map (channel_held s (Upstream at line ∷ earlier)) (channels s (Upstream at line ∷ earlier))
 join_new-held s sound earlier at line e u =
     ap (λ ch. put_channel ch (map (channel_held s earlier) (channels s earlier))) (sym (channel-made s earlier at line e u))
     ∙ (ap (put_channel (channel_held s (Upstream at line ∷ earlier) (parameter 0 line))) (beside s sound earlier at line e u)
@@ -242,7 +265,7 @@ join_new-held s sound earlier at line e u =
 
 join_by : (s : Settings) → IsSound s → (earlier : List Command) (at : ℕ) (line : Parts) (known : Bool) → is_own (codes "JOIN") (nick s earlier) line ≡ true → is_in (fold_name (parameter 0 line)) (channels s earlier) ≡ known
     → (if known then at_channel (fold_name (parameter 0 line)) (with_joined true) (map (channel_held s earlier) (channels s earlier))
-    else put_channel (channel (target (parameter 0 line) (ring [] s.channel_size)) true false) (map (channel_held s earlier) (channels s earlier)))
+    else put_channel (channel (target (parameter 0 line) (ring [] s.channel_size) none_seen) true false) (map (channel_held s earlier) (channels s earlier)))
     ≡ map (channel_held s (Upstream at line ∷ earlier)) (channels s (Upstream at line ∷ earlier))
 join_by s sound earlier at line true e u = join_known-held s sound earlier at line e u
 join_by s sound earlier at line false e u = join_new-held s sound earlier at line e u
@@ -252,7 +275,7 @@ join-held : (s : Settings) → IsSound s → (earlier : List Command) (at : ℕ)
 join-held s sound earlier at line e =
     rw (known_any s earlier (fold_name (parameter 0 line)) (channels s earlier)) (join_by s sound earlier at line (is_in (fold_name (parameter 0 line)) (channels s earlier)) e refl)
 
-line_by : (s : Settings) → IsSound s → (earlier : List Command) (at : ℕ) (line : Parts) (j p k : Bool) → is_own (codes "JOIN") (nick s earlier) line ≡ j → is_own (codes "PART") (nick s earlier) line ≡ p → is_own_kick (nick s earlier) line ≡ k
+pub line_by : (s : Settings) → IsSound s → (earlier : List Command) (at : ℕ) (line : Parts) (j p k : Bool) → is_own (codes "JOIN") (nick s earlier) line ≡ j → is_own (codes "PART") (nick s earlier) line ≡ p → is_own_kick (nick s earlier) line ≡ k
     → (if j then joined_by (parameter 0 line) s.channel_size (map (channel_held s earlier) (channels s earlier))
     else if p then without_channel (fold_name (parameter 0 line)) (map (channel_held s earlier) (channels s earlier))
     else if k then at_channel (fold_name (parameter 0 line)) (with_joined false) (map (channel_held s earlier) (channels s earlier)) else channels_storing s (held s earlier) (Some (at, line)))
@@ -261,35 +284,3 @@ line_by s sound earlier at line true p k e f g = join-held s sound earlier at li
 line_by s sound earlier at line false true k e f g = part_line-held s sound earlier at line f
 line_by s sound earlier at line false false true e f g = kick-held s sound earlier at line g
 line_by s sound earlier at line false false false e f g = other-held s sound earlier at line e f g
-
--- the floor of a command's client's node
-abbrev pub floor_now : List Command → Command → ℕ
-floor_now earlier (Client o at action) = floor earlier o.0
-floor_now earlier _ = 0
-
--- ---- any command
-
-pub channels-step : (s : Settings) → IsSound s → (earlier : List Command) (x : Command)
-    → channels_after s (floor_now earlier x) (held s earlier) x ≡ map (channel_held s (x ∷ earlier)) (channels s (x ∷ earlier))
-channels-step s sound earlier (Client o at Attach) = attach-held s sound earlier o at
-channels-step s sound earlier (Client o at Leave) = quiet_held s sound earlier (Client o at Leave) (λ k. removed-is s earlier k (Client o at Leave)) refl (λ ch. refl)
-channels-step s sound earlier (Client o at (Say verb name text)) =
-    storing-held s sound earlier (Client o at (Say verb name text)) (said (attached s earlier) (nick s earlier) (Client o at (Say verb name text))) (λ k. removed-is s earlier k (Client o at (Say verb name text))) refl (λ c. refl)
-channels-step s sound earlier (Client o at (Join t)) = again-held s sound earlier o t (Client o at (Join t)) (λ k. removed-is s earlier k (Client o at (Join t))) refl (λ c. refl)
-channels-step s sound earlier (Client o at (Part t)) = part-held s sound earlier o at t
-channels-step s sound earlier (Client o at (Detach t)) = detach-held s sound earlier o at t
-channels-step s sound earlier (Client o at (Reattach t)) = again-held s sound earlier o t (Client o at (Reattach t)) (λ k. removed-is s earlier k (Client o at (Reattach t))) refl (λ c. refl)
-channels-step s sound earlier (Client o at (Play t)) = play-held s sound earlier o at t
-channels-step s sound earlier (Client o at (Clear t)) = clear-held s sound earlier o at t
-channels-step s sound earlier (Client o at ClearChannels) = clear_channels-held s sound earlier o at
-channels-step s sound earlier (Client o at ClearQueries) = clear_queries-held s sound earlier o at
-channels-step s sound earlier (Client o at ClearAll) = clear_all-held s sound earlier o at
-channels-step s sound earlier (Client o at (SetBuffer t n)) = size-held s sound earlier o at t n
-channels-step s sound earlier (Client o at (Pass line)) = quiet_held s sound earlier (Client o at (Pass line)) (λ k. removed-is s earlier k (Client o at (Pass line))) refl (λ ch. refl)
-channels-step s sound earlier (Upstream at line) =
-    line_by s sound earlier at line (is_own (codes "JOIN") (nick s earlier) line) (is_own (codes "PART") (nick s earlier) line) (is_own_kick (nick s earlier) line) refl refl refl
-channels-step s sound earlier (NodeGone node boot) = quiet_held s sound earlier (NodeGone node boot) (λ k. removed-is s earlier k (NodeGone node boot)) refl (λ ch. refl)
-channels-step s sound earlier Up = quiet_held s sound earlier Up (λ k. removed-is s earlier k Up) refl (λ ch. refl)
-channels-step s sound earlier Down =
-    mapped s sound earlier Down (with_joined false) (λ k. removed-is s earlier k Down) refl
-    (λ c i. same c (lines s earlier c) (size s (fold_name c) earlier) (fits s earlier c) false (detached s earlier (fold_name c)) (s.clears_channels && false) (and_false s.clears_channels))

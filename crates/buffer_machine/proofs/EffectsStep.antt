@@ -1,12 +1,10 @@
 -- What the machine answers is what its definitions say.
-use Rattle.std.proofs.Common.{◌≡◌, ℕ, List, [], ◌∷◌, ◌++◌, map, refl, ap, ◌∙◌, sym, arith, append_assoc, Bool, true, false, not, ◌&&◌, subst}
-use Rattle.std.specs.Prelude.{Some, None, if◌then◌else◌, nat_le, nat_lt, filter, find, flat_map, codes}
+use Rattle.std.proofs.Common.{◌≡◌, ℕ, List, [], ◌∷◌, ◌++◌, map, refl, ap, ◌∙◌, sym, append_assoc, Bool, true, false, not, ◌&&◌, subst}
+use Rattle.std.specs.Prelude.{Option, Some, None, if◌then◌else◌, filter, find, flat_map, unwrap_or, codes}
 use Rattle.std.specs.List.{list_all}
-use Rattle.std.proofs.lemmas.Bool.Decides.{nat_tests}
 use Rattle.irc_line.specs.Names.{fold_name}
 use Rattle.irc_line.specs.Keys.{at_key, is_in}
 use Rattle.irc_line.specs.Lines.{Parts}
-use Rattle.buffer_lines.specs.Stamps.{framed}
 use Rattle.buffer_targets.specs.Targets.{ChannelLines}
 use Rattle.wire_bytes.specs.declared.origin.Origin.{Origin}
 use Rattle.buffer_commands.specs.Settings.{Settings}
@@ -17,9 +15,12 @@ use Rattle.buffer_commands.specs.declared.command.Command.TheVariants.{Client, U
 use Rattle.buffer_commands.specs.declared.effect.Effect.{Effect}
 use Rattle.buffer_commands.specs.declared.effect.Effect.TheVariants.{Close, Send, Rejoin}
 use Rattle.buffer_machine.specs.Messages.{is_among, channel_of, bare, own_line, is_query_name}
-use Rattle.buffer_machine.specs.Buffers.{floor, attached, nick, channels, queries, is_known, joined, detached, is_past, kept, playback}
+use Rattle.buffer_machine.specs.Buffers.{nick, channels, queries, is_known, joined, detached, is_past}
+use Rattle.buffer_machine.specs.Crowd.{attached, floor, id_of, ids, takes}
+use Rattle.buffer_machine.specs.Marks.{playback_by}
+use Rattle.buffer_machine.proofs.Holders.{each_shown, flat_same, place}
 use Rattle.buffer_machine.specs.Effects.{show_all, show_each, send_all, status, named, open_channels, closings, if_some, shown_again, sent_again, shown, sent, effects}
-use Rattle.buffer_machine.specs.Answering.{played, closed_out, others, shown_at_attach, sent_at_attach, answers, answers_attaching, answers_again, answers_joining, answers_parting, answers_detaching, answers_reattaching, answers_taking}
+use Rattle.buffer_machine.specs.Answering.{played_by, shown_joined, standing, closed_out, others, shown_at_attach, sent_at_attach, answers, answers_attaching, answers_again, answers_joining, answers_parting, answers_detaching, answers_reattaching, answers_taking}
 use Rattle.buffer_machine.specs.Held.{IsSound, channel_held, target_held, held}
 use Rattle.buffer_machine.proofs.Folded.{query-key}
 use Rattle.buffer_machine.proofs.Lists.{flat_map_at, flat_map_through, map_through}
@@ -27,20 +28,20 @@ use Rattle.buffer_machine.proofs.Names.{all-at}
 use Rattle.buffer_machine.proofs.Standing.{queries-are, not_a_channel}
 use Rattle.buffer_machine.proofs.Unknown.{detached-unknown}
 use Rattle.buffer_machine.proofs.Found.{channel_under, channel-found, found-detached}
-use Rattle.buffer_machine.proofs.Playing.{playback-channel, playback-query, asked-is, done-is}
-use Rattle.buffer_machine.proofs.ChannelsCome.{floor_now}
+use Rattle.buffer_machine.proofs.Playing.{played_by-both, played_by-channel, played_by-query, played-lines, standing-is, asked-is, done-is}
+use Rattle.buffer_machine.proofs.AnyChannel.{floor_now}
 use Rattle.std.proofs.lemmas.List.{append-nil}
-use Rattle.buffer_machine.proofs.Named.{named-known, named-unknown, known-is, played-known}
+use Rattle.buffer_machine.proofs.Named.{named-known, named-unknown, known-is}
 
 -- ---- the parts of an answer, by whether the asker is attached
 
-parts_by : (am : Bool) (all shows sends close : List Effect) → all ≡ shows ++ sends
+pub parts_by : (am : Bool) (all shows sends close : List Effect) → all ≡ shows ++ sends
     → (if am then all else close) ≡ (if am then [] else close) ++ (if am then shows else []) ++ (if am then sends else [])
 parts_by true all shows sends close e = e
 parts_by false all shows sends close e = sym (append-nil (close ++ []) ∙ append-nil close)
 
 -- shown alone
-shows_by : (am : Bool) (shows close : List Effect) → (if am then shows else close) ≡ (if am then [] else close) ++ (if am then shows else []) ++ (if am then [] else [])
+pub shows_by : (am : Bool) (shows close : List Effect) → (if am then shows else close) ≡ (if am then [] else close) ++ (if am then shows else []) ++ (if am then [] else [])
 shows_by am shows close = parts_by am shows shows [] close (sym (append-nil shows))
 
 -- ---- a channel attached again
@@ -48,9 +49,25 @@ shows_by am shows close = parts_by am shows shows [] close (sym (append-nil show
 abbrev under : Settings → List Command → List ℕ → ChannelLines
 under s history c = channel_under s history (fold_name c) (find (at_key (fold_name c)) (channels s history))
 
+-- what a client is shown of a channel that is attached again
+again_one : (s : Settings) (history : List Command) (c : List ℕ) → is_in (fold_name c) (channels s history) ≡ true → (p : Origin)
+    → shown_joined s.offset (nick s history) (under s history c) (place (ids s history) (id_of s history p)) p
+    ≡ show_all p (own_line (nick s history) (codes "JOIN") (named s history c) ∷ playback_by s history (id_of s history p) (fold_name c))
+again_one s history c e p =
+    let name = unwrap_or (find (at_key (fold_name c)) (channels s history)) (fold_name c) in
+    let plays : played_by s.offset (place (ids s history) (id_of s history p)) (under s history c).target ≡ playback_by s history (id_of s history p) (fold_name c) =
+    played-lines s history (id_of s history p) (fold_name c) name ∙ sym (played_by-both s history (id_of s history p) (fold_name c) ∙ rw e refl) in
+    ap (λ ls. show_all p (own_line (nick s history) (codes "JOIN") name ∷ ls)) plays
+    ∙ ap (λ m. show_all p (own_line (nick s history) (codes "JOIN") m ∷ playback_by s history (id_of s history p) (fold_name c))) (sym (named-known s history c e))
+
 again-is : (s : Settings) (history : List Command) (o : Origin) (c : List ℕ) → is_in (fold_name c) (channels s history) ≡ true
     → answers_again s (held s history) o (under s history c) ≡ shown_again s history (attached s history) (nick s history) c ++ send_all o (sent_again s history c)
-again-is s history o c e = rw (named-known s history c e, played-known s history c e) refl
+again-is s history o c e =
+    ap (λ es. es ++ send_all o (bare (if joined s history (fold_name c) then codes "NAMES" else codes "JOIN") (unwrap_or (find (at_key (fold_name c)) (channels s history)) (fold_name c) ∷ []) ∷ []))
+    (each_shown s.offset (nick s history) (under s history c) (ids s history) (id_of s history) (attached s history)
+    ∙ flat_same (λ p. shown_joined s.offset (nick s history) (under s history c) (place (ids s history) (id_of s history p)) p)
+    (λ p. show_all p (own_line (nick s history) (codes "JOIN") (named s history c) ∷ playback_by s history (id_of s history p) (fold_name c))) (again_one s history c e) (attached s history))
+    ∙ ap (λ m. shown_again s history (attached s history) (nick s history) c ++ send_all o (bare (if joined s history (fold_name c) then codes "NAMES" else codes "JOIN") (m ∷ []) ∷ [])) (sym (named-known s history c e))
 
 -- what is shown and sent where a channel is joined, by whether it is known, detached and joined
 abbrev join_shows : Settings → List Command → List ℕ → Bool → List Effect
@@ -70,7 +87,7 @@ join_by s h o c true false false e d j = rw (d, j, named-known s h c e) refl
 join_by s h o c false true here e d j = absurd (let f = detached-unknown s h (fold_name c) e in cc)
 join_by s h o c false false here e d j = rw (named-unknown s h c e) refl
 
-join-is : (s : Settings) (h : List Command) (o : Origin) (at : ℕ) (c : List ℕ) → answers s (floor h o.0) (held s h) (Client o at (Join c)) ≡ effects s h (Client o at (Join c))
+pub join-is : (s : Settings) (h : List Command) (o : Origin) (at : ℕ) (c : List ℕ) → answers s (floor h o.0) (held s h) (Client o at (Join c)) ≡ effects s h (Client o at (Join c))
 unfolding effects closings shown sent
 join-is s h o at c =
     parts_by (is_among o (attached s h)) _ _ _ (Close o ∷ [])
@@ -84,7 +101,7 @@ part_by s h o c true true e j = rw (j, named-known s h c e) refl
 part_by s h o c true false e j = rw j refl
 part_by s h o c false here e j = rw (named-unknown s h c e) refl
 
-part-is : (s : Settings) (h : List Command) (o : Origin) (at : ℕ) (c : List ℕ) → answers s (floor h o.0) (held s h) (Client o at (Part c)) ≡ effects s h (Client o at (Part c))
+pub part-is : (s : Settings) (h : List Command) (o : Origin) (at : ℕ) (c : List ℕ) → answers s (floor h o.0) (held s h) (Client o at (Part c)) ≡ effects s h (Client o at (Part c))
 unfolding effects closings shown sent
 part-is s h o at c =
     parts_by (is_among o (attached s h)) _ [] _ (Close o ∷ [])
@@ -99,7 +116,7 @@ detach_by s h o c true true e d = rw d refl
 detach_by s h o c true false e d = rw (d, named-known s h c e) refl
 detach_by s h o c false det e d = refl
 
-detach-is : (s : Settings) (h : List Command) (o : Origin) (at : ℕ) (c : List ℕ) → answers s (floor h o.0) (held s h) (Client o at (Detach c)) ≡ effects s h (Client o at (Detach c))
+pub detach-is : (s : Settings) (h : List Command) (o : Origin) (at : ℕ) (c : List ℕ) → answers s (floor h o.0) (held s h) (Client o at (Detach c)) ≡ effects s h (Client o at (Detach c))
 unfolding effects closings shown sent
 detach-is s h o at c =
     rw (known-is s h c)
@@ -115,7 +132,7 @@ reattach_by s h o c true false e d = rw d refl
 reattach_by s h o c false true e d = absurd (let f = detached-unknown s h (fold_name c) e in cc)
 reattach_by s h o c false false e d = refl
 
-reattach-is : (s : Settings) (h : List Command) (o : Origin) (at : ℕ) (c : List ℕ) → answers s (floor h o.0) (held s h) (Client o at (Reattach c)) ≡ effects s h (Client o at (Reattach c))
+pub reattach-is : (s : Settings) (h : List Command) (o : Origin) (at : ℕ) (c : List ℕ) → answers s (floor h o.0) (held s h) (Client o at (Reattach c)) ≡ effects s h (Client o at (Reattach c))
 unfolding effects closings shown sent
 reattach-is s h o at c =
     parts_by (is_among o (attached s h)) _ _ _ (Close o ∷ [])
@@ -138,27 +155,36 @@ not_if : {A : Type 0} (b : Bool) (xs : List A) → (if b then [] else xs) ≡ (i
 not_if true xs = refl
 not_if false xs = refl
 
+-- what a client that attaches is shown of a channel
+open_one : (s : Settings) → IsSound s → (h : List Command) (o : Origin) (id : Option (List ℕ)) (front : List (List ℕ)) (c : List ℕ) (back : List (List ℕ)) → channels s h ≡ front ++ c ∷ back
+    → shown_at_attach s.offset (nick s h) o (standing id (ids s h)) (channel_held s h c)
+    ≡ (if not (detached s h (fold_name c)) then show_all o (if_some (joined s h (fold_name c)) (own_line (nick s h) (codes "JOIN") c ∷ []) ++ playback_by s h id (fold_name c)) else [])
+open_one s sound h o id front c back e =
+    ap (λ i. if detached s h (fold_name c) then [] else show_all o (if_some (joined s h (fold_name c)) (own_line (nick s h) (codes "JOIN") c ∷ []) ++ played_by s.offset i (target_held s h c))) (standing-is id (ids s h))
+    ∙ (ap (λ ls. if detached s h (fold_name c) then [] else show_all o (if_some (joined s h (fold_name c)) (own_line (nick s h) (codes "JOIN") c ∷ []) ++ ls)) (played-lines s h id (fold_name c) c ∙ sym (played_by-channel s sound h id front c back e))
+    ∙ not_if (detached s h (fold_name c)) (show_all o (if_some (joined s h (fold_name c)) (own_line (nick s h) (codes "JOIN") c ∷ []) ++ playback_by s h id (fold_name c))))
+
 -- the channels that are played
-channels-attaching : (s : Settings) → IsSound s → (h : List Command) (o : Origin)
-    → flat_map (shown_at_attach s.offset (nick s h) o) (map (channel_held s h) (channels s h))
-    ≡ flat_map (λ c. show_all o (if_some (joined s h (fold_name c)) (own_line (nick s h) (codes "JOIN") c ∷ []) ++ playback s h (fold_name c))) (open_channels s h)
+channels-attaching : (s : Settings) → IsSound s → (h : List Command) (o : Origin) (id : Option (List ℕ))
+    → flat_map (shown_at_attach s.offset (nick s h) o (standing id (ids s h))) (map (channel_held s h) (channels s h))
+    ≡ flat_map (λ c. show_all o (if_some (joined s h (fold_name c)) (own_line (nick s h) (codes "JOIN") c ∷ []) ++ playback_by s h id (fold_name c))) (open_channels s h)
 unfolding open_channels
-channels-attaching s sound h o =
-    flat_map_through (channel_held s h) (shown_at_attach s.offset (nick s h) o) (channels s h)
-    ∙ (flat_map_at (λ c. shown_at_attach s.offset (nick s h) o (channel_held s h c))
-    (λ c. if not (detached s h (fold_name c)) then show_all o (if_some (joined s h (fold_name c)) (own_line (nick s h) (codes "JOIN") c ∷ []) ++ playback s h (fold_name c)) else []) (channels s h)
-    (λ front c back e. rw (playback-channel s sound h front c back e) (not_if (detached s h (fold_name c)) (show_all o (if_some (joined s h (fold_name c)) (own_line (nick s h) (codes "JOIN") c ∷ []) ++ framed s.offset c (kept s h (fold_name c))))))
-    ∙ sym (flat_filter (λ c. show_all o (if_some (joined s h (fold_name c)) (own_line (nick s h) (codes "JOIN") c ∷ []) ++ playback s h (fold_name c))) (λ c. not (detached s h (fold_name c))) (channels s h)))
+channels-attaching s sound h o id =
+    flat_map_through (channel_held s h) (shown_at_attach s.offset (nick s h) o (standing id (ids s h))) (channels s h)
+    ∙ (flat_map_at (λ c. shown_at_attach s.offset (nick s h) o (standing id (ids s h)) (channel_held s h c))
+    (λ c. if not (detached s h (fold_name c)) then show_all o (if_some (joined s h (fold_name c)) (own_line (nick s h) (codes "JOIN") c ∷ []) ++ playback_by s h id (fold_name c)) else []) (channels s h)
+    (λ front c back e. open_one s sound h o id front c back e)
+    ∙ sym (flat_filter (λ c. show_all o (if_some (joined s h (fold_name c)) (own_line (nick s h) (codes "JOIN") c ∷ []) ++ playback_by s h id (fold_name c))) (λ c. not (detached s h (fold_name c))) (channels s h)))
 
 -- the queries that are played
-queries-attaching : (s : Settings) → IsSound s → (h : List Command) (o : Origin)
-    → flat_map (λ t. show_all o (played s.offset t)) (map (target_held s h) (queries s h)) ≡ flat_map (λ q. show_all o (playback s h (fold_name q))) (queries s h)
-queries-attaching s sound h o =
-    flat_map_through (target_held s h) (λ t. show_all o (played s.offset t)) (queries s h)
-    ∙ flat_map_at (λ q. show_all o (played s.offset (target_held s h q))) (λ q. show_all o (playback s h (fold_name q))) (queries s h)
+queries-attaching : (s : Settings) → IsSound s → (h : List Command) (o : Origin) (id : Option (List ℕ))
+    → flat_map (λ t. show_all o (played_by s.offset (standing id (ids s h)) t)) (map (target_held s h) (queries s h)) ≡ flat_map (λ q. show_all o (playback_by s h id (fold_name q))) (queries s h)
+queries-attaching s sound h o id =
+    flat_map_through (target_held s h) (λ t. show_all o (played_by s.offset (standing id (ids s h)) t)) (queries s h)
+    ∙ flat_map_at (λ q. show_all o (played_by s.offset (standing id (ids s h)) (target_held s h q))) (λ q. show_all o (playback_by s h id (fold_name q))) (queries s h)
     (λ front q back e.
     let query_name : is_query_name q ≡ true = all-at is_query_name front q back (subst (λ qs. list_all is_query_name qs ≡ true) e (queries-are s h)) in
-    ap (show_all o) (sym (playback-query s h front q back e (not_a_channel s sound h (fold_name q) (query-key q query_name)))))
+    ap (show_all o) (ap (λ i. played_by s.offset i (target_held s h q)) (standing-is id (ids s h)) ∙ (played-lines s h id (fold_name q) q ∙ sym (played_by-query s h id front q back e (not_a_channel s sound h (fold_name q) (query-key q query_name))))))
 
 names_by : (o : Origin) (c : List ℕ) (cs : List (List ℕ)) (es : List Effect) (d j : Bool) → map (λ l. Send o l) (map (λ x. bare (codes "NAMES") (x ∷ [])) cs) ≡ es
     → map (λ l. Send o l) (map (λ x. bare (codes "NAMES") (x ∷ [])) (if j then c ∷ cs else cs)) ≡ (if j then Send o (bare (codes "NAMES") (c ∷ [])) ∷ [] else []) ++ es
@@ -186,105 +212,15 @@ names-attaching s h o =
     ∙ (sym (flat_filter (λ c. if joined s h (fold_name c) then Send o (bare (codes "NAMES") (c ∷ [])) ∷ [] else []) (λ c. not (detached s h (fold_name c))) (channels s h))
     ∙ sym (names_of s h o (filter (λ c. not (detached s h (fold_name c))) (channels s h)))))
 
-lt_by : (a b : ℕ) (t : Bool) → nat_le b a ≡ t → nat_lt a b ≡ not t
-lt_by a b true e = grind (arith, nat_tests)
-lt_by a b false e = grind (arith, nat_tests)
+attach_by : (taken : Bool) (others shows plays sends close : List Effect)
+    → (if taken then others ++ shows ++ plays ++ sends else close) ≡ (if taken then others else close) ++ (if taken then shows ++ plays else []) ++ (if taken then sends else [])
+attach_by true others shows plays sends close = ap (λ l. l ++ sends) (append_assoc others shows plays)
+attach_by false others shows plays sends close = sym (append-nil (close ++ []) ∙ append-nil close)
 
-attach_by : (am le lt : Bool) (others shows plays sends close : List Effect) → lt ≡ not le
-    → (if not am && le then others ++ shows ++ plays ++ sends else if am then [] else close)
-    ≡ (if not am && le then others else (if lt && not am then close else [])) ++ (if not am && le then shows ++ plays else []) ++ (if not am && le then sends else [])
-attach_by true le true others shows plays sends close e = refl
-attach_by true le false others shows plays sends close e = refl
-attach_by false true lt others shows plays sends close e = ap (λ l. l ++ sends) (append_assoc others shows plays)
-attach_by false false lt others shows plays sends close e = rw e (sym (append-nil (close ++ []) ∙ append-nil close))
-
-attach-is : (s : Settings) → IsSound s → (h : List Command) (o : Origin) (at : ℕ) → answers_attaching s (floor h o.0) (held s h) o ≡ effects s h (Client o at Attach)
+pub attach-is : (s : Settings) → IsSound s → (h : List Command) (o : Origin) (at : ℕ) (id : Option (List ℕ)) → answers_attaching s (floor h o.0) (held s h) o id ≡ effects s h (Client o at (Attach id))
 unfolding effects closings shown sent
-attach-is s sound h o at =
-    rw (← channels-attaching s sound h o, ← queries-attaching s sound h o, ← names-attaching s h o)
-    (attach_by (is_among o (attached s h)) (nat_le (floor h o.0) o.1) (nat_lt o.1 (floor h o.0)) (if s.many_clients then [] else map Close (attached s h))
-    (flat_map (shown_at_attach s.offset (nick s h) o) (map (channel_held s h) (channels s h))) (flat_map (λ t. show_all o (played s.offset t)) (map (target_held s h) (queries s h)))
-    (flat_map (sent_at_attach o) (map (channel_held s h) (channels s h))) (Close o ∷ []) (lt_by o.1 (floor h o.0) (nat_le (floor h o.0) o.1) refl))
-
--- ---- the other commands
-
-leave-is : (s : Settings) (h : List Command) (o : Origin) (at : ℕ) → closed_out o (attached s h) ≡ effects s h (Client o at Leave)
-unfolding effects closings shown sent
-leave-is s h o at = shows_by (is_among o (attached s h)) [] (Close o ∷ [])
-
-say-is : (s : Settings) (h : List Command) (o : Origin) (at : ℕ) (verb : Verb) (name text : List ℕ) → answers s (floor h o.0) (held s h) (Client o at (Say verb name text)) ≡ effects s h (Client o at (Say verb name text))
-unfolding effects closings shown sent
-say-is s h o at verb name text = rw (found-detached s h (fold_name name)) (parts_by (is_among o (attached s h)) _ _ _ (Close o ∷ []) refl)
-
-play-is : (s : Settings) (h : List Command) (o : Origin) (at : ℕ) (t : List ℕ) → answers s (floor h o.0) (held s h) (Client o at (Play t)) ≡ effects s h (Client o at (Play t))
-unfolding effects closings shown sent
-play-is s h o at t = ap (λ es. if is_among o (attached s h) then es else Close o ∷ []) (asked-is s h o (fold_name t)) ∙ shows_by (is_among o (attached s h)) _ (Close o ∷ [])
-
-clear-is : (s : Settings) (h : List Command) (o : Origin) (at : ℕ) (t : List ℕ) → answers s (floor h o.0) (held s h) (Client o at (Clear t)) ≡ effects s h (Client o at (Clear t))
-unfolding effects closings shown sent
-clear-is s h o at t = ap (λ es. if is_among o (attached s h) then es else Close o ∷ []) (done-is s h o (fold_name t)) ∙ shows_by (is_among o (attached s h)) _ (Close o ∷ [])
-
-clear_channels-is : (s : Settings) (h : List Command) (o : Origin) (at : ℕ) → answers s (floor h o.0) (held s h) (Client o at ClearChannels) ≡ effects s h (Client o at ClearChannels)
-unfolding effects closings shown sent
-clear_channels-is s h o at = shows_by (is_among o (attached s h)) _ (Close o ∷ [])
-
-clear_queries-is : (s : Settings) (h : List Command) (o : Origin) (at : ℕ) → answers s (floor h o.0) (held s h) (Client o at ClearQueries) ≡ effects s h (Client o at ClearQueries)
-unfolding effects closings shown sent
-clear_queries-is s h o at = shows_by (is_among o (attached s h)) _ (Close o ∷ [])
-
-clear_all-is : (s : Settings) (h : List Command) (o : Origin) (at : ℕ) → answers s (floor h o.0) (held s h) (Client o at ClearAll) ≡ effects s h (Client o at ClearAll)
-unfolding effects closings shown sent
-clear_all-is s h o at = shows_by (is_among o (attached s h)) _ (Close o ∷ [])
-
-size_by : (nick : List ℕ) (o : Origin) (past known : Bool)
-    → (if past then status nick o (codes "Size is past 500.") else status nick o (if known then codes "Done." else codes "No such target."))
-    ≡ status nick o (if past then codes "Size is past 500." else if known then codes "Done." else codes "No such target.")
-size_by nick o true known = refl
-size_by nick o false known = refl
-
-size-is : (s : Settings) (h : List Command) (o : Origin) (at : ℕ) (t : List ℕ) (n : ℕ) → answers s (floor h o.0) (held s h) (Client o at (SetBuffer t n)) ≡ effects s h (Client o at (SetBuffer t n))
-unfolding effects closings shown sent
-size-is s h o at t n =
-    ap (λ es. if is_among o (attached s h) then (if is_past n then status (nick s h) o (codes "Size is past 500.") else es) else Close o ∷ []) (done-is s h o (fold_name t))
-    ∙ (ap (λ es. if is_among o (attached s h) then es else Close o ∷ []) (size_by (nick s h) o (is_past n) (is_known s h (fold_name t)))
-    ∙ shows_by (is_among o (attached s h)) _ (Close o ∷ []))
-
-pass-is : (s : Settings) (h : List Command) (o : Origin) (at : ℕ) (line : Parts) → answers s (floor h o.0) (held s h) (Client o at (Pass line)) ≡ effects s h (Client o at (Pass line))
-unfolding effects closings shown sent
-pass-is s h o at line = parts_by (is_among o (attached s h)) _ [] _ (Close o ∷ []) refl
-
-line-is : (s : Settings) (h : List Command) (at : ℕ) (line : Parts) → answers_taking (held s h) line ≡ effects s h (Upstream at line)
-unfolding effects closings shown sent
-line-is s h at line = rw (found-detached s h (fold_name (channel_of line))) (sym (append-nil _))
-
-gone-is : (s : Settings) (h : List Command) (node boot : ℕ) → [] ≡ effects s h (NodeGone node boot)
-unfolding effects closings shown sent
-gone-is s h node boot = refl
-
-up-is : (s : Settings) (h : List Command) → answers s 0 (held s h) Up ≡ effects s h Up
-unfolding effects closings shown sent
-up-is s h = map_through (channel_held s h) (λ c. Rejoin (bare (codes "JOIN") (c.target.name ∷ []))) (λ c. Rejoin (bare (codes "JOIN") (c ∷ []))) (λ c. refl) (channels s h)
-
-down-is : (s : Settings) (h : List Command) → [] ≡ effects s h Down
-unfolding effects closings shown sent
-down-is s h = refl
-
-pub effects-step : (s : Settings) → IsSound s → (h : List Command) (x : Command) → answers s (floor_now h x) (held s h) x ≡ effects s h x
-effects-step s sound h (Client o at Attach) = attach-is s sound h o at
-effects-step s sound h (Client o at Leave) = leave-is s h o at
-effects-step s sound h (Client o at (Say verb name text)) = say-is s h o at verb name text
-effects-step s sound h (Client o at (Join c)) = join-is s h o at c
-effects-step s sound h (Client o at (Part c)) = part-is s h o at c
-effects-step s sound h (Client o at (Detach c)) = detach-is s h o at c
-effects-step s sound h (Client o at (Reattach c)) = reattach-is s h o at c
-effects-step s sound h (Client o at (Play t)) = play-is s h o at t
-effects-step s sound h (Client o at (Clear t)) = clear-is s h o at t
-effects-step s sound h (Client o at ClearChannels) = clear_channels-is s h o at
-effects-step s sound h (Client o at ClearQueries) = clear_queries-is s h o at
-effects-step s sound h (Client o at ClearAll) = clear_all-is s h o at
-effects-step s sound h (Client o at (SetBuffer t n)) = size-is s h o at t n
-effects-step s sound h (Client o at (Pass line)) = pass-is s h o at line
-effects-step s sound h (Upstream at line) = line-is s h at line
-effects-step s sound h (NodeGone node boot) = gone-is s h node boot
-effects-step s sound h Up = up-is s h
-effects-step s sound h Down = down-is s h
+attach-is s sound h o at id =
+    rw (← channels-attaching s sound h o id, ← queries-attaching s sound h o id, ← names-attaching s h o)
+    (attach_by (takes s h (Client o at (Attach id))) (if s.many_clients then [] else map Close (attached s h))
+    (flat_map (shown_at_attach s.offset (nick s h) o (standing id (ids s h))) (map (channel_held s h) (channels s h))) (flat_map (λ t. show_all o (played_by s.offset (standing id (ids s h)) t)) (map (target_held s h) (queries s h)))
+    (flat_map (sent_at_attach o) (map (channel_held s h) (channels s h))) (closed_out o (attached s h)))

@@ -4,13 +4,15 @@ use Rattle.std.proofs.Math.ListN.{length-set}
 use Rattle.std.specs.Prelude.{if◌then◌else◌, ◌==◌, nat_lt, max, replicate, slice_index, slice_set}
 use Rattle.std.proofs.lemmas.Bool.Decides.{nat_tests}
 use Rattle.buffer_commands.specs.Settings.{Settings}
-use Rattle.buffer_machine.specs.Buffers.{floor, floor_after, attached, attached_after}
-use Rattle.buffer_machine.specs.Steps.{IsWithinLimits, raised, floors_after, floor_for}
+use Rattle.buffer_machine.specs.Crowd.{attached, attached_after, floor, floor_after, ids, is_taken, takes}
+use Rattle.buffer_machine.proofs.Unnamed.{attached-more}
+use Rattle.buffer_machine.specs.Steps.{IsWithinLimits}
+use Rattle.buffer_machine.specs.FloorSteps.{raised, floors_after, floor_for}
 use Rattle.buffer_machine.specs.Held.{AreFloors}
 use Rattle.buffer_commands.specs.declared.command.Action.TheVariants.{Attach, Leave, Say, Join, Part, Detach, Reattach, Play, Clear, ClearChannels, ClearQueries, ClearAll, SetBuffer, Pass}
 use Rattle.buffer_commands.specs.declared.command.Command.{Command}
 use Rattle.buffer_commands.specs.declared.command.Command.TheVariants.{Client, Upstream, NodeGone, Up, Down}
-use Rattle.buffer_machine.proofs.ChannelsCome.{floor_now}
+use Rattle.buffer_machine.proofs.AnyChannel.{floor_now}
 
 floor-none : (node : ℕ) → floor [] node ≡ 0
 unfolding floor
@@ -75,12 +77,9 @@ floor-is floors earlier (NodeGone n boot) f h = refl
 floor-is floors earlier Up f h = refl
 floor-is floors earlier Down f h = refl
 
-attached-more : (s : Settings) (x : Command) (earlier : List Command) → attached s (x ∷ earlier) ≡ attached_after s.many_clients (floor earlier) (attached s earlier) x
-unfolding attached
-attached-more s x earlier = refl
-
-one_floor : (s : Settings) (earlier : List Command) (x : Command) → attached_after s.many_clients (λ _. floor_now earlier x) (attached s earlier) x ≡ attached_after s.many_clients (floor earlier) (attached s earlier) x
-one_floor s earlier (Client o at Attach) = refl
+-- whether a command is an Attach that is taken, by the floor of its client's node alone
+pub one_floor : (s : Settings) (earlier : List Command) (x : Command) → is_taken (λ _. floor_now earlier x) (attached s earlier) (ids s earlier) x ≡ takes s earlier x
+one_floor s earlier (Client o at (Attach id)) = refl
 one_floor s earlier (Client o at Leave) = refl
 one_floor s earlier (Client o at (Say verb name text)) = refl
 one_floor s earlier (Client o at (Join c)) = refl
@@ -99,9 +98,6 @@ one_floor s earlier (NodeGone n boot) = refl
 one_floor s earlier Up = refl
 one_floor s earlier Down = refl
 
-pub attached-step : (s : Settings) (earlier : List Command) (x : Command) → attached_after s.many_clients (λ _. floor_now earlier x) (attached s earlier) x ≡ attached s (x ∷ earlier)
-attached-step s earlier x = one_floor s earlier x ∙ sym (attached-more s x earlier)
-
-pub attached-none : (s : Settings) → [] ≡ attached s []
-unfolding attached
-attached-none s = refl
+pub attached-step : (s : Settings) (earlier : List Command) (x : Command)
+    → attached_after s.many_clients (is_taken (λ _. floor_now earlier x) (attached s earlier) (ids s earlier) x) (attached s earlier) x ≡ attached s (x ∷ earlier)
+attached-step s earlier x = ap (λ b. attached_after s.many_clients b (attached s earlier) x) (one_floor s earlier x) ∙ sym (attached-more s x earlier)

@@ -8,13 +8,13 @@ use Rattle.buffer_commands.specs.Settings.{Settings}
 use Rattle.buffer_commands.specs.declared.command.Command.{Command}
 use Rattle.buffer_machine.specs.Buffers.{channels, joined, detached, size, kept}
 use Rattle.buffer_machine.specs.Steps.{is_detached, is_joined}
-use Rattle.buffer_machine.specs.Held.{channel_held, target_held}
+use Rattle.buffer_machine.specs.Held.{channel_held, seen_held, target_held}
 use Rattle.buffer_machine.proofs.Unknown.{detached-unknown}
 use Rattle.irc_line.proofs.Order.{key_is}
 
 -- the target, and the channel, of a key with what is held under it
 abbrev pub target_under : Settings → List Command → List ℕ → Option (List ℕ) → TargetLines
-target_under s history k name = target (unwrap_or name k) (ring (kept s history k) (size s k history))
+target_under s history k name = target (unwrap_or name k) (ring (kept s history k) (size s k history)) (seen_held s history k)
 
 abbrev pub channel_under : Settings → List Command → List ℕ → Option (List ℕ) → ChannelLines
 channel_under s history k name = channel (target_under s history k name) (joined s history k) (detached s history k)
@@ -24,7 +24,7 @@ channel_found_by : (s : Settings) (history : List Command) (k c : List ℕ) (cs 
     → (if b then Some (channel_held s history c) else channel_of_key k (map (channel_held s history) cs))
     ≡ (if b || is_in k cs then Some (channel_under s history k (if b then Some c else find (at_key k) cs)) else None)
 channel_found_by s history k c cs true e ih =
-    ap (λ key. Some (channel (target c (ring (kept s history key) (size s key history))) (joined s history key) (detached s history key))) (sym (key_is k c e))
+    ap (λ key. Some (channel (target c (ring (kept s history key) (size s key history)) (seen_held s history key)) (joined s history key) (detached s history key))) (sym (key_is k c e))
 channel_found_by s history k c cs false e ih = ih
 
 pub channel-found : (s : Settings) (history : List Command) (k : List ℕ) (cs : List (List ℕ))
@@ -37,7 +37,7 @@ query_found_by : (s : Settings) (history : List Command) (k c : List ℕ) (cs : 
     → (if b then Some (target_held s history c) else query_of_key k (map (target_held s history) cs))
     ≡ (if b || is_in k cs then Some (target_under s history k (if b then Some c else find (at_key k) cs)) else None)
 query_found_by s history k c cs true e ih =
-    ap (λ key. Some (target c (ring (kept s history key) (size s key history)))) (sym (key_is k c e))
+    ap (λ key. Some (target c (ring (kept s history key) (size s key history)) (seen_held s history key))) (sym (key_is k c e))
 query_found_by s history k c cs false e ih = ih
 
 pub query-found : (s : Settings) (history : List Command) (k : List ℕ) (cs : List (List ℕ))

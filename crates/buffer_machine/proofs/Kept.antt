@@ -11,9 +11,9 @@ use Rattle.buffer_lines.specs.Keeping.{if_kept}
 use Rattle.buffer_lines.proofs.Keeping.{kept-more, kept-nil, keep_last-nil}
 use Rattle.buffer_commands.specs.Settings.{Settings}
 use Rattle.buffer_commands.specs.declared.command.Command.{Command}
-use Rattle.buffer_machine.specs.Messages.{has_command, is_storable, is_none_of, is_query_line, is_query_name, source}
-use Rattle.buffer_machine.specs.Buffers.{attached, nick, channels, is_known, size, first_size, size_after, said, aim, is_for, stored_where, stored, stored_query, query_aim, emptied, detached, kept, removes_target}
-use Rattle.buffer_machine.specs.Steps.{keeps}
+use Rattle.buffer_machine.specs.Messages.{has_command, is_storable, is_query_line, is_query_name, source}
+use Rattle.buffer_machine.specs.Buffers.{keeps, nick, channels, is_known, size, first_size, size_after, said, aim, is_for, stored_where, stored, stored_query, query_aim, emptied, detached, kept, removes_target}
+use Rattle.buffer_machine.specs.Crowd.{attached, ids}
 use Rattle.buffer_machine.specs.Held.{IsSound}
 use Rattle.buffer_machine.proofs.Folded.{query_apart}
 use Rattle.buffer_machine.proofs.Names.{is_made_at}
@@ -23,7 +23,7 @@ use Rattle.std.proofs.lemmas.List.{append-nil}
 
 -- ---- the last lines
 
-keep_last-all : {K : Type 0} (n : ℕ) (xs : List K) → length xs ≤ n → keep_last n xs ≡ xs
+pub keep_last-all : {K : Type 0} (n : ℕ) (xs : List K) → length xs ≤ n → keep_last n xs ≡ xs
 keep_last-all n xs h = let e : length xs - n ≡ 0 = omega arith in rw e refl
 
 length-keep_last : {K : Type 0} (n : ℕ) (xs : List K) → length (keep_last n xs) ≤ n
@@ -129,10 +129,10 @@ stored_channel keep cs own k (Some line) c i = ap (λ b. if keep && b then Some 
 
 -- what is stored in a known channel
 pub stored-channel : (s : Settings) (earlier : List Command) (x : Command) (k : List ℕ) → is_channel k ≡ true → is_in k (channels s earlier) ≡ true
-    → stored s k earlier x ≡ channel_stored (keeps s.clears_channels (attached s earlier) || detached s earlier k) k (said (attached s earlier) (nick s earlier) x)
+    → stored s k earlier x ≡ channel_stored (keeps s.clears_channels (attached s earlier) (ids s earlier) || detached s earlier k) k (said (attached s earlier) (nick s earlier) x)
 unfolding stored
 stored-channel s earlier x k c i =
-    rw c (stored_channel (keeps s.clears_channels (attached s earlier) || detached s earlier k) (channels s earlier) (nick s earlier) k (said (attached s earlier) (nick s earlier) x) c i)
+    rw c (stored_channel (keeps s.clears_channels (attached s earlier) (ids s earlier) || detached s earlier k) (channels s earlier) (nick s earlier) k (said (attached s earlier) (nick s earlier) x) c i)
 
 stored_none : (keep : Bool) (cs : List (List ℕ)) (own k : List ℕ) (o : Option (ℕ × Parts)) → is_channel k ≡ true → is_in k cs ≡ false → stored_where keep cs own k o ≡ None
 stored_none keep cs own k None c i = refl
@@ -165,8 +165,8 @@ pub stored-query : (s : Settings) → IsSound s → (earlier : List Command) (x 
     → stored s k earlier x ≡ line_if (is_made_at k (stored_query s earlier x)) (said (attached s earlier) (nick s earlier) x)
 unfolding stored stored_query
 stored-query s sound earlier x k c =
-    rw (c, or_false (not s.clears_queries || is_none_of (attached s earlier)))
-    (stored_query_at (not s.clears_queries || is_none_of (attached s earlier)) (channels s earlier) (nick s earlier) k (said (attached s earlier) (nick s earlier) x) (not_a_channel s sound earlier k c))
+    rw (c, or_false (keeps s.clears_queries (attached s earlier) (ids s earlier)))
+    (stored_query_at (keeps s.clears_queries (attached s earlier) (ids s earlier)) (channels s earlier) (nick s earlier) k (said (attached s earlier) (nick s earlier) x) (not_a_channel s sound earlier k c))
 
 -- ---- lines of other commands
 

@@ -1,52 +1,37 @@
 -- One channel, and one query, through a step: what the machine does to it is what is held of it next.
-use Rattle.std.proofs.Common.{◌≡◌, ℕ, ◌≤◌, List, [], ◌∷◌, map, length, refl, ap, sym, Bool, true, false}
+use Rattle.std.proofs.Common.{◌≡◌, ℕ, suc, ◌-◌, ◌≤◌, List, [], ◌∷◌, ◌++◌, map, length, refl, ap, sym, ◌∙◌, Bool, true, false}
 use Rattle.std.specs.Prelude.{Option, Some, None, if◌then◌else◌}
 use Rattle.circular_buffer.specs.Buffer.{keep_last}
 use Rattle.irc_line.specs.Lines.{Parts}
 use Rattle.buffer_lines.specs.Stamps.{ring}
-use Rattle.buffer_targets.specs.Targets.{TargetLines, channel, target, cleared, resized, pushed, over}
+use Rattle.buffer_targets.specs.Targets.{TargetLines, target, cleared, counted, fewer, none_seen, resized, pushed}
 use Rattle.buffer_machine.proofs.Kept.{next, next-quiet}
 use Rattle.std.proofs.lemmas.List.{append-nil}
 use Rattle.buffer_lines.proofs.Keeping.{keep_last-nil}
+use Rattle.buffer_machine.proofs.SeenLists.{pushed_length}
 
-module _ (c : List ℕ) (ks : List (ℕ × Parts)) (n : ℕ) (fits : length ks ≤ n) where
-  abbrev pub before : TargetLines
-  before = target c (ring ks n)
-
-  -- after one command more, by the size, whether it is emptied and what is stored
+module _ (c : List ℕ) (ks : List (ℕ × Parts)) (n : ℕ) (fits : length ks ≤ n) (was new : List ℕ) where
+  -- after one command more, by the size, whether it is emptied, what is stored, and how much each name has seen then
   abbrev pub later : ℕ → Bool → Option (ℕ × Parts) → TargetLines
-  later m e o = target c (ring (next m ks e o) m)
+  later m e o = target c (ring (next m ks e o) m) new
 
-  pub quiet : (e : Bool) → e ≡ false → before ≡ later n e None
-  quiet true h = absurd cc
-  quiet false h = ap (λ k. target c (ring k n)) (sym (next-quiet n ks fits))
+  pub quiet : (e : Bool) → e ≡ false → (if e then none_seen else was) ≡ new → target c (ring ks n) was ≡ later n e None
+  quiet true h q = absurd cc
+  quiet false h q = ap (λ k. target c (ring k n) was) (sym (next-quiet n ks fits)) ∙ ap (target c (ring (next n ks false None) n)) q
 
-  pub empty : (e : Bool) → e ≡ true → cleared before ≡ later n e None
-  empty true h = ap (λ k. target c (ring k n)) (sym (keep_last-nil n))
-  empty false h = absurd cc
+  pub empty : (rest : List ℕ) (e : Bool) → e ≡ true → (if e then none_seen else rest) ≡ new → cleared (target c (ring ks n) was) ≡ later n e None
+  empty rest true h q = ap (λ k. target c (ring k n) none_seen) (sym (keep_last-nil n)) ∙ ap (target c (ring (next n ks true None) n)) q
+  empty rest false h q = absurd cc
 
-  -- emptied where the test is true
-  pub empty_if : (b e : Bool) → e ≡ b → (if b then cleared before else before) ≡ later n e None
-  empty_if true e h = empty e h
-  empty_if false e h = quiet e h
+  pub sized : (m : ℕ) (e : Bool) → e ≡ false → fewer (length ks - m) was ≡ new → resized m (target c (ring ks n) was) ≡ later m e None
+  sized m true h q = absurd cc
+  sized m false h q = ap (λ k. target c (ring (keep_last m k) m) (fewer (length ks - m) was)) (sym (append-nil ks)) ∙ ap (target c (ring (next m ks false None) m)) q
 
-  pub sized : (m : ℕ) (e : Bool) → e ≡ false → resized m before ≡ later m e None
-  sized m true h = absurd cc
-  sized m false h = ap (λ k. target c (ring (keep_last m k) m)) (sym (append-nil ks))
-
-  pub sized_if : (b : Bool) (m : ℕ) (e : Bool) → e ≡ false → (if b then resized m before else before) ≡ later (if b then m else n) e None
-  sized_if true m e h = sized m e h
-  sized_if false m e h = quiet e h
-
-  pub pushed_if : (b : Bool) (line : ℕ × Parts) (e : Bool) → e ≡ false → (if b then pushed line before else before) ≡ later n e (if b then Some line else None)
-  pushed_if b line true h = absurd cc
-  pushed_if true line false h = refl
-  pushed_if false line false h = quiet false refl
-
--- done to a channel's target where a test is true
-pub over_if : (b : Bool) (f : TargetLines → TargetLines) (t : TargetLines) (j d : Bool) → (if b then over f (channel t j d) else channel t j d) ≡ channel (if b then f t else t) j d
-over_if true f t j d = refl
-over_if false f t j d = refl
+  pub pushed_if : (b : Bool) (line : ℕ × Parts) (here : List Bool) (e : Bool) → e ≡ false → (if b then counted (pushed_length n ks line) (suc (length ks) - pushed_length n ks line) here was else was) ≡ new
+      → (if b then pushed line here (target c (ring ks n) was) else target c (ring ks n) was) ≡ later n e (if b then Some line else None)
+  pushed_if b line here true h q = absurd cc
+  pushed_if true line here false h q = ap (target c (ring (keep_last n (ks ++ line ∷ [])) n)) q
+  pushed_if false line here false h q = quiet false refl q
 
 pub map_id : {A : Type 0} (xs : List A) → map (λ x. x) xs ≡ xs
 map_id [] = refl

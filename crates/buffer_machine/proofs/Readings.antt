@@ -15,16 +15,18 @@ use Rattle.buffer_commands.specs.declared.command.Command.TheVariants.{Client, U
 use Rattle.buffer_commands.specs.declared.effect.Effect.TheVariants.{Close}
 use Rattle.machine_laws.specs.Origins.{same_origin}
 use Rattle.buffer_machine.specs.Messages.{channel_of, is_among}
-use Rattle.buffer_machine.specs.Buffers.{channels, floor, is_attach, is_taken, attached, nick, detached, is_known, stored, emptied, clears, plays, kept, size, playback}
+use Rattle.buffer_machine.specs.Buffers.{empties, channels, nick, detached, is_known, stored, emptied, clears, plays, kept, size, playback}
+use Rattle.buffer_machine.specs.Crowd.{attached, floor, id_of, ids, is_attach, takes}
+use Rattle.buffer_machine.proofs.Holders.{holders, stay}
 use Rattle.buffer_machine.specs.Effects.{shown, effects, open_channels}
-use Rattle.buffer_machine.specs.Held.{Held, IsSound, held}
+use Rattle.buffer_machine.specs.Held.{Held, IsSound, held, names_held}
 use Rattle.buffer_machine.specs.Steps.{after}
 use Rattle.buffer_machine.specs.Answering.{answers}
-use Rattle.buffer_machine.proofs.EffectsStep.{effects-step}
+use Rattle.buffer_machine.proofs.AnyEffects.{effects-step}
 use Rattle.buffer_machine.proofs.HeldStep.{held-step}
 use Rattle.buffer_machine.proofs.Kept.{kept-next}
 use Rattle.buffer_machine.proofs.Playing.{played-held, played-is}
-use Rattle.irc_line.proofs.Booleans.{and_both, false_of, or_both_false}
+use Rattle.irc_line.proofs.Booleans.{false_of, or_both_false}
 use Rattle.buffer_lines.proofs.Keeping.{keep_last-nil}
 
 -- ---- what is kept fits
@@ -62,16 +64,18 @@ or_true false true c e = refl
 or_true false false c e = cc
 
 abbrev plays_now : Settings → List Command → Command → List ℕ → Bool
-plays_now s earlier x t = plays (is_taken (floor earlier) (attached s earlier) x) (attached s earlier) (is_channel t && detached s earlier t) t (is_known s earlier t) x
+plays_now s earlier x t = plays (takes s earlier x) (attached s earlier) (is_channel t && detached s earlier t) t (is_known s earlier t) x
 
-emptied_played : (s : Settings) (earlier : List Command) (x : Command) (t : List ℕ) → clears s t ≡ true → plays_now s earlier x t ≡ true → emptied s t earlier x ≡ true
+emptied_played : (s : Settings) (earlier : List Command) (x : Command) (t : List ℕ) → clears s t ≡ true → empties (ids s earlier) x ≡ true → plays_now s earlier x t ≡ true → emptied s t earlier x ≡ true
 unfolding emptied
-emptied_played s earlier x t e f = or_true _ _ _ (and_both _ _ e f)
+emptied_played s earlier x t e g f =
+    let middle : (clears s t && empties (ids s earlier) x && plays_now s earlier x t) ≡ true = rw (e, g, f) refl in
+    or_true _ _ _ middle
 
 -- what plays says nothing
 unsaid : (s : Settings) (earlier : List Command) (x : Command) (t : List ℕ) → plays_now s earlier x t ≡ true → stored s t earlier x ≡ None
 unfolding stored
-unsaid s earlier (Client o at Attach) t e = refl
+unsaid s earlier (Client o at (Attach id)) t e = refl
 unsaid s earlier (Client o at Leave) t e = refl
 unsaid s earlier (Client o at (Say v n u)) t e = cc
 unsaid s earlier (Client o at (Join c)) t e = refl
@@ -90,9 +94,9 @@ unsaid s earlier (NodeGone n f) t e = refl
 unsaid s earlier Up t e = refl
 unsaid s earlier Down t e = refl
 
-pub played_out : (s : Settings) (earlier : List Command) (x : Command) (t : List ℕ) → clears s t ≡ true
-    → plays (is_taken (floor earlier) (attached s earlier) x) (attached s earlier) (is_channel t && detached s earlier t) t (is_known s earlier t) x ≡ true → kept s (x ∷ earlier) t ≡ []
-played_out s earlier x t e f = kept-next s earlier x t ∙ rw (emptied_played s earlier x t e f, unsaid s earlier x t f) (keep_last-nil (size s t (x ∷ earlier)))
+pub played_out : (s : Settings) (earlier : List Command) (x : Command) (t : List ℕ) → clears s t ≡ true → empties (ids s earlier) x ≡ true
+    → plays (takes s earlier x) (attached s earlier) (is_channel t && detached s earlier t) t (is_known s earlier t) x ≡ true → kept s (x ∷ earlier) t ≡ []
+played_out s earlier x t e g f = kept-next s earlier x t ∙ rw (emptied_played s earlier x t e g f, unsaid s earlier x t f) (keep_last-nil (size s t (x ∷ earlier)))
 
 -- ---- one who is not attached
 
@@ -106,24 +110,24 @@ none_same o [] e = refl
 none_same o (x ∷ os) e = none_same_by o x os (same_origin o x) e (λ f. none_same o os f)
 
 -- its requests but Attach do nothing to what is held
-held_still : (s : Settings) (h : Held) (o : Origin) (at : ℕ) (a : Action) → is_attach a ≡ false → is_among o h.clients ≡ false → after s 0 h (Client o at a) ≡ h
-held_still s h o at Attach e f = cc
-held_still s h o at Leave e f = rw (none_same o h.clients f) refl
-held_still s h o at (Say v n u) e f = rw f refl
-held_still s h o at (Join c) e f = rw f refl
-held_still s h o at (Part c) e f = rw f refl
-held_still s h o at (Detach c) e f = rw f refl
-held_still s h o at (Reattach c) e f = rw f refl
-held_still s h o at (Play u) e f = rw f refl
-held_still s h o at (Clear u) e f = rw f refl
-held_still s h o at ClearChannels e f = rw f refl
-held_still s h o at ClearQueries e f = rw f refl
-held_still s h o at ClearAll e f = rw f refl
-held_still s h o at (SetBuffer u n) e f = rw f refl
-held_still s h o at (Pass l) e f = refl
+held_still : (s : Settings) (h : Held) (o : Origin) (at : ℕ) (a : Action) → is_attach a ≡ false → is_among o h.clients ≡ false → filter (λ x. not (same_origin o x.0)) h.names.holders ≡ h.names.holders → after s 0 h (Client o at a) ≡ h
+held_still s h o at (Attach id) e f g = cc
+held_still s h o at Leave e f g = rw (none_same o h.clients f, g) refl
+held_still s h o at (Say v n u) e f g = rw f refl
+held_still s h o at (Join c) e f g = rw f refl
+held_still s h o at (Part c) e f g = rw f refl
+held_still s h o at (Detach c) e f g = rw f refl
+held_still s h o at (Reattach c) e f g = rw f refl
+held_still s h o at (Play u) e f g = rw f refl
+held_still s h o at (Clear u) e f g = rw f refl
+held_still s h o at ClearChannels e f g = rw f refl
+held_still s h o at ClearQueries e f g = rw f refl
+held_still s h o at ClearAll e f g = rw f refl
+held_still s h o at (SetBuffer u n) e f g = rw f refl
+held_still s h o at (Pass l) e f g = refl
 
 closed_only : (s : Settings) (h : Held) (o : Origin) (at : ℕ) (a : Action) → is_attach a ≡ false → is_among o h.clients ≡ false → answers s 0 h (Client o at a) ≡ Close o ∷ []
-closed_only s h o at Attach e f = cc
+closed_only s h o at (Attach id) e f = cc
 closed_only s h o at Leave e f = rw f refl
 closed_only s h o at (Say v n u) e f = rw f refl
 closed_only s h o at (Join c) e f = rw f refl
@@ -140,7 +144,7 @@ closed_only s h o at (Pass l) e f = rw f refl
 
 -- the floor matters to an Attach alone
 any_floor : (s : Settings) (h : Held) (n : ℕ) (o : Origin) (at : ℕ) (a : Action) → is_attach a ≡ false → after s n h (Client o at a) ≡ after s 0 h (Client o at a)
-any_floor s h k o at Attach e = cc
+any_floor s h k o at (Attach id) e = cc
 any_floor s h k o at Leave e = refl
 any_floor s h k o at (Say v n u) e = refl
 any_floor s h k o at (Join c) e = refl
@@ -156,7 +160,7 @@ any_floor s h k o at (SetBuffer u n) e = refl
 any_floor s h k o at (Pass l) e = refl
 
 any_floor_answers : (s : Settings) (h : Held) (n : ℕ) (o : Origin) (at : ℕ) (a : Action) → is_attach a ≡ false → answers s n h (Client o at a) ≡ answers s 0 h (Client o at a)
-any_floor_answers s h k o at Attach e = cc
+any_floor_answers s h k o at (Attach id) e = cc
 any_floor_answers s h k o at Leave e = refl
 any_floor_answers s h k o at (Say v n u) e = refl
 any_floor_answers s h k o at (Join c) e = refl
@@ -171,9 +175,14 @@ any_floor_answers s h k o at ClearAll e = refl
 any_floor_answers s h k o at (SetBuffer u n) e = refl
 any_floor_answers s h k o at (Pass l) e = refl
 
+-- nor has one who is not attached a name
+none_held : (s : Settings) (earlier : List Command) (o : Origin) → is_among o (attached s earlier) ≡ false → filter (λ x. not (same_origin o x.0)) (names_held s earlier).holders ≡ (names_held s earlier).holders
+none_held s earlier o f =
+    stay (λ p. not (same_origin o p)) (ids s earlier) (id_of s earlier) (attached s earlier) ∙ ap (holders (ids s earlier) (id_of s earlier)) (none_same o (attached s earlier) f)
+
 nothing_changed : (s : Settings) → IsSound s → (earlier : List Command) (o : Origin) (at : ℕ) (a : Action) → is_attach a ≡ false → is_among o (attached s earlier) ≡ false → held s (Client o at a ∷ earlier) ≡ held s earlier
 nothing_changed s sound earlier o at a e f =
-    sym (held-step s sound earlier (Client o at a)) ∙ (any_floor s (held s earlier) (floor earlier o.0) o at a e ∙ held_still s (held s earlier) o at a e f)
+    sym (held-step s sound earlier (Client o at a)) ∙ (any_floor s (held s earlier) (floor earlier o.0) o at a e ∙ held_still s (held s earlier) o at a e f (none_held s earlier o f))
 
 pub attached_still : (s : Settings) → IsSound s → (earlier : List Command) (o : Origin) (at : ℕ) (a : Action) → is_attach a ≡ false → is_among o (attached s earlier) ≡ false → attached s (Client o at a ∷ earlier) ≡ attached s earlier
 attached_still s sound earlier o at a e f = ap (λ (h : Held). h.clients) (nothing_changed s sound earlier o at a e f)

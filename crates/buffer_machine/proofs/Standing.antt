@@ -10,8 +10,9 @@ use Rattle.buffer_targets.specs.Targets.{newest}
 use Rattle.buffer_commands.specs.Settings.{Settings}
 use Rattle.buffer_commands.specs.declared.command.Command.{Command}
 use Rattle.buffer_commands.specs.declared.command.Command.TheVariants.{Client, Upstream, NodeGone, Up, Down}
-use Rattle.buffer_machine.specs.Messages.{is_own, is_by, has_command, is_query_line, is_query_name, is_none_of, is_storable, source}
-use Rattle.buffer_machine.specs.Buffers.{attached, nick, channels, queries, made_by, with_made, is_removed, with_new, query_aim, stored_query, said, targets, is_known}
+use Rattle.buffer_machine.specs.Messages.{is_own, is_by, has_command, is_query_line, is_query_name, is_storable, source}
+use Rattle.buffer_machine.specs.Buffers.{keeps, nick, channels, queries, made_by, with_made, is_removed, with_new, query_aim, stored_query, said, targets, is_known}
+use Rattle.buffer_machine.specs.Crowd.{attached, ids}
 use Rattle.buffer_machine.specs.Held.{IsSound}
 use Rattle.buffer_machine.proofs.Folded.{channel-key, query_apart}
 use Rattle.buffer_machine.proofs.Names.{is_made_at, in-made, in-new, in-append, in-filter, all-filter, all-put, all-append, all-drop, rising-filter, rising-put, newest-length}
@@ -101,7 +102,7 @@ if_made p false m h = refl
 stored-is_query : (s : Settings) (earlier : List Command) (x : Command) → IsMadeOf is_query_name (stored_query s earlier x)
 unfolding stored_query
 stored-is_query s earlier x =
-    if_made is_query_name (not s.clears_queries || is_none_of (attached s earlier)) _ (aim_is_query (channels s earlier) (nick s earlier) (said (attached s earlier) (nick s earlier) x))
+    if_made is_query_name (keeps s.clears_queries (attached s earlier) (ids s earlier)) _ (aim_is_query (channels s earlier) (nick s earlier) (said (attached s earlier) (nick s earlier) x))
 
 pub queries-more : (s : Settings) (earlier : List Command) (x : Command) → queries s (x ∷ earlier) ≡ newest s.most_queries (with_new (stored_query s earlier x) (queries s earlier))
 unfolding queries

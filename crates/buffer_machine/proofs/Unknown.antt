@@ -12,7 +12,8 @@ use Rattle.buffer_commands.specs.declared.command.Action.TheVariants.{Attach, Le
 use Rattle.buffer_commands.specs.declared.command.Command.{Command}
 use Rattle.buffer_commands.specs.declared.command.Command.TheVariants.{Client, Upstream, NodeGone, Up, Down}
 use Rattle.buffer_machine.specs.Messages.{has_command, is_among, is_by, is_storable}
-use Rattle.buffer_machine.specs.Buffers.{attached, nick, channels, queries, is_known, joined, detached, detached_after, size, first_size, size_after, said, stored, stored_query, emptied, is_cleared, clears, plays, is_taken, floor, is_past, made_by, stored_where, kept, is_removed, removes, is_pushed_out, removes_target, with_new}
+use Rattle.buffer_machine.specs.Buffers.{empties, nick, channels, queries, is_known, joined, detached, detached_after, size, first_size, size_after, said, stored, stored_query, emptied, is_cleared, clears, plays, is_past, made_by, stored_where, kept, is_removed, removes, is_pushed_out, removes_target, with_new}
+use Rattle.buffer_machine.specs.Crowd.{attached, ids, takes}
 use Rattle.buffer_machine.specs.Held.{IsSound}
 use Rattle.buffer_machine.proofs.Names.{is_made_at, newest-all, newest-last}
 use Rattle.buffer_machine.proofs.Standing.{known-next, known-channel, known-query, queries-more, queries-fit}
@@ -38,7 +39,7 @@ not_detached_after : (os : List Origin) (k : List ℕ) (x : Command) → detache
 not_detached_after os k (Client o at (Detach d)) = rw (and_false (is_among o os)) refl
 not_detached_after os k (Client o at (Reattach d)) = refl
 not_detached_after os k (Client o at (Join d)) = refl
-not_detached_after os k (Client o at Attach) = refl
+not_detached_after os k (Client o at (Attach id)) = refl
 not_detached_after os k (Client o at Leave) = refl
 not_detached_after os k (Client o at (Say v n t)) = refl
 not_detached_after os k (Client o at (Part d)) = refl
@@ -76,7 +77,7 @@ first-channel s k c = rw c refl
 
 size_unknown : (os : List Origin) (k : List ℕ) (n : ℕ) (x : Command) → size_after os false k n x ≡ n
 size_unknown os k n (Client o at (SetBuffer t m)) = rw (and_false (is_among o os && not (is_past m))) refl
-size_unknown os k n (Client o at Attach) = refl
+size_unknown os k n (Client o at (Attach id)) = refl
 size_unknown os k n (Client o at Leave) = refl
 size_unknown os k n (Client o at (Say v u t)) = refl
 size_unknown os k n (Client o at (Join d)) = refl
@@ -124,7 +125,7 @@ removed_unstored s earlier (Client o at (Part d)) k e = refl
 removed_unstored s earlier (Upstream at line) k e =
     let part : has_command (codes "PART") line ≡ true = and_left _ (is_by (nick s earlier) line) (and_left _ (is_channel (parameter 0 line)) (and_left _ (at_key k (parameter 0 line)) e)) in
     unaimed _ (channels s earlier) (nick s earlier) k (at, line) (not_storable (codes "PART") line part refl refl)
-removed_unstored s earlier (Client o at Attach) k e = cc
+removed_unstored s earlier (Client o at (Attach id)) k e = cc
 removed_unstored s earlier (Client o at Leave) k e = cc
 removed_unstored s earlier (Client o at (Say v n t)) k e = cc
 removed_unstored s earlier (Client o at (Join d)) k e = cc
@@ -148,7 +149,7 @@ removed-is s earlier k x = refl
 -- what removes a target empties it
 emptied-removed : (s : Settings) (earlier : List Command) (x : Command) (k : List ℕ) → removes_target s earlier k x ≡ true → emptied s k earlier x ≡ true
 unfolding emptied
-emptied-removed s earlier x k e = rw e (or_true (is_cleared (attached s earlier) (is_channel k) k (is_known s earlier k) x || (clears s k && plays (is_taken (floor earlier) (attached s earlier) x) (attached s earlier) (is_channel k && detached s earlier k) k (is_known s earlier k) x)))
+emptied-removed s earlier x k e = rw e (or_true (is_cleared (attached s earlier) (is_channel k) k (is_known s earlier k) x || (clears s k && empties (ids s earlier) x && plays (takes s earlier x) (attached s earlier) (is_channel k && detached s earlier k) k (is_known s earlier k) x)))
 
 -- a channel that is not known keeps nothing
 pub kept-unknown : (s : Settings) (history : List Command) (k : List ℕ) → is_channel k ≡ true → is_in k (channels s history) ≡ false → kept s history k ≡ []

@@ -4,7 +4,7 @@ use Rattle.std.specs.Prelude.{ℕ, not, ◌&&◌, ◌||◌, if◌then◌else◌,
 use Rattle.irc_line.specs.Names.{fold_name, is_channel}
 use Rattle.irc_line.specs.Lines.{Parts}
 use Rattle.buffer_lines.specs.Stamps.{framed}
-use Rattle.buffer_targets.specs.Targets.{ChannelLines, TargetLines, channel_of_key, query_of_key}
+use Rattle.buffer_targets.specs.Targets.{ChannelLines, TargetLines, channel_of_key, query_of_key, unseen_of}
 use Rattle.wire_bytes.specs.declared.origin.Origin.{Origin}
 use Rattle.buffer_commands.specs.Settings.{Settings}
 use Rattle.buffer_commands.specs.declared.command.Action.TheVariants.{Attach, Leave, Say, Join, Part, Detach, Reattach, Play, Clear, ClearChannels, ClearQueries, ClearAll, SetBuffer, Pass}
@@ -15,14 +15,25 @@ use Rattle.buffer_commands.specs.declared.effect.Effect.{Effect}
 use Rattle.buffer_commands.specs.declared.effect.Effect.TheVariants.{Close, Send, Rejoin}
 use Rattle.machine_laws.specs.Origins.{same_origin}
 use Rattle.buffer_machine.specs.Messages.{is_among, has_command, channel_of, bare, own_line, own_said, verb_word}
-use Rattle.buffer_machine.specs.Buffers.{can_attach, is_past}
+use Rattle.buffer_machine.specs.Buffers.{is_past}
+use Rattle.buffer_machine.specs.Crowd.{can_attach, may_name}
 use Rattle.buffer_machine.specs.Effects.{if_some, show_all, show_each, status}
-use Rattle.buffer_machine.specs.Held.{Held}
+use Rattle.buffer_machine.specs.Held.{Held, index_in}
 use Rattle.buffer_machine.specs.Steps.{is_detached, found}
 
--- what is played of a target
+-- what is played of a target: all that is kept
 abbrev pub played : ℕ → TargetLines → List Parts
 played offset t = framed offset t.name t.lines.lines
+
+-- what is played of a target to a client: all that is kept, or what its name has not seen, by where that stands
+abbrev pub played_by : ℕ → Option ℕ → TargetLines → List Parts
+played_by offset None t = played offset t
+played_by offset (Some i) t = framed offset t.name (unseen_of i t)
+
+-- where the name stands that a client gives, if it gives one
+abbrev pub standing : Option (List ℕ) → List (List ℕ) → Option ℕ
+standing None ids = None
+standing (Some id) ids = Some (index_in id ids)
 
 -- the target of a key, a channel or a query
 abbrev pub first_some : Option ChannelLines → Option TargetLines → Option TargetLines
@@ -54,22 +65,22 @@ others o os = filter (λ p. not (same_origin o p)) os
 -- Attach: the others are closed where one client alone may be attached, and all that is not detached is played
 
 -- what a client that attaches is shown of a channel
-abbrev pub shown_at_attach : ℕ → List ℕ → Origin → ChannelLines → List Effect
-shown_at_attach offset nick o c =
-    if c.detached then [] else show_all o (if_some c.joined (own_line nick (codes "JOIN") c.target.name ∷ []) ++ played offset c.target)
+abbrev pub shown_at_attach : ℕ → List ℕ → Origin → Option ℕ → ChannelLines → List Effect
+shown_at_attach offset nick o i c =
+    if c.detached then [] else show_all o (if_some c.joined (own_line nick (codes "JOIN") c.target.name ∷ []) ++ played_by offset i c.target)
 
 -- what is sent of a channel for a client that attaches
 abbrev pub sent_at_attach : Origin → ChannelLines → List Effect
 sent_at_attach o c = if not c.detached && c.joined then Send o (bare (codes "NAMES") (c.target.name ∷ [])) ∷ [] else []
 
 -- what is answered to an Attach
-abbrev pub answers_attaching : Settings → ℕ → Held → Origin → List Effect
-answers_attaching s floor h o =
-    if can_attach floor h.clients o
+abbrev pub answers_attaching : Settings → ℕ → Held → Origin → Option (List ℕ) → List Effect
+answers_attaching s floor h o id =
+    if can_attach floor h.clients o && may_name h.names.ids id
     then
     (if s.many_clients then [] else map Close h.clients)
-    ++ flat_map (shown_at_attach s.offset h.nick o) h.channels
-    ++ flat_map (λ t. show_all o (played s.offset t)) h.queries
+    ++ flat_map (shown_at_attach s.offset h.nick o (standing id h.names.ids)) h.channels
+    ++ flat_map (λ t. show_all o (played_by s.offset (standing id h.names.ids) t)) h.queries
     ++ flat_map (sent_at_attach o) h.channels
     else closed_out o h.clients
 
@@ -79,10 +90,30 @@ answers_saying h o name line sent =
     (if is_channel name && not (is_detached (channel_of_key (fold_name name) h.channels)) then show_each (others o h.clients) (line ∷ []) else [])
     ++ map (λ l. Send o l) sent
 
+-- a client is shown that a channel is joined, and what it is played of it
+abbrev pub shown_joined : ℕ → List ℕ → ChannelLines → Option ℕ → Origin → List Effect
+shown_joined offset nick c i o = show_all o (own_line nick (codes "JOIN") c.target.name ∷ played_by offset i c.target)
+
+-- the name of the first of those who have one, if that is this client
+abbrev pub reader_next : Origin → List (Origin × ℕ) → Option ℕ
+reader_next o [] = None
+reader_next o (h ∷ hs) = if same_origin h.0 o then Some h.1 else None
+
+-- those who have one, behind this client
+abbrev pub readers_left : Origin → List (Origin × ℕ) → List (Origin × ℕ)
+readers_left o [] = []
+readers_left o (h ∷ hs) = if same_origin h.0 o then hs else h ∷ hs
+
+-- each of these clients is, by its name, if it has one: those who have one stand in the same order
+abbrev pub each_shown_joined : ℕ → List ℕ → ChannelLines → List Origin → List (Origin × ℕ) → List Effect
+each_shown_joined offset nick c [] hs = []
+each_shown_joined offset nick c (o ∷ os) hs =
+    shown_joined offset nick c (reader_next o hs) o ++ each_shown_joined offset nick c os (readers_left o hs)
+
 -- a detached channel is attached again: all are shown it, and it is sent who is in it, or that it is joined
 abbrev pub answers_again : Settings → Held → Origin → ChannelLines → List Effect
 answers_again s h o c =
-    show_each h.clients (own_line h.nick (codes "JOIN") c.target.name ∷ played s.offset c.target)
+    each_shown_joined s.offset h.nick c h.clients h.names.holders
     ++ Send o (bare (if c.joined then codes "NAMES" else codes "JOIN") (c.target.name ∷ [])) ∷ []
 
 -- what is answered to a Join, by the channel of its name
@@ -176,7 +207,7 @@ if_attached o h effects = if is_among o h.clients then effects else Close o ∷ 
 
 -- what is answered to a command
 abbrev pub answers : Settings → ℕ → Held → Command → List Effect
-answers s floor h (Client o at Attach) = answers_attaching s floor h o
+answers s floor h (Client o at (Attach id)) = answers_attaching s floor h o id
 answers s floor h (Client o at Leave) = closed_out o h.clients
 answers s floor h (Client o at (Say verb name text)) =
     if_attached o h (answers_saying h o name (own_said h.nick verb name text) (bare (verb_word verb) (name ∷ text ∷ []) ∷ []))

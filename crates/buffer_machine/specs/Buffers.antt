@@ -1,7 +1,7 @@
 -- What is so of the buffers after the commands that came. A history is the list of these commands, the newest first.
 -- Each is a recursion of its own over the history: one step from what was so before the newest command.
 -- What is so of a target goes by its key, a folded name.
-use Rattle.std.specs.Prelude.{ℕ, Bool, true, false, not, ◌&&◌, ◌||◌, if◌then◌else◌, ◌==◌, nat_lt, nat_le, max, List, [], ◌∷◌, ◌++◌, Option, Some, None, filter, find, unwrap_or, codes}
+use Rattle.std.specs.Prelude.{ℕ, Bool, false, not, ◌&&◌, ◌||◌, if◌then◌else◌, nat_lt, List, [], ◌∷◌, ◌++◌, Option, Some, None, filter, find, unwrap_or, codes}
 use Rattle.irc_line.specs.Names.{fold_name, is_channel}
 use Rattle.irc_line.specs.Keys.{at_key, is_in, put_in}
 use Rattle.irc_line.specs.Lines.{Parts, parameter}
@@ -10,51 +10,11 @@ use Rattle.buffer_lines.specs.Stamps.{framed}
 use Rattle.buffer_targets.specs.Targets.{newest}
 use Rattle.wire_bytes.specs.declared.origin.Origin.{Origin}
 use Rattle.buffer_commands.specs.Settings.{Settings}
-use Rattle.buffer_commands.specs.declared.command.Action.{Action}
-use Rattle.buffer_commands.specs.declared.command.Action.TheVariants.{Attach, Leave, Say, Join, Part, Detach, Reattach, Play, Clear, ClearChannels, ClearQueries, ClearAll, SetBuffer}
+use Rattle.buffer_commands.specs.declared.command.Action.TheVariants.{Attach, Say, Join, Part, Detach, Reattach, Play, Clear, ClearChannels, ClearQueries, ClearAll, SetBuffer}
 use Rattle.buffer_commands.specs.declared.command.Command.{Command}
-use Rattle.buffer_commands.specs.declared.command.Command.TheVariants.{Client, Upstream, NodeGone, Down}
-use Rattle.machine_laws.specs.Origins.{same_origin}
+use Rattle.buffer_commands.specs.declared.command.Command.TheVariants.{Client, Upstream, Down}
+use Rattle.buffer_machine.specs.Crowd.{attached, ids, is_naming, is_some_of, takes}
 use Rattle.buffer_machine.specs.Messages.{is_among, is_none_of, is_storable, is_own, is_own_kick, is_new_nick, is_query_line, source, own_said}
-
--- Who is attached
-
--- a node's floor after one command more
-abbrev pub floor_after : ℕ → ℕ → Command → ℕ
-floor_after was node (NodeGone n floor) = if n == node then max was floor else was
-floor_after was node _ = was
-
--- the greatest floor that was set for a node, 0 without one
-unfoldable pub floor : List Command → ℕ → ℕ
-floor [] node = 0
-floor (x ∷ earlier) node = floor_after (floor earlier node) node x
-
--- the one request that one who is not attached may make
-abbrev pub is_attach : Action → Bool
-is_attach Attach = true
-is_attach _ = false
-
--- an Attach is taken where its origin is not attached and its boot is not below its node's floor
-abbrev pub can_attach : ℕ → List Origin → Origin → Bool
-can_attach floor was o = not (is_among o was) && nat_le floor o.1
-
--- whether a command is an Attach that is taken
-abbrev pub is_taken : (ℕ → ℕ) → List Origin → Command → Bool
-is_taken floors was (Client o at Attach) = can_attach (floors o.0) was o
-is_taken floors was _ = false
-
--- who is attached after one command more
-abbrev pub attached_after : Bool → (ℕ → ℕ) → List Origin → Command → List Origin
-attached_after many floors was (Client o at Attach) =
-    if can_attach (floors o.0) was o then ((if many then was else []) ++ o ∷ []) else was
-attached_after many floors was (Client o at Leave) = filter (λ x. not (same_origin o x)) was
-attached_after many floors was (NodeGone n floor) = filter (λ x. not (x.0 == n && nat_lt x.1 floor)) was
-attached_after many floors was _ = was
-
--- the origins that are attached, in order of attaching
-unfoldable pub attached : Settings → List Command → List Origin
-attached s [] = []
-attached s (x ∷ earlier) = attached_after s.many_clients (floor earlier) (attached s earlier) x
 
 -- The own nick
 
@@ -154,17 +114,22 @@ is_for t (Some name) = at_key t name
 abbrev pub clears : Settings → List ℕ → Bool
 clears s t = if is_channel t then s.clears_channels else s.clears_queries
 
+-- whether a target keeps what comes now: playing does not empty it, or nobody is attached, or some client had a name
+abbrev pub keeps : Bool → List Origin → List (List ℕ) → Bool
+keeps clears os ids = not clears || is_none_of os || is_some_of ids
+
 -- a line, where the target keeps lines now and the line is for it
 abbrev pub stored_where : Bool → List (List ℕ) → List ℕ → List ℕ → Option (ℕ × Parts) → Option (ℕ × Parts)
 stored_where keeps channels nick t None = None
 stored_where keeps channels nick t (Some line) = if keeps && is_for t (aim channels nick line.1) then Some line else None
 
--- the one line that a command adds to a target: where playing does not empty it, or nobody is attached, or it is detached
+-- the one line that a command adds to a target: where playing does not empty it, or nobody is attached, or some client had a name,
+-- or it is detached
 unfoldable pub stored : Settings → List ℕ → List Command → Command → Option (ℕ × Parts)
 stored s t earlier x =
     let os = attached s earlier in
     let own = nick s earlier in
-    stored_where (not (clears s t) || is_none_of os || (is_channel t && detached s earlier t)) (channels s earlier) own t (said os own x)
+    stored_where (keeps (clears s t) os (ids s earlier) || (is_channel t && detached s earlier t)) (channels s earlier) own t (said os own x)
 
 -- Queries
 
@@ -179,7 +144,7 @@ unfoldable pub stored_query : Settings → List Command → Command → Option (
 stored_query s earlier x =
     let os = attached s earlier in
     let own = nick s earlier in
-    if not s.clears_queries || is_none_of os then query_aim (channels s earlier) own (said os own x) else None
+    if keeps s.clears_queries os (ids s earlier) then query_aim (channels s earlier) own (said os own x) else None
 
 -- one name more at the end, where none of its key is there
 abbrev pub with_new : Option (List ℕ) → List (List ℕ) → List (List ℕ)
@@ -236,9 +201,9 @@ size s t (x ∷ earlier) =
 
 -- What is kept
 
--- whether a command plays a target: an Attach that is taken, Reattach or Join of a detached channel, or Play
+-- whether a command plays a target to some client: an Attach that is taken, Reattach or Join of a detached channel, or Play
 abbrev pub plays : Bool → List Origin → Bool → List ℕ → Bool → Command → Bool
-plays taken attached detached t known (Client o at Attach) = taken && known && not detached
+plays taken attached detached t known (Client o at (Attach id)) = taken && known && not detached
 plays taken attached detached t known (Client o at (Reattach c)) = is_among o attached && known && detached && at_key t c
 plays taken attached detached t known (Client o at (Join c)) = is_among o attached && known && detached && at_key t c
 plays taken attached detached t known (Client o at (Play u)) = is_among o attached && known && at_key t u
@@ -252,12 +217,16 @@ is_cleared attached channel t known (Client o at ClearQueries) = is_among o atta
 is_cleared attached channel t known (Client o at ClearAll) = is_among o attached
 is_cleared attached channel t known _ = false
 
+-- whether playing empties what it plays: no client had a name, nor has the one of this command
+abbrev pub empties : List (List ℕ) → Command → Bool
+empties ids x = not (is_some_of ids) && not (is_naming x)
+
 -- whether a command empties a target: it clears it, or it plays it and playing empties it, or it removes it
 unfoldable pub emptied : Settings → List ℕ → List Command → Command → Bool
 emptied s t earlier x =
     let os = attached s earlier in
     is_cleared os (is_channel t) t (is_known s earlier t) x
-    || (clears s t && plays (is_taken (floor earlier) os x) os (is_channel t && detached s earlier t) t (is_known s earlier t) x)
+    || (clears s t && empties (ids s earlier) x && plays (takes s earlier x) os (is_channel t && detached s earlier t) t (is_known s earlier t) x)
     || removes_target s earlier t x
 
 -- the lines that a target keeps, the oldest first

@@ -1,5 +1,5 @@
 -- What a command brings about: what is closed, then shown, then sent or joined again.
-use Rattle.std.specs.Prelude.{◌≡◌, ℕ, Bool, true, not, ◌&&◌, ◌||◌, if◌then◌else◌, nat_lt, List, [], ◌∷◌, ◌++◌, map, filter, flat_map, find, unwrap_or, codes, ⊤}
+use Rattle.std.specs.Prelude.{◌≡◌, ℕ, Bool, true, not, ◌&&◌, ◌||◌, if◌then◌else◌, List, [], ◌∷◌, ◌++◌, map, filter, flat_map, find, unwrap_or, codes, Option, ⊤}
 use Rattle.irc_line.specs.Names.{fold_name, is_channel}
 use Rattle.irc_line.specs.Keys.{at_key, is_in}
 use Rattle.irc_line.specs.Lines.{Parts, spelling, line_of}
@@ -13,7 +13,9 @@ use Rattle.buffer_commands.specs.declared.effect.Effect.{Effect}
 use Rattle.buffer_commands.specs.declared.effect.Effect.TheVariants.{Close, Show, Send, Rejoin}
 use Rattle.machine_laws.specs.Origins.{same_origin}
 use Rattle.buffer_machine.specs.Messages.{is_among, has_command, channel_of, bare, own_line, own_said, verb_word}
-use Rattle.buffer_machine.specs.Buffers.{floor, can_attach, is_taken, attached, nick, channels, queries, is_known, joined, detached, is_past, playback}
+use Rattle.buffer_machine.specs.Crowd.{attached, takes, id_of}
+use Rattle.buffer_machine.specs.Marks.{playback_by}
+use Rattle.buffer_machine.specs.Buffers.{nick, channels, queries, is_known, joined, detached, is_past, playback}
 
 -- lines shown to a client
 abbrev pub show_all : Origin → List Parts → List Effect
@@ -47,19 +49,20 @@ is_channel_known s history c = is_in (fold_name c) (channels s history)
 unfoldable pub open_channels : Settings → List Command → List (List ℕ)
 open_channels s earlier = filter (λ c. not (detached s earlier (fold_name c))) (channels s earlier)
 
--- What is closed: an asker that is not attached, one below its node's floor, and the others where one client alone may be attached
+-- What is closed: an asker that is not attached, one below its node's floor or without room for its name, and the others where one
+-- client alone may be attached
 
 -- who is closed, by what was so before the command
-abbrev pub closed : Bool → Bool → ℕ → List Origin → Command → List Effect
-closed many taken floor os (Client o at Attach) =
-    if taken then (if many then [] else map Close os) else (if nat_lt o.1 floor && not (is_among o os) then Close o ∷ [] else [])
-closed many taken floor os (Client o at _) = if is_among o os then [] else Close o ∷ []
-closed many taken floor os _ = []
+abbrev pub closed : Bool → Bool → List Origin → Command → List Effect
+closed many taken os (Client o at (Attach id)) =
+    if taken then (if many then [] else map Close os) else (if is_among o os then [] else Close o ∷ [])
+closed many taken os (Client o at _) = if is_among o os then [] else Close o ∷ []
+closed many taken os _ = []
 
 -- who is closed by a command
 unfoldable pub closings : Settings → List Command → Command → List Effect
 closings s earlier (Client o at a) =
-    closed s.many_clients (is_taken (floor earlier) (attached s earlier) (Client o at a)) (floor earlier o.0) (attached s earlier) (Client o at a)
+    closed s.many_clients (takes s earlier (Client o at a)) (attached s earlier) (Client o at a)
 closings s earlier _ = []
 
 -- What is shown
@@ -68,13 +71,14 @@ closings s earlier _ = []
 abbrev pub if_some : {A : Type 0} → Bool → List A → List A
 if_some b xs = if b then xs else []
 
--- a channel that is attached again, to all: that it is joined, and what was kept
+-- a channel that is attached again, to all: that it is joined, and what each is played of it
 abbrev pub shown_again : Settings → List Command → List Origin → List ℕ → List ℕ → List Effect
-shown_again s earlier os own c = show_each os (own_line own (codes "JOIN") (named s earlier c) ∷ playback s earlier (fold_name c))
+shown_again s earlier os own c =
+    flat_map (λ p. show_all p (own_line own (codes "JOIN") (named s earlier c) ∷ playback_by s earlier (id_of s earlier p) (fold_name c))) os
 
 -- by an action of an attached client
 abbrev pub shown_by : Settings → List Command → List Origin → List ℕ → Origin → Action → List Effect
-shown_by s earlier os own o Attach = []
+shown_by s earlier os own o (Attach id) = []
 shown_by s earlier os own o Leave = []
 shown_by s earlier os own o (Say verb target text) =
     if is_channel target && not (detached s earlier (fold_name target))
@@ -104,10 +108,10 @@ shown_by s earlier os own o (SetBuffer t n) =
 shown_by s earlier os own o (Pass line) = []
 
 -- to a client whose Attach is taken: each channel that is not detached, then each query in order of making
-abbrev pub shown_attaching : Settings → List Command → List ℕ → Origin → List Effect
-shown_attaching s earlier own o =
-    flat_map (λ c. show_all o (if_some (joined s earlier (fold_name c)) (own_line own (codes "JOIN") c ∷ []) ++ playback s earlier (fold_name c))) (open_channels s earlier)
-    ++ flat_map (λ q. show_all o (playback s earlier (fold_name q))) (queries s earlier)
+abbrev pub shown_attaching : Settings → List Command → List ℕ → Origin → Option (List ℕ) → List Effect
+shown_attaching s earlier own o id =
+    flat_map (λ c. show_all o (if_some (joined s earlier (fold_name c)) (own_line own (codes "JOIN") c ∷ []) ++ playback_by s earlier id (fold_name c))) (open_channels s earlier)
+    ++ flat_map (λ q. show_all o (playback_by s earlier id (fold_name q))) (queries s earlier)
 
 -- a line from upstream is shown to all, but the server's welcome, and a line of a channel that is detached
 abbrev pub is_shown : Settings → List Command → Parts → Bool
@@ -115,8 +119,8 @@ is_shown s earlier line = not (has_command (codes "001") line || detached s earl
 
 -- who is shown what by a command
 unfoldable pub shown : Settings → List Command → Command → List Effect
-shown s earlier (Client o at Attach) =
-    if can_attach (floor earlier o.0) (attached s earlier) o then shown_attaching s earlier (nick s earlier) o else []
+shown s earlier (Client o at (Attach id)) =
+    if takes s earlier (Client o at (Attach id)) then shown_attaching s earlier (nick s earlier) o id else []
 shown s earlier (Client o at a) =
     if is_among o (attached s earlier) then shown_by s earlier (attached s earlier) (nick s earlier) o a else []
 shown s earlier (Upstream at line) = if is_shown s earlier line then show_each (attached s earlier) (line ∷ []) else []
@@ -144,8 +148,8 @@ sent_by s earlier _ = []
 
 -- what goes upstream by a command
 unfoldable pub sent : Settings → List Command → Command → List Effect
-sent s earlier (Client o at Attach) =
-    if can_attach (floor earlier o.0) (attached s earlier) o
+sent s earlier (Client o at (Attach id)) =
+    if takes s earlier (Client o at (Attach id))
     then send_all o (map (λ c. bare (codes "NAMES") (c ∷ [])) (filter (λ c. joined s earlier (fold_name c)) (open_channels s earlier)))
     else []
 sent s earlier (Client o at a) = if is_among o (attached s earlier) then send_all o (sent_by s earlier a) else []

@@ -1,7 +1,12 @@
 pub mod Messages
+pub mod Crowd
 pub mod Buffers
+pub mod Marks
 pub mod Effects
 pub mod Held
 pub mod Steps
+pub mod FloorSteps
+pub mod NameSteps
 pub mod Answering
 pub mod Machine
+pub mod Before

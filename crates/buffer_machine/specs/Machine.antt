@@ -11,7 +11,7 @@ use Rattle.buffer_machine.specs.declared.machine.BufferMachine.{BufferMachine}
 
 -- what the machine's parts hold
 abbrev pub held_of : Buffers → Held
-held_of b = holding b.nick b.clients b.channels b.queries
+held_of b = holding b.nick b.clients b.names b.channels b.queries
 
 -- the machine holds its setup, the floors, the own nick, the clients that are attached and what each target keeps, and no memory was wanting
 pub record Stands (m : BufferMachine) (s : Settings) (history : History Command) : Type 0 where

@@ -1,19 +1,22 @@
 //! What clients ask for: what is answered, and what is held after it. After an error a part may have been done.
-ghost use Rattle.std.specs.Prelude.{◌≡◌, ◌∷◌, [], filter, not, IfOk, IsOk, IsTrue, OnOk};
+ghost use Rattle.std.specs.Prelude.{◌≡◌, ◌∷◌, [], Some, true, if◌then◌else◌, map, option_copied, IfOk, IsOk, IsTrue, OnOk};
 ghost use Rattle.buffer_commands.specs.declared.command.Command.TheVariants.{Client};
-ghost use Rattle.machine_laws.specs.Origins.{same_origin};
 ghost use Rattle.buffer_machine.specs.Machine.{held_of};
 ghost use Rattle.buffer_machine.specs.Messages.{is_among};
-ghost use Rattle.buffer_machine.specs.Steps.{after};
-ghost use Rattle.buffer_machine.specs.Answering.{answers, answers_attaching, closed_out};
+ghost use Rattle.buffer_machine.specs.Steps.{after, left, with_room, shown_emptied, shown_noted};
+ghost use Rattle.buffer_machine.specs.NameSteps.{taken_now};
+ghost use Rattle.buffer_machine.specs.Crowd.{may_name};
+ghost use Rattle.buffer_machine.specs.Answering.{answers, answers_attaching, closed_out, standing};
 
 use crate::buffers::Buffers;
 use crate::channel_actions::{detach, join, part, reattach};
+use crate::client_names::{Names, reader_alone};
 use crate::clients::Clients;
 use crate::saying::say;
-use crate::showing::{ask_for_all_names, close_all, show_channels, show_queries};
+use crate::showing::{Player, ask_for_all_names, close_all, show_channels, show_queries};
 use crate::target_actions::{clear, clear_kinds, play, resize};
 use buffer_commands::{Action, Effect, Setup, WireLine};
+use irc_line::Name;
 use machine_laws::single;
 use std::alloc::{AllocError, Global};
 use wire_bytes::{Moment, Origin};
@@ -37,8 +40,8 @@ pub fn act(
 {
     let attached = buffers.clients.is_attached(origin);
     match action {
-        Action::Attach => attach(alloc, setup, floor, buffers, origin),
-        Action::Leave => leave(alloc, &mut buffers.clients, origin),
+        Action::Attach(id) => attach(alloc, setup, floor, buffers, origin, id.as_ref()),
+        Action::Leave => leave(alloc, buffers, origin),
         Action::Say(verb, name, text) if attached => {
             say(alloc, setup, buffers, origin, at, *verb, name, text)
         }
@@ -64,15 +67,16 @@ fn attach(
     floor: u64,
     buffers: &mut Buffers,
     origin: Origin,
+    id: Option<&Name>,
 ) -> Result<Vec<Effect>, AllocError>
     ensures effects { IfOk result (λ v. v.items ≡
-        answers_attaching setup.now floor (held_of buffers.old) origin) }
-    ensures held { OnOk result (held_of buffers.new ≡
-        after setup.now floor (held_of buffers.old) (Client origin 0 Action.Attach)) }
+        answers_attaching setup.now floor (held_of buffers.old) origin (option_copied id.entry)) }
+    ensures held { OnOk result (held_of buffers.new ≡ after setup.now floor
+        (held_of buffers.old) (Client origin 0 (Action.Attach (option_copied id.entry)))) }
 {
     // answered first: what is shown is what stands before the client is among those that are attached
-    let effects = answer_attach(alloc, setup, floor, buffers, origin)?;
-    let_in(setup, floor, buffers, origin)?;
+    let effects = answer_attach(alloc, setup, floor, buffers, origin, id)?;
+    let_in(setup, floor, buffers, origin, id)?;
     Ok(effects)
 }
 
@@ -83,24 +87,56 @@ fn answer_attach(
     floor: u64,
     buffers: &Buffers,
     origin: Origin,
+    id: Option<&Name>,
 ) -> Result<Vec<Effect>, AllocError>
     ensures { IfOk result (λ v. v.items ≡
-        answers_attaching setup.now floor (held_of buffers.now) origin) }
+        answers_attaching setup.now floor (held_of buffers.now) origin (option_copied id.entry)) }
 {
-    if !buffers.clients.may_attach(floor, origin) {
+    if !may_attach(floor, buffers, origin, id) {
         return close_out(alloc, &buffers.clients, origin);
     }
-    let mut effects = Vec::new(alloc);
-    if !setup.many_clients() {
-        close_all(&mut effects, buffers.clients.as_slice())?;
-    }
+    let mut effects = closed_first(alloc, setup, &buffers.clients)?;
     let channels = buffers.channels.as_slice();
     let queries = buffers.queries.as_slice();
-    let offset = setup.offset();
-    show_channels(alloc, &mut effects, offset, &buffers.nick, origin, channels)?;
-    show_queries(alloc, &mut effects, offset, origin, queries)?;
+    let player = Player {
+        offset: setup.offset(),
+        origin,
+        reader: reader_for(&buffers.names, id),
+    };
+    show_channels(alloc, &mut effects, &player, &buffers.nick, channels)?;
+    show_queries(&mut effects, &player, queries)?;
     ask_for_all_names(alloc, &mut effects, origin, channels)?;
     Ok(effects)
+}
+
+/// Where one client alone may be attached, the others are closed first.
+fn closed_first(alloc: Global, setup: &Setup, clients: &Clients) -> Result<Vec<Effect>, AllocError>
+    ensures { IfOk result (λ v. v.items ≡
+        (if setup.now.many_clients then [] else map (λ o. Effect.Close o) clients.now)) }
+{
+    let mut effects = Vec::new(alloc);
+    if !setup.many_clients() {
+        close_all(&mut effects, clients.as_slice())?;
+    }
+    Ok(effects)
+}
+
+/// Where the name stands that a client gives, if it gives one.
+fn reader_for(names: &Names, id: Option<&Name>) -> Option<usize>
+    ensures { result ≡ standing (option_copied id.entry) names.now.ids }
+{
+    match id {
+        Some(id) => Some(names.place_of(id)),
+        None => None,
+    }
+}
+
+/// Whether an Attach is taken: the client can attach, and there is room for its name.
+fn may_attach(floor: u64, buffers: &Buffers, origin: Origin, id: Option<&Name>) -> bool
+    ensures { result ≡
+        taken_now floor (held_of buffers.now) (Client origin 0 (Action.Attach (option_copied id.entry))) }
+{
+    buffers.clients.may_attach(floor, origin) && buffers.names.has_room(id)
 }
 
 /// A client that is not attached is closed.
@@ -121,36 +157,69 @@ fn let_in(
     floor: u64,
     buffers: &mut Buffers,
     origin: Origin,
+    id: Option<&Name>,
 ) -> Result<(), AllocError>
-    ensures { OnOk result (held_of buffers.new ≡
-        after setup.now floor (held_of buffers.old) (Client origin 0 Action.Attach)) }
+    ensures { OnOk result (held_of buffers.new ≡ after setup.now floor
+        (held_of buffers.old) (Client origin 0 (Action.Attach (option_copied id.entry)))) }
 {
-    if !buffers.clients.may_attach(floor, origin) {
+    if !may_attach(floor, buffers, origin, id) {
         return Ok(());
     }
-    if !setup.many_clients() {
-        buffers.clients.clear();
-    }
+    make_room(setup, buffers);
     // what was played is emptied last: a client that finds no room is shown nothing
     buffers.clients.attach(origin)?;
+    match id {
+        Some(id) => note_shown(buffers, origin, id)?,
+        None if buffers.names.is_empty() => empty_shown(setup, buffers),
+        None => {}
+    }
+    Ok(())
+}
+
+/// Where one client alone may be attached, the others are attached no more.
+fn make_room(setup: &Setup, buffers: &mut Buffers)
+    ensures { held_of buffers.new ≡
+        with_room setup.now.many_clients (held_of buffers.old) }
+{
+    if !setup.many_clients() {
+        buffers.clients.clear();
+        buffers.names.clear();
+    }
+}
+
+/// What a client that attaches was played is emptied.
+fn empty_shown(setup: &Setup, buffers: &mut Buffers)
+    ensures { held_of buffers.new ≡ shown_emptied setup.now (held_of buffers.old) }
+{
     if setup.clears_channels() {
         buffers.channels.clear_open();
     }
     if setup.clears_queries() {
         buffers.queries.clear_all();
     }
+}
+
+/// What a client that attaches by a name was played has been seen by the name.
+fn note_shown(buffers: &mut Buffers, origin: Origin, id: &Name) -> Result<(), AllocError>
+    requires { may_name buffers.old.names.ids (Some id.now) ≡ true }
+    ensures { OnOk result (held_of buffers.new ≡ shown_noted origin id.now (held_of buffers.old)) }
+{
+    let here = reader_alone(buffers.names.place_of(id));
+    buffers.names.attach(origin, id)?;
+    buffers.channels.see_open(&here);
+    buffers.queries.see_all(&here);
     Ok(())
 }
 
 /// A client leaves; one that is not attached is closed.
-fn leave(alloc: Global, clients: &mut Clients, origin: Origin) -> Result<Vec<Effect>, AllocError>
-    ensures effects { IfOk result (λ v. v.items ≡ closed_out origin clients.old) }
-    ensures left { OnOk result (clients.new ≡
-        filter (λ x. not (same_origin origin x)) clients.old) }
-    ensures memory { IsTrue (is_among origin clients.old) → IsOk result }
+fn leave(alloc: Global, buffers: &mut Buffers, origin: Origin) -> Result<Vec<Effect>, AllocError>
+    ensures effects { IfOk result (λ v. v.items ≡ closed_out origin buffers.old.clients) }
+    ensures held { OnOk result (held_of buffers.new ≡ left origin (held_of buffers.old)) }
+    ensures memory { IsTrue (is_among origin buffers.old.clients) → IsOk result }
 {
-    let effects = close_out(alloc, clients, origin)?;
-    clients.remove(origin);
+    let effects = close_out(alloc, &buffers.clients, origin)?;
+    buffers.clients.remove(origin);
+    buffers.names.remove(origin);
     Ok(effects)
 }
 

@@ -5,17 +5,20 @@ ghost use Rattle.buffer_machine.specs.Machine.{held_of};
 ghost use Rattle.buffer_machine.specs.Steps.{IsDetachedAt, IsKnownAt, beginning};
 ghost use Rattle.buffer_machine.specs.Answering.{target_of_key};
 
+use crate::client_names::Names;
 use crate::clients::Clients;
 use buffer_commands::Setup;
 use buffer_targets::{Channels, Queries, Target};
 use irc_line::Name;
 use std::alloc::{AllocError, Global};
 
-/// The own nick, the clients that are attached, in order of attaching, and what is kept of each channel and query.
+/// The own nick, the clients that are attached, in order of attaching, and by which names, and what is kept of each channel and
+/// query.
 #[derive(Drop)]
 pub struct Buffers {
     pub nick: Name,
     pub clients: Clients,
+    pub names: Names,
     pub channels: Channels,
     pub queries: Queries,
 }
@@ -28,6 +31,7 @@ impl Buffers {
         Ok(Buffers {
             nick: setup.nick().copy(alloc)?,
             clients: Clients::new(alloc),
+            names: Names::new(alloc),
             channels: Channels::new(alloc, setup.channels(), setup.channel_size())?,
             queries: Queries::new(alloc),
         })

@@ -1,17 +1,16 @@
 //! What clients ask of channels: what is answered, and what is held after it.
-ghost use Rattle.std.specs.Prelude.{◌≡◌, ◌∷◌, [], codes, if◌then◌else◌, map, not, true, IfOk, OnOk};
-ghost use Rattle.irc_line.specs.Lines.{spelling};
+ghost use Rattle.std.specs.Prelude.{◌≡◌, ◌∷◌, [], codes, if◌then◌else◌, not, true, IfOk, OnOk};
 ghost use Rattle.buffer_machine.specs.Machine.{held_of};
 ghost use Rattle.buffer_machine.specs.Messages.{bare, own_line, word_bytes};
 ghost use Rattle.buffer_machine.specs.Steps.{is_detached, is_joined, reattached, parted, detached_now};
-ghost use Rattle.buffer_machine.specs.Answering.{answers_again, played, joining, show_own, parting, detaching, reattaching};
+ghost use Rattle.buffer_machine.specs.Answering.{answers_again, joining, show_own, parting, detaching, reattaching};
 
 use crate::buffers::Buffers;
 use crate::channel_changes::{attach_again, let_channel_go};
 use crate::message::{ChannelWord, NO_SUCH_TARGET, bare_channel, own_channel};
 use crate::showing::{show_lines_to_all, tell};
+use crate::showing_again::show_joined;
 use buffer_commands::{Effect, Setup};
-use buffer_lines::Shown;
 use buffer_targets::Channel;
 use irc_line::Name;
 use machine_laws::single;
@@ -32,7 +31,12 @@ pub fn join(
         reattached setup.now name.now (held_of buffers.old)) }
 {
     let effects = answer_join(alloc, setup, buffers, origin, name)?;
-    attach_again(setup, &mut buffers.channels, name.as_bytes());
+    attach_again(
+        setup,
+        &buffers.names,
+        &mut buffers.channels,
+        name.as_bytes(),
+    );
     Ok(effects)
 }
 
@@ -80,7 +84,12 @@ pub fn reattach(
         reattached setup.now name.now (held_of buffers.old)) }
 {
     let effects = answer_reattach(alloc, setup, buffers, origin, name)?;
-    attach_again(setup, &mut buffers.channels, name.as_bytes());
+    attach_again(
+        setup,
+        &buffers.names,
+        &mut buffers.channels,
+        name.as_bytes(),
+    );
     Ok(effects)
 }
 
@@ -215,40 +224,6 @@ fn word_again(channel: &Channel) -> ChannelWord
     } else {
         ChannelWord::Join
     }
-}
-
-/// All are shown that a channel is joined, and what is kept of it.
-#[tactic(auto, using(crate::proofs::Shows::show_first_is))]
-fn show_joined(
-    alloc: Global,
-    setup: &Setup,
-    buffers: &Buffers,
-    channel: &Channel,
-) -> Result<Vec<Effect>, AllocError>
-    ensures { IfOk result (λ v. v.items ≡ show_own (held_of buffers.now)
-        (codes "JOIN") channel.now.target.name (played setup.now.offset channel.now.target)) }
-{
-    let lines = lines_again(alloc, setup, &buffers.nick, channel)?;
-    show_lines_to_all(alloc, buffers.clients.as_slice(), lines)
-}
-
-/// That a channel is joined, and what is kept of it.
-fn lines_again(
-    alloc: Global,
-    setup: &Setup,
-    nick: &Name,
-    channel: &Channel,
-) -> Result<Vec<Shown>, AllocError>
-    ensures { IfOk result (λ v. v.items ≡ map spelling (own_line nick.now
-        (codes "JOIN") channel.now.target.name ∷ played setup.now.offset channel.now.target)) }
-{
-    let target = channel.target();
-    let mut lines = vec![in alloc; own_channel(alloc, nick, ChannelWord::Join, target.name())?]?;
-    let mut kept = target
-        .lines()
-        .play(setup.offset(), target.name().as_bytes())?;
-    lines.append(&mut kept)?;
-    Ok(lines)
 }
 
 /// A command about a channel is sent, and nothing else.

@@ -4,17 +4,21 @@ ghost use Rattle.irc_line.specs.Names.{fold_name};
 ghost use Rattle.buffer_machine.specs.Steps.{attached_again, is_detached, is_joined, let_go};
 ghost use Rattle.buffer_targets.specs.Targets.{channel_of_key};
 
+use crate::client_names::Names;
 use buffer_commands::Setup;
 use buffer_targets::Channels;
 
 /// Attaches the channel of a name again, where it is detached.
-pub fn attach_again(setup: &Setup, channels: &mut Channels, name: &[u8])
-    ensures { channels.new ≡ attached_again setup.now.clears_channels
+pub fn attach_again(setup: &Setup, names: &Names, channels: &mut Channels, name: &[u8])
+    ensures { channels.new ≡ attached_again setup.now.clears_channels names.now
         (fold_name name.now) channels.old (channel_of_key (fold_name name.now) channels.old) }
 {
     if is_detached_at(channels, name) {
         channels.set_detached_at(name, false);
-        if setup.clears_channels() {
+        if !names.is_empty() {
+            // all who are attached are played it
+            channels.see_at(name, names.here());
+        } else if setup.clears_channels() {
             channels.clear_at(name);
         }
     }

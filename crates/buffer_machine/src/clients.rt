@@ -4,7 +4,7 @@ ghost use Rattle.std.specs.BTreeSet.{contains};
 ghost use Rattle.wire_bytes.specs.declared.origin.Origin.{Origin};
 ghost use Rattle.machine_laws.specs.Origins.{same_origin};
 ghost use Rattle.buffer_machine.specs.Messages.{is_among, is_none_of};
-ghost use Rattle.buffer_machine.specs.Buffers.{can_attach};
+ghost use Rattle.buffer_machine.specs.Crowd.{can_attach};
 
 use std::alloc::{AllocError, Global};
 use std::collections::BTreeSet;

@@ -1,6 +1,6 @@
 //! The floor of each node: its runs below it are gone.
 ghost use Rattle.std.specs.Prelude.{◌≡◌, slice_index};
-ghost use Rattle.buffer_machine.specs.Steps.{raised};
+ghost use Rattle.buffer_machine.specs.FloorSteps.{raised};
 
 use wire_bytes::Number;
 

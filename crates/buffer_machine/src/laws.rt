@@ -12,7 +12,8 @@ ghost use Rattle.buffer_commands.specs.declared.command.Command.TheVariants.{Cli
 ghost use Rattle.buffer_commands.specs.declared.command.Verb.{Verb};
 ghost use Rattle.buffer_commands.specs.declared.effect.Effect.TheVariants.{Close};
 ghost use Rattle.buffer_machine.specs.Messages.{channel_of, is_among};
-ghost use Rattle.buffer_machine.specs.Buffers.{attached, clears, detached, floor, is_attach, is_known, is_taken, kept, nick, playback, plays, size};
+ghost use Rattle.buffer_machine.specs.Buffers.{clears, detached, empties, is_known, kept, nick, playback, plays, size};
+ghost use Rattle.buffer_machine.specs.Crowd.{attached, ids, is_attach, takes};
 ghost use Rattle.buffer_machine.specs.Effects.{effects, open_channels, shown};
 ghost use Rattle.buffer_machine.specs.Held.{IsSound, held};
 
@@ -37,11 +38,11 @@ pub fn a_detached_channel_is_not_shown()
         → detached s earlier c ≡ true → is_in c (open_channels s earlier) ≡ false }
 {}
 
-/// A target that playing empties keeps nothing after a command that plays it.
+/// A target that playing empties keeps nothing after a command that plays it, while no client gave a name.
 #[tactic(auto, using(crate::proofs::Readings::played_out))]
 pub fn playing_leaves_nothing()
     ensures { (s : Settings) (earlier : List Command) (x : Command) (t : List ℕ) → clears s t ≡ true
-        → plays (is_taken (floor earlier) (attached s earlier) x) (attached s earlier)
+        → empties (ids s earlier) x ≡ true → plays (takes s earlier x) (attached s earlier)
         (is_channel t && detached s earlier t) t (is_known s earlier t) x ≡ true
         → kept s (x ∷ earlier) t ≡ [] }
 {}

@@ -8,6 +8,7 @@ mod actions;
 mod buffers;
 mod channel_actions;
 mod channel_changes;
+mod client_names;
 mod clients;
 mod floors;
 mod has_lines;
@@ -16,8 +17,10 @@ mod laws;
 mod lines;
 mod machine;
 mod message;
+mod name_laws;
 mod saying;
 mod showing;
+mod showing_again;
 mod step;
 mod storing;
 mod target_actions;
@@ -29,3 +32,8 @@ pub use laws::{
 pub use lines::{channel_of, has_command, is_message, is_new_nick, is_query_line, source_of};
 pub use machine::BufferMachine;
 pub use message::own_message;
+pub use name_laws::{
+    attaching_by_a_name_empties_nothing, no_more_than_64_names_are_known,
+    what_is_seen_begins_what_is_kept, who_was_there_is_played_nothing,
+    without_names_all_is_as_before,
+};

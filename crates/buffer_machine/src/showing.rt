@@ -1,7 +1,8 @@
 //! Effects, appended to those before them. After an error a part may have been appended.
 ghost use Rattle.std.specs.Prelude.{◌≡◌, ◌++◌, ◌∷◌, [], map, flat_map, not, option_to_list, IfOk, OnOk};
+ghost use Rattle.irc_line.specs.Lines.{spelling};
 ghost use Rattle.buffer_machine.specs.Effects.{copies, show_all, status};
-ghost use Rattle.buffer_machine.specs.Answering.{others, played, rejoins, sent_at_attach, shown_at_attach};
+ghost use Rattle.buffer_machine.specs.Answering.{others, played_by, rejoins, sent_at_attach, shown_at_attach};
 
 use crate::message::{ChannelWord, bare_channel, own_channel, status_line};
 use buffer_commands::Effect;
@@ -25,24 +26,44 @@ pub fn tell(
     single(alloc, Effect::Show(origin, status))
 }
 
+/// Who is played what: a client, all that is kept, or by its name what that has not seen.
+#[derive(Clone, Copy, Debug)]
+pub struct Player {
+    pub offset: Offset,
+    pub origin: Origin,
+    pub reader: Option<usize>,
+}
+
+/// What is played of a target: all that is kept, or what a reader has not seen.
+pub fn lines_for(
+    offset: Offset,
+    reader: Option<usize>,
+    target: &Target,
+) -> Result<Vec<Shown>, AllocError>
+    ensures { IfOk result (λ v. v.items ≡ map spelling (played_by offset reader target.now)) }
+{
+    match reader {
+        None => target.lines().play(offset, target.name().as_bytes()),
+        Some(reader) => target.play_unseen(reader, offset),
+    }
+}
+
 /// A client is shown a target.
 #[tactic(auto, using(crate::proofs::Shows::show_all_is))]
 pub fn show_target(
-    alloc: Global,
     effects: &mut Vec<Effect>,
-    offset: Offset,
-    origin: Origin,
+    player: &Player,
     target: &Target,
 ) -> Result<(), AllocError>
-    ensures { OnOk result (effects.new.items ≡
-        effects.old.items ++ show_all origin (played offset target.now)) }
+    ensures { OnOk result (effects.new.items ≡ effects.old.items
+        ++ show_all player.now.origin (played_by player.now.offset player.now.reader target.now)) }
 {
-    let shown = target.lines().play(offset, target.name().as_bytes())?;
-    show_lines(effects, origin, shown)
+    let shown = lines_for(player.offset, player.reader, target)?;
+    show_lines(effects, player.origin, shown)
 }
 
 /// A client is shown these lines.
-fn show_lines(
+pub fn show_lines(
     effects: &mut Vec<Effect>,
     origin: Origin,
     lines: Vec<Shown>,
@@ -176,55 +197,51 @@ pub fn close_all(effects: &mut Vec<Effect>, origins: &[Origin]) -> Result<(), Al
 pub fn show_channel(
     alloc: Global,
     effects: &mut Vec<Effect>,
-    offset: Offset,
+    player: &Player,
     nick: &Name,
-    origin: Origin,
     channel: &Channel,
 ) -> Result<(), AllocError>
-    ensures { OnOk result (effects.new.items ≡
-        effects.old.items ++ shown_at_attach offset nick.now origin channel.now) }
+    ensures { OnOk result (effects.new.items ≡ effects.old.items
+        ++ shown_at_attach player.now.offset nick.now player.now.origin player.now.reader channel.now) }
 {
     if channel.is_detached() {
         return Ok(());
     }
     if channel.is_joined() {
         let line = own_channel(alloc, nick, ChannelWord::Join, channel.target().name())?;
-        effects.push(Effect::Show(origin, line))?;
+        effects.push(Effect::Show(player.origin, line))?;
     }
-    show_target(alloc, effects, offset, origin, channel.target())
+    show_target(effects, player, channel.target())
 }
 
 /// A client that attaches is shown these channels.
 pub fn show_channels(
     alloc: Global,
     effects: &mut Vec<Effect>,
-    offset: Offset,
+    player: &Player,
     nick: &Name,
-    origin: Origin,
     channels: &[Channel],
 ) -> Result<(), AllocError>
-    ensures { OnOk result (effects.new.items ≡
-        effects.old.items ++ flat_map (shown_at_attach offset nick.now origin) channels.now) }
+    ensures { OnOk result (effects.new.items ≡ effects.old.items ++ flat_map
+        (shown_at_attach player.now.offset nick.now player.now.origin player.now.reader) channels.now) }
 {
     for channel in channels {
-        show_channel(alloc, effects, offset, nick, origin, channel)?;
+        show_channel(alloc, effects, player, nick, channel)?;
     }
     Ok(())
 }
 
 /// A client that attaches is shown these queries.
 pub fn show_queries(
-    alloc: Global,
     effects: &mut Vec<Effect>,
-    offset: Offset,
-    origin: Origin,
+    player: &Player,
     queries: &[Target],
 ) -> Result<(), AllocError>
-    ensures { OnOk result (effects.new.items ≡
-        effects.old.items ++ flat_map (λ t. show_all origin (played offset t)) queries.now) }
+    ensures { OnOk result (effects.new.items ≡ effects.old.items ++ flat_map
+        (λ t. show_all player.now.origin (played_by player.now.offset player.now.reader t)) queries.now) }
 {
     for query in queries {
-        show_target(alloc, effects, offset, origin, query)?;
+        show_target(effects, player, query)?;
     }
     Ok(())
 }

@@ -2,7 +2,8 @@
 ghost use Rattle.std.specs.Prelude.{◌≡◌, IfOk, IsOk, OnOk};
 ghost use Rattle.buffer_machine.specs.Effects.{TakesNone};
 ghost use Rattle.buffer_machine.specs.Machine.{held_of};
-ghost use Rattle.buffer_machine.specs.Steps.{IsWithinLimits, after, floor_for, floors_after};
+ghost use Rattle.buffer_machine.specs.Steps.{IsWithinLimits, after};
+ghost use Rattle.buffer_machine.specs.FloorSteps.{floor_for, floors_after};
 ghost use Rattle.buffer_machine.specs.Answering.{answers};
 
 use crate::actions::act;
@@ -37,6 +38,7 @@ pub fn step(
         Command::Upstream(at, line) => hear(alloc, setup, buffers, *at, line.line()),
         Command::NodeGone(node, boot) => {
             buffers.clients.remove_below(*node, *boot);
+            buffers.names.remove_below(*node, *boot);
             raise(floors, *node, *boot);
             Ok(Vec::new(alloc))
         }

@@ -1,15 +1,16 @@
 //! Where a line is stored: in the query or the channel that it is for. Each call takes the place of the line's channel.
 ghost use Rattle.std.specs.Prelude.{◌≡◌, Some, IfOk, IsTrue, OnOk};
 ghost use Rattle.irc_line.specs.Names.{is_name};
+ghost use Rattle.buffer_machine.specs.Buffers.{keeps};
 ghost use Rattle.buffer_machine.specs.Machine.{held_of};
 ghost use Rattle.buffer_machine.specs.Messages.{is_query_line, source};
-ghost use Rattle.buffer_machine.specs.Steps.{HasPlace, channels_storing, keeps, queries_storing, storing, stores_in_channel, stores_in_query, with_channels, with_queries};
+ghost use Rattle.buffer_machine.specs.Steps.{HasPlace, IsKeptAt, channels_storing, queries_storing, storing, stores_in_channel, stores_in_query, with_channels, with_queries};
 
 use crate::buffers::Buffers;
-use crate::clients::Clients;
 use crate::lines::{is_query_line, may_store, source_of};
 use buffer_commands::Setup;
 use buffer_lines::KeptLine;
+use buffer_targets::READERS;
 use irc_line::{Line, Name};
 use std::alloc::{AllocError, Global};
 use wire_bytes::Moment;
@@ -30,7 +31,7 @@ pub fn store(
     // the query first, while the line is still there to be copied
     store_in_query(alloc, setup, buffers, place, at, &line)?;
     if stores_in_channel(setup, buffers, place, &line) {
-        buffers.channels.store_at(place, KeptLine::new(at, line));
+        keep_in_channel(buffers, place, KeptLine::new(at, line));
     }
     Ok(())
 }
@@ -56,8 +57,21 @@ pub fn store_in_channel(
         return Ok(());
     }
     let line = line.share()?;
-    buffers.channels.store_at(place, KeptLine::new(at, line));
+    keep_in_channel(buffers, place, KeptLine::new(at, line));
     Ok(())
+}
+
+/// Keeps a line in the channel that stands at a place; the names see it that are here, unless it is detached.
+fn keep_in_channel(buffers: &mut Buffers, place: Option<usize>, line: KeptLine)
+    ensures { IsKeptAt place line (held_of buffers.old) (held_of buffers.new) }
+{
+    if buffers.is_detached(place) {
+        let nobody = [false; READERS];
+        let count = buffers.names.count();
+        buffers.channels.store_at(place, line, &nobody[..count]);
+    } else {
+        buffers.channels.store_at(place, line, buffers.names.here());
+    }
 }
 
 /// Stores a copy of a line that is for no known channel in the query that it is for, where queries keep lines now.
@@ -79,9 +93,13 @@ pub fn store_in_query(
     let name = sender(alloc, line)?;
     let line = line.share()?;
     let (size, most) = (setup.query_size(), setup.most_queries());
-    buffers
-        .queries
-        .store(&name, KeptLine::new(at, line), size, most)
+    buffers.queries.store(
+        &name,
+        KeptLine::new(at, line),
+        buffers.names.here(),
+        size,
+        most,
+    )
 }
 
 /// Whether the channel of a line stores it now: playing does not empty it, or nobody is attached, or it is detached.
@@ -89,8 +107,7 @@ fn stores_in_channel(setup: &Setup, buffers: &Buffers, place: Option<usize>, lin
     requires { HasPlace line.now (held_of buffers.now) place }
     ensures { result ≡ stores_in_channel setup.now (held_of buffers.now) line.now }
 {
-    may_store(line)
-        && (keeps_now(setup.clears_channels(), &buffers.clients) || buffers.is_detached(place))
+    may_store(line) && (keeps_now(setup.clears_channels(), buffers) || buffers.is_detached(place))
 }
 
 /// Whether a query stores a line now: the line is for no known channel, but to the own nick from one who may have a query.
@@ -100,15 +117,15 @@ fn stores_in_query(setup: &Setup, buffers: &Buffers, place: Option<usize>, line:
 {
     may_store(line)
         && !buffers.is_known(place)
-        && keeps_now(setup.clears_queries(), &buffers.clients)
+        && keeps_now(setup.clears_queries(), buffers)
         && is_query_line(line, buffers.nick.as_bytes())
 }
 
-/// Whether lines are kept now by targets that playing empties, or not: it does not, or nobody is attached.
-fn keeps_now(clears: bool, clients: &Clients) -> bool
-    ensures { result ≡ keeps clears clients.now }
+/// Whether lines are kept now by targets that playing empties, or not: it does not, or nobody is attached, or a client had a name.
+fn keeps_now(clears: bool, buffers: &Buffers) -> bool
+    ensures { result ≡ keeps clears buffers.now.clients buffers.now.names.ids }
 {
-    !clears || clients.is_empty()
+    !clears || buffers.clients.is_empty() || !buffers.names.is_empty()
 }
 
 /// The nick that a line came from.

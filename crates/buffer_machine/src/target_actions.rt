@@ -1,14 +1,16 @@
 //! What clients ask of targets: what is answered, and what is held after it.
-ghost use Rattle.std.specs.Prelude.{◌≡◌, codes, IfOk, OnOk};
+ghost use Rattle.std.specs.Prelude.{◌≡◌, ◌<◌, codes, IfOk, OnOk};
 ghost use Rattle.irc_line.specs.Names.{fold_name};
+ghost use Rattle.buffer_targets.specs.Targets.{reader};
 ghost use Rattle.buffer_machine.specs.Effects.{status};
 ghost use Rattle.buffer_machine.specs.Machine.{held_of};
-ghost use Rattle.buffer_machine.specs.Steps.{kinds_cleared, cleared_of, played_out, sized_unless_past};
+ghost use Rattle.buffer_machine.specs.Steps.{kinds_cleared, cleared_of, played_emptied, played_out, played_seen, sized_unless_past};
 ghost use Rattle.buffer_machine.specs.Answering.{answers_sizing, playing, clearing};
 
 use crate::buffers::Buffers;
+use crate::client_names::reader_alone;
 use crate::message::{DONE, NO_SUCH_TARGET, SIZE_IS_PAST};
-use crate::showing::{show_target, tell};
+use crate::showing::{Player, show_target, tell};
 use buffer_commands::{BufferSize, Effect, MOST_LINES, Setup};
 use irc_line::Name;
 use std::alloc::{AllocError, Global};
@@ -25,10 +27,10 @@ pub fn play(
     ensures effects { IfOk result (λ v. v.items ≡
         playing setup.now (held_of buffers.old) origin name.now) }
     ensures held { OnOk result (held_of buffers.new ≡
-        played_out setup.now (fold_name name.now) (held_of buffers.old)) }
+        played_out setup.now origin (fold_name name.now) (held_of buffers.old)) }
 {
     let effects = answer_play(alloc, setup, buffers, origin, name)?;
-    empty_played(setup, buffers, name.as_bytes());
+    note_played(setup, buffers, origin, name.as_bytes());
     Ok(effects)
 }
 
@@ -106,7 +108,12 @@ fn answer_play(
         None => tell(alloc, &buffers.nick, origin, NO_SUCH_TARGET),
         Some(target) => {
             let mut effects = Vec::new(alloc);
-            show_target(alloc, &mut effects, setup.offset(), origin, target)?;
+            let player = Player {
+                offset: setup.offset(),
+                origin,
+                reader: None,
+            };
+            show_target(&mut effects, &player, target)?;
             Ok(effects)
         }
     }
@@ -127,10 +134,36 @@ fn answer_known(
     }
 }
 
+/// Empties a target that was played, where playing empties it; the name of the client, if it has one, has seen all of it.
+fn note_played(setup: &Setup, buffers: &mut Buffers, origin: Origin, name: &[u8])
+    ensures { held_of buffers.new ≡
+        played_out setup.now origin (fold_name name.now) (held_of buffers.old) }
+{
+    if buffers.names.is_empty() {
+        empty_played(setup, buffers, name);
+        return;
+    }
+    match buffers.names.name_of(origin) {
+        Some(reader) => see_played(buffers, name, reader),
+        None => {}
+    }
+}
+
+/// A name has seen all of a target that was played.
+fn see_played(buffers: &mut Buffers, name: &[u8], place: usize)
+    requires { place < 64 }
+    ensures { held_of buffers.new ≡
+        played_seen (reader place) (fold_name name.now) (held_of buffers.old) }
+{
+    let here = reader_alone(place);
+    buffers.channels.see_at(name, &here);
+    buffers.queries.see_at(name, &here);
+}
+
 /// Empties a target that was played, where playing empties it.
 fn empty_played(setup: &Setup, buffers: &mut Buffers, name: &[u8])
     ensures { held_of buffers.new ≡
-        played_out setup.now (fold_name name.now) (held_of buffers.old) }
+        played_emptied setup.now (fold_name name.now) (held_of buffers.old) }
 {
     if setup.clears_channels() {
         buffers.channels.clear_at(name);

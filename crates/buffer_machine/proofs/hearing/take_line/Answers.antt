@@ -1,5 +1,5 @@
 use Rattle.buffer_machine.specs.Machine.{held_of}
-use Rattle.buffer_machine.proofs.HeldStep.{line-taken}
+use Rattle.buffer_machine.proofs.Stored.{line-taken}
 use Rattle.buffer_machine.proofs.hearing.take_line.Goals as goal
 
 pub returns : goal.returns

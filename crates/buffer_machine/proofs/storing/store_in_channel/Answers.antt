@@ -14,4 +14,4 @@ returns-then-not-stores_in_channel c =
 
 pub returns : goal.returns
 returns c =
-    ap (with_channels (held_of c.args.buffers.now)) (line-stored c.args.setup.now (held_of c.args.buffers.now) c.args.at c.args.line.now c.stores_in_channel.result _ c.stores_in_channel.ensures c.if-not-stores_in_channel.false (rw (c.new.ensures, c.in_ok-line.ensures) at (c.store_at.ensures _ c.requires)))
+    line-stored c.args.setup.now (held_of c.args.buffers.now) c.args.at c.args.line.now c.stores_in_channel.result _ c.stores_in_channel.ensures c.if-not-stores_in_channel.false (rw (c.new.ensures, c.in_ok-line.ensures) at (c.keep_in_channel.ensures _ c.requires))

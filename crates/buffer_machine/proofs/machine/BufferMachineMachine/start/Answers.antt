@@ -1,6 +1,6 @@
 use Rattle.std.proofs.Common.{◌∙◌, refl}
 use Rattle.buffer_machine.proofs.FloorLemmas.{floors-new}
-use Rattle.buffer_machine.proofs.HeldStep.{held-none}
+use Rattle.buffer_machine.proofs.Beginning.{held-none}
 use Rattle.buffer_machine.proofs.machine.BufferMachineMachine.start.Goals as goal
 
 pub returns : goal.returns
