@@ -5,3 +5,4 @@ pub mod NumberLemmas
 pub mod Pieces
 pub mod Seams
 pub mod Standing
+pub mod PassNames

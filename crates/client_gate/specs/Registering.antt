@@ -1,6 +1,6 @@
 -- A client that is not registered yet (RFC 2812, 3.1).
-use Rattle.std.specs.Prelude.{ℕ, Bool, true, false, ◌&&◌, if◌then◌else◌, List, [], ◌∷◌, Option, Some, None, codes}
-use Rattle.irc_line.specs.Names.{same_bytes}
+use Rattle.std.specs.Prelude.{ℕ, Bool, true, false, ◌&&◌, ◌==◌, if◌then◌else◌, List, [], ◌∷◌, Option, Some, None, codes}
+use Rattle.irc_line.specs.Names.{is_name, same_bytes}
 use Rattle.irc_line.specs.Lines.{Parts, parameter}
 use Rattle.buffer_commands.specs.declared.command.Action.TheVariants as action
 use Rattle.client_gate.specs.declared.settings.Settings.{Settings}
@@ -12,17 +12,49 @@ use Rattle.client_gate.specs.Commands.{lacks}
 use Rattle.client_gate.specs.Replies.{capabilities, incorrect, not_enough, not_registered, pong, welcome}
 use Rattle.client_gate.specs.Turns.{Deed, Ask, Write, Move, Close}
 
--- the password that came last is this one
-abbrev pub has_password : List ℕ → Option (List ℕ) → Bool
-has_password right None = false
-has_password right (Some password) = same_bytes password right
+-- A PASS is the password, or something, `@`, the name of the client, `:` and the password
 
--- NICK and USER were seen: the client is registered and attaches, or the connection closes
+-- a byte more before the cut
+abbrev pub with_first : ℕ → Option (List ℕ × List ℕ) → Option (List ℕ × List ℕ)
+with_first b None = None
+with_first b (Some cut) = Some (b ∷ cut.0, cut.1)
+
+-- what stands before the first of these bytes, and what stands behind it
+abbrev pub first_cut : ℕ → List ℕ → Option (List ℕ × List ℕ)
+first_cut mark [] = None
+first_cut mark (b ∷ s) = if b == mark then Some ([], s) else with_first b (first_cut mark s)
+
+-- what stands behind the first cut, cut at the first `:`
+abbrev pub cut_behind : Option (List ℕ × List ℕ) → Option (List ℕ × List ℕ)
+cut_behind None = None
+cut_behind (Some cut) = first_cut 58 cut.1
+
+-- what stands between the first `@` of a PASS and the first `:` behind that, and what stands behind this
+abbrev pub named_in : List ℕ → Option (List ℕ × List ℕ)
+named_in pass = cut_behind (first_cut 64 pass)
+
+-- a client by its name, where that is one, and the password is right
+abbrev pub by_name : List ℕ → Option (List ℕ × List ℕ) → Option (Option (List ℕ))
+by_name right None = None
+by_name right (Some named) = if same_bytes named.1 right && is_name named.0 then Some (Some named.0) else None
+
+-- by which name a PASS lets a client in, if by one: a PASS that is the password gives none, whatever stands in it
+abbrev pub admission : List ℕ → List ℕ → Option (Option (List ℕ))
+admission right pass = if same_bytes pass right then Some None else by_name right (named_in pass)
+
+-- by which name the PASS that came last lets a client in
+abbrev pub last_admission : List ℕ → Option (List ℕ) → Option (Option (List ℕ))
+last_admission right None = None
+last_admission right (Some pass) = admission right pass
+
+-- the client is registered and attaches, by its name, if it gave one; or the connection closes
+abbrev pub let_in : Settings → Option (Option (List ℕ)) → List Deed
+let_in s None = Write incorrect ∷ Close ∷ []
+let_in s (Some id) = Write (welcome s.nick) ∷ Move Attached ∷ Ask (action.Attach id) ∷ []
+
+-- NICK and USER were seen
 abbrev pub admitted : Settings → Arrival → List Deed
-admitted s arrival =
-    if has_password s.password arrival.password
-    then Write (welcome s.nick) ∷ Move Attached ∷ Ask action.Attach ∷ []
-    else Write incorrect ∷ Close ∷ []
+admitted s arrival = let_in s (last_admission s.password arrival.password)
 
 -- NICK or USER was seen now
 abbrev pub seen : Settings → Arrival → List Deed

@@ -83,11 +83,11 @@ fn take(
         }
         ClientCommand::Nick => {
             arrival.nick = true;
-            see(turn, settings, arrival)
+            see(alloc, turn, settings, arrival)
         }
         ClientCommand::User => {
             arrival.user = true;
-            see(turn, settings, arrival)
+            see(alloc, turn, settings, arrival)
         }
         ClientCommand::Cap => tell_capabilities(turn, settings, line),
         ClientCommand::Ping => tell_pong(turn, line),
@@ -114,13 +114,18 @@ fn refuse_early(turn: &mut Turn) -> Result<(), AllocError>
 }
 
 /// NICK or USER was seen now.
-fn see(turn: &mut Turn, settings: &Settings, arrival: Arrival) -> Result<(), AllocError>
+fn see(
+    alloc: Global,
+    turn: &mut Turn,
+    settings: &Settings,
+    arrival: Arrival,
+) -> Result<(), AllocError>
     requires { has_left turn.old.phase ≡ false }
     ensures { OnOk result (turn.new ≡ all_done settings.now.nick turn.old
         (seen settings.now arrival)) }
 {
     if arrival.nick && arrival.user {
-        admit(turn, settings, &arrival)
+        admit(alloc, turn, settings, &arrival)
     } else {
         turn.move_to(Phase::Arriving(arrival));
         Ok(())
@@ -128,19 +133,27 @@ fn see(turn: &mut Turn, settings: &Settings, arrival: Arrival) -> Result<(), All
 }
 
 /// NICK and USER were seen: the password is looked at.
-fn admit(turn: &mut Turn, settings: &Settings, arrival: &Arrival) -> Result<(), AllocError>
+fn admit(
+    alloc: Global,
+    turn: &mut Turn,
+    settings: &Settings,
+    arrival: &Arrival,
+) -> Result<(), AllocError>
     requires { has_left turn.old.phase ≡ false }
     ensures { OnOk result (turn.new ≡ all_done settings.now.nick turn.old
         (admitted settings.now arrival.now)) }
 {
-    if arrival.has_password(&settings.password) {
-        turn.reply(b"001", &[settings.nick.as_bytes(), WELCOME])?;
-        turn.move_to(Phase::Attached);
-        turn.ask(&settings.nick, Action::Attach)
-    } else {
-        turn.reply(b"464", &[ANYONE, INCORRECT])?;
-        turn.close();
-        Ok(())
+    match arrival.admission(alloc, &settings.password)? {
+        Some(id) => {
+            turn.reply(b"001", &[settings.nick.as_bytes(), WELCOME])?;
+            turn.move_to(Phase::Attached);
+            turn.ask(&settings.nick, Action::Attach(id))
+        }
+        None => {
+            turn.reply(b"464", &[ANYONE, INCORRECT])?;
+            turn.close();
+            Ok(())
+        }
     }
 }
 

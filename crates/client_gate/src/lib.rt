@@ -4,6 +4,7 @@
 //! Promises that the requests, bytes and closes of all calls are the definition's, however a client's bytes are cut.
 #![tactic(auto)]
 
+mod admission;
 mod arriving;
 mod client_command;
 mod fed;

@@ -41,6 +41,19 @@ impl Password {
         is_same(self.bytes.as_slice(), other.bytes.as_slice())
     }
 
+    /// Whether the password has these bytes.
+    pub fn has_bytes(&self, bytes: &[u8]) -> bool
+        ensures { result ≡ same_bytes bytes.now self.now }
+    {
+        is_same(bytes, self.bytes.as_slice())
+    }
+
+    pub fn as_bytes(&self) -> &[u8]
+        ensures { result.now ≡ self.now }
+    {
+        self.bytes.as_slice()
+    }
+
     pub fn copy(&self, alloc: Global) -> Result<Password, AllocError>
         ensures { IfOk result (λ p. p ≡ self.now) }
     {

@@ -1,6 +1,7 @@
 ghost use Rattle.std.specs.Prelude.{◌≡◌, IfOk};
-ghost use Rattle.client_gate.specs.Registering.{has_password};
+ghost use Rattle.client_gate.specs.Registering.{last_admission};
 
+use crate::admission::{Admission, admission};
 use crate::password::Password;
 use std::alloc::{AllocError, Global};
 
@@ -39,13 +40,13 @@ impl Arrival {
         })
     }
 
-    /// Whether the last PASS was this one.
-    pub fn has_password(&self, right: &Password) -> bool
-        ensures { result ≡ has_password right.now self.now.password }
+    /// By which name the PASS that came last lets the client in.
+    pub fn admission(&self, alloc: Global, right: &Password) -> Result<Admission, AllocError>
+        ensures { IfOk result (λ a. a ≡ last_admission right.now self.now.password) }
     {
         match &self.password {
-            None => false,
-            Some(password) => password.is(right),
+            None => Ok(None),
+            Some(password) => admission(alloc, right, password),
         }
     }
 }

@@ -33,7 +33,7 @@ pub fn words(alloc: Global, text: &[u8]) -> Result<Vec<&[u8]>, AllocError>
 }
 
 /// What stands before the first separator, and what follows it.
-fn at_separator(bytes: &[u8], separator: u8) -> Option<(&[u8], &[u8])>
+pub fn at_separator(bytes: &[u8], separator: u8) -> Option<(&[u8], &[u8])>
     ensures { MatchOption result (HasNone separator bytes.now)
         (λ t. IsCutAt separator bytes.now t.0.now t.1.now) }
 {
