@@ -1,6 +1,6 @@
 -- How long the spellings of bodies are.
 use Rattle.std.proofs.Common.{◌≡◌, ℕ, ◌+◌, ◌≤◌, leb, List, ◌++◌, length, IsTrue, true, arith}
-use Rattle.std.specs.Prelude.{◌&&◌}
+use Rattle.std.specs.Prelude.{◌&&◌, Some, None}
 use Rattle.std.specs.Int.{w16, to_be_bytes}
 use Rattle.std.proofs.lemmas.Bool.{leb-true}
 use Rattle.std.proofs.lemmas.List.{length-append}
@@ -67,7 +67,8 @@ line_short line h = omega (arith, sized_length (spelling line), h.1)
 
 action_short : (a : Action) → FitsAction a → length (spelled_action a) ≤ 580
 unfolding spelled_action
-action_short action.Attach h = omega arith
+action_short (action.Attach None) h = omega arith
+action_short (action.Attach (Some id)) h = omega (arith, name_short id h)
 action_short action.Leave h = omega arith
 action_short (action.Say v n t) h =
     omega (arith, length-append (spelled_verb v ++ sized n) (sized t), length-append (spelled_verb v) (sized n), name_short n h.0.1, text_short t h.1)

@@ -7,7 +7,8 @@ use Rattle.buffer_commands.specs.Settings.{Settings}
 use Rattle.buffer_commands.specs.declared.command.Action.TheVariants.{Say}
 use Rattle.buffer_commands.specs.declared.command.Command.{Command}
 use Rattle.buffer_commands.specs.declared.command.Command.TheVariants.{Client, Upstream}
-use Rattle.buffer_machine.specs.Buffers.{attached, nick}
+use Rattle.buffer_machine.specs.Buffers.{nick}
+use Rattle.buffer_machine.specs.Crowd.{attached}
 use Rattle.buffer_machine.specs.Messages.{channel_of, is_among, is_query_line, own_said, source}
 use Rattle.chat_log.specs.Texts.{line_text}
 

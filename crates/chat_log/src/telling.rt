@@ -2,7 +2,8 @@
 ghost use Rattle.std.specs.Prelude.{◌≡◌, ◌++◌, ℕ, OnOk};
 ghost use Rattle.machine_laws.specs.Runs.{History};
 ghost use Rattle.buffer_commands.specs.Settings.{Settings};
-ghost use Rattle.buffer_machine.specs.Buffers.{attached, nick};
+ghost use Rattle.buffer_machine.specs.Buffers.{nick};
+ghost use Rattle.buffer_machine.specs.Crowd.{attached};
 ghost use Rattle.buffer_machine.specs.Held.{commands};
 ghost use Rattle.buffer_machine.specs.Machine.{Stands};
 ghost use Rattle.chat_log.specs.Chats.{concerns, is_wanted, told, told_line};

@@ -10,7 +10,8 @@ use Rattle.buffer_commands.specs.Settings.{plain}
 use Rattle.buffer_commands.specs.declared.command.Verb.TheVariants.{Privmsg}
 use Rattle.buffer_commands.specs.declared.command.Action.TheVariants as action
 use Rattle.buffer_machine.specs.Messages.{bare}
-use Rattle.buffer_machine.specs.Buffers.{floor, attached, nick, channels, queries, stored_query, is_removed, is_pushed_out, removes_target, targets, is_known, made_as, joined, detached, size, stored, emptied, kept, playback}
+use Rattle.buffer_machine.specs.Buffers.{nick, channels, queries, stored_query, is_removed, is_pushed_out, removes_target, targets, is_known, made_as, joined, detached, size, stored, emptied, kept, playback}
+use Rattle.buffer_machine.specs.Crowd.{floor, crowd, attached, ids, id_of, holds}
 use Rattle.buffer_machine.specs.Effects.{named, is_channel_known, open_channels, closings, shown, sent, effects}
 use Rattle.session_fence.specs.Sessions as sessions
 use Rattle.session_fence.specs.declared.effect.FenceEffect.TheVariants as fence_effect
@@ -46,7 +47,7 @@ abbrev o : Origin
 o = (1, 1, 1)
 
 abbrev a1 : TowerBody
-a1 = Asked o 1 t action.Attach
+a1 = Asked o 1 t (action.Attach None)
 
 abbrev s2 : TowerBody
 s2 = Asked o 2 t (action.Say Privmsg x (codes "hi"))
@@ -101,29 +102,29 @@ unfolding bodies.next_claim lines.next_claim lines.outgoing lines.claimed lines.
 two_requests_nodes = refl
 
 two_requests_said : said 1 (outputs (tower plain) 3 two_requests) ≡ (9, Left 1 []) ∷ (10, Left 2 (answer.Done o 1 ∷ [])) ∷ []
-unfolding bodies.next_claim bodies.accepted requests.answers requests.plain requests.fresh requests.last lines.answers lines.next_claim lines.outgoing lines.claimed lines.numbered lines.plain sessions.answers sessions.plain sessions.commands sessions.session sessions.lines_taken effects sent shown closings open_channels named is_channel_known playback kept emptied stored size removes_target is_pushed_out is_removed detached joined made_as is_known targets channels queries stored_query nick attached floor at_key spelling stamped timed same_name is_name is_channel kept_lines kept_since stays stored_by
+unfolding bodies.next_claim bodies.accepted requests.answers requests.plain requests.fresh requests.last lines.answers lines.next_claim lines.outgoing lines.claimed lines.numbered lines.plain sessions.answers sessions.plain sessions.commands sessions.session sessions.lines_taken effects sent shown closings open_channels named is_channel_known playback kept emptied stored size removes_target is_pushed_out is_removed detached joined made_as is_known targets channels queries stored_query nick attached crowd ids id_of holds floor at_key spelling stamped timed same_name is_name is_channel kept_lines kept_since stays stored_by
 two_requests_said = refl
 
 a_claim_of_an_older_session_nodes : map line (run (tower plain) a_claim_of_an_older_session (start 3)) ≡ (Follower, 2, 0, 8, 2, 3, 0) ∷ (Leader, 2, 2, 8, 2, 8, 8) ∷ (Follower, 2, 2, 0, 0, 0, 0) ∷ []
-unfolding bodies.next_claim bodies.accepted requests.answers requests.plain requests.fresh requests.last lines.answers lines.next_claim lines.outgoing lines.claimed lines.numbered lines.plain sessions.answers sessions.plain sessions.commands sessions.session sessions.lines_taken effects sent shown closings open_channels named is_channel_known playback kept emptied stored size removes_target is_pushed_out is_removed detached joined made_as is_known targets channels queries stored_query nick attached floor at_key spelling stamped timed same_name is_name is_channel kept_lines kept_since stays stored_by
+unfolding bodies.next_claim bodies.accepted requests.answers requests.plain requests.fresh requests.last lines.answers lines.next_claim lines.outgoing lines.claimed lines.numbered lines.plain sessions.answers sessions.plain sessions.commands sessions.session sessions.lines_taken effects sent shown closings open_channels named is_channel_known playback kept emptied stored size removes_target is_pushed_out is_removed detached joined made_as is_known targets channels queries stored_query nick attached crowd ids id_of holds floor at_key spelling stamped timed same_name is_name is_channel kept_lines kept_since stays stored_by
 a_claim_of_an_older_session_nodes = refl
 
 a_claim_of_an_older_session_said : said 1 (outputs (tower plain) 3 a_claim_of_an_older_session)
     ≡ (9, Left 1 []) ∷ (10, Left 2 (answer.Done o 1 ∷ [])) ∷ (11, Left 3 (answer.Done o 2 ∷ []))
     ∷ (22, Left 1 []) ∷ (23, Left 2 []) ∷ (24, Left 3 []) ∷ (29, Left 4 []) ∷ (30, Left 5 []) ∷ (31, Left 6 [])
     ∷ (32, Left 7 (answer.Effect (claims_effect.Inner (fence_effect.Rejoin (2, 1) (bare (codes "JOIN") (x ∷ [])))) ∷ [])) ∷ (33, Left 8 []) ∷ []
-unfolding bodies.next_claim bodies.accepted requests.answers requests.plain requests.fresh requests.last lines.answers lines.next_claim lines.outgoing lines.claimed lines.numbered lines.plain sessions.answers sessions.plain sessions.commands sessions.session sessions.lines_taken effects sent shown closings open_channels named is_channel_known playback kept emptied stored size removes_target is_pushed_out is_removed detached joined made_as is_known targets channels queries stored_query nick attached floor at_key spelling stamped timed same_name is_name is_channel kept_lines kept_since stays stored_by
+unfolding bodies.next_claim bodies.accepted requests.answers requests.plain requests.fresh requests.last lines.answers lines.next_claim lines.outgoing lines.claimed lines.numbered lines.plain sessions.answers sessions.plain sessions.commands sessions.session sessions.lines_taken effects sent shown closings open_channels named is_channel_known playback kept emptied stored size removes_target is_pushed_out is_removed detached joined made_as is_known targets channels queries stored_query nick attached crowd ids id_of holds floor at_key spelling stamped timed same_name is_name is_channel kept_lines kept_since stays stored_by
 a_claim_of_an_older_session_said = refl
 
 a_claim_of_an_older_session_handed : handed (tower plain) 3 a_claim_of_an_older_session ≡ []
-unfolding bodies.next_claim bodies.accepted requests.answers requests.plain requests.fresh requests.last lines.answers lines.next_claim lines.outgoing lines.claimed lines.numbered lines.plain sessions.answers sessions.plain sessions.commands sessions.session sessions.lines_taken effects sent shown closings open_channels named is_channel_known playback kept emptied stored size removes_target is_pushed_out is_removed detached joined made_as is_known targets channels queries stored_query nick attached floor at_key spelling stamped timed same_name is_name is_channel kept_lines kept_since stays stored_by
+unfolding bodies.next_claim bodies.accepted requests.answers requests.plain requests.fresh requests.last lines.answers lines.next_claim lines.outgoing lines.claimed lines.numbered lines.plain sessions.answers sessions.plain sessions.commands sessions.session sessions.lines_taken effects sent shown closings open_channels named is_channel_known playback kept emptied stored size removes_target is_pushed_out is_removed detached joined made_as is_known targets channels queries stored_query nick attached crowd ids id_of holds floor at_key spelling stamped timed same_name is_name is_channel kept_lines kept_since stays stored_by
 a_claim_of_an_older_session_handed = refl
 
 a_look_at_another_node_said : said 1 (outputs (tower plain) 3 a_look_at_another_node)
     ≡ (12, Left 1 []) ∷ (13, Left 2 []) ∷ (14, Refused (Behind 2)) ∷ (15, Left 3 [])
     ∷ (16, Looked 3 []) ∷ (17, Left 4 [])
     ∷ (18, Looked 4 (codes ":***!bouncer@local PRIVMSG #x :Buffer Playback..." ∷ codes ":me!bouncer@local PRIVMSG #x :[22:13:20] hi" ∷ codes ":***!bouncer@local PRIVMSG #x :Playback Complete." ∷ [])) ∷ []
-unfolding hosting.playback bodies.plain bodies.unclaimed bodies.next_claim bodies.accepted requests.answers requests.plain requests.fresh requests.last lines.answers lines.next_claim lines.outgoing lines.claimed lines.numbered lines.plain sessions.answers sessions.plain sessions.commands sessions.session sessions.lines_taken effects sent shown closings open_channels named is_channel_known playback kept emptied stored size removes_target is_pushed_out is_removed detached joined made_as is_known targets channels queries stored_query nick attached floor at_key spelling stamped timed same_name is_name is_channel kept_lines kept_since stays stored_by
+unfolding hosting.playback bodies.plain bodies.unclaimed bodies.next_claim bodies.accepted requests.answers requests.plain requests.fresh requests.last lines.answers lines.next_claim lines.outgoing lines.claimed lines.numbered lines.plain sessions.answers sessions.plain sessions.commands sessions.session sessions.lines_taken effects sent shown closings open_channels named is_channel_known playback kept emptied stored size removes_target is_pushed_out is_removed detached joined made_as is_known targets channels queries stored_query nick attached crowd ids id_of holds floor at_key spelling stamped timed same_name is_name is_channel kept_lines kept_since stays stored_by
 a_look_at_another_node_said = refl
 
 a_look_at_another_node_nodes : map line (run (tower plain) a_look_at_another_node (start 3)) ≡ (Leader, 1, 1, 4, 1, 4, 0) ∷ (Follower, 1, 1, 0, 0, 0, 0) ∷ (Follower, 1, 0, 4, 1, 4, 4) ∷ []
@@ -134,13 +135,13 @@ abbrev handing : List E
 handing = two_requests ++ does (Apply 1 ∷ Opened 1 ∷ Claim 1 ∷ Beat 1 ∷ Deliver 1 5 ∷ Deliver 2 3 ∷ Apply 1 ∷ Apply 1 ∷ Claim 1 ∷ [])
 
 handing_handed : handed (tower plain) 3 handing ≡ (1, bare (codes "PRIVMSG") (x ∷ codes "hi" ∷ [])) ∷ []
-unfolding bodies.next_claim bodies.accepted requests.answers requests.plain requests.fresh requests.last lines.answers lines.next_claim lines.outgoing lines.claimed lines.numbered lines.plain sessions.answers sessions.plain sessions.commands sessions.session sessions.lines_taken effects sent shown closings open_channels named is_channel_known playback kept emptied stored size removes_target is_pushed_out is_removed detached joined made_as is_known targets channels queries stored_query nick attached floor at_key spelling stamped timed same_name is_name is_channel kept_lines kept_since stays stored_by
+unfolding bodies.next_claim bodies.accepted requests.answers requests.plain requests.fresh requests.last lines.answers lines.next_claim lines.outgoing lines.claimed lines.numbered lines.plain sessions.answers sessions.plain sessions.commands sessions.session sessions.lines_taken effects sent shown closings open_channels named is_channel_known playback kept emptied stored size removes_target is_pushed_out is_removed detached joined made_as is_known targets channels queries stored_query nick attached crowd ids id_of holds floor at_key spelling stamped timed same_name is_name is_channel kept_lines kept_since stays stored_by
 handing_handed = refl
 
 handing_said : said 11 (drop 10 (outputs (tower plain) 3 handing))
     ≡ (11, Left 3 (answer.Done o 2 ∷ [])) ∷ (17, Left 4 (answer.Effect (claims_effect.Inner (fence_effect.Rejoin (1, 1) (bare (codes "JOIN") (x ∷ [])))) ∷ []))
     ∷ (18, Left 5 (answer.Effect (claims_effect.Hand (1, 1) 1 (bare (codes "PRIVMSG") (x ∷ codes "hi" ∷ []))) ∷ [])) ∷ []
-unfolding bodies.next_claim bodies.accepted requests.answers requests.plain requests.fresh requests.last lines.answers lines.next_claim lines.outgoing lines.claimed lines.numbered lines.plain sessions.answers sessions.plain sessions.commands sessions.session sessions.lines_taken effects sent shown closings open_channels named is_channel_known playback kept emptied stored size removes_target is_pushed_out is_removed detached joined made_as is_known targets channels queries stored_query nick attached floor at_key spelling stamped timed same_name is_name is_channel kept_lines kept_since stays stored_by
+unfolding bodies.next_claim bodies.accepted requests.answers requests.plain requests.fresh requests.last lines.answers lines.next_claim lines.outgoing lines.claimed lines.numbered lines.plain sessions.answers sessions.plain sessions.commands sessions.session sessions.lines_taken effects sent shown closings open_channels named is_channel_known playback kept emptied stored size removes_target is_pushed_out is_removed detached joined made_as is_known targets channels queries stored_query nick attached crowd ids id_of holds floor at_key spelling stamped timed same_name is_name is_channel kept_lines kept_since stays stored_by
 handing_said = refl
 
 -- a mark is asked by its own node in its own run, and answered there
@@ -150,5 +151,5 @@ marking =
 
 marking_said : said 1 (outputs (tower plain) 3 marking)
     ≡ (5, Refused BadOrigin) ∷ (6, Refused BadOrigin) ∷ (10, Left 1 []) ∷ (11, Left 2 (answer.Marked (mark_of 1 7) ∷ [])) ∷ (14, Left 1 []) ∷ (15, Left 2 []) ∷ []
-unfolding bodies.next_claim bodies.accepted requests.answers requests.plain requests.fresh requests.last lines.answers lines.next_claim lines.outgoing lines.claimed lines.numbered lines.plain sessions.answers sessions.plain sessions.commands sessions.session sessions.lines_taken effects sent shown closings open_channels named is_channel_known playback kept emptied stored size removes_target is_pushed_out is_removed detached joined made_as is_known targets channels queries stored_query nick attached floor at_key spelling stamped timed same_name is_name is_channel kept_lines kept_since stays stored_by
+unfolding bodies.next_claim bodies.accepted requests.answers requests.plain requests.fresh requests.last lines.answers lines.next_claim lines.outgoing lines.claimed lines.numbered lines.plain sessions.answers sessions.plain sessions.commands sessions.session sessions.lines_taken effects sent shown closings open_channels named is_channel_known playback kept emptied stored size removes_target is_pushed_out is_removed detached joined made_as is_known targets channels queries stored_query nick attached crowd ids id_of holds floor at_key spelling stamped timed same_name is_name is_channel kept_lines kept_since stays stored_by
 marking_said = refl

@@ -1,5 +1,6 @@
 use Rattle.std.proofs.Common.{◌++◌, ap, ◌∙◌}
-use Rattle.buffer_machine.specs.Buffers.{attached, nick}
+use Rattle.buffer_machine.specs.Buffers.{nick}
+use Rattle.buffer_machine.specs.Crowd.{attached}
 use Rattle.buffer_machine.specs.Held.{commands}
 use Rattle.chat_log.specs.Chats.{chat_text, told}
 use Rattle.chat_log.proofs.chat.step.Goals as goal
