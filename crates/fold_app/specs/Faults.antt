@@ -1,5 +1,4 @@
 -- What the faults of a fold say of its input.
-use Rattle.std.specs.Prelude.{ℕ}
 use Rattle.whole_input.specs.declared.read_fault.ReadFault.{ReadFault}
 use Rattle.whole_input.specs.declared.read_fault.ReadFault.TheVariants as reading
 use Rattle.fold_app.specs.declared.fault.FoldFault.{FoldFault}

@@ -4,6 +4,7 @@ ghost use Rattle.std.specs.List.{list_all};
 ghost use Rattle.fold_app.specs.Lines.{lines_of, hex_bytes};
 ghost use Rattle.fold_app.specs.Digits.{bytes_of, digit_value, is_digit};
 
+use memchr::memchr;
 use std::alloc::{AllocError, Global};
 
 /// The first line of what is left of an input, without its LF, and what follows it.
@@ -20,10 +21,11 @@ pub fn split_line(rest: &[u8]) -> (&[u8], &[u8])
 }
 
 /// Where the first LF stands.
+#[tactic(auto, using(crate::proofs::Searching::first_end))]
 fn line_end(rest: &[u8]) -> Option<usize>
     ensures { result ≡ position (λ b. b == 10) rest.now }
 {
-    rest.iter().position(|b| *b == b'\n')
+    memchr(b'\n', rest)
 }
 
 /// The bytes that a line spells in lower-case hex digits, or none.

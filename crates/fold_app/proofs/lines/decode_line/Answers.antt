@@ -1,8 +1,7 @@
-use Rattle.std.proofs.Common.{rules, ◌≡◌, ◌≢◌, ◌%◌, true, false, length, Some, None, sym, ap, ◌∙◌, arith}
+use Rattle.std.proofs.Common.{rules, ◌≡◌, true, sym}
 use Rattle.std.specs.List.{list_all}
 use Rattle.std.proofs.lemmas.Grind.{common_steps}
-use Rattle.fold_app.specs.Lines.{hex_bytes}
-use Rattle.fold_app.specs.Digits.{is_digit, bytes_of}
+use Rattle.fold_app.specs.Digits.{is_digit}
 use Rattle.fold_app.proofs.Digits.{not_digits, not_even, digits_spell}
 use Rattle.fold_app.proofs.lines.decode_line.Goals as goal
 use Rattle.fold_app.proofs.lines.decode_line.Goals.{then-line-eq1-via-then-line-eq1, then-line-eq1-via-else-line-eq1+then-not-are_digits}
