@@ -2,7 +2,7 @@
 ghost use Rattle.std.specs.Prelude.{◌≤◌, ◌<◌, ◌^◌};
 
 use file_disk::{FileJournal, OpenFault, open_journal};
-use raft_log::{Entry, LoggedBody};
+use raft_log::{Entry, Log, LoggedBody};
 use stable_store::{Change, Stable, StoreFault};
 use std::alloc::{AllocError, Global};
 use wire_bytes::Number;
@@ -20,7 +20,7 @@ fn change(alloc: Global, place: u64) -> Result<Change<u8>, AllocError>
 /// Opens the journal of a path and saves so many entries, one at a time. Gives how many stand then.
 pub fn save(rt: &HostRuntime, path: &str, count: u32) -> Result<u64, OpenFault> {
     let alloc = rt.alloc();
-    let mut store: FileJournal<u8> = open_journal(rt, alloc, path)?;
+    let mut store: FileJournal<u8> = open_journal(rt, alloc, path, &Log::new(alloc))?;
     let stands = store.read()?.log.len().value();
     for done in 0..count {
         let change = change(alloc, stands + u64::from(done)).map_err(StoreFault::from)?;

@@ -15,7 +15,7 @@ mod system_file;
 
 pub use disk_file::DiskFile;
 pub use file_disk::FileDisk;
-pub use journal::{FileJournal, adopt_or_make, may_be_new, open_journal};
+pub use journal::{FileJournal, may_be_new, open_journal};
 pub use last_error::LastError;
 pub use open_fault::OpenFault;
 pub use system_file::SystemFile;

@@ -10,3 +10,4 @@ pub mod Weighing
 pub mod Standing
 pub mod Calls
 pub mod Overs
+pub mod Keeping

@@ -3,11 +3,11 @@ use Rattle.std.proofs.Common.{◌≡◌, ℕ, List, [], ◌∷◌, ◌++◌, ref
 use Rattle.journal_store.specs.Disks.{DiskState, Within, Leaves, Each, Adds, Runs, LeavesOnly, IsImage, now, settled_at, writing}
 use Rattle.journal_store.specs.DiskLaws.{own_image}
 
-each_joined : (P : DiskState → Type 0) (a b : List DiskState) → Each P a → Each P b → Each P (a ++ b)
+pub each_joined : (P : DiskState → Type 0) (a b : List DiskState) → Each P a → Each P b → Each P (a ++ b)
 each_joined P [] b p q = q
 each_joined P (s ∷ a) b p q = (p.0, each_joined P a b p.1 q)
 
-each_through : (P Q : DiskState → Type 0) → ((s : DiskState) → P s → Q s) → (a : List DiskState) → Each P a → Each Q a
+pub each_through : (P Q : DiskState → Type 0) → ((s : DiskState) → P s → Q s) → (a : List DiskState) → Each P a → Each Q a
 each_through P Q to [] h = tt
 each_through P Q to (s ∷ a) h = (to s h.0, each_through P Q to a h.1)
 

@@ -1,17 +1,17 @@
 -- What is found in a file, record by record.
-use Rattle.std.proofs.Common.{◌≡◌, ◌≢◌, ℕ, suc, ◌+◌, ◌<◌, ◌≤◌, Bool, true, false, List, [], ◌∷◌, ◌++◌, length, take, drop, get_or, Some, None, Result, Ok, Err, refl, sym, ◌∙◌, ap, subst, arith, append_assoc, length-append, take-append-drop}
+use Rattle.std.proofs.Common.{◌≡◌, ◌≢◌, inl, inr, ℕ, suc, ◌+◌, ◌<◌, ◌≤◌, Bool, true, false, List, [], ◌∷◌, ◌++◌, length, take, drop, get_or, Some, None, Result, Ok, Err, refl, sym, ◌∙◌, ap, subst, arith, append_assoc, length-append, take-append-drop}
 use Rattle.std.specs.Prelude.{nat_lt, nat_le, if◌then◌else◌, ◌==◌}
 use Rattle.std.specs.Int.{w32, from_be_bytes}
 use Rattle.std.proofs.Math.Seq.{take-add}
-use Rattle.std.proofs.lemmas.Bool.{lt-ltb, le-ltb, eq-eqb, ne_eqb, eqb-true, and_parts, ltb-false}
+use Rattle.std.proofs.lemmas.Bool.{cases_Bool, lt-ltb, le-ltb, eq-eqb, ne_eqb, eqb-true, and_parts, ltb-false}
 use Rattle.std.proofs.lemmas.List.{take_at, drop_at, drop_more, length-take-le, length-drop}
 use Rattle.wire_bytes.specs.declared.wire_fault.WireFault.{WireFault}
 use Rattle.wire_bytes.specs.Fields.{number_to}
 use Rattle.wire_bytes.specs.Codecs.{value_is}
 use Rattle.stable_store.specs.declared.store_fault.StoreFault.TheVariants.{NotAStore, Version, Damaged}
-use Rattle.journal_store.specs.Journals.{Payload, name, version, header, begins, exact, sized_read, record_read, scan, found, payload_limit, IsPayload, Reached, AtRest}
+use Rattle.journal_store.specs.Journals.{Payload, name, version, older_version, has_version, begins, exact, sized_read, record_read, scan, found, payload_limit, IsPayload, Reached, AtRest}
 use Rattle.journal_store.proofs.Scanning.{skips}
-use Rattle.journal_store.proofs.Saving.{empty_leads}
+use Rattle.journal_store.proofs.Saving.{empty_leads, older_leads}
 
 abbrev sized_by : Bool → List ℕ → Result (ℕ × ℕ) WireFault
 sized_by short front = if short then Err WireFault.Short else (if nat_le (from_be_bytes w32 front) payload_limit then Ok (from_be_bytes w32 front, 4) else Err (WireFault.Bad 0))
@@ -152,12 +152,20 @@ module _ {S C : Type 0} (p : Payload S C) where
     pub not_named : 9 ≤ length file → begins name file ≡ false → found p start file ≡ Err NotAStore
     not_named long other = let is : nat_lt (length file) 9 ≡ false = le-ltb (length file) 9 long in rw (is, other) refl
 
-    pub not_this_version : 9 ≤ length file → begins name file ≡ true → begins version (drop 6 file) ≡ false → found p start file ≡ Err Version
+    pub not_this_version : 9 ≤ length file → begins name file ≡ true → has_version (drop 6 file) ≡ false → found p start file ≡ Err Version
     not_this_version long named other = let is : nat_lt (length file) 9 ≡ false = le-ltb (length file) 9 long in rw (is, named, other) refl
 
-    pub begun : 9 ≤ length file → begins name file ≡ true → begins version (drop 6 file) ≡ true → Reached p start file start 8
-    begun long named of_version =
-        let behind = drop 2 (drop 6 file) in
-        let whole : file ≡ header ++ behind = begins_is name file named ∙ ap (λ (l : List ℕ). name ++ l) (begins_is version (drop 6 file) of_version) in
-        let front : take 8 file ≡ header = ap (take 8) whole ∙ take_at header behind 8 refl in
-        record { within = omega arith; leads = λ gate rest. ap (λ (l : List ℕ). found p start (l ++ gate ∷ rest)) front ∙ empty_leads p start gate rest }
+    -- behind the name these two bytes stand, with which a journal may begin
+    begun_with : (v : List ℕ) → length (name ++ v) ≡ 8 → ((gate : ℕ) (more : List ℕ) → found p start ((name ++ v) ++ gate ∷ more) ≡ scan p (gate ∷ more) start 8 0)
+        → 9 ≤ length file → begins name file ≡ true → begins v (drop 6 file) ≡ true → Reached p start file start 8
+    begun_with v size leads long named of_version =
+        let behind = drop (length v) (drop 6 file) in
+        let whole : file ≡ (name ++ v) ++ behind = begins_is name file named ∙ ap (λ (l : List ℕ). name ++ l) (begins_is v (drop 6 file) of_version) in
+        let front : take 8 file ≡ name ++ v = ap (take 8) whole ∙ take_at (name ++ v) behind 8 size in
+        record { within = omega arith; leads = λ gate rest. ap (λ (l : List ℕ). found p start (l ++ gate ∷ rest)) front ∙ leads gate rest }
+
+    pub begun : 9 ≤ length file → begins name file ≡ true → has_version (drop 6 file) ≡ true → Reached p start file start 8
+    begun long named either = elim (cases_Bool (begins version (drop 6 file))) [
+      | inl newer ↦ begun_with version refl (empty_leads p start) long named newer
+      | inr other ↦ begun_with older_version refl (older_leads p start) long named (rw other at either)
+    ]

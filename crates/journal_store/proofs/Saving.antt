@@ -4,7 +4,7 @@ use Rattle.std.specs.Int.{w32, to_be_bytes}
 use Rattle.std.proofs.lemmas.Bool.{cases_eq, le-ltb}
 use Rattle.std.proofs.lemmas.List.{take_at, drop_at, drop_more}
 use Rattle.journal_store.specs.Disks.{DiskState, IsImage, settled_at, writing, written_over, now, Runs, LeavesOnly, Gated}
-use Rattle.journal_store.specs.Journals.{Payload, scan, found, header, AtRest, StandsForOne, staged}
+use Rattle.journal_store.specs.Journals.{Payload, scan, found, name, older_version, header, AtRest, StandsForOne, staged}
 use Rattle.journal_store.proofs.Torn.{torn_image}
 use Rattle.journal_store.proofs.Moments.{started, goes_on}
 use Rattle.journal_store.proofs.Scanning.{Spells, opened, size_is}
@@ -143,6 +143,10 @@ module _ {S C : Type 0} (p : Payload S C) (start : S) where
 
   pub empty_leads : (gate : ℕ) (more : List ℕ) → found p start (header ++ gate ∷ more) ≡ scan p (gate ∷ more) start 8 0
   empty_leads gate more = let long : length (header ++ gate ∷ more) ≡ 9 + length more = length-append header (gate ∷ more) ∙ omega arith in rw (le-ltb (length (header ++ gate ∷ more)) 9 (omega (arith, long))) refl
+
+  -- of the older version too
+  pub older_leads : (gate : ℕ) (more : List ℕ) → found p start ((name ++ older_version) ++ gate ∷ more) ≡ scan p (gate ∷ more) start 8 0
+  older_leads gate more = let long : length ((name ++ older_version) ++ gate ∷ more) ≡ 9 + length more = length-append (name ++ older_version) (gate ∷ more) ∙ omega arith in rw (le-ltb (length ((name ++ older_version) ++ gate ∷ more)) 9 (omega (arith, long))) refl
 
   -- a new journal, whatever follows its closed gate
   pub empty_rest : (behind : List ℕ) → AtRest p start (header ++ 0 ∷ behind) start 8

@@ -9,7 +9,7 @@ use Rattle.stable_store.specs.declared.saved.Saved.{Saved}
 use Rattle.stable_store.specs.declared.store_fault.StoreFault.{StoreFault}
 use Rattle.stable_store.specs.Stores.{nothing_saved}
 use Rattle.journal_store.specs.Disks.{DiskState, IsImage, writing, written_over, now, Leaves, Runs, LeavesOnly}
-use Rattle.journal_store.specs.Journals.{Payload, name, version, header, begins, found, StandsForOne, AtRest, payload_limit, IsEmptyOrRefused}
+use Rattle.journal_store.specs.Journals.{Payload, name, version, older_version, has_version, header, begins, found, StandsForOne, AtRest, payload_limit, IsEmptyOrRefused}
 use Rattle.journal_store.specs.Payloads.{payloads}
 use Rattle.journal_store.specs.Serving.{IsSettled, IsFound}
 use Rattle.journal_store.proofs.Torn.{settled_image}
@@ -50,7 +50,7 @@ module _ {S C : Type 0} (p : Payload S C) (start : S) where
     | inl less ↦ inr (inl (not_long p start file less))
     | inr long ↦ elim (cases_Bool (begins name file)) [
       | inr other ↦ inr (inl (not_named p start file long other))
-      | inl named ↦ elim (cases_Bool (begins version (drop 6 file))) [
+      | inl named ↦ elim (cases_Bool (has_version (drop 6 file))) [
         | inr other ↦ inr (inr (inl (not_this_version p start file long named other)))
         | inl of_version ↦
             let reached = begun p start file long named of_version in
@@ -67,3 +67,7 @@ module _ {S C : Type 0} (p : Payload S C) (start : S) where
 
   pub made : (bytes : List ℕ) → AtRest p start (written_over bytes 0 (header ++ 0 ∷ [])) start 8
   made bytes = empty_rest p start (drop 9 bytes)
+
+  -- of either version a file is read alike
+  pub read_alike : (behind : List ℕ) → found p start (name ++ (older_version ++ behind)) ≡ found p start (name ++ (version ++ behind))
+  read_alike behind = refl

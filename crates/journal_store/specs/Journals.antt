@@ -1,5 +1,5 @@
 -- A journal's format: what a file stands for. What is saved, and which changes there are, is left open.
-use Rattle.std.specs.Prelude.{◌≡◌, ℕ, zero, suc, ◌+◌, ◌<◌, ◌⊎◌, ◌==◌, Bool, true, false, ◌&&◌, if◌then◌else◌, nat_lt, List, [], ◌∷◌, ◌++◌, length, take, drop, Option, Some, None, Result, Ok, Err}
+use Rattle.std.specs.Prelude.{◌≡◌, ℕ, zero, suc, ◌+◌, ◌<◌, ◌⊎◌, ◌==◌, Bool, true, false, ◌&&◌, ◌||◌, if◌then◌else◌, nat_lt, List, [], ◌∷◌, ◌++◌, length, take, drop, Option, Some, None, Result, Ok, Err}
 use Rattle.std.specs.Int.{w32, to_be_bytes}
 use Rattle.wire_bytes.specs.Fields.{Reading, number_to}
 use Rattle.wire_bytes.specs.declared.wire_fault.WireFault.{WireFault}
@@ -10,11 +10,15 @@ use Rattle.stable_store.specs.declared.store_fault.StoreFault.TheVariants.{NotAS
 abbrev pub name : List ℕ
 name = 82 ∷ 66 ∷ 83 ∷ 84 ∷ 79 ∷ 82 ∷ []
 
--- 01
+-- 02
 abbrev pub version : List ℕ
-version = 48 ∷ 49 ∷ []
+version = 48 ∷ 50 ∷ []
 
--- what a journal begins with
+-- 01, of a journal of before clients had names
+abbrev pub older_version : List ℕ
+older_version = 48 ∷ 49 ∷ []
+
+-- what a journal that is made begins with
 abbrev pub header : List ℕ
 header = name ++ version
 
@@ -27,6 +31,10 @@ abbrev pub begins : List ℕ → List ℕ → Bool
 begins [] file = true
 begins (x ∷ xs) [] = false
 begins (x ∷ xs) (y ∷ file) = (x == y) && begins xs file
+
+-- what is behind a name begins with a version that is read
+abbrev pub has_version : List ℕ → Bool
+has_version behind = begins version behind || begins older_version behind
 
 -- how a change is read, which changes may follow what stands, and what stands after them
 pub record Payload (S C : Type 0) : Type 0 where
@@ -74,7 +82,7 @@ module _ {S C : Type 0} (p : Payload S C) where
   abbrev pub found : S → List ℕ → Result S StoreFault
   found start file =
       if nat_lt (length file) 9 then Err NotAStore
-      else (if begins name file then (if begins version (drop 6 file) then scan (drop 8 file) start 8 0 else Err Version) else Err NotAStore)
+      else (if begins name file then (if has_version (drop 6 file) then scan (drop 8 file) start 8 0 else Err Version) else Err NotAStore)
 
   -- a length, so many bytes that are one change, and more behind them
   pub record IsPayload (rest : List ℕ) (c : C) (n : ℕ) : Type 0 where

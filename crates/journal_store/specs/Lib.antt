@@ -5,3 +5,5 @@ pub mod Payloads
 pub mod Serving
 pub mod Pasts
 pub mod DiskLaws
+pub mod Opening
+pub mod Versions

@@ -8,6 +8,7 @@ ghost use Rattle.journal_store.specs.Serving.{IsFound, IsRefused, IsSettled};
 use crate::disk::Disk;
 use crate::disk_fault::DiskFault;
 use crate::find::find;
+use raft_log::Log;
 use stable_store::{Saved, StoreFault};
 use std::alloc::Global;
 use wire_bytes::Wire;
@@ -31,15 +32,18 @@ pub fn read_anew<B: Wire, D: Disk>(
     ensures passed { OnOk result (D.failures disk.new ≡ D.failures disk.old) }
 {
     let file = read_whole(alloc, disk)?;
-    find(alloc, &file)
+    let nothing = Log::new(alloc);
+    find(alloc, &file, &nothing)
 }
 
 /// Syncs a disk and reads its file.
-fn read_whole<D: Disk>(alloc: Global, disk: &mut D) -> Result<Vec<u8>, DiskFault>
+pub fn read_whole<D: Disk>(alloc: Global, disk: &mut D) -> Result<Vec<u8>, DiskFault>
     ensures runs { IsTrue (D.honest disk.old)
         → Runs (now (D.states disk.old)) (D.states disk.old) (D.states disk.new) }
     ensures settled { IsTrue (D.honest disk.old)
         → IfOk result (λ v. now (D.states disk.new) ≡ settled_at v.items) }
+    ensures read { IsTrue (D.honest disk.old)
+        → IfOk result (λ v. v.items ≡ (now (D.states disk.old)).bytes) }
     ensures cause { HasCause (D.failures disk.old) (D.failures disk.new) result }
     ensures honest { D.honest disk.new ≡ D.honest disk.old }
 {

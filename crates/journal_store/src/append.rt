@@ -17,7 +17,7 @@ use std::alloc::{AllocError, Global};
 use wire_bytes::Wire;
 
 /// The name, the version and a closed gate.
-const EMPTY: [u8; 9] = *b"RBSTOR01\0";
+const EMPTY: [u8; 9] = *b"RBSTOR02\0";
 
 /// How many bytes the length of a payload has.
 const LENGTH_BYTES: usize = 4;

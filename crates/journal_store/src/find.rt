@@ -2,7 +2,7 @@
 ghost use Rattle.std.specs.Prelude.{◌≡◌, ◌≢◌, ◌<◌, ◌+◌, true, None, Err, IfOk, IfErr, OnOk, OnErr};
 ghost use Rattle.std.specs.Prelude.{drop, length};
 ghost use Rattle.stable_store.specs.Stores.{changed, nothing_saved};
-ghost use Rattle.journal_store.specs.Journals.{begins, found, record_read, AtRest, IsPayload};
+ghost use Rattle.journal_store.specs.Journals.{begins, found, has_version, record_read, AtRest, IsPayload};
 ghost use Rattle.journal_store.specs.Payloads.{goes_up, keeps_within, may_follow, names_node};
 ghost use Rattle.journal_store.specs.Payloads.{payloads};
 
@@ -13,7 +13,11 @@ use wire_bytes::{Number, Wire, WireFault, take_u32};
 
 const NAME: [u8; 6] = *b"RBSTOR";
 
-const VERSION: [u8; 2] = *b"01";
+/// What stands behind the name of a journal that is made.
+const VERSION: [u8; 2] = *b"02";
+
+/// What stands there in a journal of before clients had names, which is read as any other.
+const OLDER_VERSION: [u8; 2] = *b"01";
 
 /// The greatest length of a payload.
 const PAYLOAD_LIMIT: u32 = 33_554_432;
@@ -30,8 +34,13 @@ pub fn nothing<B: Wire>(alloc: Global) -> Saved<B>
     }
 }
 
-/// What a file stands for, and the place of its closed gate.
-pub fn find<B: Wire>(alloc: Global, file: &[u8]) -> Result<(Saved<B>, usize), StoreFault>
+/// What a file stands for, and the place of its closed gate. Full blocks of entries that another log has at the
+/// same places are shared with it.
+pub fn find<B: Wire>(
+    alloc: Global,
+    file: &[u8],
+    beside: &Log<B>,
+) -> Result<(Saved<B>, usize), StoreFault>
     ensures ok { IfOk result (λ r. AtRest (payloads B.taken) nothing_saved file.now r.0 r.1) }
     ensures fault { IfErr result (λ e. e ≢ StoreFault.Memory
         → found (payloads B.taken) nothing_saved file.now ≡ Err e) }
@@ -41,10 +50,11 @@ pub fn find<B: Wire>(alloc: Global, file: &[u8]) -> Result<(Saved<B>, usize), St
         return Err(StoreFault::NotAStore);
     }
     let (_, behind) = file.split_at(6);
-    if !begins(&VERSION, behind) {
+    if !has_version(behind) {
         return Err(StoreFault::Version);
     }
     let mut saved = nothing(alloc);
+    let mut shared = 0;
     let mut place = 8;
     while file[place] != 0 {
         let (change, size) = change_at::<B>(alloc, file, place)?;
@@ -52,9 +62,17 @@ pub fn find<B: Wire>(alloc: Global, file: &[u8]) -> Result<(Saved<B>, usize), St
             return Err(StoreFault::Damaged(place as u64));
         }
         follow(&mut saved, &change)?;
+        shared = saved.log.share(shared, beside)?;
         place += 5 + size;
     }
     Ok((saved, place))
+}
+
+/// Whether a version that is read stands here.
+fn has_version(behind: &[u8]) -> bool
+    ensures { result ≡ has_version behind.now }
+{
+    begins(&VERSION, behind) || begins(&OLDER_VERSION, behind)
 }
 
 /// Whether a file begins with these bytes.

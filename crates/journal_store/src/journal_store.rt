@@ -2,12 +2,14 @@
 ghost use Rattle.std.specs.Prelude.{◌≡◌, ◌≤◌, ◌⊎◌, false, IsTrue, IfOk, IfErr};
 ghost use Rattle.stable_store.specs.Stores.{nothing_saved};
 ghost use Rattle.journal_store.specs.Disks.{now, Leaves, LeavesOnly, Runs};
+ghost use Rattle.journal_store.specs.Opening.{IsKept, IsOpened, IsUnreadable};
 ghost use Rattle.journal_store.specs.Serving.{IsFound, IsNew, IsRefused, StandsFor};
 
-use crate::adopt::read_anew;
+use crate::adopt::{read_anew, read_whole};
 use crate::append::{append, begin};
 use crate::disk::Disk;
-use crate::find::{follow, may_follow, nothing};
+use crate::find::{find, follow, may_follow, nothing};
+use raft_log::Log;
 use stable_store::{Change, Saved, Stable, StoreFault};
 use std::alloc::Global;
 use std::marker::Model;
@@ -15,6 +17,9 @@ use wire_bytes::{Copied, Wire};
 
 /// The closed gate of a journal lies below this, since an honest disk's file is shorter.
 const END_LIMIT: usize = 1 << 63;
+
+/// The length of a journal in which nothing is saved.
+const EMPTY_LEN: usize = 9;
 
 /// A store in a journal on a disk. It is honest where its disk is.
 #[derive(Drop)]
@@ -87,6 +92,41 @@ impl<B: Wire, D: Disk> JournalStore<B, D> {
         })
     }
 
+    /// A store of what the file of a disk stands for, or a new one where the file is refused and has at most 9
+    /// bytes, in which nothing can be saved. So an empty journal is adopted, of whichever version it is. Where it
+    /// fails the disk is dropped. Full blocks of entries that another log has at the same places are one value in
+    /// memory with it.
+    pub fn adopt_or_make(alloc: Global, disk: D, beside: &Log<B>) -> Result<Self, StoreFault>
+        ensures opened { IsTrue (D.honest disk)
+            → IfOk result (λ j. IsOpened B.taken (now (D.states disk)) j.saved) }
+        ensures any_moment { IsTrue (D.honest disk) → IfOk result
+            (λ j. LeavesOnly (IsKept B.taken (now (D.states disk)))
+            (D.states disk) (D.states j.disk)) }
+        ensures serves { IfOk result (λ j. j.broken ≡ false) }
+        ensures fault { IsTrue (D.honest disk) → IfErr result
+            (λ e. (e ≡ StoreFault.Device) ⊎ ((e ≡ StoreFault.Memory)
+            ⊎ IsUnreadable B.taken (now (D.states disk)) e)) }
+        ensures honest { IfOk result (λ j. D.honest j.disk ≡ D.honest disk) }
+    {
+        let mut disk = disk;
+        let file = read_whole(alloc, &mut disk)?;
+        match find(alloc, &file, beside) {
+            Ok((saved, end)) => Ok(JournalStore {
+                alloc,
+                disk,
+                saved,
+                end,
+                broken: false,
+            }),
+            Err(StoreFault::Memory) => Err(StoreFault::Memory),
+            Err(fault) => if file.len() <= EMPTY_LEN {
+                Self::make(alloc, disk)
+            } else {
+                Err(fault)
+            },
+        }
+    }
+
     /// Its disk. Where nothing is to be mended, whatever a crash now leaves stands for what is saved.
     pub fn disk(&self) -> &D
         ensures value { result.now ≡ self.now.disk }
@@ -94,6 +134,13 @@ impl<B: Wire, D: Disk> JournalStore<B, D> {
             → Leaves (StandsFor B.taken self.now.saved) (now (D.states self.now.disk)) }
     {
         &self.disk
+    }
+
+    /// The entries that are saved.
+    pub fn log(&self) -> &Log<B>
+        ensures { result.now ≡ self.now.saved.log }
+    {
+        &self.saved.log
     }
 
     /// Gives the disk back, its file as it stands.

@@ -12,6 +12,7 @@ mod disk;
 mod disk_fault;
 mod find;
 mod journal_store;
+mod laws;
 mod memory_disk;
 mod put;
 
@@ -20,4 +21,5 @@ pub use disk::Disk;
 pub use disk_fault::DiskFault;
 pub use find::may_follow;
 pub use journal_store::JournalStore;
+pub use laws::both_versions_are_read_alike;
 pub use memory_disk::MemoryDisk;

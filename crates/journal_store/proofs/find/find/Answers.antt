@@ -42,7 +42,7 @@ loop-place-preserved g c =
     let may : may_follow c.loop-place.saved c.in_ok-change.change ≡ true = search rules in
     let next = reached_next (payloads g.B.Wire.taken) nothing_saved c.args.file.now c.loop-place.saved c.loop-place.place c.in_ok-change.size c.in_ok-change.change c.loop-place.invariant shut c.in_ok-change.ensures.ok may in
     let is : c.follow.new.saved ≡ changed c.loop-place.saved c.in_ok-change.change = c.in_ok-follow.ensures.ok in
-    subst (λ (s : Saved g.row.B.Denot). Reached (payloads g.B.Wire.taken) nothing_saved c.args.file.now s (c.loop-place.place + (5 + c.in_ok-change.size))) (sym is) next
+    rw c.share.ensures (subst (λ (s : Saved g.row.B.Denot). Reached (payloads g.B.Wire.taken) nothing_saved c.args.file.now s (c.loop-place.place + (5 + c.in_ok-change.size))) (sym is) next)
 
 pub returns-clause-ok : goal.returns-clause-ok
 returns-clause-ok g c =
