@@ -7,3 +7,4 @@ pub mod EventLists
 pub mod EventLaws
 pub mod NodeLines
 pub mod EffectWords
+pub mod Dates

@@ -4,6 +4,7 @@
 //! of events have one text.
 #![tactic(auto)]
 
+mod dated;
 mod effects;
 mod event;
 mod events;
@@ -17,6 +18,7 @@ mod splitting;
 mod words;
 mod writing;
 
+pub use dated::{Dated, event_brings_name};
 pub use effects::{Words, printed, push_answers};
 pub use event::read_event;
 pub use events::parse_events;

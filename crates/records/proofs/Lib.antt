@@ -5,4 +5,6 @@ pub mod TurnSteps
 pub mod VerdictSteps
 pub mod OneReading
 mod WritableTurns
+mod Holding
+mod NoFault
 mod RecordLists

@@ -1,5 +1,5 @@
 -- A record file is read in one way.
-use Rattle.std.proofs.Common.{◌≡◌, ℕ, ◌<◌, true, false, List, ◌∷◌, ◌++◌, Option, None, Some, refl, sym, ap, subst, ◌∙◌, arith}
+use Rattle.std.proofs.Common.{◌≡◌, ℕ, ◌<◌, Bool, true, false, List, ◌∷◌, ◌++◌, Option, None, Some, refl, sym, ap, subst, ◌∙◌, arith}
 use Rattle.std.specs.Prelude.{codes, decimal, slice_index}
 use Rattle.std.proofs.lemmas.Fmt.{decimal_injective}
 use Rattle.std.proofs.lemmas.List.{append_cancel_left, append_cancel_right}
@@ -11,7 +11,7 @@ use Rattle.world_events.specs.declared.event.Event.{Event}
 use Rattle.world_events.specs.declared.event.Event.TheVariants.{Does, Restart, StopIn}
 use Rattle.recorder.specs.declared.kind.Kind.{Kind}
 use Rattle.recorder.specs.declared.kind.Kind.TheVariants.{Timeout, Beat, Deliver, Ask, Opened, Closed, Heard, Claim, Apply, Look}
-use Rattle.recorder.specs.EventLists.{line_and, text_of_events}
+use Rattle.recorder.specs.EventLists.{FitEvents, line_and, text_of_events}
 use Rattle.recorder.specs.EventText.{fields, kind_of}
 use Rattle.recorder.specs.InputReadings.{FitsEvent, text_of_event}
 use Rattle.recorder.specs.Kinds.{word}
@@ -20,8 +20,12 @@ use Rattle.recorder.specs.Splits.{split_at}
 use Rattle.recorder.proofs.Apart.{one_list, same_ends}
 use Rattle.recorder.proofs.Lines.{line_split}
 use Rattle.recorder.proofs.Splits.{joined}
-use Rattle.records.specs.ReadingLaws.{IsReadOneWay}
+use Rattle.records.specs.ReadingLaws.{FirstBringsNoName, IsReadOneWay}
+use Rattle.records.specs.RecordReading.{FitsIn}
 use Rattle.records.specs.RecordText.{outputs_line, setup_text, size_text, version_mark}
+use Rattle.records.specs.declared.file_version.FileVersion.{FileVersion}
+use Rattle.records.specs.declared.file_version.FileVersion.TheVariants.{First}
+use Rattle.records.proofs.Holding.{all_fit, none_bring, one_version}
 use Rattle.records.proofs.LineFronts.{falls, setup_lacks, size_lacks}
 
 -- ---- no event's line is `outputs`
@@ -53,7 +57,7 @@ module _ {B : Type 0} (spelled : B → List ℕ) (fits : B → Type 0) where
   no_event (StopIn x true) t = spaced (text_of_event spelled fits (StopIn x true)) (codes "stop") _ refl t
 
   -- the line `outputs` and more begin with no event's line
-  outputs_end : (outputs : List ℕ) (e : Event B Parts (List ℕ)) (more : List ℕ) → FitsEvent spelled fits e → line_and spelled fits (e, more) ≡ outputs_line ++ outputs → ⊥
+  pub outputs_end : (outputs : List ℕ) (e : Event B Parts (List ℕ)) (more : List ℕ) → FitsEvent spelled fits e → line_and spelled fits (e, more) ≡ outputs_line ++ outputs → ⊥
   outputs_end outputs e more f t =
       let l = line_split spelled fits e more (outputs_line ++ outputs) f t in
       let at : split_at 10 (outputs_line ++ outputs) ≡ Some (codes "outputs", outputs) = refl in
@@ -66,7 +70,7 @@ pair_is : (p q : List ℕ × List ℕ) → ◌≡◌ {A = Option (List ℕ × Li
 pair_is p q e = cc
 
 -- lines of two values that begin one text: the values' texts are the same, and what follows them
-one_line : {A : Type 0} (text : A → List ℕ) (fits : A → Type 0) → ((a : A) → fits a → split_at 10 (text a) ≡ None) → (a b : A) (r s : List ℕ) → fits a → fits b → text a ++ 10 ∷ r ≡ text b ++ 10 ∷ s → (text a ≡ text b) × (r ≡ s)
+pub one_line : {A : Type 0} (text : A → List ℕ) (fits : A → Type 0) → ((a : A) → fits a → split_at 10 (text a) ≡ None) → (a b : A) (r s : List ℕ) → fits a → fits b → text a ++ 10 ∷ r ≡ text b ++ 10 ∷ s → (text a ≡ text b) × (r ≡ s)
 one_line text fits lacks a b r s f g t =
     let one = falls text fits lacks (a, r) (text b ++ 10 ∷ s) f t in
     let two = falls text fits lacks (b, s) (text b ++ 10 ∷ s) g refl in
@@ -81,22 +85,39 @@ digits_are a b f g t =
 
 -- Over setups and bodies of which no two have one spelling
 module _ {S B : Type 0} (setup_spelled : S → List ℕ) (setup_fits : S → Type 0) (spelled : B → List ℕ) (fits : B → Type 0)
-    (own_setup : (a b : S) → setup_fits a → setup_fits b → setup_spelled a ≡ setup_spelled b → a ≡ b) (own_body : (a b : B) → fits a → fits b → spelled a ≡ spelled b → a ≡ b) where
+    (brings : B → Bool) (own_setup : (a b : S) → setup_fits a → setup_fits b → setup_spelled a ≡ setup_spelled b → a ≡ b) (own_body : (a b : B) → fits a → fits b → spelled a ≡ spelled b → a ≡ b) where
   -- what stands behind the setup's line
   abbrev rest_text : List (Event B Parts (List ℕ)) → List ℕ → List ℕ
   rest_text events outputs = text_of_events spelled fits events ++ (outputs_line ++ outputs)
 
-  pub one_reading : IsReadOneWay setup_spelled setup_fits spelled fits
+  -- what stands behind the version
+  abbrev sized_text : ℕ → S → List (Event B Parts (List ℕ)) → List ℕ → List ℕ
+  sized_text size setup events outputs = size_text (size, setup_text setup_spelled setup_fits (setup, rest_text events outputs))
+
+  pub one_reading : IsReadOneWay setup_spelled setup_fits spelled fits brings
   one_reading input m n s t es fs o q h k =
-      let whole : version_mark ++ size_text (m, setup_text setup_spelled setup_fits (s, rest_text es o)) ≡ version_mark ++ size_text (n, setup_text setup_spelled setup_fits (t, rest_text fs q)) = h.whole ∙ sym k.whole in
-      let behind = append_cancel_left version_mark _ _ whole in
+      let marked : version_mark h.version ++ sized_text m s es o ≡ version_mark k.version ++ sized_text n t fs q = h.whole ∙ sym k.whole in
+      let version : h.version ≡ k.version = one_version h.version k.version (sized_text m s es o) (sized_text n t fs q) marked in
+      let whole : version_mark h.version ++ sized_text m s es o ≡ version_mark h.version ++ sized_text n t fs q =
+      subst (λ (v : FileVersion). version_mark h.version ++ sized_text m s es o ≡ version_mark v ++ sized_text n t fs q) (sym version) marked in
+      let good = all_fit spelled fits brings h.version es h.good_events in
+      let good_other = all_fit spelled fits brings k.version fs k.good_events in
+      let behind = append_cancel_left (version_mark h.version) _ _ whole in
       let sizes = one_line decimal IsGroupSize size_lacks m n (setup_text setup_spelled setup_fits (s, rest_text es o)) (setup_text setup_spelled setup_fits (t, rest_text fs q)) h.allowed k.allowed behind in
       let setups = one_line (digits_of setup_spelled) (FitsDigits setup_fits setup_spelled) (setup_lacks setup_spelled setup_fits) s t (rest_text es o) (rest_text fs q) h.good_setup k.good_setup sizes.1 in
-      let ends = same_ends spelled fits es fs (outputs_line ++ o) (outputs_line ++ q) h.good_events k.good_events setups.1 (outputs_end spelled fits o) (outputs_end spelled fits q) in
+      let ends = same_ends spelled fits es fs (outputs_line ++ o) (outputs_line ++ q) good good_other setups.1 (outputs_end spelled fits o) (outputs_end spelled fits q) in
       let texts : text_of_events spelled fits es ++ (outputs_line ++ q) ≡ text_of_events spelled fits fs ++ (outputs_line ++ q) = ap (λ (r : List ℕ). text_of_events spelled fits es ++ r) (sym ends.1) ∙ setups.1 in
       record {
         sizes = decimal_injective m n (omega (arith, h.allowed)) (omega (arith, k.allowed)) sizes.0;
         setups = own_setup s t h.good_setup.0 k.good_setup.0 (digits_are (setup_spelled s) (setup_spelled t) h.good_setup.1 k.good_setup.1 setups.0);
-        lists = one_list spelled fits own_body es fs h.good_events k.good_events (append_cancel_right _ _ (outputs_line ++ q) texts);
+        lists = one_list spelled fits own_body es fs good good_other (append_cancel_right _ _ (outputs_line ++ q) texts);
         outs = append_cancel_left outputs_line o q ends.1;
       }
+
+-- Over setups and bodies, and which of these bring a name
+module _ {S B : Type 0} (setup_spelled : S → List ℕ) (setup_fits : S → Type 0) (spelled : B → List ℕ) (fits : B → Type 0) (brings : B → Bool) where
+  pub first_brings_no_name : FirstBringsNoName setup_spelled setup_fits spelled fits brings
+  first_brings_no_name input size setup events outputs rest of mark =
+      let behind = size_text (size, setup_text setup_spelled setup_fits (setup, text_of_events spelled fits events ++ (outputs_line ++ outputs))) in
+      let version : of.version ≡ First = one_version of.version First behind rest (of.whole ∙ sym mark) in
+      none_bring spelled fits brings events (subst (λ (v : FileVersion). FitEvents spelled (FitsIn fits brings v) events) version of.good_events)

@@ -1,15 +1,28 @@
 -- What is read of a record file, and what is wrong with a text that is none.
-use Rattle.std.specs.Prelude.{◌≡◌, ◌⊎◌, ℕ, ◌+◌, ◌<◌, ◌≤◌, List, ◌∷◌, ◌++◌, length, codes, Option, Some, None, ⊤}
+use Rattle.std.specs.Prelude.{◌≡◌, ◌⊎◌, ℕ, ◌+◌, ◌<◌, ◌≤◌, Bool, true, false, not, List, ◌∷◌, ◌++◌, length, codes, Option, Some, None, ⊤}
 use Rattle.irc_line.specs.Lines.{Parts}
 use Rattle.raft_log.specs.Peers.{IsGroupSize}
+use Rattle.recorder.specs.Dates.{event_brings_name}
 use Rattle.recorder.specs.EventLists.{FitEvents, text_of_events}
 use Rattle.recorder.specs.InputReadings.{FitsEvent, text_of_event}
 use Rattle.recorder.specs.Readings.{FitsDigits}
 use Rattle.whole_input.specs.Reads.{most_bytes}
 use Rattle.world_events.specs.declared.event.Event.{Event}
+use Rattle.records.specs.declared.file_version.FileVersion.{FileVersion}
+use Rattle.records.specs.declared.file_version.FileVersion.TheVariants.{First, Second}
 use Rattle.records.specs.declared.replay_fault.ReplayFault.{ReplayFault}
 use Rattle.records.specs.declared.replay_fault.ReplayFault.TheVariants.{Version, BadLine, TooLong, Memory}
 use Rattle.records.specs.RecordText.{SetupFits, SizeFits, file_text, head_text, outputs_line, setup_text, size_text, version_mark}
+
+-- a body that a file of this version may hold: in one of the first version it brings no name
+abbrev pub FitsIn : {B : Type 0} → (B → Type 0) → (B → Bool) → FileVersion → B → Type 0
+FitsIn fits brings First body = fits body × (brings body ≡ false)
+FitsIn fits brings Second body = fits body
+
+-- an event that a file of this version may hold
+abbrev pub may_hold : {B : Type 0} → (B → Bool) → FileVersion → Event B Parts (List ℕ) → Bool
+may_hold brings First e = not (event_brings_name brings e)
+may_hold brings Second e = true
 
 -- Over bodies, their spelling and its limits
 module _ {B : Type 0} (spelled : B → List ℕ) (fits : B → Type 0) where
@@ -52,37 +65,40 @@ module _ {B : Type 0} (spelled : B → List ℕ) (fits : B → Type 0) where
   IsItemFault text TooLong = ⊥
   IsItemFault text Memory = ⊤
 
--- the first line begins as it has to
+-- the first line begins as that of a file of some version
 abbrev pub IsVersioned : List ℕ → Type 0
-IsVersioned input = (rest : List ℕ) × (version_mark ++ rest ≡ input)
+IsVersioned input = (version : FileVersion) × ((rest : List ℕ) × (version_mark version ++ rest ≡ input))
 
 -- Line 1 is bad: no group has its size.
 pub record IsBadSize (input : List ℕ) (number : ℕ) : Type 0 where
   pub first : number ≡ 1
+  pub version : FileVersion
   pub rest : List ℕ
-  pub whole : version_mark ++ rest ≡ input
+  pub whole : version_mark version ++ rest ≡ input
   pub bad : (p : ℕ × List ℕ) → SizeFits p → size_text p ≡ rest → ⊥
 
--- Over setups and bodies, their spellings and their limits
-module _ {S B : Type 0} (setup_spelled : S → List ℕ) (setup_fits : S → Type 0) (spelled : B → List ℕ) (fits : B → Type 0) where
+-- Over setups and bodies, their spellings and their limits, and which bodies bring a name
+module _ {S B : Type 0} (setup_spelled : S → List ℕ) (setup_fits : S → Type 0) (spelled : B → List ℕ) (fits : B → Type 0) (brings : B → Bool) where
   -- Line 2 is bad: it is no setup.
   pub record IsBadSetup (input : List ℕ) (number : ℕ) : Type 0 where
     pub second : number ≡ 2
+    pub version : FileVersion
     pub size : ℕ
     pub allowed : IsGroupSize size
     pub rest : List ℕ
-    pub whole : version_mark ++ size_text (size, rest) ≡ input
+    pub whole : version_mark version ++ size_text (size, rest) ≡ input
     pub bad : (p : S × List ℕ) → SetupFits setup_spelled setup_fits p → setup_text setup_spelled setup_fits p ≡ rest → ⊥
 
-  -- A later line is bad: it is neither an event nor `outputs`, or the file ends there.
+  -- A later line is bad: it is neither an event that a file of this version may hold nor `outputs`, or the file ends there.
   pub record IsBadBehind (input : List ℕ) (number : ℕ) : Type 0 where
+    pub version : FileVersion
     pub size : ℕ
     pub allowed : IsGroupSize size
     pub setup : S
     pub good_setup : FitsDigits setup_fits setup_spelled setup
     pub rest : List ℕ
-    pub whole : head_text setup_spelled setup_fits spelled fits size setup rest ≡ input
-    pub bad : IsBadItem spelled fits rest number
+    pub whole : head_text setup_spelled setup_fits spelled fits version size setup rest ≡ input
+    pub bad : IsBadItem spelled (FitsIn fits brings version) rest number
 
   -- the line of this number is the first bad one
   abbrev pub IsBadLine : List ℕ → ℕ → Type 0
@@ -95,10 +111,11 @@ module _ {S B : Type 0} (setup_spelled : S → List ℕ) (setup_fits : S → Typ
   IsFaultOf input TooLong = most_bytes < length input
   IsFaultOf input Memory = ⊤
 
-  -- The file has these parts.
+  -- The file has these parts, of which each event is one that a file of its version may hold.
   pub record IsRecordOf (input : List ℕ) (size : ℕ) (setup : S) (events : List (Event B Parts (List ℕ))) (outputs : List ℕ) : Type 0 where
+    pub version : FileVersion
     pub allowed : IsGroupSize size
     pub good_setup : FitsDigits setup_fits setup_spelled setup
-    pub good_events : FitEvents spelled fits events
+    pub good_events : FitEvents spelled (FitsIn fits brings version) events
     pub short : length input ≤ most_bytes
-    pub whole : file_text setup_spelled setup_fits spelled fits size setup events outputs ≡ input
+    pub whole : file_text setup_spelled setup_fits spelled fits version size setup events outputs ≡ input

@@ -10,12 +10,15 @@ use Rattle.recorder.specs.declared.node_line.NodeFields.{NodeFields}
 use Rattle.world_events.specs.declared.event.Event.{Event}
 use Rattle.world_lines.specs.OutcomeText.{outcomes_lines}
 use Rattle.world_run.specs.declared.outcome.Outcome.{Outcome}
+use Rattle.records.specs.declared.file_version.FileVersion.{FileVersion}
+use Rattle.records.specs.declared.file_version.FileVersion.TheVariants.{First, Second}
 use Rattle.records.specs.declared.record.Merged.{Merged}
 use Rattle.records.specs.declared.record.Turn.{Turn}
 
--- what the first line begins with
-abbrev pub version_mark : List ℕ
-version_mark = codes "RBREC01 "
+-- what the first line of a file of this version begins with
+abbrev pub version_mark : FileVersion → List ℕ
+version_mark First = codes "RBREC01 "
+version_mark Second = codes "RBREC02 "
 
 -- the size of the group with the end of its line, and what follows
 abbrev pub size_text : ℕ × List ℕ → List ℕ
@@ -41,13 +44,13 @@ module _ {S : Type 0} (spelled : S → List ℕ) (fits : S → Type 0) where
 
 -- Over setups and bodies, their spellings and their limits
 module _ {S B : Type 0} (setup_spelled : S → List ℕ) (setup_fits : S → Type 0) (spelled : B → List ℕ) (fits : B → Type 0) where
-  -- size and setup, and what follows
-  abbrev pub head_text : ℕ → S → List ℕ → List ℕ
-  head_text size setup rest = version_mark ++ size_text (size, setup_text setup_spelled setup_fits (setup, rest))
+  -- version, size and setup, and what follows
+  abbrev pub head_text : FileVersion → ℕ → S → List ℕ → List ℕ
+  head_text version size setup rest = version_mark version ++ size_text (size, setup_text setup_spelled setup_fits (setup, rest))
 
-  -- size, setup and events, and what follows the line `outputs`
-  abbrev pub file_text : ℕ → S → List (Event B Parts (List ℕ)) → List ℕ → List ℕ
-  file_text size setup events outputs = head_text size setup (text_of_events spelled fits events ++ (outputs_line ++ outputs))
+  -- version, size, setup and events, and what follows the line `outputs`
+  abbrev pub file_text : FileVersion → ℕ → S → List (Event B Parts (List ℕ)) → List ℕ → List ℕ
+  file_text version size setup events outputs = head_text version size setup (text_of_events spelled fits events ++ (outputs_line ++ outputs))
 
 -- the line of each node, with its end
 abbrev pub node_text : ℕ × NodeFields → List ℕ

@@ -5,6 +5,7 @@ use Rattle.buffer_commands.specs.Settings.{Settings}
 use Rattle.node_cells.specs.declared.record.NodeRecord.{NodeRecord}
 use Rattle.records.specs.Merging.{IsMergeOf}
 use Rattle.records.specs.RecordText.{events_of, file_text, outputs_text}
+use Rattle.records.specs.declared.file_version.FileVersion.TheVariants.{Second}
 use Rattle.records.specs.declared.record.Merged.{Merged}
 use Rattle.records.specs.declared.record.Record.{Record}
 use Rattle.setup_spelling.specs.Spelling.{FitsSetup, spelled_setup}
@@ -37,4 +38,4 @@ module _ {B E P : Type 0} (spelled : B → List ℕ) (fits : B → Type 0) (word
     pub same : AreRecordsOf nodes records
     pub run : Merged (Event B Parts (List ℕ)) (Outcome E P)
     pub merged : IsMergeOf records run
-    pub is : text ≡ file_text spelled_setup FitsSetup spelled fits size setup (events_of run.turns.items) (outputs_text words played run)
+    pub is : text ≡ file_text spelled_setup FitsSetup spelled fits Second size setup (events_of run.turns.items) (outputs_text words played run)

@@ -1,15 +1,17 @@
 //! The lines of a record file.
 ghost use Rattle.std.specs.Prelude.{◌≡◌, ◌++◌, ◌∷◌, [], decimal, IfErr, IfOk, MatchOption, OnOk, option_map};
 ghost use Rattle.raft_log.specs.Peers.{IsGroupSize};
+ghost use Rattle.recorder.specs.InputReadings.{FitsEvent, text_of_event};
 ghost use Rattle.recorder.specs.Readings.{ReadsAs};
-ghost use Rattle.records.specs.RecordReading.{AreItems, FitsFirst, IsItemFault, IsVersioned, item_text};
+ghost use Rattle.records.specs.RecordReading.{AreItems, FitsFirst, FitsIn, IsItemFault, IsVersioned, item_text, may_hold};
 ghost use Rattle.records.specs.RecordText.{SetupFits, SizeFits, setup_text, size_text, version_mark};
 
+use crate::file_version::FileVersion;
 use crate::replay_fault::ReplayFault;
 use buffer_commands::WireLine;
 use irc_line::{Name, is_same};
 use raft_log::GroupSize;
-use recorder::{read_body, read_event, read_number, split};
+use recorder::{Dated, event_brings_name, read_body, read_event, read_number, split};
 use std::alloc::{AllocError, Global};
 use wire_bytes::Wire;
 use world_events::Event;
@@ -17,12 +19,18 @@ use world_events::Event;
 /// How many lines stand before the first event, and one more.
 const FIRST_EVENT: u64 = 3;
 
-/// What follows the front of the first line.
-pub fn versioned(input: &[u8]) -> Option<&[u8]>
+/// The version that the first line begins with, and what follows this.
+pub fn versioned(input: &[u8]) -> Option<(FileVersion, &[u8])>
     ensures { MatchOption result (IsVersioned input.now → ⊥)
-        (λ rest. version_mark ++ rest.now ≡ input.now) }
+        (λ p. version_mark p.0 ++ p.1.now ≡ input.now) }
 {
-    input.strip_prefix(b"RBREC01 ")
+    if let Some(rest) = input.strip_prefix(b"RBREC02 ") {
+        return Some((FileVersion::Second, rest));
+    }
+    match input.strip_prefix(b"RBREC01 ") {
+        Some(rest) => Some((FileVersion::First, rest)),
+        None => None,
+    }
 }
 
 /// The size of the first line, and what follows the line.
@@ -67,17 +75,20 @@ pub fn first_setup<S: Wire>(alloc: Global, text: &[u8]) -> Result<Option<(S, &[u
 }
 
 /// The events of a text up to its line `outputs`, and what follows this.
-pub fn read_items<B: Wire>(
+pub fn read_items<B: Dated>(
     alloc: Global,
+    version: FileVersion,
     text: &[u8],
 ) -> Result<(Vec<Event<B, WireLine, Name>>, &[u8]), ReplayFault>
-    ensures items { IfOk result (λ r. AreItems B.spelled B.fits text.now r.0.items r.1.now) }
-    ensures bad { IfErr result (IsItemFault B.spelled B.fits text.now) }
+    ensures items { IfOk result (λ r. AreItems B.spelled (FitsIn B.fits B.brings_name version)
+        text.now r.0.items r.1.now) }
+    ensures bad { IfErr result
+        (IsItemFault B.spelled (FitsIn B.fits B.brings_name version) text.now) }
 {
     let mut events = Vec::new(alloc);
     let mut rest = text;
     while !rest.is_empty() {
-        match first_item(alloc, rest)? {
+        match first_item(alloc, version, rest)? {
             Some((item, behind)) => match item {
                 Some(event) => {
                     keep(&mut events, event)?;
@@ -99,11 +110,13 @@ fn keep<E: Drop>(events: &mut Vec<E>, event: E) -> Result<(), AllocError>
 }
 
 /// The event of the next line, or none where the line is `outputs`, and what follows the line.
-fn first_item<B: Wire>(
+fn first_item<B: Dated>(
     alloc: Global,
+    version: FileVersion,
     text: &[u8],
 ) -> Result<Option<(Option<Event<B, WireLine, Name>>, &[u8])>, AllocError>
-    ensures { IfOk result (λ r. ReadsAs (item_text B.spelled B.fits) (FitsFirst B.spelled B.fits)
+    ensures { IfOk result (λ r. ReadsAs (item_text B.spelled B.fits)
+        (FitsFirst B.spelled (FitsIn B.fits B.brings_name version))
         text.now (option_map (λ p. (p.0, p.1.now)) r)) }
 {
     match split(text, b'\n') {
@@ -111,11 +124,40 @@ fn first_item<B: Wire>(
             if is_same(line, b"outputs") {
                 return Ok(Some((None, behind)));
             }
-            match read_event(alloc, line)? {
+            match read_held(alloc, version, line)? {
                 Some(event) => Ok(Some((Some(event), behind))),
                 None => Ok(None),
             }
         }
         None => Ok(None),
+    }
+}
+
+/// The event that a line without its end tells, where a file of this version may hold it.
+fn read_held<B: Dated>(
+    alloc: Global,
+    version: FileVersion,
+    line: &[u8],
+) -> Result<Option<Event<B, WireLine, Name>>, AllocError>
+    ensures { IfOk result (ReadsAs (text_of_event B.spelled B.fits)
+        (FitsEvent B.spelled (FitsIn B.fits B.brings_name version)) line.now) }
+{
+    match read_event(alloc, line)? {
+        Some(event) => if may_hold(version, &event) {
+            Ok(Some(event))
+        } else {
+            Ok(None)
+        },
+        None => Ok(None),
+    }
+}
+
+/// Whether a file of this version may hold an event.
+fn may_hold<B: Dated>(version: FileVersion, event: &Event<B, WireLine, Name>) -> bool
+    ensures { result ≡ may_hold B.brings_name version event.now }
+{
+    match version {
+        FileVersion::First => !event_brings_name(event),
+        FileVersion::Second => true,
     }
 }

@@ -1,7 +1,8 @@
 //! What a verdict says, and that a record file is read in one way.
-ghost use Rattle.records.specs.ReadingLaws.{IsReadOneWay};
+ghost use Rattle.records.specs.ReadingLaws.{FirstBringsNoName, HasNoFault, IsReadOneWay};
 ghost use Rattle.records.specs.VerdictLaws.{DiffersIsFirst, SameIsEqual};
 
+use recorder::Dated;
 use wire_bytes::Wire;
 
 /// Recorded lines are those of a run exactly where they are one text; and the line that is told to differ is
@@ -11,7 +12,14 @@ pub fn a_verdict_is_of_the_lines()
     ensures differs { DiffersIsFirst }
 {}
 
-/// A text is the file of one record at most: of one size, setup, list of events, and outputs.
-pub fn a_file_is_of_one_record<S: Wire, B: Wire>()
-    ensures { IsReadOneWay S.spelled S.fits B.spelled B.fits }
+/// A text is the file of one record at most: of one size, setup, list of events, and outputs. Of such a file
+/// nothing is told but that memory is wanting.
+pub fn a_file_is_of_one_record<S: Wire, B: Dated>()
+    ensures one { IsReadOneWay S.spelled S.fits B.spelled B.fits B.brings_name }
+    ensures no_fault { HasNoFault S.spelled S.fits B.spelled B.fits B.brings_name }
+{}
+
+/// In a file of before clients had names no event brings one.
+pub fn a_file_of_the_first_version_brings_no_name<S: Wire, B: Dated>()
+    ensures { FirstBringsNoName S.spelled S.fits B.spelled B.fits B.brings_name }
 {}

@@ -6,6 +6,7 @@
 #![tactic(auto)]
 
 mod converting;
+mod file_version;
 mod items;
 mod laws;
 mod merging;
@@ -20,7 +21,10 @@ mod writable;
 mod writing;
 
 pub use converting::{event_of, record_of};
-pub use laws::{a_file_is_of_one_record, a_verdict_is_of_the_lines};
+pub use file_version::FileVersion;
+pub use laws::{
+    a_file_is_of_one_record, a_file_of_the_first_version_brings_no_name, a_verdict_is_of_the_lines,
+};
 pub use merging::merge;
 pub use reading::{Recording, parse_record};
 pub use record::{Merged, Record, Turn};

@@ -7,6 +7,7 @@ use crate::replay_fault::ReplayFault;
 use buffer_commands::WireLine;
 use irc_line::Name;
 use raft_log::GroupSize;
+use recorder::Dated;
 use std::alloc::Global;
 use wire_bytes::Wire;
 use world_events::Event;
@@ -23,22 +24,24 @@ pub struct Recording<S, B: Wire> {
     pub events: Vec<Event<B, WireLine, Name>>,
 }
 
-/// The parts of a record file, and the lines behind its line `outputs`, whatever they are.
+/// The parts of a record file, and the lines behind its line `outputs`, whatever they are. In a file of before
+/// clients had names a line whose body brings one is bad.
 ///
 /// Of several faults the first is told: of the length, of the first line's front, and then of the lines in
 /// their order.
-pub fn parse_record<S: Wire, B: Wire>(
+pub fn parse_record<S: Wire, B: Dated>(
     alloc: Global,
     input: &[u8],
 ) -> Result<(Recording<S, B>, &[u8]), ReplayFault>
     ensures parts { IfOk result (λ r. IsRecordOf S.spelled S.fits B.spelled B.fits
-        input.now r.0.size r.0.setup r.0.events.items r.1.now) }
-    ensures bad { IfErr result (IsFaultOf S.spelled S.fits B.spelled B.fits input.now) }
+        B.brings_name input.now r.0.size r.0.setup r.0.events.items r.1.now) }
+    ensures bad { IfErr result
+        (IsFaultOf S.spelled S.fits B.spelled B.fits B.brings_name input.now) }
 {
     if input.len() > MOST_BYTES {
         return Err(ReplayFault::TooLong);
     }
-    let Some(rest) = versioned(input) else {
+    let Some((version, rest)) = versioned(input) else {
         return Err(ReplayFault::Version);
     };
     let Some((size, rest)) = first_size(rest) else {
@@ -47,7 +50,7 @@ pub fn parse_record<S: Wire, B: Wire>(
     let Some((setup, rest)) = first_setup(alloc, rest)? else {
         return Err(ReplayFault::BadLine(2));
     };
-    let (events, outputs) = read_items(alloc, rest)?;
+    let (events, outputs) = read_items(alloc, version, rest)?;
     let recording = Recording {
         size,
         setup,

@@ -4,7 +4,7 @@ use thiserror::Error;
 /// Why a record file is not replayed. Lines are counted from 1, over the whole file.
 #[derive(Clone, Copy, Debug, Drop, PartialEq, Eq, Error)]
 pub enum ReplayFault {
-    /// The first line does not begin with `RBREC01 `.
+    /// The first line begins with neither `RBREC01 ` nor `RBREC02 `.
     #[error("Version")]
     Version,
     /// The first line that is not what has to stand there; where the file ends before the line `outputs`,

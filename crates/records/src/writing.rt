@@ -2,6 +2,7 @@
 ghost use Rattle.std.specs.Prelude.{◌≡◌, ◌++◌, IfOk, OnOk};
 ghost use Rattle.recorder.specs.EventLists.{text_of_events};
 ghost use Rattle.records.specs.RecordText.{AreWritableTurns, events_of, file_text, outputs_text};
+ghost use Rattle.records.specs.declared.file_version.FileVersion.TheVariants.{Second};
 
 use crate::output::push_outputs;
 use crate::record::{Merged, Turn};
@@ -25,11 +26,11 @@ pub fn write_record<S: Wire, B: Wire, E: Words, P: Spelled>(
 ) -> Result<Vec<u8>, AllocError>
     requires setup { S.fits setup.now }
     requires events { AreWritableTurns B.spelled B.fits run.now.turns.items }
-    ensures { IfOk result (λ v. v.items ≡ file_text S.spelled S.fits B.spelled B.fits size setup.now
-        (events_of run.now.turns.items) (outputs_text E.words P.spelled run.now)) }
+    ensures { IfOk result (λ v. v.items ≡ file_text S.spelled S.fits B.spelled B.fits Second size
+        setup.now (events_of run.now.turns.items) (outputs_text E.words P.spelled run.now)) }
 {
     let mut out = Vec::new(alloc);
-    out.extend_from_slice(b"RBREC01 ")?;
+    out.extend_from_slice(b"RBREC02 ")?;
     push_number(&mut out, size.value() as u64)?;
     out.push(b'\n')?;
     push_body(alloc, &mut out, setup)?;

@@ -10,6 +10,7 @@ use Rattle.headline.specs.Tower.{tower}
 use Rattle.records.specs.RecordReading.{IsFaultOf, IsRecordOf}
 use Rattle.records.specs.declared.replay_fault.ReplayFault.{ReplayFault}
 use Rattle.world_app.specs.declared.diagram.Diagram.{Diagram}
+use Rattle.world_app.specs.Replays.{brings_name}
 use Rattle.world_app.specs.Picture.{picture}
 use Rattle.world_app.specs.Diagrams.{IsDiagramOf}
 
@@ -19,11 +20,11 @@ pub record IsDrawingOf (input text : List ℕ) : Type 0 where
   pub setup : Settings
   pub events : List (Event TowerBody Parts (List ℕ))
   pub outputs : List ℕ
-  pub of_input : IsRecordOf spelled_setup FitsSetup spelled_body FitsBody input size setup events outputs
+  pub of_input : IsRecordOf spelled_setup FitsSetup spelled_body FitsBody brings_name input size setup events outputs
   pub diagram : Diagram
   pub diagram_is : IsDiagramOf (tower setup) size events diagram
   pub text_is : text ≡ picture diagram
 
 -- what is wrong with an input that is no record file
 abbrev pub IsDrawingFault : List ℕ → ReplayFault → Type 0
-IsDrawingFault input e = IsFaultOf spelled_setup FitsSetup spelled_body FitsBody input e
+IsDrawingFault input e = IsFaultOf spelled_setup FitsSetup spelled_body FitsBody brings_name input e

@@ -1,10 +1,11 @@
 -- What a record comes to where its events are run again.
-use Rattle.std.specs.Prelude.{◌≡◌, ◌≢◌, ℕ, List, ◌++◌, codes, decimal, ⊤}
+use Rattle.std.specs.Prelude.{◌≡◌, ◌≢◌, Bool, ℕ, List, ◌++◌, codes, decimal, ⊤}
 use Rattle.irc_line.specs.Lines.{Parts}
 use Rattle.buffer_commands.specs.Settings.{Settings}
 use Rattle.bouncer_tower.specs.Bodies.{TowerBody}
 use Rattle.bouncer_tower.specs.Spellings.{FitsBody, spelled_body}
 use Rattle.setup_spelling.specs.Spelling.{FitsSetup, spelled_setup}
+use Rattle.recorder.specs.Dates.{action_brings_name, body_brings_name, claims_brings_name, command_brings_name, fence_brings_name}
 use Rattle.world_events.specs.declared.event.Event.{Event}
 use Rattle.records.specs.RecordReading.{IsFaultOf, IsRecordOf}
 use Rattle.records.specs.Verdicts.{verdict}
@@ -18,18 +19,22 @@ use Rattle.world_app.specs.declared.record_fault.RecordFault.{RecordFault}
 use Rattle.world_app.specs.declared.record_fault.RecordFault.TheVariants.{Read, Replay, Write}
 use Rattle.world_app.specs.Worlds.{bouncer_text}
 
+-- the body is of a client that attaches with a name
+abbrev pub brings_name : TowerBody → Bool
+brings_name body = body_brings_name (claims_brings_name (fence_brings_name command_brings_name)) action_brings_name body
+
 -- The verdict is that of the recorded lines against those of a run of the recorded events, over the recorded setup.
 pub record IsReplayOf (input : List ℕ) (v : Verdict) : Type 0 where
   pub size : ℕ
   pub setup : Settings
   pub events : List (Event TowerBody Parts (List ℕ))
   pub outputs : List ℕ
-  pub of_input : IsRecordOf spelled_setup FitsSetup spelled_body FitsBody input size setup events outputs
+  pub of_input : IsRecordOf spelled_setup FitsSetup spelled_body FitsBody brings_name input size setup events outputs
   pub verdict_is : v ≡ verdict outputs (bouncer_text setup size events)
 
 -- what is wrong with an input that is no record file
 abbrev pub IsReplayFault : List ℕ → ReplayFault → Type 0
-IsReplayFault input e = IsFaultOf spelled_setup FitsSetup spelled_body FitsBody input e
+IsReplayFault input e = IsFaultOf spelled_setup FitsSetup spelled_body FitsBody brings_name input e
 
 -- how a verdict is told
 abbrev pub verdict_words : Verdict → List ℕ
