@@ -137,12 +137,12 @@ module _ (M : Machine) (marked : M.Body → Option Mark) where
   stops_together false inputs answers turns v sound some many are = stops_begin inputs answers turns v sound some many are
 
   -- what a restart publishes first ends the run
-  firsts_begin : (p : Phase M.Body M.Line) (same : Bool) (turns : List (NotedOf M)) (v : ViewOf M) (asked : ℕ) (reached : Option ℕ) → Kept v asked reached → AreTogether p
+  firsts_begin : (p : Phase M.Body M.Line M.Target) (same : Bool) (turns : List (NotedOf M)) (v : ViewOf M) (asked : ℕ) (reached : Option ℕ) → Kept v asked reached → AreTogether p
       → AreNoted M (firsts_of p same) turns → Kept (after_turns M v (map (turn_in M) turns)) 0 None
   firsts_begin Up same turns v asked reached h together are = one_begins Restart (Ok tt) turns v (λ t. restarted_keeps v t asked reached h) are
-  firsts_begin (DownInTurn x done) same turns v asked reached h together are =
+  firsts_begin (DownInTurn x copy done) same turns v asked reached h together are =
       one_begins (StopIn x (done || not same)) (Ok tt) turns v (λ t. stop_begins v t x (done || not same) h.sound) are
-  firsts_begin (DownInTurns inputs answers) same turns v asked reached h together are =
+  firsts_begin (DownInTurns inputs copies answers) same turns v asked reached h together are =
       stops_together same inputs.items answers.items turns v h.sound together.0 together.1 are
   firsts_begin DownInRestart same turns v asked reached h together are = one_begins Restart (Ok tt) turns v (λ t. restarted_keeps v t asked reached h) are
 
@@ -153,7 +153,7 @@ module _ (M : Machine) (marked : M.Body → Option Mark) where
       (subst (λ (e : EventOf M). Kept (after_event M v t.0 e) 0 None) (sym are.0) (restarted_keeps v t.0 0 None h))
 
   -- what a restart publishes, and a Restart more for each start that failed
-  pub restart_begins : (p : Phase M.Body M.Line) (same : Bool) (first : List (NotedOf M)) (more : List (TurnOf M)) (v : ViewOf M) (asked : ℕ) (reached : Option ℕ) → Kept v asked reached
+  pub restart_begins : (p : Phase M.Body M.Line M.Target) (same : Bool) (first : List (NotedOf M)) (more : List (TurnOf M)) (v : ViewOf M) (asked : ℕ) (reached : Option ℕ) → Kept v asked reached
       → AreTogether p → AreNoted M (firsts_of p same) first → AreRestarts more → Kept (after_turns M v (map (turn_in M) first ++ more)) 0 None
   restart_begins p same first more v asked reached h together are restarts =
       subst (λ (w : ViewOf M). Kept w 0 None) (sym (turns-append M v (map (turn_in M) first) more))

@@ -1,6 +1,8 @@
+pub mod Copies
 pub mod Terms
 pub mod Sending
 pub mod Recorded
+pub mod Told
 pub mod Showing
 pub mod Turning
 pub mod Acting
@@ -15,3 +17,4 @@ pub mod Noting
 pub mod Stopping
 pub mod Together
 pub mod OneInput
+pub mod Crossing

@@ -41,7 +41,7 @@ module _ (M : Machine) where
   at_applied s from place target lines h = by_test s from place (M.playback (steps.applied_history M s) target) lines (ltb s.applied from) refl h
 
 module _ (M : Machine) {Setup Hosted Store U : Type 0} (k : Keeper Store M.Body) (tally : U → Tally) where
-  module _ (b0 b1 : Book M Setup) (q : Inner M Setup Hosted Store) (u : U) (p : Phase M.Body M.Line) (r : ℕ) (line : NodeFields) (h : IsCell M k (cell_of b0 q u p r line)) (up : p ≡ Up) (from : ℕ) (target : M.Target) where
+  module _ (b0 b1 : Book M Setup) (q : Inner M Setup Hosted Store) (u : U) (p : Phase M.Body M.Line M.Target) (r : ℕ) (line : NodeFields) (h : IsCell M k (cell_of b0 q u p r line)) (up : p ≡ Up) (from : ℕ) (target : M.Target) where
     pub look_is : (looked' : PlayedAt M.Played) (o : OutcomeOf M) → out_of M o ≡ steps.Looked looked'.place looked'.lines.items
         → ((sent : List (Message M.Body)) → turned M (Looks from target) q sent ≡ record { node = seen q.state sent; out = out_of M o })
         → HasNoted M b0 (Look from target) o b1 → IsLookedAt M tally (cell_of b0 q u p r line) from target looked' (cell_of b1 q u p r line)

@@ -51,6 +51,10 @@ module _ {B L : Type 0} where
   brings_none Claim h = refl
   brings_none Apply h = refl
 
+  pub first_appends : (xs : List (NodeInput B L)) (x : NodeInput B L) → 1 ≤ length xs → x ≡ get_or xs 0 x → OnlyAppend xs → OnlyAppend (x ∷ [])
+  first_appends [] x some is h = absurd (omega (arith, some))
+  first_appends (y ∷ xs) x some is h = subst (λ (z : NodeInput B L). OnlyAppend (z ∷ [])) (sym is) (h.0, tt)
+
   pub front_appends : (xs : List (NodeInput B L)) (x : NodeInput B L) → OnlyAppend (xs ++ x ∷ []) → OnlyAppend xs
   front_appends [] x h = tt
   front_appends (y ∷ xs) x h = (h.0, front_appends xs x h.1)

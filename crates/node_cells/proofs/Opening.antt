@@ -20,7 +20,7 @@ use Rattle.node_cells.specs.declared.record.NodeRecord.{NodeRecord}
 use Rattle.node_cells.specs.declared.record.Recording.{Recording}
 use Rattle.node_cells.specs.declared.record.Recording.TheVariants.{On, Off}
 use Rattle.node_cells.specs.Books.{HasSeen, HasTaken, IsBook, IsRecordBy, NotedOf}
-use Rattle.node_cells.specs.Cells.{HasHeard, IsCell, IsIn, Shows, brought, cell_of, view_in}
+use Rattle.node_cells.specs.Cells.{HasCopies, HasHeard, IsCell, IsIn, Shows, brought, cell_of, view_in}
 use Rattle.node_cells.specs.Openings.{IsClosed, IsFresh}
 use Rattle.node_cells.specs.Sending.{KnowsOneOf}
 use Rattle.node_cells.specs.Turns.{CellOf}
@@ -79,6 +79,7 @@ module _ (M : Machine) {Setup Hosted Store : Type 0} (k : Keeper Store M.Body) w
           leader = none_known b.ether.size (seen n.state []).leader (ap (λ (s : Node M.Body). s.leader) (first.begins.2 []));
           heard = λ m e. absurd (cc e);
           together = tt;
+          copied = tt;
           up = λ p. first.is_up;
           refused = λ p. refl;
           counted = λ honest. sent ∙ ap (λ (s : Node M.Body). length s.sent) (sym state_is);
@@ -91,9 +92,9 @@ module _ (M : Machine) {Setup Hosted Store : Type 0} (k : Keeper Store M.Body) w
         record { ticket = t; started = first; view = view; node = place; ether_is = refl; upstream_is = refl; recording_is = refl; turns = none; is_up = refl }
 
   -- ---- a look into a mailbox
-  looked_cell : {U : Type 0} (b0 b1 : Book M Setup) (q : Inner M Setup Hosted Store) (u : U) (p : Phase M.Body M.Line) (r : ℕ) (line : NodeFields) → IsCell M k (cell_of b0 q u p r line)
-      → Took (view_of b0.pass) (view_of b1.pass) → b1.pass.node ≡ b0.pass.node → b1.ether ≡ b0.ether → b1.sent ≡ b0.sent → IsBook M b1 → IsCell M k (cell_of b1 q u p r line)
-  looked_cell b0 b1 q u p r line h tk node ether sent book =
+  looked_cell : {U : Type 0} (b0 b1 : Book M Setup) (q : Inner M Setup Hosted Store) (u : U) (p : Phase M.Body M.Line M.Target) (r : ℕ) (line : NodeFields) → IsCell M k (cell_of b0 q u p r line)
+      → Took (view_of b0.pass) (view_of b1.pass) → b1.pass.node ≡ b0.pass.node → b1.ether ≡ b0.ether → b1.sent ≡ b0.sent → b1.recording ≡ b0.recording → IsBook M b1 → IsCell M k (cell_of b1 q u p r line)
+  looked_cell b0 b1 q u p r line h tk node ether sent recording book =
       record {
         book = with_room M b1 0 book;
         id = h.id ∙ ap suc (sym node);
@@ -103,6 +104,7 @@ module _ (M : Machine) {Setup Hosted Store : Type 0} (k : Keeper Store M.Body) w
         leader = subst (λ (z : EtherParts Setup). KnowsOneOf z.size (seen q.state [])) (sym ether) h.leader;
         heard = tk.heard (brought p) h.heard;
         together = h.together;
+        copied = subst (λ (z : Recording). HasCopies z p) (sym recording) h.copied;
         up = h.up;
         refused = h.refused;
         counted = λ is. sent ∙ h.counted (sym tk.honest ∙ is) ∙ ap (λ (s : Node M.Body). length s.sent) (sym tk.state);
@@ -110,17 +112,17 @@ module _ (M : Machine) {Setup Hosted Store : Type 0} (k : Keeper Store M.Body) w
         shows = λ is. subst (λ (z : (ℕ × ℕ) × Node M.Body). Shows M k z.0.0 (suc z.0.1) z.1 p r q) (λ d. ((sym tk.size d, sym tk.node d), sym tk.state d)) (h.shows (sym tk.honest ∙ is));
       }
 
-  pub taken_cell : {U : Type 0} (b0 b1 : Book M Setup) (q : Inner M Setup Hosted Store) (u : U) (p : Phase M.Body M.Line) (r : ℕ) (line : NodeFields) (from : ℕ) (came : Option (Envelope M.Body))
+  pub taken_cell : {U : Type 0} (b0 b1 : Book M Setup) (q : Inner M Setup Hosted Store) (u : U) (p : Phase M.Body M.Line M.Target) (r : ℕ) (line : NodeFields) (from : ℕ) (came : Option (Envelope M.Body))
       → IsCell M k (cell_of b0 q u p r line) → HasTaken b0 from came b1 → IsBook M b1 → IsCell M k (cell_of b1 q u p r line)
   taken_cell b0 b1 q u p r line from came h t book =
       let tk : Took (view_of b0.pass) (view_of b1.pass) = subst (λ (v : ViewOf M). Took (view_of b0.pass) v) (sym t.view) (took (view_of b0.pass) came) in
-      looked_cell b0 b1 q u p r line h tk t.node t.ether t.sent book
+      looked_cell b0 b1 q u p r line h tk t.node t.ether t.sent t.recording book
 
-  pub seen_cell : {U : Type 0} (b0 b1 : Book M Setup) (q : Inner M Setup Hosted Store) (u : U) (p : Phase M.Body M.Line) (r : ℕ) (line : NodeFields) (to : ℕ) (taken : Bool)
+  pub seen_cell : {U : Type 0} (b0 b1 : Book M Setup) (q : Inner M Setup Hosted Store) (u : U) (p : Phase M.Body M.Line M.Target) (r : ℕ) (line : NodeFields) (to : ℕ) (taken : Bool)
       → IsCell M k (cell_of b0 q u p r line) → HasSeen b0 to taken b1 → IsBook M b1 → IsCell M k (cell_of b1 q u p r line)
   seen_cell b0 b1 q u p r line to taken h t book =
       let tk : Took (view_of b0.pass) (view_of b1.pass) = subst (λ (v : ViewOf M). Took (view_of b0.pass) v) (sym t.view) (took (view_of b0.pass) None) in
-      looked_cell b0 b1 q u p r line h tk t.node t.ether t.sent book
+      looked_cell b0 b1 q u p r line h tk t.node t.ether t.sent t.recording book
 
   -- ---- a close
   pub closed_cell : {U : Type 0} (c : CellOf M Setup Hosted Store U) (r : NodeRecord M.Body M.Line M.Target M.Effect M.Played) → IsCell M k c → r.node ≡ c.node.id → r.turns.items ≡ c.turns → r.state ≡ c.shown → IsClosed M c r

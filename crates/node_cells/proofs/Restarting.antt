@@ -76,11 +76,11 @@ module _ (M : Machine) where
   the_event e f a b h = let p : EventOf M × Answer = (e, a) in let q : EventOf M × Answer = (f, b) in ap (λ (z : EventOf M × Answer). z.0) (same_item p q h)
 
   -- nothing comes out of what a restart publishes
-  pub first_out : (n i : ℕ) (s : Node M.Body) (p : Phase M.Body M.Line) (same : Bool) (e : EventOf M) → IsAlone p → firsts_of p same ≡ (e, Ok tt) ∷ [] → steps.Quiet ≡ own_out M n i s e
+  pub first_out : (n i : ℕ) (s : Node M.Body) (p : Phase M.Body M.Line M.Target) (same : Bool) (e : EventOf M) → IsAlone p → firsts_of p same ≡ (e, Ok tt) ∷ [] → steps.Quiet ≡ own_out M n i s e
   unfolding own_out
   first_out n i s Up same e alone h = ap (λ (f : EventOf M). own_out M n i s f) (the_event Restart e (Ok tt) (Ok tt) h)
-  first_out n i s (DownInTurn x done) same e alone h = ap (λ (f : EventOf M). own_out M n i s f) (the_event (StopIn x (done || not same)) e (Ok tt) (Ok tt) h)
-  first_out n i s (DownInTurns inputs answers) same e alone h = absurd alone
+  first_out n i s (DownInTurn x copy done) same e alone h = ap (λ (f : EventOf M). own_out M n i s f) (the_event (StopIn x (done || not same)) e (Ok tt) (Ok tt) h)
+  first_out n i s (DownInTurns inputs copies answers) same e alone h = absurd alone
   first_out n i s DownInRestart same e alone h = ap (λ (f : EventOf M). own_out M n i s f) (the_event Restart e (Ok tt) (Ok tt) h)
 
   -- one event alone
@@ -202,7 +202,7 @@ module _ (M : Machine) {Setup Hosted Store U : Type 0} (k : Keeper Store M.Body)
         ) in
         cc t
 
-    starts : (p : Phase M.Body M.Line) (same : Bool) (v : Saved M.Body) (first : List (NotedOf M)) → Shows M k n i s p c.refused c.node → AreTogether p → (p ≡ Up → c.refused ≡ 0) → k.may_stand c.node.store v → Told same v
+    starts : (p : Phase M.Body M.Line M.Target) (same : Bool) (v : Saved M.Body) (first : List (NotedOf M)) → Shows M k n i s p c.refused c.node → AreTogether p → (p ≡ Up → c.refused ≡ 0) → k.may_stand c.node.store v → Told same v
         → AreNoted M (firsts_of p same) first → StartsAt first v
     starts Up same v first shows all none stands told noted =
         record {
@@ -218,35 +218,35 @@ module _ (M : Machine) {Setup Hosted Store U : Type 0} (k : Keeper Store M.Body)
           later = shows.1 v stands;
           from = sym (ap (λ (z : Node M.Body). z.boot) shows.0);
         }
-    starts (DownInTurn x true) same v first shows all none stands told noted =
+    starts (DownInTurn x copy true) same v first shows all none stands told noted =
         record {
           k = saved_by (after_input M n i s x);
           is = one_run M n i s (StopIn x true) (Ok tt) first noted ∙ after_state M n i s x;
           later = shows.1 v stands;
           from = sym (ap (λ (z : Node M.Body). z.boot) shows.0);
         }
-    starts (DownInTurn x false) true v first shows all none stands told noted =
+    starts (DownInTurn x copy false) true v first shows all none stands told noted =
         record {
           k = saved_by s;
           is = one_run M n i s (StopIn x false) (Ok tt) first noted ∙ before_state M n i s x;
           later = as_before shows.0 x v (told.0 refl) (shows.1 v stands);
           from = sym (ap (λ (z : Node M.Body). z.boot) shows.0);
         }
-    starts (DownInTurn x false) false v first shows all none stands told noted =
+    starts (DownInTurn x copy false) false v first shows all none stands told noted =
         record {
           k = saved_by (after_input M n i s x);
           is = one_run M n i s (StopIn x true) (Ok tt) first noted ∙ after_state M n i s x;
           later = ⊎_elim (λ (old : IsLater c.refused (saved_by s) v). absurd (differs shows.0 v told old)) (λ new. new) (shows.1 v stands);
           from = same_boot shows.0 x;
         }
-    starts (DownInTurns inputs answers) true v first shows all none stands told noted =
+    starts (DownInTurns inputs copies answers) true v first shows all none stands told noted =
         record {
           k = saved_by s;
           is = before_run M n i s inputs.items first all.0 noted;
           later = all_as_before shows.0 shows.2 inputs.items all.2 v (told.0 refl) (shows.1 v stands);
           from = sym (ap (λ (z : Node M.Body). z.boot) shows.0);
         }
-    starts (DownInTurns inputs answers) false v first shows all none stands told noted =
+    starts (DownInTurns inputs copies answers) false v first shows all none stands told noted =
         record {
           k = saved_by (after_inputs M n i s inputs.items);
           is = after_run M n i s inputs.items answers.items first shows.2 all.2 all.0 all.1 noted;

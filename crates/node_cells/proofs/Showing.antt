@@ -82,7 +82,7 @@ module _ (M : Machine) {Setup Hosted Store U : Type 0} (k : Keeper Store M.Body)
     turn_here s here a = λ d. turn M (size_is d) (id_is d) a (sym here d)
 
     pub is_up : c.phase ≡ Up → (view_in c).honest ≡ true → IsIn c.node.state (view_in c).state
-    is_up up honest = (subst (λ (p : Phase M.Body M.Line). Shows M k (view_in c).size (suc (view_in c).node) (view_in c).state p c.refused c.node) up (h.shows honest)).0
+    is_up up honest = (subst (λ (p : Phase M.Body M.Line M.Target). Shows M k (view_in c).size (suc (view_in c).node) (view_in c).state p c.refused c.node) up (h.shows honest)).0
 
     -- what an act of the node in memory comes to
     pub acted_here : (a : Act M) → Acted c.node.id (size_of c.node.state) (let near = h.book.opened.0.near in omega (arith, near, h.size)) (seen c.node.state []) (turned M a c.node []).node
@@ -160,9 +160,9 @@ module _ (M : Machine) {Setup Hosted Store U : Type 0} (k : Keeper Store M.Body)
             high = omega arith;
           }
 
-      pub downed : (x : NodeInput M.Body M.Line) (cause : Cause) (q : Inner M Setup Hosted Store) → IsDowned M k (act_of M x) c.node cause q → IsSameNode k c.node q → (view_in c).honest ≡ true
-          → Shows M k (view_in c).size (suc (view_in c).node) (view_in c).state (DownInTurn x false) 0 q
-      downed x cause q d same honest =
+      pub downed : (x : NodeInput M.Body M.Line) (copy : Option (NodeInput M.Body M.Line)) (cause : Cause) (q : Inner M Setup Hosted Store) → IsDowned M k (act_of M x) c.node cause q → IsSameNode k c.node q → (view_in c).honest ≡ true
+          → Shows M k (view_in c).size (suc (view_in c).node) (view_in c).state (DownInTurn x copy false) 0 q
+      downed x copy cause q d same honest =
           let s : Node M.Body = (view_in c).state in
           let here = is_up up honest in
           let is_honest : IsHonest (k.condition q.store) = same.honest ∙ sym h.honest ∙ honest in (

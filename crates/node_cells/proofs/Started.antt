@@ -25,7 +25,8 @@ use Rattle.node_cells.specs.declared.phase.Phase.{Phase}
 use Rattle.node_cells.specs.declared.phase.Phase.TheVariants.{Up, DownInTurn, DownInTurns, DownInRestart}
 use Rattle.node_cells.specs.declared.remembered.Remembered.{Remembered}
 use Rattle.node_cells.specs.Books.{IsBook, NotedOf, recorded_by, turn_in}
-use Rattle.node_cells.specs.Cells.{AreTogether, HasHeard, IsCell, IsIn, IsLater, Shows, Stands, StandsEither, after_input, brought, cell_of}
+use Rattle.node_cells.specs.declared.record.Recording.{Recording}
+use Rattle.node_cells.specs.Cells.{AreTogether, HasCopies, HasHeard, IsCell, IsIn, IsLater, Shows, Stands, StandsEither, after_input, brought, cell_of}
 use Rattle.node_cells.specs.Remembering.{Remembers}
 use Rattle.node_cells.specs.Inputs.{Answer}
 use Rattle.node_cells.specs.Restarts.{HasNotedAll, HasRestarts, IsAlone, IsRefusedRestart, IsRestart, after_turns, fallen, firsts_at_most, firsts_of, silent}
@@ -37,18 +38,18 @@ use Rattle.node_cells.proofs.Sending.{none_known}
 use Rattle.node_cells.proofs.Showing.{Inner}
 use Rattle.node_cells.proofs.Turning.{with_room}
 
-module _ {B L : Type 0} where
+module _ {B L T : Type 0} where
   -- where it did not go down as inputs were saved together, it went down alone, if at all
-  pub not_together : (p : Phase B L) → ((inputs : Vec (NodeInput B L)) (answers : Vec Answer) → p ≡ DownInTurns inputs answers → ⊥) → IsAlone p
+  pub not_together : (p : Phase B L T) → ((inputs copies : Vec (NodeInput B L)) (answers : Vec Answer) → p ≡ DownInTurns inputs copies answers → ⊥) → IsAlone p
   not_together Up h = tt
-  not_together (DownInTurn x done) h = tt
-  not_together (DownInTurns inputs answers) h = h inputs answers refl
+  not_together (DownInTurn x copy done) h = tt
+  not_together (DownInTurns inputs copies answers) h = h inputs copies answers refl
   not_together DownInRestart h = tt
 
-  pub first_alone : (p : Phase B L) → IsAlone p → firsts_at_most p ≡ 1
+  pub first_alone : (p : Phase B L T) → IsAlone p → firsts_at_most p ≡ 1
   first_alone Up h = refl
-  first_alone (DownInTurn x done) h = refl
-  first_alone (DownInTurns inputs answers) h = absurd h
+  first_alone (DownInTurn x copy done) h = refl
+  first_alone (DownInTurns inputs copies answers) h = absurd h
   first_alone DownInRestart h = refl
 
 module _ {B L T : Type 0} where
@@ -59,10 +60,10 @@ module _ {B L T : Type 0} where
       subst (λ (z : NodeEvent B L T × Answer). IsHeard v z.0) (same_item p q h) heard
 
   -- what the first event of a restart brings was heard
-  pub heard_first : (v : View B L T) (p : Phase B L) (same : Bool) (e : NodeEvent B L T) → IsAlone p → HasHeard v (brought p) → firsts_of p same ≡ (e, Ok tt) ∷ [] → IsHeard v e
+  pub heard_first : (v : View B L T) (p : Phase B L T) (same : Bool) (e : NodeEvent B L T) → IsAlone p → HasHeard v (brought p) → firsts_of p same ≡ (e, Ok tt) ∷ [] → IsHeard v e
   heard_first v Up same e alone h is = is_heard_by v Restart e is h
-  heard_first v (DownInTurn x done) same e alone h is = is_heard_by v (StopIn x (done || not same)) e is h
-  heard_first v (DownInTurns inputs answers) same e alone h is = absurd alone
+  heard_first v (DownInTurn x copy done) same e alone h is = is_heard_by v (StopIn x (done || not same)) e is h
+  heard_first v (DownInTurns inputs copies answers) same e alone h is = absurd alone
   heard_first v DownInRestart same e alone h is = is_heard_by v Restart e is h
 
 module _ (M : Machine) where
@@ -135,26 +136,32 @@ module _ {B : Type 0} where
     either_more r s t h w stands = either_of r s t w (begin honest w stands) h
 
 module _ (M : Machine) where
-  never_up : (p : Phase M.Body M.Line) → fallen p ≡ Up → ⊥
+  never_up : (p : Phase M.Body M.Line M.Target) → fallen p ≡ Up → ⊥
   never_up Up h = cc h
-  never_up (DownInTurn x done) h = cc h
-  never_up (DownInTurns inputs answers) h = cc h
+  never_up (DownInTurn x copy done) h = cc h
+  never_up (DownInTurns inputs copies answers) h = cc h
   never_up DownInRestart h = cc h
 
-  fallen_brings : (v : ViewOf M) (p : Phase M.Body M.Line) → HasHeard v (brought p) → HasHeard v (brought (fallen p))
+  fallen_brings : (v : ViewOf M) (p : Phase M.Body M.Line M.Target) → HasHeard v (brought p) → HasHeard v (brought (fallen p))
   fallen_brings v Up h = h
-  fallen_brings v (DownInTurn x done) h = h
-  fallen_brings v (DownInTurns inputs answers) h = h
+  fallen_brings v (DownInTurn x copy done) h = h
+  fallen_brings v (DownInTurns inputs copies answers) h = h
   fallen_brings v DownInRestart h = h
 
-  fallen_together : (p : Phase M.Body M.Line) → AreTogether p → AreTogether (fallen p)
+  fallen_together : (p : Phase M.Body M.Line M.Target) → AreTogether p → AreTogether (fallen p)
   fallen_together Up h = tt
-  fallen_together (DownInTurn x done) h = tt
-  fallen_together (DownInTurns inputs answers) h = h
+  fallen_together (DownInTurn x copy done) h = tt
+  fallen_together (DownInTurns inputs copies answers) h = h
   fallen_together DownInRestart h = tt
 
+  fallen_copied : (recording : Recording) (p : Phase M.Body M.Line M.Target) → HasCopies recording p → HasCopies recording (fallen p)
+  fallen_copied recording Up h = tt
+  fallen_copied recording (DownInTurn x copy done) h = h
+  fallen_copied recording (DownInTurns inputs copies answers) h = h
+  fallen_copied recording DownInRestart h = tt
+
 module _ (M : Machine) {Setup Hosted Store U : Type 0} (k : Keeper Store M.Body) where
-  module _ (b0 : Book M Setup) (q q' : Inner M Setup Hosted Store) (u : U) (p : Phase M.Body M.Line) (r : ℕ) (line : NodeFields) (h : IsCell M k (cell_of b0 q u p r line))
+  module _ (b0 : Book M Setup) (q q' : Inner M Setup Hosted Store) (u : U) (p : Phase M.Body M.Line M.Target) (r : ℕ) (line : NodeFields) (h : IsCell M k (cell_of b0 q u p r line))
       (same : IsSameNode k q q') (sure : (s : Store) (w : Saved M.Body) → Serves (k.condition s) → k.may_stand s w ↔ (w ≡ k.saved s)) (holds : q.down ≡ None → Holds k q.store q.state) where
     abbrev v : ViewOf M
     v = view_of b0.pass
@@ -164,7 +171,7 @@ module _ (M : Machine) {Setup Hosted Store U : Type 0} (k : Keeper Store M.Body)
       still_in : (s : Node M.Body) → IsIn q.state s → IsIn q'.state s
       still_in s here = ap (λ (z : NodeState M.Body). seen z s.sent) state ∙ here
 
-      falls : (x : Phase M.Body M.Line) → (IsHonest (k.condition q.store)) → Shows M k v.size (suc v.node) v.state x r q → (x ≡ Up → r ≡ 0) → Shows M k v.size (suc v.node) v.state (fallen x) (r + 1) q'
+      falls : (x : Phase M.Body M.Line M.Target) → (IsHonest (k.condition q.store)) → Shows M k v.size (suc v.node) v.state x r q → (x ≡ Up → r ≡ 0) → Shows M k v.size (suc v.node) v.state (fallen x) (r + 1) q'
       falls Up honest shows none = (
         still_in v.state shows.0,
         stands_more k q.store q'.store (size_of q.state) begin honest r (saved_by v.state) (λ w stands.
@@ -180,9 +187,9 @@ module _ (M : Machine) {Setup Hosted Store U : Type 0} (k : Keeper Store M.Body)
               high = omega arith;
             }),
       )
-      falls (DownInTurn x false) honest shows none = (still_in v.state shows.0, either_more k q.store q'.store (size_of q.state) begin honest r _ _ shows.1)
-      falls (DownInTurn x true) honest shows none = (still_in (after_input M v.size (suc v.node) v.state x) shows.0, stands_more k q.store q'.store (size_of q.state) begin honest r _ shows.1)
-      falls (DownInTurns inputs answers) honest shows none = (still_in v.state shows.0, either_more k q.store q'.store (size_of q.state) begin honest r _ _ shows.1, shows.2, shows.3)
+      falls (DownInTurn x copy false) honest shows none = (still_in v.state shows.0, either_more k q.store q'.store (size_of q.state) begin honest r _ _ shows.1)
+      falls (DownInTurn x copy true) honest shows none = (still_in (after_input M v.size (suc v.node) v.state x) shows.0, stands_more k q.store q'.store (size_of q.state) begin honest r _ shows.1)
+      falls (DownInTurns inputs copies answers) honest shows none = (still_in v.state shows.0, either_more k q.store q'.store (size_of q.state) begin honest r _ _ shows.1, shows.2, shows.3)
       falls DownInRestart honest shows none = (still_in v.state shows.0, stands_more k q.store q'.store (size_of q.state) begin honest r _ shows.1)
 
       pub refused_cell : IsCell M k (cell_of b0 q' u (fallen p) (r + 1) line)
@@ -196,6 +203,7 @@ module _ (M : Machine) {Setup Hosted Store U : Type 0} (k : Keeper Store M.Body)
             leader = subst (λ (z : NodeState M.Body). KnowsOneOf b0.ether.size (seen z [])) (sym state) h.leader;
             heard = fallen_brings M v p h.heard;
             together = fallen_together M p h.together;
+            copied = fallen_copied M b0.recording p h.copied;
             up = λ e. absurd (never_up M p e);
             refused = λ e. absurd (never_up M p e);
             counted = h.counted;
@@ -235,6 +243,7 @@ module _ (M : Machine) {Setup Hosted Store U : Type 0} (k : Keeper Store M.Body)
             leader = none_known b2.ether.size (seen q'.state []).leader (ap (λ (s : Node M.Body). s.leader) (b.2 []));
             heard = λ m e. absurd (cc e);
             together = tt;
+            copied = tt;
             up = λ z. up;
             refused = λ z. refl;
             counted = λ is. let honest : v.honest ≡ true = sym ran_2.honest ∙ is in rest.sent ∙ first.sent ∙ h.counted honest ∙ ap length (sym (shown_2 honest).1);

@@ -44,11 +44,11 @@ module _ {B L : Type 0} (T : Type 0) where
   after_few (x ∷ []) (a ∷ answers) = omega arith
   after_few (x ∷ y ∷ xs) (a ∷ answers) = let rest = after_few (y ∷ xs) answers in omega (arith, rest)
 
-  firsts_few : (p : Phase B L) (same : Bool) → length (firsts_of {T = T} p same) ≤ firsts_at_most p
+  firsts_few : (p : Phase B L T) (same : Bool) → length (firsts_of {T = T} p same) ≤ firsts_at_most p
   firsts_few Up same = omega arith
-  firsts_few (DownInTurn x done) same = omega arith
-  firsts_few (DownInTurns inputs answers) true = before_few inputs.items
-  firsts_few (DownInTurns inputs answers) false = after_few inputs.items answers.items
+  firsts_few (DownInTurn x copy done) same = omega arith
+  firsts_few (DownInTurns inputs copies answers) true = before_few inputs.items
+  firsts_few (DownInTurns inputs copies answers) false = after_few inputs.items answers.items
   firsts_few DownInRestart same = omega arith
 
 module _ {B L T : Type 0} where
@@ -76,7 +76,7 @@ module _ (M : Machine) where
 
   module _ {Setup : Type 0} where
     -- after the first events of a restart there is room for the others
-    pub room_after : (b0 b1 : Book M Setup) (p : Phase M.Body M.Line) (same : Bool) (more refused : ℕ) → HasNotedAll M b0 (firsts_of p same) b1 → more ≤ refused
+    pub room_after : (b0 b1 : Book M Setup) (p : Phase M.Body M.Line M.Target) (same : Bool) (more refused : ℕ) → HasNotedAll M b0 (firsts_of p same) b1 → more ≤ refused
         → room_for b0.recording (firsts_at_most p + refused) ≤ b0.room → length (view_of b0.pass).turns + (firsts_at_most p + refused) ≤ 2 ^ 60
         → (room_for b1.recording more ≤ b1.room) × (length (view_of b1.pass).turns + more ≤ 2 ^ 60)
     room_after b0 b1 p same more refused h less room tickets =

@@ -24,7 +24,8 @@ use Rattle.ether.specs.Passes.{EtherParts, view_of}
 use Rattle.node_cells.specs.declared.phase.Phase.{Phase}
 use Rattle.node_cells.specs.declared.phase.Phase.TheVariants.{Up, DownInTurn, DownInTurns}
 use Rattle.node_cells.specs.Books.{IsBook, NotedOf, turn_in}
-use Rattle.node_cells.specs.Cells.{AreAnswered, AreTogether, HasHeard, IsCell, IsIn, IsLater, Shows, Stands, StandsEither, after_input, after_inputs, brought, cell_of}
+use Rattle.node_cells.specs.Copies.{AreCopies, IsCopy}
+use Rattle.node_cells.specs.Cells.{AreAnswered, AreTogether, HasCopies, HasHeard, IsCell, IsIn, IsLater, Shows, Stands, StandsEither, after_input, after_inputs, brought, cell_of}
 use Rattle.node_cells.specs.Inputs.{Answer, OnlyAppend, input_of}
 use Rattle.node_cells.specs.Restarts.{AreNoted, HasNotedAll}
 use Rattle.node_cells.specs.Sending.{KnowsOneOf}
@@ -36,7 +37,7 @@ use Rattle.node_cells.proofs.Recorded.{Book}
 use Rattle.node_cells.proofs.Restarting.{up_stands}
 use Rattle.node_cells.proofs.Showing.{Inner, id_is, is_up, size_is}
 use Rattle.node_cells.proofs.Started.{Ran, ran}
-use Rattle.node_cells.proofs.Turning.{up_brings_none, up_is_together, with_room}
+use Rattle.node_cells.proofs.Turning.{up_brings_none, up_is_copied, up_is_together, with_room}
 
 module _ (M : Machine) where
   -- the turns of these inputs come to what the inputs come to
@@ -56,7 +57,7 @@ module _ (M : Machine) {Setup Hosted Store : Type 0} (k : Keeper Store M.Body) (
   downed_here up = ⊎_elim (λ (d : AreDowned M k (map input_of inputs) q unsaved.cause q'). d) (λ e. absurd (let z : None ≡ Some unsaved.cause = sym up ∙ e.0 in cc z)) h.falls
 
 module _ (M : Machine) {Setup Hosted Store U : Type 0} (k : Keeper Store M.Body) where
-  module _ (b0 : Book M Setup) (q : Inner M Setup Hosted Store) (u : U) (p : Phase M.Body M.Line) (r : ℕ) (line : NodeFields) (h : IsCell M k (cell_of b0 q u p r line)) (up : p ≡ Up)
+  module _ (b0 : Book M Setup) (q : Inner M Setup Hosted Store) (u : U) (p : Phase M.Body M.Line M.Target) (r : ℕ) (line : NodeFields) (h : IsCell M k (cell_of b0 q u p r line)) (up : p ≡ Up)
       (xs : List (NodeInput M.Body M.Line)) (appends : OnlyAppend xs) (leads : is_leader (role_of q.state.standing.position) ≡ true) (q' : Inner M Setup Hosted Store) (same : IsSameNode k q q') where
     abbrev c : CellOf M Setup Hosted Store U
     c = cell_of b0 q u p r line
@@ -124,11 +125,12 @@ module _ (M : Machine) {Setup Hosted Store U : Type 0} (k : Keeper Store M.Body)
                 leader = subst (λ (z : EtherParts Setup). KnowsOneOf z.size (seen q'.state [])) (sym noted.ether) known_leader;
                 heard = up_brings_none M (view_of b1.pass) p up;
                 together = up_is_together p up;
+                copied = up_is_copied b1.recording p up;
                 up = λ z. done.is_up;
                 refused = h.refused;
                 counted = λ is. counted_1 (sym ran_1.honest ∙ is);
                 shown = λ is. shown ∙ ap (λ (s : Node M.Body). fields_of s) (sym (state_1 (sym ran_1.honest ∙ is)));
-                shows = λ is. subst (λ (z : Phase M.Body M.Line). Shows M k (view_of b1.pass).size (suc (view_of b1.pass).node) (view_of b1.pass).state z r q') (sym up)
+                shows = λ is. subst (λ (z : Phase M.Body M.Line M.Target). Shows M k (view_of b1.pass).size (suc (view_of b1.pass).node) (view_of b1.pass).state z r q') (sym up)
                     (subst (λ (s : Node M.Body). IsIn q'.state s) (sym (state_1 (sym ran_1.honest ∙ is))) refl, done.is_up);
               }
 
@@ -182,8 +184,8 @@ module _ (M : Machine) {Setup Hosted Store U : Type 0} (k : Keeper Store M.Body)
           (falls.may_hold (same.honest ∙ sym h.honest ∙ honest) w stands)
 
       -- a cell that is down with this node, which shows the state from before
-      fallen_with : (ph : Phase M.Body M.Line) → (ph ≡ Up → ⊥) → HasHeard v (brought ph) → AreTogether ph → (v.honest ≡ true → Shows M k v.size (suc v.node) v.state ph 0 q') → IsCell M k (cell_of b0 q' u ph r line)
-      fallen_with ph down heard together shows =
+      fallen_with : (ph : Phase M.Body M.Line M.Target) → (ph ≡ Up → ⊥) → HasHeard v (brought ph) → AreTogether ph → HasCopies b0.recording ph → (v.honest ≡ true → Shows M k v.size (suc v.node) v.state ph 0 q') → IsCell M k (cell_of b0 q' u ph r line)
+      fallen_with ph down heard together kept shows =
           record {
             book = h.book;
             id = same.id ∙ h.id;
@@ -193,6 +195,7 @@ module _ (M : Machine) {Setup Hosted Store U : Type 0} (k : Keeper Store M.Body)
             leader = known_still;
             heard = heard;
             together = together;
+            copied = kept;
             up = λ z. absurd (down z);
             refused = λ z. absurd (down z);
             counted = h.counted;
@@ -200,68 +203,70 @@ module _ (M : Machine) {Setup Hosted Store U : Type 0} (k : Keeper Store M.Body)
             shows = λ honest. subst (λ (n : ℕ). Shows M k v.size (suc v.node) v.state ph n q') (sym (h.refused up)) (shows honest);
           }
 
-      falls_with : (ph : Phase M.Body M.Line) → IsDownInFirst xs ph ⊎ IsDownInAll xs ph → FallsInTurns M c xs (cell_of b0 q' u ph r line)
+      falls_with : (ph : Phase M.Body M.Line M.Target) → IsDownInFirst xs ph ⊎ IsDownInAll xs ph → FallsInTurns M c xs (cell_of b0 q' u ph r line)
       falls_with ph down =
           record { was_up = up; phase = down; refused = refl; same = record { ether = refl; pass = refl; recording = refl; turns = refl; sent = refl; upstream = refl; shown = refl } }
 
       -- their save was tried
-      module _ (all : Vec (NodeInput M.Body M.Line)) (answers : Vec Answer) (copied : all.items ≡ xs) (some : 1 ≤ length xs)
+      module _ (all copies : Vec (NodeInput M.Body M.Line)) (answers : Vec Answer) (kept : AreCopies b0.recording all.items copies.items) (copied : all.items ≡ xs) (some : 1 ≤ length xs)
           (tried : (sent : List (Message M.Body)) → outs M (size_of q.state) q.id (acts M xs) (seen q.state sent) ≡ map (out_of M) answers.items) where
-        pub fallen_together : IsCell M k (cell_of b0 q' u (DownInTurns all answers) r line)
+        pub fallen_together : IsCell M k (cell_of b0 q' u (DownInTurns all copies answers) r line)
         fallen_together =
-            fallen_with (DownInTurns all answers) (λ z. cc z) (λ m e. absurd (cc e))
+            fallen_with (DownInTurns all copies answers) (λ z. cc z) (λ m e. absurd (cc e))
             (subst (λ (l : List (NodeInput M.Body M.Line)). (1 ≤ length l) × (length answers.items ≡ length l) × OnlyAppend l) (sym copied)
             (some, as_many_answers M (size_of q.state) q.id xs (seen q.state []) answers.items (tried []), appends))
+            kept
             (λ honest. subst (λ (l : List (NodeInput M.Body M.Line)).
             IsIn q'.state v.state × StandsEither k q'.store 0 (saved_by v.state) (saved_by (after_inputs M v.size (suc v.node) v.state l))
             × (is_leader v.state.role ≡ true) × AreAnswered M v.size (suc v.node) v.state l answers.items) (sym copied)
             (still_here honest, either_stands honest, leads_here honest, outs_here honest answers.items tried))
 
-        pub falls_together : FallsInTurns M c xs (cell_of b0 q' u (DownInTurns all answers) r line)
-        falls_together = falls_with (DownInTurns all answers) (inr copied)
+        pub falls_together : FallsInTurns M c xs (cell_of b0 q' u (DownInTurns all copies answers) r line)
+        falls_together = falls_with (DownInTurns all copies answers) (inr copied)
 
       -- none was
       module _ (sure : (s : Store) (w : Saved M.Body) → Serves (k.condition s) → k.may_stand s w ↔ (w ≡ k.saved s)) (holds : q.down ≡ None → Holds k q.store q.state) (untried : q'.store ≡ q.store) where
         before_stands : v.honest ≡ true → Stands k q'.store 0 (saved_by v.state)
         before_stands honest = subst (λ (s : Store). Stands k s 0 (saved_by v.state)) (sym untried) (up_stands M k c h sure holds honest (h.up up) (is_up M k c h up honest))
 
-        first_cell : (x : NodeInput M.Body M.Line) → OnlyAppend (x ∷ []) → IsCell M k (cell_of b0 q' u (DownInTurn x false) r line)
-        first_cell x one =
-            fallen_with (DownInTurn x false) (λ z. cc z) (λ m e. absurd (let z : None ≡ Some m = sym (brings_none x one) ∙ e in cc z)) tt
+        first_cell : (x : NodeInput M.Body M.Line) (copy : Option (NodeInput M.Body M.Line)) → IsCopy b0.recording x copy → OnlyAppend (x ∷ []) → IsCell M k (cell_of b0 q' u (DownInTurn x copy false) r line)
+        first_cell x copy kept one =
+            fallen_with (DownInTurn x copy false) (λ z. cc z) (λ m e. absurd (let z : None ≡ Some m = sym (brings_none x one) ∙ e in cc z)) tt kept
             (λ honest. (still_here honest, λ w stands. inl (before_stands honest w stands)))
 
-        pub fallen_first : (ph : Phase M.Body M.Line) → IsDownInFirst xs ph → IsCell M k (cell_of b0 q' u ph r line)
-        fallen_first ph down = by xs appends down
+        pub fallen_first : (ph : Phase M.Body M.Line M.Target) → HasCopies b0.recording ph → IsDownInFirst xs ph → IsCell M k (cell_of b0 q' u ph r line)
+        fallen_first ph kept down = by xs appends down
           where
             by : (ys : List (NodeInput M.Body M.Line)) → OnlyAppend ys → IsDownInFirst ys ph → IsCell M k (cell_of b0 q' u ph r line)
             by [] all is = absurd is
-            by (y ∷ ys) all is = subst (λ (z : Phase M.Body M.Line). IsCell M k (cell_of b0 q' u z r line)) (sym is) (first_cell y (all.0, tt))
+            by (y ∷ ys) all is = subst (λ (z : Phase M.Body M.Line M.Target). IsCell M k (cell_of b0 q' u z r line)) (sym is.1)
+                (first_cell y is.0 (subst (λ (z : Phase M.Body M.Line M.Target). HasCopies b0.recording z) is.1 kept) (all.0, tt))
 
-        pub falls_first : (ph : Phase M.Body M.Line) → IsDownInFirst xs ph → FallsInTurns M c xs (cell_of b0 q' u ph r line)
+        pub falls_first : (ph : Phase M.Body M.Line M.Target) → IsDownInFirst xs ph → FallsInTurns M c xs (cell_of b0 q' u ph r line)
         falls_first ph down = falls_with ph (inl down)
 
     -- ---- whichever it was
-    module _ (all : Vec (NodeInput M.Body M.Line)) (copied : all.items ≡ xs) (some : 1 ≤ length xs) (unsaved : Unsaved) (failed : HaveFailed M k (map input_of xs) q unsaved q')
-        (sure : (s : Store) (w : Saved M.Body) → Serves (k.condition s) → k.may_stand s w ↔ (w ≡ k.saved s)) (holds : q.down ≡ None → Holds k q.store q.state) (ph : Phase M.Body M.Line)
-        (in_all : IfSome unsaved.answers (λ given. ph ≡ DownInTurns all given)) (in_first : unsaved.answers ≡ None → IsDownInFirst all.items ph) where
+    module _ (all copies : Vec (NodeInput M.Body M.Line)) (copied : all.items ≡ xs) (some : 1 ≤ length xs) (unsaved : Unsaved) (failed : HaveFailed M k (map input_of xs) q unsaved q')
+        (sure : (s : Store) (w : Saved M.Body) → Serves (k.condition s) → k.may_stand s w ↔ (w ≡ k.saved s)) (holds : q.down ≡ None → Holds k q.store q.state) (ph : Phase M.Body M.Line M.Target)
+        (in_all : IfSome unsaved.answers (λ given. ph ≡ DownInTurns all copies given)) (in_first : unsaved.answers ≡ None → IsDownInFirst all.items ph) (kept : HasCopies b0.recording ph) where
       falls_here : AreDowned M k (map input_of xs) q unsaved.cause q'
       falls_here = downed_here M k xs q q' unsaved failed (h.up up)
 
       abbrev Outs : Vec Answer → Type 0
       Outs answers = (sent : List (Message M.Body)) → outs M (size_of q.state) q.id (acts M xs) (seen q.state sent) ≡ map (out_of M) answers.items
 
-      cell_by : (o : Option (Vec Answer)) → unsaved.answers ≡ o → IfSome o (λ answers. Outs answers) → IfSome o (λ given. ph ≡ DownInTurns all given) → IsCell M k (cell_of b0 q' u ph r line)
-      cell_by None is tried down = fallen_first unsaved.cause falls_here sure holds (failed.untried is) ph (subst (λ (l : List (NodeInput M.Body M.Line)). IsDownInFirst l ph) copied (in_first is))
+      cell_by : (o : Option (Vec Answer)) → unsaved.answers ≡ o → IfSome o (λ answers. Outs answers) → IfSome o (λ given. ph ≡ DownInTurns all copies given) → IsCell M k (cell_of b0 q' u ph r line)
+      cell_by None is tried down = fallen_first unsaved.cause falls_here sure holds (failed.untried is) ph kept (subst (λ (l : List (NodeInput M.Body M.Line)). IsDownInFirst l ph) copied (in_first is))
       cell_by (Some answers) is tried down =
-          subst (λ (z : Phase M.Body M.Line). IsCell M k (cell_of b0 q' u z r line)) (sym down) (fallen_together unsaved.cause falls_here all answers copied some tried)
+          subst (λ (z : Phase M.Body M.Line M.Target). IsCell M k (cell_of b0 q' u z r line)) (sym down) (fallen_together unsaved.cause falls_here all copies answers (subst (λ (z : Phase M.Body M.Line M.Target). HasCopies b0.recording z) down kept) copied some tried)
 
       pub fallen_cell_by : IsCell M k (cell_of b0 q' u ph r line)
       fallen_cell_by = cell_by unsaved.answers refl failed.tried in_all
 
-      falls_by : (o : Option (Vec Answer)) → unsaved.answers ≡ o → IfSome o (λ answers. Outs answers) → IfSome o (λ given. ph ≡ DownInTurns all given) → FallsInTurns M c xs (cell_of b0 q' u ph r line)
+      falls_by : (o : Option (Vec Answer)) → unsaved.answers ≡ o → IfSome o (λ answers. Outs answers) → IfSome o (λ given. ph ≡ DownInTurns all copies given) → FallsInTurns M c xs (cell_of b0 q' u ph r line)
       falls_by None is tried down = falls_first unsaved.cause falls_here sure holds (failed.untried is) ph (subst (λ (l : List (NodeInput M.Body M.Line)). IsDownInFirst l ph) copied (in_first is))
       falls_by (Some answers) is tried down =
-          subst (λ (z : Phase M.Body M.Line). FallsInTurns M c xs (cell_of b0 q' u z r line)) (sym down) (falls_together unsaved.cause falls_here all answers copied some tried)
+          subst (λ (z : Phase M.Body M.Line M.Target). FallsInTurns M c xs (cell_of b0 q' u z r line)) (sym down) (falls_together unsaved.cause falls_here all copies answers (subst (λ (z : Phase M.Body M.Line M.Target). HasCopies b0.recording z) down kept) copied some tried)
 
       pub falls_in_turns : FallsInTurns M c xs (cell_of b0 q' u ph r line)
       falls_in_turns = falls_by unsaved.answers refl failed.tried in_all

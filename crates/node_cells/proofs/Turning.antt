@@ -1,5 +1,5 @@
 -- A cell after a turn.
-use Rattle.std.proofs.Common.{◌≡◌, ℕ, suc, ◌+◌, ◌*◌, ◌≤◌, ◌↔◌, Bool, true, false, List, [], ◌∷◌, ◌++◌, map, length, drop, refl, sym, ap, ◌∙◌, subst, arith, length-append}
+use Rattle.std.proofs.Common.{Option, ◌≡◌, ℕ, suc, ◌+◌, ◌*◌, ◌≤◌, ◌↔◌, Bool, true, false, List, [], ◌∷◌, ◌++◌, map, length, drop, refl, sym, ap, ◌∙◌, subst, arith, length-append}
 use Rattle.std.proofs.Math.Seq.{drop-append_seam}
 use Rattle.raft_log.specs.declared.message.Message.{Message}
 use Rattle.raft_log.specs.declared.node_state.NodeState.{NodeState}
@@ -27,7 +27,9 @@ use Rattle.node_cells.specs.declared.phase.Phase.{Phase}
 use Rattle.node_cells.specs.declared.phase.Phase.TheVariants.{Up, DownInTurn}
 use Rattle.node_cells.specs.declared.record.TurnOutput.{TurnOutput}
 use Rattle.node_cells.specs.Books.{HasNoted, HasPosted, IsBook, OutcomeOf}
-use Rattle.node_cells.specs.Cells.{AreTogether, HasHeard, IsCell, IsIn, Shows, after_input, brought, cell_of}
+use Rattle.node_cells.specs.Copies.{IsCopy}
+use Rattle.node_cells.specs.declared.record.Recording.{Recording}
+use Rattle.node_cells.specs.Cells.{AreTogether, HasCopies, HasHeard, IsCell, IsIn, Shows, after_input, brought, cell_of}
 use Rattle.node_cells.specs.Sending.{AreWithin, KnowsOneOf, StandFrom, to_of}
 use Rattle.node_cells.specs.Turns.{CellOf, FallsInTurn, IsEvent, IsGiven, IsTurn}
 use Rattle.node_cells.specs.Upstreams.{HandsOut, Tally}
@@ -39,13 +41,16 @@ use Rattle.node_cells.proofs.Showing.{Inner, Stepped, Still, downed, is_up, step
 
 module _ (M : Machine) where
   -- a node that is up went down in no turn
-  pub up_brings_none : (v : ViewOf M) (p : Phase M.Body M.Line) → p ≡ Up → HasHeard v (brought p)
-  up_brings_none v p up = subst (λ (z : Phase M.Body M.Line). HasHeard v (brought z)) (sym up) (λ m e. absurd (cc e))
+  pub up_brings_none : (v : ViewOf M) (p : Phase M.Body M.Line M.Target) → p ≡ Up → HasHeard v (brought p)
+  up_brings_none v p up = subst (λ (z : Phase M.Body M.Line M.Target). HasHeard v (brought z)) (sym up) (λ m e. absurd (cc e))
 
-module _ {B L : Type 0} where
+module _ {B L T : Type 0} where
   -- nor were inputs saved together
-  pub up_is_together : (p : Phase B L) → p ≡ Up → AreTogether p
-  up_is_together p up = subst (λ (z : Phase B L). AreTogether z) (sym up) tt
+  pub up_is_together : (p : Phase B L T) → p ≡ Up → AreTogether p
+  up_is_together p up = subst (λ (z : Phase B L T). AreTogether z) (sym up) tt
+
+  pub up_is_copied : (recording : Recording) (p : Phase B L T) → p ≡ Up → HasCopies recording p
+  up_is_copied recording p up = subst (λ (z : Phase B L T). HasCopies recording z) (sym up) tt
 
 module _ (M : Machine) {Setup : Type 0} where
   -- a book is one whatever room it has
@@ -53,7 +58,7 @@ module _ (M : Machine) {Setup : Type 0} where
   with_room b room h = record { opened = h.opened; state = h.state; recorded = h.recorded; few = h.few; small = h.small }
 
 module _ (M : Machine) {Setup Hosted Store U : Type 0} (k : Keeper Store M.Body) (tally : U → Tally) where
-  module _ (b0 : Book M Setup) (q : Inner M Setup Hosted Store) (u : U) (p : Phase M.Body M.Line) (r : ℕ) (line : NodeFields) (h : IsCell M k (cell_of b0 q u p r line)) (up : p ≡ Up) where
+  module _ (b0 : Book M Setup) (q : Inner M Setup Hosted Store) (u : U) (p : Phase M.Body M.Line M.Target) (r : ℕ) (line : NodeFields) (h : IsCell M k (cell_of b0 q u p r line)) (up : p ≡ Up) where
     abbrev c : CellOf M Setup Hosted Store U
     c = cell_of b0 q u p r line
 
@@ -143,11 +148,12 @@ module _ (M : Machine) {Setup Hosted Store U : Type 0} (k : Keeper Store M.Body)
                   leader = subst (λ (z : EtherParts Setup). KnowsOneOf z.size (seen q'.state [])) (sym ether_2) facts.leader;
                   heard = up_brings_none M (view_of b2.pass) p up;
                   together = up_is_together p up;
+                  copied = up_is_copied b2.recording p up;
                   up = λ z. done.is_up;
                   refused = h.refused;
                   counted = λ is. counted_2 (sym honest_2 ∙ is);
                   shown = λ is. shown ∙ ap (λ (s : Node M.Body). fields_of s) (sym (state_2 (sym honest_2 ∙ is)));
-                  shows = λ is. subst (λ (z : Phase M.Body M.Line). Shows M k (view_of b2.pass).size (suc (view_of b2.pass).node) (view_of b2.pass).state z r q') (sym up)
+                  shows = λ is. subst (λ (z : Phase M.Body M.Line M.Target). Shows M k (view_of b2.pass).size (suc (view_of b2.pass).node) (view_of b2.pass).state z r q') (sym up)
                       (subst (λ (s : Node M.Body). IsIn q'.state s) (sym (state_2 (sym honest_2 ∙ is))) refl, done.is_up);
                 }
 
@@ -186,8 +192,8 @@ module _ (M : Machine) {Setup Hosted Store U : Type 0} (k : Keeper Store M.Body)
 
       -- the step was done, and its output found no memory
       pub done_cell : ((s : Store) (w : Saved M.Body) → Serves (k.condition s) → k.may_stand s w ↔ (w ≡ k.saved s)) → HasHeard v (carries x)
-          → IsCell M k (cell_of b0 q' u (DownInTurn x true) r line)
-      done_cell sure heard =
+          → (copy : Option (NodeInput M.Body M.Line)) → IsCopy b0.recording x copy → IsCell M k (cell_of b0 q' u (DownInTurn x copy true) r line)
+      done_cell sure heard copy copied =
           record {
             book = h.book;
             id = same.id ∙ h.id;
@@ -197,6 +203,7 @@ module _ (M : Machine) {Setup Hosted Store U : Type 0} (k : Keeper Store M.Body)
             leader = facts.leader;
             heard = heard;
             together = tt;
+            copied = copied;
             up = λ z. absurd (cc z);
             refused = λ z. absurd (cc z);
             counted = h.counted;
@@ -220,8 +227,8 @@ module _ (M : Machine) {Setup Hosted Store U : Type 0} (k : Keeper Store M.Body)
 
     -- ---- a turn in which the node went down
     module _ (x : NodeInput M.Body M.Line) (cause : Cause) (q' : Inner M Setup Hosted Store) (falls : IsDowned M k (act_of M x) q cause q') (same : IsSameNode k q q') where
-      pub fallen_cell : HasHeard v (carries x) → IsCell M k (cell_of b0 q' u (DownInTurn x false) r line)
-      fallen_cell heard =
+      pub fallen_cell : HasHeard v (carries x) → (copy : Option (NodeInput M.Body M.Line)) → IsCopy b0.recording x copy → IsCell M k (cell_of b0 q' u (DownInTurn x copy false) r line)
+      fallen_cell heard copy copied =
           record {
             book = h.book;
             id = same.id ∙ h.id;
@@ -231,18 +238,20 @@ module _ (M : Machine) {Setup Hosted Store U : Type 0} (k : Keeper Store M.Body)
             leader = subst (λ (s : NodeState M.Body). KnowsOneOf b0.ether.size (seen s [])) (sym falls.same) h.leader;
             heard = heard;
             together = tt;
+            copied = copied;
             up = λ z. absurd (cc z);
             refused = λ z. absurd (cc z);
             counted = h.counted;
             shown = h.shown;
-            shows = λ honest. subst (λ (n : ℕ). Shows M k v.size (suc v.node) v.state (DownInTurn x false) n q') (sym (h.refused up)) (downed M k c h up x cause q' falls same honest);
+            shows = λ honest. subst (λ (n : ℕ). Shows M k v.size (suc v.node) v.state (DownInTurn x copy false) n q') (sym (h.refused up)) (downed M k c h up x copy cause q' falls same honest);
           }
 
     -- the node is down, and the rest of the cell is as it was
-    pub falls_in : (x : NodeInput M.Body M.Line) (done : Bool) (q' : Inner M Setup Hosted Store) → FallsInTurn M c x (cell_of b0 q' u (DownInTurn x done) r line)
-    falls_in x done q' =
+    pub falls_in : (x : NodeInput M.Body M.Line) (copy : Option (NodeInput M.Body M.Line)) (done : Bool) (q' : Inner M Setup Hosted Store) → FallsInTurn M c x (cell_of b0 q' u (DownInTurn x copy done) r line)
+    falls_in x copy done q' =
         record {
           was_up = up;
+          copy = copy;
           done = done;
           phase = refl;
           refused = refl;
@@ -271,12 +280,13 @@ module _ (M : Machine) {Setup Hosted Store U : Type 0} (k : Keeper Store M.Body)
             leader = subst (λ (z : EtherParts Setup). KnowsOneOf z.size (seen q.state [])) (sym noted.ether) h.leader;
             heard = up_brings_none M (view_of b1.pass) p up;
             together = up_is_together p up;
+            copied = up_is_copied b1.recording p up;
             up = h.up;
             refused = h.refused;
             counted = λ is. counted_still (sym honest_still ∙ is);
             shown = λ is. h.shown (sym honest_still ∙ is) ∙ ap (λ (s : Node M.Body). fields_of s) (sym (state_still (sym honest_still ∙ is)));
             shows = λ is. let honest : v.honest ≡ true = sym honest_still ∙ is in
-                subst (λ (z : Phase M.Body M.Line). Shows M k (view_of b1.pass).size (suc (view_of b1.pass).node) (view_of b1.pass).state z r q) (sym up)
+                subst (λ (z : Phase M.Body M.Line M.Target). Shows M k (view_of b1.pass).size (suc (view_of b1.pass).node) (view_of b1.pass).state z r q) (sym up)
                 (subst (λ (s : Node M.Body). IsIn q.state s) (sym (state_still honest)) (is_up M k c h up honest), h.up up);
           }
 

@@ -3,6 +3,7 @@ use Rattle.std.specs.Prelude.{◌≡◌, ◌*◌, ◌+◌, ◌^◌, ◌<◌, ◌
 use Rattle.raft_node.specs.Machine.{Machine}
 use Rattle.world_run.specs.declared.outcome.Outcome.{Outcome}
 use Rattle.world_run.specs.Told.{out_of}
+use Rattle.world_views.specs.declared.node_event.NodeEvent.{NodeEvent}
 use Rattle.world_views.specs.Outputs.{outs_of}
 use Rattle.world_views.specs.Own.{EventOf, TurnOf, ViewOf, runs}
 use Rattle.world_views.specs.Views.{start}
@@ -17,6 +18,7 @@ use Rattle.node_cells.specs.declared.cell_fault.CellFault.TheVariants.{Memory, S
 use Rattle.node_cells.specs.declared.record.NodeTurn.{NodeTurn}
 use Rattle.node_cells.specs.declared.record.Recording.{Recording}
 use Rattle.node_cells.specs.declared.record.Recording.TheVariants.{On, Off}
+use Rattle.node_cells.specs.Copies.{IsCopy}
 use Rattle.node_cells.specs.Posts.{posts_from}
 
 -- what is recorded of these turns, or of what came out of them
@@ -136,6 +138,11 @@ module _ {Setup B L T E P : Type 0} where
     pub turns : new.turns ≡ old.turns ++ recorded_by old.recording (turn ∷ [])
     pub sent : new.sent ≡ old.sent
     pub room : new.room + room_for old.recording 1 ≡ old.room
+
+  -- Where turns are recorded, the turn of this ticket was, with the event and what came out of it of which these are copies.
+  abbrev pub KeepsTurn : BookParts Setup B L T E P → ℕ → Option (NodeEvent B L T) → Option (Outcome E P) → BookParts Setup B L T E P → Type 0
+  KeepsTurn old ticket event outcome new =
+      (e : NodeEvent B L T) (o : Outcome E P) → IsCopy old.recording e event → IsCopy old.recording o outcome → HasKept old (record { ticket = ticket; event = e; outcome = o }) new
 
   -- what lay in the mailbox was heard, and the look is kept
   pub record HasTaken (old : BookParts Setup B L T E P) (from : ℕ) (came : Option (Envelope B)) (new : BookParts Setup B L T E P) : Type 0 where

@@ -18,10 +18,10 @@ own_cause None = NoMemory
 own_cause (Some cause) = cause
 
 -- why it is down, if it is
-abbrev pub told_down : {B L : Type 0} → Phase B L → Option Cause → Option Cause
+abbrev pub told_down : {B L T : Type 0} → Phase B L T → Option Cause → Option Cause
 told_down Up own = None
-told_down (DownInTurn x done) own = Some (own_cause own)
-told_down (DownInTurns inputs answers) own = Some (own_cause own)
+told_down (DownInTurn x copy done) own = Some (own_cause own)
+told_down (DownInTurns inputs copies answers) own = Some (own_cause own)
 told_down DownInRestart own = Some (own_cause own)
 
 module _ {Setup Hosted Store B L T E P U : Type 0} where

@@ -23,6 +23,7 @@ use Rattle.node_cells.specs.declared.phase.Phase.TheVariants.{Up, DownInTurn, Do
 use Rattle.node_cells.specs.declared.record.NodeTurn.{NodeTurn}
 use Rattle.node_cells.specs.declared.record.Recording.{Recording}
 use Rattle.node_cells.specs.Books.{BookParts, IsBook, room_for}
+use Rattle.node_cells.specs.Copies.{AreCopies, IsCopy}
 use Rattle.node_cells.specs.Inputs.{Answer, OnlyAppend}
 use Rattle.node_cells.specs.Sending.{KnowsOneOf}
 
@@ -36,7 +37,7 @@ pub record CellParts (Setup Hosted Store B L T E P U : Type 0) : Type 0 where
   pub sent : ℕ
   pub node : Parts Setup Hosted Store B
   pub upstream : U
-  pub phase : Phase B L
+  pub phase : Phase B L T
   pub refused : ℕ
   pub shown : NodeFields
 
@@ -51,7 +52,7 @@ module _ {Setup Hosted Store B L T E P U : Type 0} where
   view_in c = view_of c.pass
 
   -- the cell with this book, this node and so on
-  abbrev pub cell_of : BookParts Setup B L T E P → Parts Setup Hosted Store B → U → Phase B L → ℕ → NodeFields → CellParts Setup Hosted Store B L T E P U
+  abbrev pub cell_of : BookParts Setup B L T E P → Parts Setup Hosted Store B → U → Phase B L T → ℕ → NodeFields → CellParts Setup Hosted Store B L T E P U
   cell_of b node upstream phase refused shown =
       record {
         ether = b.ether;
@@ -100,22 +101,28 @@ module _ {B : Type 0} where
   abbrev pub IsIn : NodeState B → Node B → Type 0
   IsIn state s = seen state s.sent ≡ s
 
-module _ {B L : Type 0} where
+module _ {B L T : Type 0} where
   -- what the input brings, in which the node went down
-  abbrev pub brought : Phase B L → Option (Envelope B)
+  abbrev pub brought : Phase B L T → Option (Envelope B)
   brought Up = None
-  brought (DownInTurn x done) = carries x
-  brought (DownInTurns inputs answers) = None
+  brought (DownInTurn x copy done) = carries x
+  brought (DownInTurns inputs copies answers) = None
   brought DownInRestart = None
 
   -- Inputs that were saved together are one at least, the node only appends by them, and each has an answer.
-  abbrev pub AreTogether : Phase B L → Type 0
+  abbrev pub AreTogether : Phase B L T → Type 0
   AreTogether Up = Unit {0}
-  AreTogether (DownInTurn x done) = Unit {0}
-  AreTogether (DownInTurns inputs answers) = (1 ≤ length inputs.items) × (length answers.items ≡ length inputs.items) × OnlyAppend inputs.items
+  AreTogether (DownInTurn x copy done) = Unit {0}
+  AreTogether (DownInTurns inputs copies answers) = (1 ≤ length inputs.items) × (length answers.items ≡ length inputs.items) × OnlyAppend inputs.items
   AreTogether DownInRestart = Unit {0}
 
-module _ {B L T : Type 0} where
+  -- Where turns are recorded, the phase has copies of what the node went down in.
+  abbrev pub HasCopies : Recording → Phase B L T → Type 0
+  HasCopies recording Up = Unit {0}
+  HasCopies recording (DownInTurn x copy done) = IsCopy recording x copy
+  HasCopies recording (DownInTurns inputs copies answers) = AreCopies recording inputs.items copies.items
+  HasCopies recording DownInRestart = Unit {0}
+
   -- what is brought, if something is, was heard
   abbrev pub HasHeard : View B L T → Option (Envelope B) → Type 0
   HasHeard v o = (m : Envelope B) → o ≡ Some m → (k : ℕ) × IsAt v.heard k m
@@ -140,13 +147,13 @@ module _ (M : Machine) {Setup Hosted Store : Type 0} (k : Keeper Store M.Body) w
   -- How a node shows the view's state s. While it is up it is in this state. Once it is down, s is the state from before the turn, or before the
   -- refused restart, in which it went down; its store may hold that, or what the turn made of it, and r restarts were refused since. Of turns that
   -- were saved together it holds what all made of it, or none.
-  abbrev pub Shows : ℕ → ℕ → Node M.Body → Phase M.Body M.Line → ℕ → Parts Setup Hosted Store M.Body → Type 0
+  abbrev pub Shows : ℕ → ℕ → Node M.Body → Phase M.Body M.Line M.Target → ℕ → Parts Setup Hosted Store M.Body → Type 0
   Shows n i s Up r q = IsIn q.state s × (q.down ≡ None)
-  Shows n i s (DownInTurn x false) r q =
+  Shows n i s (DownInTurn x copy false) r q =
       IsIn q.state s × StandsEither k q.store r (saved_by s) (saved_by (after_input M n i s x))
-  Shows n i s (DownInTurn x true) r q =
+  Shows n i s (DownInTurn x copy true) r q =
       IsIn q.state (after_input M n i s x) × Stands k q.store r (saved_by (after_input M n i s x))
-  Shows n i s (DownInTurns inputs answers) r q =
+  Shows n i s (DownInTurns inputs copies answers) r q =
       IsIn q.state s × StandsEither k q.store r (saved_by s) (saved_by (after_inputs M n i s inputs.items))
       × (is_leader s.role ≡ true) × AreAnswered M n i s inputs.items answers.items
   Shows n i s DownInRestart r q = IsIn q.state s × Stands k q.store r (saved_by s)
@@ -162,6 +169,7 @@ module _ (M : Machine) {Setup Hosted Store : Type 0} (k : Keeper Store M.Body) w
     pub leader : KnowsOneOf c.ether.size (seen c.node.state [])
     pub heard : HasHeard (view_in c) (brought c.phase)
     pub together : AreTogether c.phase
+    pub copied : HasCopies c.recording c.phase
     pub up : c.phase ≡ Up → c.node.down ≡ None
     pub refused : c.phase ≡ Up → c.refused ≡ 0
     pub counted : (view_in c).honest ≡ true → c.sent ≡ length (view_in c).state.sent

@@ -2,6 +2,7 @@ pub mod Sending
 pub mod Remembering
 pub mod Upstreams
 pub mod Posts
+pub mod Copies
 pub mod Books
 pub mod Inputs
 pub mod Cells

@@ -48,10 +48,10 @@ module _ {B L T : Type 0} where
   -- What a restart publishes first, each event with its answer: that the node was started again, or where it had gone down in a turn, that it
   -- stopped in that, before or after it was saved. It was saved where its step was done, or where the store does not hold what the node had in
   -- memory.
-  abbrev pub firsts_of : Phase B L → Bool → List (NodeEvent B L T × Answer)
+  abbrev pub firsts_of : Phase B L T → Bool → List (NodeEvent B L T × Answer)
   firsts_of Up same = (Restart, Ok tt) ∷ []
-  firsts_of (DownInTurn x done) same = (StopIn x (done || not same), Ok tt) ∷ []
-  firsts_of (DownInTurns inputs answers) same = stops_in same inputs.items answers.items
+  firsts_of (DownInTurn x copy done) same = (StopIn x (done || not same), Ok tt) ∷ []
+  firsts_of (DownInTurns inputs copies answers) same = stops_in same inputs.items answers.items
   firsts_of DownInRestart same = (Restart, Ok tt) ∷ []
 
   -- so many restarts
@@ -59,26 +59,26 @@ module _ {B L T : Type 0} where
   AreRestarts [] = Unit {0}
   AreRestarts (t ∷ turns) = (t.1 ≡ Restart) × AreRestarts turns
 
-module _ {B L : Type 0} where
+module _ {B L T : Type 0} where
   -- how many events a restart publishes first, at most
-  abbrev pub firsts_at_most : Phase B L → ℕ
+  abbrev pub firsts_at_most : Phase B L T → ℕ
   firsts_at_most Up = 1
-  firsts_at_most (DownInTurn x done) = 1
-  firsts_at_most (DownInTurns inputs answers) = length inputs.items
+  firsts_at_most (DownInTurn x copy done) = 1
+  firsts_at_most (DownInTurns inputs copies answers) = length inputs.items
   firsts_at_most DownInRestart = 1
 
   -- it is not that inputs were saved together
-  abbrev pub IsAlone : Phase B L → Type 0
+  abbrev pub IsAlone : Phase B L T → Type 0
   IsAlone Up = Unit {0}
-  IsAlone (DownInTurn x done) = Unit {0}
-  IsAlone (DownInTurns inputs answers) = ⊥
+  IsAlone (DownInTurn x copy done) = Unit {0}
+  IsAlone (DownInTurns inputs copies answers) = ⊥
   IsAlone DownInRestart = Unit {0}
 
   -- a node that is up goes down in a refused restart; one that was down stays so
-  abbrev pub fallen : Phase B L → Phase B L
+  abbrev pub fallen : Phase B L T → Phase B L T
   fallen Up = DownInRestart
-  fallen (DownInTurn x done) = DownInTurn x done
-  fallen (DownInTurns inputs answers) = DownInTurns inputs answers
+  fallen (DownInTurn x copy done) = DownInTurn x copy done
+  fallen (DownInTurns inputs copies answers) = DownInTurns inputs copies answers
   fallen DownInRestart = DownInRestart
 
 -- what an answer is in the record
@@ -93,10 +93,10 @@ module _ (M : Machine) where
   after_turns v (t ∷ turns) = after_turns (after_event M v t.0 t.1) turns
 
   -- where inputs were saved together, these are their answers, from this state on
-  abbrev pub TellsAnswers : ℕ → ℕ → Node M.Body → Phase M.Body M.Line → Type 0
+  abbrev pub TellsAnswers : ℕ → ℕ → Node M.Body → Phase M.Body M.Line M.Target → Type 0
   TellsAnswers n i s Up = Unit {0}
-  TellsAnswers n i s (DownInTurn x done) = Unit {0}
-  TellsAnswers n i s (DownInTurns inputs answers) = AreAnswered M n i s inputs.items answers.items
+  TellsAnswers n i s (DownInTurn x copy done) = Unit {0}
+  TellsAnswers n i s (DownInTurns inputs copies answers) = AreAnswered M n i s inputs.items answers.items
   TellsAnswers n i s DownInRestart = Unit {0}
 
   -- these turns are of these events, in order, each with its answer

@@ -1,5 +1,5 @@
 -- What comes of several inputs of a cell's node that leads, done one after the other and saved at once.
-use Rattle.std.specs.Prelude.{◌≡◌, ◌⊎◌, ◌^◌, ◌<◌, ◌+◌, suc, true, false, List, [], ◌∷◌, ◌++◌, length, map}
+use Rattle.std.specs.Prelude.{◌≡◌, ◌⊎◌, ◌^◌, ◌<◌, ◌+◌, suc, true, false, List, [], ◌∷◌, ◌++◌, length, map, Option}
 use Rattle.raft_node.specs.declared.node_fault.NodeFault.TheVariants.{Down, Refused as Declined}
 use Rattle.raft_node.specs.Machine.{Machine}
 use Rattle.world_views.specs.declared.node_event.NodeEvent.{NodeEvent}
@@ -16,20 +16,19 @@ use Rattle.node_cells.specs.Restarts.{AreNoted, after_turns, outcome_by}
 use Rattle.node_cells.specs.Turns.{CellOf, IsDownAs, IsEvent, WasDown}
 use Rattle.node_cells.specs.Upstreams.{Tally}
 
-module _ {B L : Type 0} where
+module _ {B L T : Type 0} where
   -- the node went down in the first of these inputs, before that was saved
-  abbrev pub IsDownInFirst : List (NodeInput B L) → Phase B L → Type 0
+  abbrev pub IsDownInFirst : List (NodeInput B L) → Phase B L T → Type 0
   IsDownInFirst [] phase = ⊥
-  IsDownInFirst (x ∷ inputs) phase = phase ≡ DownInTurn x false
+  IsDownInFirst (x ∷ inputs) phase = (copy : Option (NodeInput B L)) × (phase ≡ DownInTurn x copy false)
 
   -- it went down as they were saved together
-  abbrev pub IsDownInAll : List (NodeInput B L) → Phase B L → Type 0
+  abbrev pub IsDownInAll : List (NodeInput B L) → Phase B L T → Type 0
   IsDownInAll inputs Up = ⊥
-  IsDownInAll inputs (DownInTurn x done) = ⊥
-  IsDownInAll inputs (DownInTurns all answers) = all.items ≡ inputs
+  IsDownInAll inputs (DownInTurn x copy done) = ⊥
+  IsDownInAll inputs (DownInTurns all copies answers) = all.items ≡ inputs
   IsDownInAll inputs DownInRestart = ⊥
 
-module _ {B L T : Type 0} where
   -- each input is done, with its answer
   abbrev pub all_done : List (NodeInput B L) → List Answer → List (NodeEvent B L T × Answer)
   all_done [] answers = []

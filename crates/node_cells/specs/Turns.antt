@@ -37,6 +37,14 @@ module _ {E P : Type 0} where
   IsGiven place effects (Refused refusal) = ⊥
   IsGiven place effects Missing = ⊥
 
+  -- these lines come out, played up to this place
+  abbrev pub IsPlayed : ℕ → List P → Outcome E P → Type 0
+  IsPlayed place lines Quiet = ⊥
+  IsPlayed place lines (Left p left) = ⊥
+  IsPlayed place lines (Looked p played) = (p ≡ place) × (played.items ≡ lines)
+  IsPlayed place lines (Refused refusal) = ⊥
+  IsPlayed place lines Missing = ⊥
+
 -- a cell of a node that hosts this machine
 abbrev pub CellOf : Machine → Type 0 → Type 0 → Type 0 → Type 0 → Type 0
 CellOf M Setup Hosted Store U = CellParts Setup Hosted Store M.Body M.Line M.Target M.Effect M.Played U
@@ -55,8 +63,9 @@ module _ (M : Machine) {Setup Hosted Store U : Type 0} where
   -- a node that was up went down in this turn
   pub record FallsInTurn (c : CellOf M Setup Hosted Store U) (x : NodeInput M.Body M.Line) (d : CellOf M Setup Hosted Store U) : Type 0 where
     pub was_up : c.phase ≡ Up
+    pub copy : Option (NodeInput M.Body M.Line)
     pub done : Bool
-    pub phase : d.phase ≡ DownInTurn x done
+    pub phase : d.phase ≡ DownInTurn x copy done
     pub refused : d.refused ≡ c.refused
     pub same : IsDownAs c d
 

@@ -2,7 +2,8 @@
 ghost use Rattle.std.specs.Prelude.{◌≡◌, ◌≤◌, ◌<◌, ◌+◌, ◌*◌, ◌^◌, ◌↔◌, IsTrue, OnOk, OnErr, suc, true, [], ◌∷◌, length, map, MatchResult, vec_capacity, vec_len};
 ghost use Rattle.ether.specs.Passes.{IsHeard, view_of};
 ghost use Rattle.ether.specs.Plays.{IsFrom};
-ghost use Rattle.node_cells.specs.Books.{HasKept, HasNoRoom, HasNoted, HasPosted, HasRoom, HasTaken, IsBook, IsSameBook, HasSeen, room_for};
+ghost use Rattle.node_cells.specs.Books.{HasNoRoom, HasNoted, HasPosted, HasRoom, HasTaken, IsBook, IsSameBook, HasSeen, KeepsTurn, room_for};
+ghost use Rattle.node_cells.specs.Copies.{IsKept};
 ghost use Rattle.node_cells.specs.Posts.{GaveBack, MayGiveBack};
 ghost use Rattle.node_cells.specs.Restarts.{HasRestarts};
 ghost use Rattle.world_views.specs.Laws.{AreOfOneGroup};
@@ -11,6 +12,7 @@ ghost use Rattle.world_run.specs.Told.{out_of};
 ghost use Rattle.world_views.specs.Own.{own_out};
 
 use crate::cell_fault::CellFault;
+use crate::for_record::ForRecord;
 use crate::record::{NodeTurn, Recording};
 use ether::{Ether, Pass};
 use machine_laws::{Hosted, Machine};
@@ -18,7 +20,6 @@ use raft_log::{GroupSize, Message};
 use raft_node::Described;
 use std::alloc::Global;
 use std::marker::Model;
-use std::snapshot::Snapshot;
 use std::sync::Arc;
 use world_run::Outcome;
 use world_views::{Envelope, NodeEvent};
@@ -77,39 +78,50 @@ impl<M: Hosted> Book<M> {
     /// An event of the node, ticked, and recorded where turns are recorded.
     pub fn note(
         &mut self,
-        event: NodeEvent<M::Command, M::Line, M::Target>,
-        outcome: Outcome<M::Effect, M::Played>,
+        event: ForRecord<NodeEvent<M::Command, M::Line, M::Target>>,
+        outcome: ForRecord<Outcome<M::Effect, M::Played>>,
     )
         requires book { IsBook (⟦<M as Described>⟧.machine self.old.ether.setup) self.old }
-        requires heard { IsHeard (view_of self.old.pass) event }
+        requires heard { IsHeard (view_of self.old.pass) event.told.value }
+        requires kept { IsKept self.old.recording event × IsKept self.old.recording outcome }
         requires room { (room_for self.old.recording 1 ≤ self.old.room)
             × (length (view_of self.old.pass).turns < 2 ^ 60) }
         requires out { (view_of self.old.pass).honest ≡ true →
-            out_of (⟦<M as Described>⟧.machine self.old.ether.setup) outcome
+            out_of (⟦<M as Described>⟧.machine self.old.ether.setup) outcome.told.value
             ≡ own_out (⟦<M as Described>⟧.machine self.old.ether.setup) (view_of self.old.pass).size
-            (suc (view_of self.old.pass).node) (view_of self.old.pass).state event }
+            (suc (view_of self.old.pass).node) (view_of self.old.pass).state event.told.value }
         ensures book { IsBook (⟦<M as Described>⟧.machine self.old.ether.setup) self.new }
-        ensures noted { HasNoted (⟦<M as Described>⟧.machine self.old.ether.setup) self.old event
-            outcome self.new }
+        ensures noted { HasNoted (⟦<M as Described>⟧.machine self.old.ether.setup) self.old
+            event.told.value outcome.told.value self.new }
     {
-        let Ok(ticket) = self.ether.tick(&mut self.pass, Snapshot::of(&event)) else {
+        let ForRecord { told, kept } = event;
+        let Ok(ticket) = self.ether.tick(&mut self.pass, told) else {
             unreachable!()
         };
-        self.keep(NodeTurn {
-            ticket,
-            event,
-            outcome,
-        });
+        self.keep(ticket, kept, outcome.kept);
     }
 
-    /// Keeps a turn where turns are recorded, and drops it where they are not.
-    fn keep(&mut self, turn: NodeTurn<M::Command, M::Line, M::Target, M::Effect, M::Played>)
+    /// Keeps a turn with this ticket, where turns are recorded.
+    fn keep(
+        &mut self,
+        ticket: u64,
+        event: Option<NodeEvent<M::Command, M::Line, M::Target>>,
+        outcome: Option<Outcome<M::Effect, M::Played>>,
+    )
         requires { room_for self.old.recording 1 ≤ self.old.room }
-        ensures { HasKept self.old turn self.new }
+        ensures { KeepsTurn self.old ticket event outcome self.new }
     {
         match self.recording {
-            Recording::On => self.turns.push_reserved(turn),
-            Recording::Off => drop(turn),
+            Recording::On => {
+                let Some(event) = event else { return };
+                let Some(outcome) = outcome else { return };
+                self.turns.push_reserved(NodeTurn {
+                    ticket,
+                    event,
+                    outcome,
+                });
+            }
+            Recording::Off => {}
         }
     }
 
@@ -124,7 +136,9 @@ impl<M: Hosted> Book<M> {
     {
         for done in 0..count {
             let _ = done;
-            self.note(NodeEvent::Restart, Outcome::Quiet);
+            let event = ForRecord::of(NodeEvent::Restart);
+            let outcome = ForRecord::of(Outcome::Quiet);
+            self.note(event, outcome);
         }
     }
 

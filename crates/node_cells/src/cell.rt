@@ -8,16 +8,19 @@ ghost use Rattle.node_cells.specs.Books.{room_for};
 ghost use Rattle.raft_node.specs.Parts.{keeper};
 ghost use Rattle.node_cells.specs.Causes.{HasCause};
 ghost use Rattle.node_cells.specs.Cells.{HasHeard, HasMadeRoom, view_in};
+ghost use Rattle.node_cells.specs.Copies.{IsCopy, IsKept};
 ghost use Rattle.node_cells.specs.Openings.{HasSeenTo, HasTakenIn, IsSameCell};
 ghost use Rattle.node_cells.specs.Sending.{to_of};
 ghost use Rattle.node_cells.specs.Turns.{HasDelivered, HasTurned, IsGiven};
 
 use crate::book::Book;
 use crate::cell_fault::CellFault;
-use crate::copying::{addressees, copied_input, input_of, outcome_of};
+use crate::copying::{addressees, input_copy, input_of, outcome_of};
+use crate::for_record::ForRecord;
 use crate::handing::hand_all;
 use crate::phase::Phase;
-use crate::record::TurnOutput;
+use crate::record::{Recording, TurnOutput};
+use crate::told_input::ToldInput;
 use crate::upstream::Upstream;
 use machine_laws::{Hosted, Machine};
 use raft_log::Message;
@@ -28,7 +31,7 @@ use std::alloc::{AllocError, Global};
 use std::marker::Model;
 use wire_bytes::Number;
 use world_run::Outcome;
-use world_views::{Envelope, NodeEvent, NodeInput};
+use world_views::{Envelope, NodeInput};
 
 mod leaving;
 mod playing;
@@ -50,7 +53,7 @@ pub struct NodeCell<M: Hosted, S: Stable<M::Command>, U: Upstream> {
     book: Book<M>,
     node: Node<M, S>,
     upstream: U,
-    phase: Phase<M::Command, M::Line>,
+    phase: Phase<M::Command, M::Line, M::Target>,
     refused: u64,
     shown: NodeFields,
 }
@@ -77,9 +80,9 @@ impl<M: Hosted, S: Stable<M::Command>, U: Upstream> Model for NodeCell<M, S, U> 
 impl<M: Hosted, S: Stable<M::Command>, U: Upstream> NodeCell<M, S, U> {
     /// One event at the cell's own view: its step, its tick, its posts, its hands.
     ///
-    /// Room in the record and tickets are settled first, and then a copy of the input is made, and room for
-    /// what the posts give back: where that is refused, the cell is as it was. A node that goes down in its turn stays so until it is
-    /// started again, and its event is recorded then.
+    /// Room in the record and tickets are settled first, and then a copy of the input is made, where turns
+    /// are recorded, and room for what the posts give back: where that is refused, the cell is as it was. A
+    /// node that goes down in its turn stays so until it is started again, and its event is recorded then.
     pub fn turn(
         &mut self,
         input: NodeInput<M::Command, M::Line>,
@@ -94,13 +97,15 @@ impl<M: Hosted, S: Stable<M::Command>, U: Upstream> NodeCell<M, S, U> {
             return Err(CellFault::Node(NodeFault::Down(cause)));
         }
         self.make_room(0)?;
-        let Ok(copy) = copied_input(self.alloc, &input) else {
+        let recording = self.recording();
+        let Ok(copy) = input_copy(self.alloc, recording, &input) else {
             return Err(CellFault::Memory);
         };
         let Ok(replaced) = Vec::with_capacity(self.alloc, MOST_SENT) else {
             return Err(CellFault::Memory);
         };
-        self.run(input, copy, replaced)
+        let (input, told) = ToldInput::of(input);
+        self.run(recording, input, told, copy, replaced)
     }
 
     /// Tickets for so many turns and one more, and room in the record for them, where turns are recorded.
@@ -114,15 +119,19 @@ impl<M: Hosted, S: Stable<M::Command>, U: Upstream> NodeCell<M, S, U> {
     /// what the posts give back goes into `replaced`.
     fn run(
         &mut self,
+        recording: Recording,
         input: NodeInput<M::Command, M::Line>,
-        copy: NodeInput<M::Command, M::Line>,
+        told: ToldInput<M::Command, M::Line, M::Target>,
+        copy: Option<NodeInput<M::Command, M::Line>>,
         mut replaced: Vec<Envelope<M::Command>>,
     ) -> Result<TurnOutput<M::Command, M::Effect>, CellFault>
         requires up { self.old.parts.phase ≡ Up }
         requires room { (room_for self.old.parts.recording 1 ≤ self.old.room)
             × (length (view_in self.old.parts).turns < 2 ^ 60) }
         requires heard { HasHeard (view_in self.old.parts) (carries input) }
-        requires copy { copy ≡ input }
+        requires recording { recording ≡ self.old.parts.recording }
+        requires told { told ≡ input }
+        requires copy { IsCopy recording told copy }
         requires replaced { (replaced.items ≡ []) × (vec_len replaced + 7 ≤ vec_capacity replaced) }
         ensures turn { HasTurned (⟦<M as Described>⟧.machine self.old.parts.ether.setup) U.tally
             self.old.parts input result self.new.parts }
@@ -136,12 +145,13 @@ impl<M: Hosted, S: Stable<M::Command>, U: Upstream> NodeCell<M, S, U> {
                     place,
                     effects,
                 } = output;
-                let Ok((posted_to, outcome)) = copies::<M>(self.alloc, &messages, place, &effects)
-                else {
-                    self.phase = Phase::DownInTurn(copy, true);
+                let Ok((posted_to, effects, outcome)) = outputs::<M>(
+                    self.alloc, recording, &messages, place, effects,
+                ) else {
+                    self.phase = Phase::DownInTurn(told, copy, true);
                     return Err(CellFault::Node(NodeFault::Down(Cause::Memory)));
                 };
-                self.book.note(NodeEvent::Does(copy), outcome);
+                self.book.note(told.done(copy), outcome);
                 self.book.post_all(messages, &mut replaced);
                 hand_all::<M, U>(&mut self.upstream, &effects);
                 self.shown = NodeFields::of(self.node.state());
@@ -154,11 +164,11 @@ impl<M: Hosted, S: Stable<M::Command>, U: Upstream> NodeCell<M, S, U> {
             }
             Err(fault) => {
                 if let NodeFault::Refused(refusal) = &fault {
-                    let outcome = Outcome::Refused(*refusal);
-                    self.book.note(NodeEvent::Does(copy), outcome);
+                    let outcome = ForRecord::of(Outcome::Refused(*refusal));
+                    self.book.note(told.done(copy), outcome);
                     return Err(CellFault::Node(fault));
                 }
-                self.phase = Phase::DownInTurn(copy, false);
+                self.phase = Phase::DownInTurn(told, copy, false);
                 Err(CellFault::Node(fault))
             }
         }
@@ -215,17 +225,28 @@ impl<M: Hosted, S: Stable<M::Command>, U: Upstream> NodeCell<M, S, U> {
     }
 }
 
-/// What is answered and what is recorded of an output: to whom its messages are, and what comes out.
-fn copies<M: Hosted>(
+/// What is answered and what is recorded of an output: to whom its messages are, its effects, and what
+/// comes out.
+fn outputs<M: Hosted>(
     alloc: Global,
+    recording: Recording,
     messages: &[Message<M::Command>],
     place: Number,
-    effects: &[M::Effect],
-) -> Result<(Vec<u8>, Outcome<M::Effect, M::Played>), AllocError>
-    ensures { IfOk result (λ r. (r.0.items ≡ map to_of messages.now)
-        × IsGiven place effects.now r.1) }
+    effects: Vec<M::Effect>,
+) -> Result<
+    (
+        Vec<u8>,
+        Vec<M::Effect>,
+        ForRecord<Outcome<M::Effect, M::Played>>,
+    ),
+    AllocError,
+>
+    ensures posted { IfOk result (λ r. r.0.items ≡ map to_of messages.now) }
+    ensures effects { IfOk result (λ r. r.1 ≡ effects) }
+    ensures given { IfOk result (λ r. IsGiven place effects.items r.2.told.value) }
+    ensures kept { IfOk result (λ r. IsKept recording r.2) }
 {
     let posted_to = addressees(alloc, messages)?;
-    let outcome = outcome_of(alloc, place, effects)?;
-    Ok((posted_to, outcome))
+    let (effects, outcome) = outcome_of(alloc, recording, place, effects)?;
+    Ok((posted_to, effects, outcome))
 }

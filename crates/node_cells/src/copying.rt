@@ -1,14 +1,21 @@
 //! Copies for the record.
-ghost use Rattle.std.specs.Prelude.{◌≡◌, IfOk, map};
+ghost use Rattle.std.specs.Prelude.{◌≡◌, ◌<◌, [], IfOk, Ok, None, map};
+ghost use Rattle.world_run.specs.declared.outcome.Outcome.TheVariants.{Left, Looked};
+ghost use Rattle.node_cells.specs.declared.record.Recording.TheVariants.{Off};
+ghost use Rattle.node_cells.specs.Copies.{AreCopies, IsCopy, IsKept, first_in};
 ghost use Rattle.node_cells.specs.Sending.{to_of};
 ghost use Rattle.node_cells.specs.Inputs.{input_of};
 ghost use Rattle.node_cells.specs.Restarts.{outcome_by};
-ghost use Rattle.node_cells.specs.Turns.{IsGiven};
+ghost use Rattle.node_cells.specs.Turns.{IsGiven, IsPlayed};
 
+use crate::for_record::ForRecord;
+use crate::record::Recording;
+use crate::told_input::ToldInput;
 use node_steps::Refusal;
 use raft_log::Message;
 use raft_node::Input;
 use std::alloc::{AllocError, Global};
+use std::snapshot::Snapshot;
 use wire_bytes::{Copied, Number, Wire, copied_all};
 use world_run::Outcome;
 use world_views::{Envelope, NodeInput};
@@ -34,6 +41,21 @@ pub fn copied_input<B: Wire, L: Wire>(
         NodeInput::Claim => NodeInput::Claim,
         NodeInput::Apply => NodeInput::Apply,
     })
+}
+
+/// A copy of the input, where turns are recorded.
+pub fn input_copy<B: Wire, L: Wire>(
+    alloc: Global,
+    recording: Recording,
+    input: &NodeInput<B, L>,
+) -> Result<Option<NodeInput<B, L>>, AllocError>
+    ensures copy { IfOk result (λ copy. IsCopy recording input.now copy) }
+    ensures none { recording ≡ Off → result ≡ Ok None }
+{
+    match recording {
+        Recording::On => Ok(Some(copied_input(alloc, input)?)),
+        Recording::Off => Ok(None),
+    }
 }
 
 /// The input as a node takes it.
@@ -67,33 +89,124 @@ pub fn copied_inputs<B: Wire, L: Wire>(
     Ok(copies)
 }
 
-/// The inputs as a node takes them, in order.
-pub fn inputs_of<B: Wire, L: Drop>(
+/// Copies of the inputs, in order, where turns are recorded.
+pub fn input_copies<B: Wire, L: Wire>(
     alloc: Global,
-    inputs: Vec<NodeInput<B, L>>,
-) -> Result<Vec<Input<B, L>>, AllocError>
-    ensures { IfOk result (λ taken. taken.items ≡ map input_of inputs.items) }
+    recording: Recording,
+    inputs: &[NodeInput<B, L>],
+) -> Result<Vec<NodeInput<B, L>>, AllocError>
+    ensures copies { IfOk result (λ copies. AreCopies recording inputs.now copies.items) }
+    ensures none { recording ≡ Off → IfOk result (λ copies. copies.items ≡ []) }
 {
-    let mut taken = Vec::with_capacity(alloc, inputs.len())?;
-    for input in inputs {
-        taken.push(input_of(input))?;
+    match recording {
+        Recording::On => copied_inputs(alloc, inputs),
+        Recording::Off => Ok(Vec::new(alloc)),
     }
-    Ok(taken)
 }
 
-/// What comes out where a place was applied, or none, and these effects leave.
+/// The inputs as a node takes them, in order, and as clauses see them.
+pub fn inputs_of<B: Wire, L: Drop, T>(
+    alloc: Global,
+    inputs: Vec<NodeInput<B, L>>,
+) -> Result<(Vec<Input<B, L>>, Vec<ToldInput<B, L, T>>), AllocError>
+    ensures { IfOk result (λ r. (r.0.items ≡ map input_of inputs.items)
+        × (r.1.items ≡ inputs.items)) }
+{
+    let mut taken = Vec::with_capacity(alloc, inputs.len())?;
+    let mut all_told = Vec::with_capacity(alloc, inputs.len())?;
+    for input in inputs {
+        let (input, told) = ToldInput::of(input);
+        taken.push(input_of(input))?;
+        all_told.push(told)?;
+    }
+    Ok((taken, all_told))
+}
+
+/// The first of these, if there is one.
+pub fn first_of<A: Drop>(all: Vec<A>) -> Option<A>
+    ensures { result ≡ first_in all.items }
+{
+    all.into_iter().next()
+}
+
+/// What comes out where a place was applied, or none, and these effects leave: the effects, and what is
+/// recorded.
 pub fn outcome_of<E: Copied, P>(
     alloc: Global,
+    recording: Recording,
     place: Number,
-    effects: &[E],
-) -> Result<Outcome<E, P>, AllocError>
-    ensures { IfOk result (λ o. IsGiven place effects.now o) }
+    effects: Vec<E>,
+) -> Result<(Vec<E>, ForRecord<Outcome<E, P>>), AllocError>
+    ensures effects { IfOk result (λ r. r.0 ≡ effects) }
+    ensures given { IfOk result (λ r. IsGiven place effects.items r.1.told.value) }
+    ensures kept { IfOk result (λ r. IsKept recording r.1) }
+    ensures none { recording ≡ Off → 0 < place → IfOk result (λ r. r.1.kept ≡ None) }
 {
     if place.value() == 0 {
-        return Ok(Outcome::Quiet);
+        return Ok((effects, ForRecord::of(Outcome::Quiet)));
     }
-    let effects = copied_all(alloc, effects)?;
-    Ok(Outcome::Left { place, effects })
+    match recording {
+        Recording::On => {
+            let copies = copied_all(alloc, &effects)?;
+            let outcome = Outcome::Left {
+                place,
+                effects: copies,
+            };
+            Ok((effects, ForRecord::of(outcome)))
+        }
+        Recording::Off => Ok(told_left(place, effects)),
+    }
+}
+
+/// The effects that leave, and for clauses alone that they do.
+fn told_left<E, P>(place: Number, effects: Vec<E>) -> (Vec<E>, ForRecord<Outcome<E, P>>)
+    ensures told { (result.0 ≡ effects) × (result.1.told.value ≡ Left place effects) }
+    ensures none { result.1.kept ≡ None }
+{
+    let outcome = Outcome::Left { place, effects };
+    let told = Snapshot::of(&outcome);
+    let Outcome::Left { effects, .. } = outcome else {
+        unreachable!()
+    };
+    (effects, ForRecord { told, kept: None })
+}
+
+/// The lines that are played up to a place, and what is recorded of that.
+pub fn played_of<E, P: Copied>(
+    alloc: Global,
+    recording: Recording,
+    place: Number,
+    lines: Vec<P>,
+) -> Result<(Vec<P>, ForRecord<Outcome<E, P>>), AllocError>
+    ensures lines { IfOk result (λ r. r.0 ≡ lines) }
+    ensures played { IfOk result (λ r. IsPlayed place lines.items r.1.told.value) }
+    ensures kept { IfOk result (λ r. IsKept recording r.1) }
+    ensures none { recording ≡ Off → IfOk result (λ r. r.1.kept ≡ None) }
+{
+    match recording {
+        Recording::On => {
+            let copies = copied_all(alloc, &lines)?;
+            let outcome = Outcome::Looked {
+                place,
+                lines: copies,
+            };
+            Ok((lines, ForRecord::of(outcome)))
+        }
+        Recording::Off => Ok(told_looked(place, lines)),
+    }
+}
+
+/// The lines that are played, and for clauses alone that they are.
+fn told_looked<E, P>(place: Number, lines: Vec<P>) -> (Vec<P>, ForRecord<Outcome<E, P>>)
+    ensures told { (result.0 ≡ lines) × (result.1.told.value ≡ Looked place lines) }
+    ensures none { result.1.kept ≡ None }
+{
+    let outcome = Outcome::Looked { place, lines };
+    let told = Snapshot::of(&outcome);
+    let Outcome::Looked { lines, .. } = outcome else {
+        unreachable!()
+    };
+    (lines, ForRecord { told, kept: None })
 }
 
 /// What an answer is in the record.

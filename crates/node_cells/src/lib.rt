@@ -10,11 +10,13 @@ mod cell;
 mod cell_fault;
 mod closing;
 mod copying;
+mod for_record;
 mod handing;
 mod laws;
 mod phase;
 mod record;
 mod remembered;
+mod told_input;
 mod upstream;
 
 pub use cell::NodeCell;

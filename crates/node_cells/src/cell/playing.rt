@@ -8,11 +8,13 @@ ghost use Rattle.node_cells.specs.Turns.{HasLooked};
 
 use crate::cell::NodeCell;
 use crate::cell_fault::CellFault;
+use crate::copying::played_of;
+use crate::for_record::ForRecord;
+use crate::record::Recording;
 use crate::upstream::Upstream;
 use machine_laws::{Hosted, Machine};
 use raft_node::{Described, Looked, NodeFault};
 use stable_store::Stable;
-use wire_bytes::copied_all;
 use world_run::Outcome;
 use world_views::NodeEvent;
 
@@ -32,11 +34,17 @@ impl<M: Hosted, S: Stable<M::Command>, U: Upstream> NodeCell<M, S, U> {
             return Err(CellFault::Node(NodeFault::Down(cause)));
         }
         self.make_room(0)?;
-        self.play(from_place, target)
+        self.play(self.recording(), from_place, target)
     }
 
     /// A look at a node that is up, where there is room for it.
-    fn play(&mut self, from_place: u64, target: M::Target) -> Result<Looked<M::Played>, CellFault>
+    fn play(
+        &mut self,
+        recording: Recording,
+        from_place: u64,
+        target: M::Target,
+    ) -> Result<Looked<M::Played>, CellFault>
+        requires recording { recording ≡ self.old.parts.recording }
         requires up { self.old.parts.phase ≡ Up }
         requires room { (room_for self.old.parts.recording 1 ≤ self.old.room)
             × (length (view_in self.old.parts).turns < 2 ^ 60) }
@@ -47,19 +55,18 @@ impl<M: Hosted, S: Stable<M::Command>, U: Upstream> NodeCell<M, S, U> {
         match self.node.look(&target, from_place) {
             Ok(looked) => {
                 let Looked { place, lines } = looked;
-                let Ok(copy) = copied_all(self.alloc, &lines) else {
+                let Ok((lines, outcome)) = played_of(self.alloc, recording, place, lines) else {
                     return Err(CellFault::Memory);
                 };
-                self.book.note(
-                    NodeEvent::Look(from_place, target),
-                    Outcome::Looked { place, lines: copy },
-                );
+                let event = ForRecord::of(NodeEvent::Look(from_place, target));
+                self.book.note(event, outcome);
                 Ok(Looked { place, lines })
             }
             Err(fault) => {
                 if let NodeFault::Refused(refusal) = &fault {
-                    let outcome = Outcome::Refused(*refusal);
-                    self.book.note(NodeEvent::Look(from_place, target), outcome);
+                    let event = ForRecord::of(NodeEvent::Look(from_place, target));
+                    self.book
+                        .note(event, ForRecord::of(Outcome::Refused(*refusal)));
                     return Err(CellFault::Node(fault));
                 }
                 Err(CellFault::Node(fault))

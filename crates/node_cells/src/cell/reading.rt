@@ -8,6 +8,7 @@ ghost use Rattle.node_cells.specs.Cells.{IsIn, view_in};
 
 use crate::cell::NodeCell;
 use crate::phase::Phase;
+use crate::record::Recording;
 use crate::upstream::Upstream;
 use machine_laws::{Hosted, Machine};
 use raft_log::{GroupSize, NodeId, NodeState};
@@ -42,6 +43,13 @@ impl<M: Hosted, S: Stable<M::Command>, U: Upstream> NodeCell<M, S, U> {
         ensures { result ≡ self.now.parts.ether.size }
     {
         self.book.size()
+    }
+
+    /// Whether turns are recorded.
+    pub fn recording(&self) -> Recording
+        ensures { result ≡ self.now.parts.recording }
+    {
+        self.book.recording
     }
 
     /// The line of the state that the cell shows.

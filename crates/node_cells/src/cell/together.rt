@@ -7,13 +7,15 @@ ghost use Rattle.node_cells.specs.declared.phase.Phase.TheVariants.{Up};
 ghost use Rattle.node_cells.specs.Books.{room_for};
 ghost use Rattle.node_cells.specs.Causes.{HasCause};
 ghost use Rattle.node_cells.specs.Cells.{view_in};
+ghost use Rattle.node_cells.specs.Copies.{AreCopies};
 ghost use Rattle.node_cells.specs.Inputs.{OnlyAppend, input_of};
 ghost use Rattle.node_cells.specs.Together.{AreNoTurns, AreTurned};
 
 use crate::cell::NodeCell;
 use crate::cell_fault::CellFault;
-use crate::copying::{copied_inputs, inputs_of};
+use crate::copying::{input_copies, inputs_of};
 use crate::phase::down_in;
+use crate::told_input::ToldInput;
 use crate::upstream::Upstream;
 use machine_laws::{Hosted, Machine};
 use node_steps::Refusal;
@@ -27,7 +29,7 @@ impl<M: Hosted, S: Stable<M::Command>, U: Upstream> NodeCell<M, S, U> {
     /// each, with its own ticket and its own answer. Nothing is posted and nothing handed out.
     ///
     /// Room in the record and tickets are settled for all of them first, and then a copy of each is
-    /// made: where that is refused, the cell is as it was.
+    /// made, where turns are recorded: where that is refused, the cell is as it was.
     pub fn turn_all(
         &mut self,
         inputs: Vec<NodeInput<M::Command, M::Line>>,
@@ -50,34 +52,36 @@ impl<M: Hosted, S: Stable<M::Command>, U: Upstream> NodeCell<M, S, U> {
             return Err(CellFault::Node(NodeFault::Down(cause)));
         }
         self.make_room(inputs.len() as u64 - 1)?;
-        let Ok(copies) = copied_inputs(self.alloc, &inputs) else {
+        let Ok(copies) = input_copies(self.alloc, self.recording(), &inputs) else {
             return Err(CellFault::Memory);
         };
-        let Ok(taken) = inputs_of(self.alloc, inputs) else {
+        let Ok((taken, told)) = inputs_of(self.alloc, inputs) else {
             return Err(CellFault::Memory);
         };
-        self.run_all(copies, taken)
+        self.run_all(told, copies, taken)
     }
 
     /// Inputs of a node that is up and leads, where there is room for them. The copies are for the record.
     fn run_all(
         &mut self,
+        told: Vec<ToldInput<M::Command, M::Line, M::Target>>,
         copies: Vec<NodeInput<M::Command, M::Line>>,
         taken: Vec<Input<M::Command, M::Line>>,
     ) -> Result<Vec<Result<(), Refusal>>, CellFault>
         requires up { self.old.parts.phase ≡ Up }
         requires leads { is_leader (role_of self.old.parts.node.state.standing.position) ≡ true }
-        requires appends { OnlyAppend copies.items }
-        requires some { 1 ≤ length copies.items }
-        requires few { length copies.items ≤ 256 }
-        requires room { (room_for self.old.parts.recording (length copies.items) ≤ self.old.room)
-            × (length (view_in self.old.parts).turns + length copies.items ≤ 2 ^ 60) }
-        requires taken { taken.items ≡ map input_of copies.items }
+        requires appends { OnlyAppend told.items }
+        requires some { 1 ≤ length told.items }
+        requires few { length told.items ≤ 256 }
+        requires room { (room_for self.old.parts.recording (length told.items) ≤ self.old.room)
+            × (length (view_in self.old.parts).turns + length told.items ≤ 2 ^ 60) }
+        requires taken { taken.items ≡ map input_of told.items }
+        requires copied { AreCopies self.old.parts.recording told.items copies.items }
         ensures done { IfOk result (λ answers. AreTurned
-            (⟦<M as Described>⟧.machine self.old.parts.ether.setup) self.old.parts copies.items
+            (⟦<M as Described>⟧.machine self.old.parts.ether.setup) self.old.parts told.items
             answers.items self.new.parts) }
         ensures failed { IfErr result (λ fault. AreNoTurns
-            (⟦<M as Described>⟧.machine self.old.parts.ether.setup) self.old.parts copies.items fault
+            (⟦<M as Described>⟧.machine self.old.parts.ether.setup) self.old.parts told.items fault
             self.new.parts) }
         ensures cause { HasCause (keeper S.saved S.may_stand S.condition) self.old.parts result
             self.new.parts }
@@ -85,12 +89,12 @@ impl<M: Hosted, S: Stable<M::Command>, U: Upstream> NodeCell<M, S, U> {
         self.node.is_whole();
         match self.node.step_all(taken) {
             Ok(answers) => {
-                self.book.note_all(copies, &answers);
+                self.book.note_all(told, copies, &answers);
                 self.shown = NodeFields::of(self.node.state());
                 Ok(answers)
             }
             Err(Unsaved { cause, answers }) => {
-                self.phase = down_in(copies, answers);
+                self.phase = down_in(told, copies, answers);
                 Err(CellFault::Node(NodeFault::Down(cause)))
             }
         }

@@ -1,9 +1,12 @@
-use Rattle.std.proofs.Common.{arith, ◌≤◌, Ok, List, ℕ, suc, sym, subst}
+use Rattle.std.proofs.Common.{◌∙◌, ap, refl, arith, ◌≤◌, Ok, List, ℕ, suc, sym, subst}
 use Rattle.raft_node.specs.Hosts.{hosted}
 use Rattle.raft_node.specs.Machine.{Machine}
 use Rattle.world_views.specs.Own.{EventOf}
 use Rattle.ether.specs.Passes.{view_of}
-use Rattle.node_cells.specs.Books.{room_for}
+use Rattle.world_run.specs.Told.{out_of}
+use Rattle.world_run.specs.declared.outcome.Outcome.TheVariants.{Quiet}
+use Rattle.node_cells.proofs.Told.{noted_as, whole_kept}
+use Rattle.node_cells.specs.Books.{OutcomeOf, room_for}
 use Rattle.node_cells.specs.Inputs.{Answer}
 use Rattle.node_cells.specs.Restarts.{HasNotedAll}
 use Rattle.node_cells.proofs.Noting.{one_noted}
@@ -20,12 +23,17 @@ machine g s =
 pub note-requires-clause-out : goal.note-requires-clause-out
 note-requires-clause-out g c =
     let v = view_of c.args.self.now.pass in
-    λ honest. first_out (machine g c.args.self.now.ether.setup) v.size (suc v.node) v.state c.args.phase c.args.same c.first_event-event.result
-    (not_together c.args.phase c.in_default.not-DownInTurns) c.first_event-event.ensures
+    let M = machine g c.args.self.now.ether.setup in
+    λ honest. ap (λ (o : OutcomeOf M). out_of M o) c.of-outcome.ensures.0
+    ∙ first_out M v.size (suc v.node) v.state c.args.phase c.args.same c.first_event-event.result.told.value
+    (not_together c.args.phase c.in_default.not-DownInTurns) c.first_event-event.ensures.told
+
+pub note-requires-clause-kept : goal.note-requires-clause-kept
+note-requires-clause-kept g c = (c.first_event-event.ensures.kept _ c.requires.copied, whole_kept _ c.of-outcome.result Quiet c.of-outcome.ensures)
 
 pub note-requires-clause-heard : goal.note-requires-clause-heard
 note-requires-clause-heard g c =
-    heard_first (view_of c.args.self.now.pass) c.args.phase c.args.same c.first_event-event.result (not_together c.args.phase c.in_default.not-DownInTurns) c.requires.heard c.first_event-event.ensures
+    heard_first (view_of c.args.self.now.pass) c.args.phase c.args.same c.first_event-event.result.told.value (not_together c.args.phase c.in_default.not-DownInTurns) c.requires.heard c.first_event-event.ensures.told
 
 pub note-requires-clause-room : goal.note-requires-clause-room
 note-requires-clause-room g c =
@@ -36,5 +44,6 @@ note-requires-clause-room g c =
 pub returns-in_default-clause-noted : goal.returns-in_default-clause-noted
 returns-in_default-clause-noted g c =
     let M = machine g c.args.self.now.ether.setup in
-    subst (λ (es : List (EventOf M × Answer)). HasNotedAll M c.args.self.now es c.note.new.self) (sym c.first_event-event.ensures)
-    (one_noted M c.args.self.now c.note.new.self c.first_event-event.result (Ok tt) c.note.ensures.noted)
+    subst (λ (es : List (EventOf M × Answer)). HasNotedAll M c.args.self.now es c.note.new.self) (sym c.first_event-event.ensures.told)
+    (one_noted M c.args.self.now c.note.new.self c.first_event-event.result.told.value (Ok tt)
+    (noted_as M c.args.self.now c.note.new.self c.first_event-event.result.told.value c.first_event-event.result.told.value c.of-outcome.result.told.value Quiet refl c.of-outcome.ensures.0 c.note.ensures.noted))

@@ -13,7 +13,8 @@ use Rattle.raft_node.specs.SteppingTogether.{AreDone, HaveFailed}
 use Rattle.world_views.specs.declared.node_event.NodeInput.{NodeInput}
 use Rattle.ether.specs.Passes.{EtherParts, view_of}
 use Rattle.node_cells.specs.declared.phase.Phase.TheVariants.{Up}
-use Rattle.node_cells.specs.Cells.{AreAnswered, CellRoom, IsCell, cell_of}
+use Rattle.node_cells.specs.Copies.{AreCopies}
+use Rattle.node_cells.specs.Cells.{AreAnswered, CellRoom, HasCopies, IsCell, cell_of}
 use Rattle.node_cells.specs.Inputs.{Answer, input_of}
 use Rattle.node_cells.specs.Causes.{own_cause}
 use Rattle.node_cells.specs.Restarts.{HasNotedAll}
@@ -59,8 +60,8 @@ note_all-requires-clause-enough g c =
     let i = c.self.inside in
     let up : i.phase ≡ Up = search rules in
     let leads : is_leader (role_of i.node.state.standing.position) ≡ true = search rules in
-    let done = are_done g _ i.book.ether.setup c.args.taken.items c.args.copies.items i.node c.step_all.new.self c.in-Ok.answers.items c.self.invariant.setup c.requires.taken c.in-Ok.ensures.done in
-    let many = many_are (machine g i.book.ether.setup) (kept g) i.book i.node i.upstream i.phase i.refused i.shown c.self.invariant up c.args.copies.items c.requires.appends leads c.step_all.new.self c.in-Ok.ensures.same c.in-Ok.answers.items done in
+    let done = are_done g _ i.book.ether.setup c.args.taken.items c.args.told.items i.node c.step_all.new.self c.in-Ok.answers.items c.self.invariant.setup c.requires.taken c.in-Ok.ensures.done in
+    let many = many_are (machine g i.book.ether.setup) (kept g) i.book i.node i.upstream i.phase i.refused i.shown c.self.invariant up c.args.told.items c.requires.appends leads c.step_all.new.self c.in-Ok.ensures.same c.in-Ok.answers.items done in
     let value = ap (λ (l : List Answer). length l) c.deref.ensures.value in
     omega (arith, many, value)
 
@@ -71,9 +72,9 @@ note_all-requires-clause-answered g c =
     let v = view_of i.book.pass in
     let up : i.phase ≡ Up = search rules in
     let leads : is_leader (role_of i.node.state.standing.position) ≡ true = search rules in
-    let done = are_done g _ i.book.ether.setup c.args.taken.items c.args.copies.items i.node c.step_all.new.self c.in-Ok.answers.items c.self.invariant.setup c.requires.taken c.in-Ok.ensures.done in
-    λ honest. subst (λ (l : List Answer). AreAnswered m v.size (suc v.node) v.state c.args.copies.items l) (sym c.deref.ensures.value)
-    (all_answered m (kept g) i.book i.node i.upstream i.phase i.refused i.shown c.self.invariant up c.args.copies.items c.requires.appends leads c.step_all.new.self c.in-Ok.ensures.same c.in-Ok.answers.items done honest)
+    let done = are_done g _ i.book.ether.setup c.args.taken.items c.args.told.items i.node c.step_all.new.self c.in-Ok.answers.items c.self.invariant.setup c.requires.taken c.in-Ok.ensures.done in
+    λ honest. subst (λ (l : List Answer). AreAnswered m v.size (suc v.node) v.state c.args.told.items l) (sym c.deref.ensures.value)
+    (all_answered m (kept g) i.book i.node i.upstream i.phase i.refused i.shown c.self.invariant up c.args.told.items c.requires.appends leads c.step_all.new.self c.in-Ok.ensures.same c.in-Ok.answers.items done honest)
 
 pub invariant_of-self : goal.invariant_of-self
 invariant_of-self g c =
@@ -81,12 +82,12 @@ invariant_of-self g c =
     let m = machine g i.book.ether.setup in
     let up : i.phase ≡ Up = search rules in
     let leads : is_leader (role_of i.node.state.standing.position) ≡ true = search rules in
-    let done = are_done g _ i.book.ether.setup c.args.taken.items c.args.copies.items i.node c.step_all.new.self c.in-Ok.answers.items c.self.invariant.setup c.requires.taken c.in-Ok.ensures.done in
+    let done = are_done g _ i.book.ether.setup c.args.taken.items c.args.told.items i.node c.step_all.new.self c.in-Ok.answers.items c.self.invariant.setup c.requires.taken c.in-Ok.ensures.done in
     let b1 = c.note_all.new.self in
-    let noted : HasNotedAll m i.book (all_done c.args.copies.items c.in-Ok.answers.items) b1 =
-    subst (λ (l : List Answer). HasNotedAll m i.book (all_done c.args.copies.items l) b1) c.deref.ensures.value c.note_all.ensures.noted in
+    let noted : HasNotedAll m i.book (all_done c.args.told.items c.in-Ok.answers.items) b1 =
+    subst (λ (l : List Answer). HasNotedAll m i.book (all_done c.args.told.items l) b1) c.deref.ensures.value c.note_all.ensures.noted in
     subst (λ (e : EtherParts g.row.M-Setup.Denot). IsCell (machine g e.setup) (kept g) (cell_of b1 c.step_all.new.self i.upstream i.phase i.refused c.of-self-inside.result)) (sym noted.ether)
-    (done_together m (kept g) i.book i.node i.upstream i.phase i.refused i.shown c.self.invariant up c.args.copies.items c.requires.appends leads c.step_all.new.self c.in-Ok.ensures.same c.in-Ok.answers.items done
+    (done_together m (kept g) i.book i.node i.upstream i.phase i.refused i.shown c.self.invariant up c.args.told.items c.requires.appends leads c.step_all.new.self c.in-Ok.ensures.same c.in-Ok.answers.items done
     b1 noted c.of-self-inside.result c.note_all.ensures.book
     (c.of-self-inside.ensures ∙ ap (λ (s : NodeState g.row.M-Command.Denot). fields_of (seen s [])) c.state.ensures))
 
@@ -96,39 +97,43 @@ returns-in-Ok-clause-done g c =
     let m = machine g i.book.ether.setup in
     let up : i.phase ≡ Up = search rules in
     let leads : is_leader (role_of i.node.state.standing.position) ≡ true = search rules in
-    let done = are_done g _ i.book.ether.setup c.args.taken.items c.args.copies.items i.node c.step_all.new.self c.in-Ok.answers.items c.self.invariant.setup c.requires.taken c.in-Ok.ensures.done in
+    let done = are_done g _ i.book.ether.setup c.args.taken.items c.args.told.items i.node c.step_all.new.self c.in-Ok.answers.items c.self.invariant.setup c.requires.taken c.in-Ok.ensures.done in
     let b1 = c.note_all.new.self in
-    let noted : HasNotedAll m i.book (all_done c.args.copies.items c.in-Ok.answers.items) b1 =
-    subst (λ (l : List Answer). HasNotedAll m i.book (all_done c.args.copies.items l) b1) c.deref.ensures.value c.note_all.ensures.noted in
-    subst (λ (z : RoomOf g). AreTurned (machine g z.parts.ether.setup) z.parts c.args.copies.items c.in-Ok.answers.items (cell_of b1 c.step_all.new.self i.upstream i.phase i.refused c.of-self-inside.result)) c.self.view_is
-    (turned_together m (kept g) i.book i.node i.upstream i.phase i.refused i.shown c.self.invariant up c.args.copies.items c.requires.appends leads c.step_all.new.self c.in-Ok.ensures.same c.in-Ok.answers.items done
+    let noted : HasNotedAll m i.book (all_done c.args.told.items c.in-Ok.answers.items) b1 =
+    subst (λ (l : List Answer). HasNotedAll m i.book (all_done c.args.told.items l) b1) c.deref.ensures.value c.note_all.ensures.noted in
+    subst (λ (z : RoomOf g). AreTurned (machine g z.parts.ether.setup) z.parts c.args.told.items c.in-Ok.answers.items (cell_of b1 c.step_all.new.self i.upstream i.phase i.refused c.of-self-inside.result)) c.self.view_is
+    (turned_together m (kept g) i.book i.node i.upstream i.phase i.refused i.shown c.self.invariant up c.args.told.items c.requires.appends leads c.step_all.new.self c.in-Ok.ensures.same c.in-Ok.answers.items done
     b1 noted c.of-self-inside.result)
 
 pub invariant_of-self-in-Err : goal.invariant_of-self-in-Err
 invariant_of-self-in-Err g c =
     let i = c.self.inside in
+    let copied : HasCopies i.book.recording c.down_in.result =
+    c.down_in.ensures.copied i.book.recording (subst (λ (z : RoomOf g). AreCopies z.parts.recording c.args.told.items c.args.copies.items) (sym c.self.view_is) c.requires.copied) in
     let up : i.phase ≡ Up = search rules in
     let leads : is_leader (role_of i.node.state.standing.position) ≡ true = search rules in
-    let failed = have_failed g _ i.book.ether.setup c.args.taken.items c.args.copies.items i.node c.step_all.new.self c.in-Err.field-0 c.self.invariant.setup c.requires.taken c.in-Err.ensures.failed in
-    fallen_cell_by (machine g i.book.ether.setup) (kept g) i.book i.node i.upstream i.phase i.refused i.shown c.self.invariant up c.args.copies.items c.requires.appends leads c.step_all.new.self c.in-Err.ensures.same
-    c.args.copies refl c.requires.some c.in-Err.field-0 failed g.met.S.Stable.sure c.is_whole.ensures.holds c.down_in.result c.down_in.ensures.all c.down_in.ensures.first
+    let failed = have_failed g _ i.book.ether.setup c.args.taken.items c.args.told.items i.node c.step_all.new.self c.in-Err.field-0 c.self.invariant.setup c.requires.taken c.in-Err.ensures.failed in
+    fallen_cell_by (machine g i.book.ether.setup) (kept g) i.book i.node i.upstream i.phase i.refused i.shown c.self.invariant up c.args.told.items c.requires.appends leads c.step_all.new.self c.in-Err.ensures.same
+    c.args.told c.args.copies refl c.requires.some c.in-Err.field-0 failed g.met.S.Stable.sure c.is_whole.ensures.holds c.down_in.result c.down_in.ensures.all c.down_in.ensures.first copied
 
 pub returns-in-Err-clause-failed : goal.returns-in-Err-clause-failed
 returns-in-Err-clause-failed g c =
     let i = c.self.inside in
+    let copied : HasCopies i.book.recording c.down_in.result =
+    c.down_in.ensures.copied i.book.recording (subst (λ (z : RoomOf g). AreCopies z.parts.recording c.args.told.items c.args.copies.items) (sym c.self.view_is) c.requires.copied) in
     let up : i.phase ≡ Up = search rules in
     let leads : is_leader (role_of i.node.state.standing.position) ≡ true = search rules in
-    let failed = have_failed g _ i.book.ether.setup c.args.taken.items c.args.copies.items i.node c.step_all.new.self c.in-Err.field-0 c.self.invariant.setup c.requires.taken c.in-Err.ensures.failed in
-    let falls = falls_in_turns (machine g i.book.ether.setup) (kept g) i.book i.node i.upstream i.phase i.refused i.shown c.self.invariant up c.args.copies.items c.requires.appends leads c.step_all.new.self c.in-Err.ensures.same
-    c.args.copies refl c.requires.some c.in-Err.field-0 failed g.met.S.Stable.sure c.is_whole.ensures.holds c.down_in.result c.down_in.ensures.all c.down_in.ensures.first in
-    inl (subst (λ (z : RoomOf g). FallsInTurns (machine g z.parts.ether.setup) z.parts c.args.copies.items (cell_of i.book c.step_all.new.self i.upstream c.down_in.result i.refused i.shown)) c.self.view_is falls)
+    let failed = have_failed g _ i.book.ether.setup c.args.taken.items c.args.told.items i.node c.step_all.new.self c.in-Err.field-0 c.self.invariant.setup c.requires.taken c.in-Err.ensures.failed in
+    let falls = falls_in_turns (machine g i.book.ether.setup) (kept g) i.book i.node i.upstream i.phase i.refused i.shown c.self.invariant up c.args.told.items c.requires.appends leads c.step_all.new.self c.in-Err.ensures.same
+    c.args.told c.args.copies refl c.requires.some c.in-Err.field-0 failed g.met.S.Stable.sure c.is_whole.ensures.holds c.down_in.result c.down_in.ensures.all c.down_in.ensures.first copied in
+    inl (subst (λ (z : RoomOf g). FallsInTurns (machine g z.parts.ether.setup) z.parts c.args.told.items (cell_of i.book c.step_all.new.self i.upstream c.down_in.result i.refused i.shown)) c.self.view_is falls)
 
 pub returns-in-Err-clause-cause : goal.returns-in-Err-clause-cause
 returns-in-Err-clause-cause g c =
     let i = c.self.inside in
     let up : i.phase ≡ Up = search rules in
-    let failed = have_failed g _ i.book.ether.setup c.args.taken.items c.args.copies.items i.node c.step_all.new.self c.in-Err.field-0 c.self.invariant.setup c.requires.taken c.in-Err.ensures.failed in
-    let falls = downed_here (machine g i.book.ether.setup) (kept g) c.args.copies.items i.node c.step_all.new.self c.in-Err.field-0 failed (c.self.invariant.up up) in (
+    let failed = have_failed g _ i.book.ether.setup c.args.taken.items c.args.told.items i.node c.step_all.new.self c.in-Err.field-0 c.self.invariant.setup c.requires.taken c.in-Err.ensures.failed in
+    let falls = downed_here (machine g i.book.ether.setup) (kept g) c.args.told.items i.node c.step_all.new.self c.in-Err.field-0 failed (c.self.invariant.up up) in (
       sym (ap own_cause falls.is_down),
       λ was is. subst (λ (z : RoomOf g). IsBlamed c.in-Err.field-0.cause (g.S.Stable.condition z.parts.node.store) (g.S.Stable.condition c.step_all.new.self.store)) c.self.view_is falls.blamed,
     )

@@ -31,7 +31,7 @@ pub invariant_of-self : goal.invariant_of-self
 invariant_of-self g c =
     let i = c.self.inside in
     let phase : c.fallen.result ≡ fallen i.phase = c.fallen.ensures ∙ ap fallen c.replace.ensures.value in
-    subst (λ (p : Phase g.row.M-Command.Denot g.row.M-Line.Denot). IsCell (machine g i.book.ether.setup) (kept g) (cell_of i.book c.restart.new.self i.upstream p (i.refused + 1) i.shown)) (sym phase)
+    subst (λ (p : Phase g.row.M-Command.Denot g.row.M-Line.Denot g.row.M-Target.Denot). IsCell (machine g i.book.ether.setup) (kept g) (cell_of i.book c.restart.new.self i.upstream p (i.refused + 1) i.shown)) (sym phase)
     (refused_cell (machine g i.book.ether.setup) (kept g) i.book i.node c.restart.new.self i.upstream i.phase i.refused i.shown c.self.invariant c.restart.ensures.same g.met.S.Stable.sure c.is_whole.ensures.holds
     c.in-Err.ensures.answers.1 c.restart.ensures.may_begin)
 
@@ -43,7 +43,7 @@ note_restarts-requires-clause-room g c =
     let i = c.self.inside in
     let m = machine g i.book.ether.setup in
     let first : HasNotedAll m i.book (firsts_of i.phase c.is_in-same.result) c.note_first.new.self =
-    subst (λ (p : Phase g.row.M-Command.Denot g.row.M-Line.Denot). HasNotedAll m i.book (firsts_of p c.is_in-same.result) c.note_first.new.self) c.replace-phase.ensures.value c.note_first.ensures.noted in
+    subst (λ (p : Phase g.row.M-Command.Denot g.row.M-Line.Denot g.row.M-Target.Denot). HasNotedAll m i.book (firsts_of p c.is_in-same.result) c.note_first.new.self) c.replace-phase.ensures.value c.note_first.ensures.noted in
     room_after m i.book c.note_first.new.self i.phase c.is_in-same.result c.runs_until-more.result i.refused first
     (subst (λ (n : ℕ). n ≤ i.refused) (sym c.runs_until-more.ensures) (min-le_right _ i.refused))
     (subst (λ (z : RoomOf g). room_for z.parts.recording (firsts_at_most z.parts.phase + z.parts.refused) ≤ z.room) (sym c.self.view_is) c.requires.room.0)
@@ -56,7 +56,7 @@ invariant_of-self-2 g c =
     let b1 = c.note_first.new.self in
     let b2 = c.note_restarts.new.self in
     let first : HasNotedAll m i.book (firsts_of i.phase c.is_in-same.result) b1 =
-    subst (λ (p : Phase g.row.M-Command.Denot g.row.M-Line.Denot). HasNotedAll m i.book (firsts_of p c.is_in-same.result) b1) c.replace-phase.ensures.value c.note_first.ensures.noted in
+    subst (λ (p : Phase g.row.M-Command.Denot g.row.M-Line.Denot g.row.M-Target.Denot). HasNotedAll m i.book (firsts_of p c.is_in-same.result) b1) c.replace-phase.ensures.value c.note_first.ensures.noted in
     let rest : IsBook m b2 × HasRestarts m b1 c.runs_until-more.result b2 =
     subst (λ (e : EtherParts g.row.M-Setup.Denot). IsBook (machine g e.setup) b2 × HasRestarts (machine g e.setup) b1 c.runs_until-more.result b2) first.ether (c.note_restarts.ensures.book, c.note_restarts.ensures.noted) in
     let ok = c.in_default.ensures.answers in
@@ -66,7 +66,7 @@ invariant_of-self-2 g c =
     let told = told_of c.args.before.now i.node.state c.restart.new.self.state _ ok.1.0 c.is_in-same.result before ok.1.2 test in
     let many : c.runs_until-more.result ≡ min (c.restart.new.self.state.standing.boot - i.node.state.standing.boot - 1) i.refused =
     c.runs_until-more.ensures ∙ (λ d. min ((c.state-2.ensures d).standing.boot - before.boot d - 1) i.refused) in
-    subst (λ (z : EtherParts g.row.M-Setup.Denot × Phase g.row.M-Command.Denot g.row.M-Line.Denot). IsCell (machine g z.0.setup) (kept g) (cell_of b2 c.restart.new.self i.upstream z.1 0 c.of-self-inside.result)) (λ d. (sym (rest.1.ether ∙ first.ether) d, sym c.replace-phase.ensures.after d))
+    subst (λ (z : EtherParts g.row.M-Setup.Denot × Phase g.row.M-Command.Denot g.row.M-Line.Denot g.row.M-Target.Denot). IsCell (machine g z.0.setup) (kept g) (cell_of b2 c.restart.new.self i.upstream z.1 0 c.of-self-inside.result)) (λ d. (sym (rest.1.ether ∙ first.ether) d, sym c.replace-phase.ensures.after d))
     (started_cell m (kept g) i.book i.node c.restart.new.self i.upstream i.phase i.refused i.shown c.self.invariant c.restart.ensures.same g.met.S.Stable.sure c.is_whole.ensures.holds
     ok.0 ok.1 c.is_in-same.result told b1 b2 first c.runs_until-more.result many rest.1 rest.0 c.of-self-inside.result
     (c.of-self-inside.ensures ∙ ap (λ (s : NodeState g.row.M-Command.Denot). fields_of (seen s [])) c.state-3.ensures))
@@ -78,7 +78,7 @@ returns-clause-restart g c =
     let b1 = c.note_first.new.self in
     let b2 = c.note_restarts.new.self in
     let first : HasNotedAll m i.book (firsts_of i.phase c.is_in-same.result) b1 =
-    subst (λ (p : Phase g.row.M-Command.Denot g.row.M-Line.Denot). HasNotedAll m i.book (firsts_of p c.is_in-same.result) b1) c.replace-phase.ensures.value c.note_first.ensures.noted in
+    subst (λ (p : Phase g.row.M-Command.Denot g.row.M-Line.Denot g.row.M-Target.Denot). HasNotedAll m i.book (firsts_of p c.is_in-same.result) b1) c.replace-phase.ensures.value c.note_first.ensures.noted in
     let rest : IsBook m b2 × HasRestarts m b1 c.runs_until-more.result b2 =
     subst (λ (e : EtherParts g.row.M-Setup.Denot). IsBook (machine g e.setup) b2 × HasRestarts (machine g e.setup) b1 c.runs_until-more.result b2) first.ether (c.note_restarts.ensures.book, c.note_restarts.ensures.noted) in
     let ok = c.in_default.ensures.answers in
@@ -88,6 +88,6 @@ returns-clause-restart g c =
     let told = told_of c.args.before.now i.node.state c.restart.new.self.state _ ok.1.0 c.is_in-same.result before ok.1.2 test in
     let many : c.runs_until-more.result ≡ min (c.restart.new.self.state.standing.boot - i.node.state.standing.boot - 1) i.refused =
     c.runs_until-more.ensures ∙ (λ d. min ((c.state-2.ensures d).standing.boot - before.boot d - 1) i.refused) in
-    subst (λ (z : CellRoom g.row.M-Setup.Denot g.row.M.Denot g.row.S.Denot g.row.M-Command.Denot g.row.M-Line.Denot g.row.M-Target.Denot g.row.M-Effect.Denot g.row.M-Played.Denot g.row.U.Denot × Phase g.row.M-Command.Denot g.row.M-Line.Denot). IsRestart (machine g z.0.parts.ether.setup) z.0.parts (cell_of b2 c.restart.new.self i.upstream z.1 0 c.of-self-inside.result)) (λ d. (c.self.view_is d, sym c.replace-phase.ensures.after d))
+    subst (λ (z : CellRoom g.row.M-Setup.Denot g.row.M.Denot g.row.S.Denot g.row.M-Command.Denot g.row.M-Line.Denot g.row.M-Target.Denot g.row.M-Effect.Denot g.row.M-Played.Denot g.row.U.Denot × Phase g.row.M-Command.Denot g.row.M-Line.Denot g.row.M-Target.Denot). IsRestart (machine g z.0.parts.ether.setup) z.0.parts (cell_of b2 c.restart.new.self i.upstream z.1 0 c.of-self-inside.result)) (λ d. (c.self.view_is d, sym c.replace-phase.ensures.after d))
     (started_is m (kept g) i.book i.node c.restart.new.self i.upstream i.phase i.refused i.shown c.self.invariant c.restart.ensures.same g.met.S.Stable.sure c.is_whole.ensures.holds
     ok.0 ok.1 c.is_in-same.result told b1 b2 first c.runs_until-more.result many rest.1 c.of-self-inside.result)
