@@ -9,4 +9,6 @@ mod Asked
 mod Gathered
 mod Seen
 mod Told
+mod Telling
 mod Exits
+mod Crossing

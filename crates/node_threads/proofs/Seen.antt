@@ -29,10 +29,10 @@ module _ {Setup Hosted Store B L T E P U : Type 0} where
   in_position Candidate c may d h = same_home c d h.1
   in_position (Leader live) c may d h = same_home c d h.1
 
-  in_phase : (p : Phase B L) (c : CellParts Setup Hosted Store B L T E P U) (may : Bool) (d : CellParts Setup Hosted Store B L T E P U) → MayUp p c may d → IsSameHome c d
+  in_phase : (p : Phase B L T) (c : CellParts Setup Hosted Store B L T E P U) (may : Bool) (d : CellParts Setup Hosted Store B L T E P U) → MayUp p c may d → IsSameHome c d
   in_phase Up c may d h = in_position c.node.state.standing.position c may d h
-  in_phase (DownInTurn x done) c may d h = same_home c d h.1
-  in_phase (DownInTurns inputs answers) c may d h = same_home c d h.1
+  in_phase (DownInTurn x copy done) c may d h = same_home c d h.1
+  in_phase (DownInTurns inputs copies answers) c may d h = same_home c d h.1
   in_phase DownInRestart c may d h = same_home c d h.1
 
   -- after a look whether the node may ask

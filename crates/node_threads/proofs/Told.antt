@@ -20,20 +20,20 @@ pub status_told : {Setup Hosted Store B L T E P U : Type 0} (next_claim : Setup 
 status_told next_claim c s state claim down is same up cause claims =
     subst (λ (z : Status). IsStatusOf next_claim c z) (sym is) (record { told = ap (λ (x : NodeState _). status_of x claim down) same; up = up; cause = cause; claim = claims })
 
-module _ {B L : Type 0} where
-  by_phase : (p : Phase B L) (role : Role) (down : Option Cause) → (down ≡ None) ↔ (p ≡ Up) → notes.leads_up role down ≡ leads_up p role
+module _ {B L T : Type 0} where
+  by_phase : (p : Phase B L T) (role : Role) (down : Option Cause) → (down ≡ None) ↔ (p ≡ Up) → notes.leads_up role down ≡ leads_up p role
   by_phase Up Leader None h = refl
   by_phase Up Leader (Some cause) h = absurd (let z : Some cause ≡ None = h.1 refl in cc z)
   by_phase Up Follower down h = refl
   by_phase Up Candidate down h = refl
-  by_phase (DownInTurn x done) Leader None h = absurd (let z = h.0 refl in cc z)
-  by_phase (DownInTurn x done) Leader (Some cause) h = refl
-  by_phase (DownInTurn x done) Follower down h = refl
-  by_phase (DownInTurn x done) Candidate down h = refl
-  by_phase (DownInTurns inputs answers) Leader None h = absurd (let z = h.0 refl in cc z)
-  by_phase (DownInTurns inputs answers) Leader (Some cause) h = refl
-  by_phase (DownInTurns inputs answers) Follower down h = refl
-  by_phase (DownInTurns inputs answers) Candidate down h = refl
+  by_phase (DownInTurn x copy done) Leader None h = absurd (let z = h.0 refl in cc z)
+  by_phase (DownInTurn x copy done) Leader (Some cause) h = refl
+  by_phase (DownInTurn x copy done) Follower down h = refl
+  by_phase (DownInTurn x copy done) Candidate down h = refl
+  by_phase (DownInTurns inputs copies answers) Leader None h = absurd (let z = h.0 refl in cc z)
+  by_phase (DownInTurns inputs copies answers) Leader (Some cause) h = refl
+  by_phase (DownInTurns inputs copies answers) Follower down h = refl
+  by_phase (DownInTurns inputs copies answers) Candidate down h = refl
   by_phase DownInRestart Leader None h = absurd (let z = h.0 refl in cc z)
   by_phase DownInRestart Leader (Some cause) h = refl
   by_phase DownInRestart Follower down h = refl

@@ -21,10 +21,10 @@ module _ {Setup Hosted Store B L T E P U : Type 0} where
   MayIn (Leader live) c may d = (may ≡ true) × (d ≡ c)
 
   -- so while the node is up
-  abbrev pub MayUp : Phase B L → CellParts Setup Hosted Store B L T E P U → Bool → CellParts Setup Hosted Store B L T E P U → Type 0
+  abbrev pub MayUp : Phase B L T → CellParts Setup Hosted Store B L T E P U → Bool → CellParts Setup Hosted Store B L T E P U → Type 0
   MayUp Up c may d = MayIn c.node.state.standing.position c may d
-  MayUp (DownInTurn x done) c may d = (may ≡ false) × (d ≡ c)
-  MayUp (DownInTurns inputs answers) c may d = (may ≡ false) × (d ≡ c)
+  MayUp (DownInTurn x copy done) c may d = (may ≡ false) × (d ≡ c)
+  MayUp (DownInTurns inputs copies answers) c may d = (may ≡ false) × (d ≡ c)
   MayUp DownInRestart c may d = (may ≡ false) × (d ≡ c)
 
   -- the node may ask, or may not

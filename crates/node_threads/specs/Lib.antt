@@ -8,5 +8,6 @@ pub mod Reports
 pub mod Requests
 pub mod Rounds
 pub mod Taking
+pub mod Telling
 pub mod Together
 pub mod Work

@@ -105,12 +105,12 @@ told_fault Spent = Down NoMemory
 told_fault (Node fault) = fault
 
 -- whether it is up, where it leads
-abbrev pub leads_up : {B L : Type 0} → Phase B L → Role → Bool
+abbrev pub leads_up : {B L T : Type 0} → Phase B L T → Role → Bool
 leads_up Up Leader = true
 leads_up Up Follower = false
 leads_up Up Candidate = false
-leads_up (DownInTurn x done) role = false
-leads_up (DownInTurns inputs answers) role = false
+leads_up (DownInTurn x copy done) role = false
+leads_up (DownInTurns inputs copies answers) role = false
 leads_up DownInRestart role = false
 
 module _ {Setup Hosted Store B L T E P U : Type 0} where

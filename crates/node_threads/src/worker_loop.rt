@@ -124,8 +124,9 @@ impl<M: Marking, G: Gate + Drop, O: Outlet<M::Effect>> WorkerLoop<M, G, O> {
         let all_asked = self.ask_all(rt, cell);
         let all_applied = self.apply_all(rt, cell);
         self.beat_on_news(rt, cell);
-        self.wake_all(rt);
+        // what leaves is told before the others are woken: clients wait for it
         let all_told = self.tell(rt, cell);
+        self.wake_all(rt);
         all_of(all_asked, all_applied, all_told)
     }
 

@@ -1,5 +1,6 @@
 //! The jobs of a worker.
-ghost use Rattle.std.specs.Prelude.{◌≡◌, ◌+◌, ◌-◌, ◌^◌, ◌&&◌, [], min, nat_le, not, if◌then◌else◌};
+ghost use Rattle.std.specs.Prelude.{◌≡◌, ◌+◌, ◌-◌, ◌^◌, ◌&&◌, [], min, nat_le, not, true, if◌then◌else◌};
+ghost use Rattle.node_notes.specs.declared.note.Note.TheVariants.{Beat};
 ghost use Rattle.node_threads.specs.Reports.{is_told, leads_in};
 ghost use Rattle.node_threads.specs.Taking.{HasDoneSome};
 ghost use Rattle.node_threads.specs.Together.{AreReady};
@@ -152,8 +153,9 @@ impl<M: Marking, G: Gate + Drop, O: Outlet<M::Effect>> WorkerLoop<M, G, O> {
         cell: &mut MarkedCell<M, S, U>,
         note: Note<M::Command, M::Line>,
     )
-        ensures { HasDoneNote (⟦<M as Described>⟧.machine cell.old.parts.ether.setup) U.tally
+        ensures done { HasDoneNote (⟦<M as Described>⟧.machine cell.old.parts.ether.setup) U.tally
             note cell.old.parts cell.new.parts }
+        ensures beat { note ≡ Beat → self.new.has_untold_beat ≡ true }
     {
         match note {
             Note::Timeout(contacts) => self.time_out(rt, cell, contacts),

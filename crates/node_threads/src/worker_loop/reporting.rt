@@ -1,6 +1,7 @@
 //! What a worker tells its outlet, once a round.
-ghost use Rattle.std.specs.Prelude.{◌≡◌, ◌<◌, ◌↔◌, [], IsTrue, None, false, length, true};
-ghost use Rattle.node_threads.specs.Reports.{HasGrownAlone, IsReport, IsStatusOf, TellsFirst};
+ghost use Rattle.std.specs.Prelude.{◌≡◌, ◌<◌, ◌↔◌, ◌⊎◌, [], IsTrue, None, Some, false, suc, true};
+ghost use Rattle.node_threads.specs.Reports.{HasGrownAlone, IsReport, TellsFirst};
+ghost use Rattle.node_threads.specs.Telling.{HasTold, IsKnown, IsUntold, StandsSo};
 ghost use Rattle.node_threads.specs.Requests.{in_term, queue_of};
 ghost use Rattle.node_threads.specs.Rounds.{leaving};
 
@@ -30,6 +31,11 @@ impl<M: Marking, G: Gate + Drop, O: Outlet<M::Effect>> WorkerLoop<M, G, O> {
     ) -> bool
         ensures order { TellsFirst (leaving self.old.round) (leaving self.new.round) }
         ensures all { result ≡ true → self.new.round.effects.items ≡ [] }
+        ensures told { IsUntold self.old self.new
+            ⊎ HasTold O.has_taken (StandsSo M.next_claim cell.now.parts self.old)
+            (suc cell.now.parts.pass.node) self.old self.new }
+        ensures known { result ≡ true
+            → IsKnown (StandsSo M.next_claim cell.now.parts self.old) self.new }
     {
         let now = self.stand(cell);
         let has_grown = self.has_grown(&now);
@@ -54,17 +60,10 @@ impl<M: Marking, G: Gate + Drop, O: Outlet<M::Effect>> WorkerLoop<M, G, O> {
 
     /// How the node stands, and how far its worker is.
     fn stand<S: Stable<M::Command>, U: Upstream>(&mut self, cell: &MarkedCell<M, S, U>) -> Told
-        ensures status { IsStatusOf M.next_claim cell.now.parts result.status }
-        ensures progress { result.progress ≡ record {
-          done = self.old.done;
-          waiting = length self.old.requests.waiting.items;
-          lost = (in_term cell.now.parts.node.state.standing.term
-              (queue_of self.old.requests)).lost;
-          contacts = self.old.contacts;
-        } }
+        ensures stands { StandsSo M.next_claim cell.now.parts self.old result }
         ensures requests { queue_of self.new.requests
             ≡ in_term cell.now.parts.node.state.standing.term (queue_of self.old.requests) }
-        ensures round { self.new.round ≡ self.old.round }
+        ensures only { self.new ≡ record self.old { requests = self.new.requests } }
     {
         let status = status(cell);
         self.requests.see(status.term);
@@ -82,7 +81,9 @@ impl<M: Marking, G: Gate + Drop, O: Outlet<M::Effect>> WorkerLoop<M, G, O> {
         ensures report { IsReport node now.now self.old.round.effects.items self.old.round.fault
             result }
         ensures effects { self.new.round.effects.items ≡ [] }
-        ensures further { self.new.round.further ≡ self.old.round.further }
+        ensures only { self.new ≡ record self.old {
+          round = record self.old.round { effects = self.new.round.effects };
+        } }
     {
         Report {
             node,
@@ -96,9 +97,7 @@ impl<M: Marking, G: Gate + Drop, O: Outlet<M::Effect>> WorkerLoop<M, G, O> {
     /// Whether the log is longer than it was as the round before ended.
     fn has_grown(&mut self, now: &Told) -> bool
         ensures grown { IsTrue result ↔ (self.old.seen < now.now.status.last) }
-        ensures seen { self.new.seen ≡ now.now.status.last }
-        ensures told { self.new.told ≡ self.old.told }
-        ensures round { self.new.round ≡ self.old.round }
+        ensures seen { self.new ≡ record self.old { seen = now.now.status.last } }
     {
         let has_grown = self.seen < now.status.last;
         self.seen = now.status.last;
@@ -125,7 +124,9 @@ impl<M: Marking, G: Gate + Drop, O: Outlet<M::Effect>> WorkerLoop<M, G, O> {
     /// Whether this is to be told: something leaves, a turn did nothing, or the node or its worker stands
     /// as was not told last.
     fn is_news(&self, now: &Told) -> bool
-        ensures { result ≡ false → self.now.round.effects.items ≡ [] }
+        ensures effects { result ≡ false → self.now.round.effects.items ≡ [] }
+        ensures fault { result ≡ false → self.now.round.fault ≡ None }
+        ensures told { result ≡ false → self.now.told ≡ Some now.now }
     {
         if self.round.has_news() {
             return true;

@@ -38,6 +38,7 @@ impl<M: Marking, G: Gate + Drop, O: Outlet<M::Effect>> WorkerLoop<M, G, O> {
             U.tally cell.old.parts input self.old.round self.old.forwarded
             cell.new.parts self.new.round self.new.forwarded }
         ensures contacts { self.new.contacts ≡ self.old.contacts }
+        ensures beat { self.new.has_untold_beat ≡ self.old.has_untold_beat }
     {
         if self.round.has_further() {
             self.round.fail(CellFault::Memory);
@@ -92,6 +93,7 @@ impl<M: Marking, G: Gate + Drop, O: Outlet<M::Effect>> WorkerLoop<M, G, O> {
         ensures gathered { Gathers is_request output self.old.round self.old.forwarded
             self.new.round self.new.forwarded }
         ensures contacts { self.new.contacts ≡ self.old.contacts }
+        ensures beat { self.new.has_untold_beat ≡ self.old.has_untold_beat }
     {
         let TurnOutput {
             posted_to,
@@ -116,6 +118,7 @@ impl<M: Marking, G: Gate + Drop, O: Outlet<M::Effect>> WorkerLoop<M, G, O> {
         ensures round { self.new.round ≡ self.old.round }
         ensures forwarded { self.new.forwarded ≡ self.old.forwarded }
         ensures contacts { self.new.contacts ≡ self.old.contacts }
+        ensures beat { self.new.has_untold_beat ≡ self.old.has_untold_beat }
     {
         let standing = cell.state().standing;
         let Message { term, to, kind, .. } = &envelope.message;

@@ -1,4 +1,4 @@
-use Rattle.std.proofs.Common.{Ok, Err, refl}
+use Rattle.std.proofs.Common.{Err, refl}
 use Rattle.node_cells.specs.declared.cell_fault.CellFault.TheVariants.{Memory}
 use Rattle.node_threads.proofs.worker_loop.WorkerLoop.turn.Goals as goal
 
