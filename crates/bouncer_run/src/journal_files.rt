@@ -8,7 +8,7 @@ use crate::system::System;
 use bouncer_config::Config;
 use bouncer_tower::TowerBody;
 use file_disk::{FileJournal, OpenFault, open_journal};
-use raft_log::{GroupSize, NodeId};
+use raft_log::{GroupSize, Log, NodeId};
 use run_plan::journal_path;
 use stable_store::StoreFault;
 use std::fs::DirBuilder;
@@ -35,10 +35,13 @@ pub fn journals<R: System>(
     let alloc = rt.alloc();
     let folder = config.store.as_str();
     make_folder(rt, folder)?;
-    let mut journals = Vec::new(alloc);
+    let mut journals: Vec<FileJournal<TowerBody>> = Vec::new(alloc);
     for index in 0..size.value() {
         let path = journal_path(alloc, folder, NodeId::new(index + 1))?;
-        let journal = open(rt, path.as_str())?;
+        let journal = match journals.first() {
+            None => open(rt, path.as_str(), &Log::new(alloc))?,
+            Some(first) => open(rt, path.as_str(), first.log())?,
+        };
         if journals.push(journal).is_err() {
             return Err(RunFault::Memory);
         }
@@ -46,12 +49,17 @@ pub fn journals<R: System>(
     Ok(journals)
 }
 
-/// The journal in the file of a path. Where there is none, the line was written.
-fn open<R: System>(rt: &R, path: &str) -> Result<FileJournal<TowerBody>, RunFault>
+/// The journal in the file of a path. Where there is none, the line was written. What another log has too is one
+/// value in memory with it.
+fn open<R: System>(
+    rt: &R,
+    path: &str,
+    beside: &Log<TowerBody>,
+) -> Result<FileJournal<TowerBody>, RunFault>
     ensures serves { IfOk result (λ j. j.broken ≡ false) }
     ensures fault { IfErr result (IsOrMemory RunFault.Store) }
 {
-    match open_journal(rt, rt.alloc(), path) {
+    match open_journal(rt, rt.alloc(), path, beside) {
         Ok(journal) => Ok(journal),
         Err(fault) => {
             let _ = eprintln!(rt; "{path}: {fault}");

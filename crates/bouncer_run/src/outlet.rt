@@ -1,5 +1,5 @@
 //! What leaves a node, told to the loop.
-ghost use Rattle.std.specs.Prelude.{◌≡◌, IfErr};
+ghost use Rattle.std.specs.Prelude.{◌≡◌, IfErr, OnOk, ⊤};
 
 use crate::inlet::{Inlet, LoopMessage};
 use bouncer_tower::TowerEffect;
@@ -14,12 +14,18 @@ pub struct LoopOutlet {
 }
 
 impl Outlet<TowerEffect> for LoopOutlet {
+    ghost use Rattle.std.specs.Prelude.{⊤};
+
+    // what lies in a channel, no clause says
+    ghost has_taken = { λ _ _ _. ⊤ };
+
     fn report<R: Wait>(
         &mut self,
         rt: &R,
         report: Report<TowerEffect>,
     ) -> Result<(), Report<TowerEffect>>
-        ensures { IfErr result (λ back. back ≡ report) }
+        ensures taken { OnOk result ⊤ }
+        ensures back { IfErr result (λ back. back ≡ report) }
     {
         match self.inlet.tell(rt, LoopMessage::Report(report)) {
             Ok(_) => Ok(()),
