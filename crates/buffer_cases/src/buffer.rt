@@ -6,6 +6,7 @@ mod commands;
 mod gate_told;
 mod gates;
 mod heard;
+mod passes;
 mod queries;
 mod rings;
 pub mod setups;

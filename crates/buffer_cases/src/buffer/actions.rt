@@ -7,7 +7,8 @@ use wire_bytes::{Copied, WireFault};
 
 fn kind(action: &Action) -> &'static str {
     match action {
-        Action::Attach => "attach",
+        Action::Attach(None) => "attach",
+        Action::Attach(Some(_)) => "attach by name",
         Action::Leave => "leave",
         Action::Say(Verb::Privmsg, _, _) => "privmsg",
         Action::Say(Verb::Notice, _, _) => "notice",
@@ -48,6 +49,7 @@ const SPELLED: &[(&[u8], &str)] = &[
     (b"\x0c", "clear all"),
     (b"\x0d\0\x02#x\x01\xf4", "set buffer"),
     (b"\x0e\0\x06WHO #x", "pass"),
+    (b"\x0f\0\x05phone", "attach by name"),
 ];
 
 /// Whether the bytes are actions of these kinds, all of them, and each is spelled so, and its copy too.
@@ -77,17 +79,20 @@ fn notice(alloc: Global) -> Result<Action, Fail> {
 /// Bytes that are no action, and what is wrong with them.
 const FAULTS: &[(&[u8], WireFault)] = &[
     (b"\0", WireFault::Bad(0)),
-    (b"\x0f", WireFault::Bad(0)),
+    (b"\x10", WireFault::Bad(0)),
     (b"\x04\0\x03bob", WireFault::Bad(1)),
     (b"\x05\0\x03bob", WireFault::Bad(1)),
     (b"\x06\0\x03bob", WireFault::Bad(1)),
     (b"\x07\0\x03bob", WireFault::Bad(1)),
     (b"\x08\0\0", WireFault::Bad(1)),
+    (b"\x0f\0\0", WireFault::Bad(1)),
+    (b"\x0f\0\x03a,b", WireFault::Bad(1)),
     (b"\x03\x02", WireFault::Bad(1)),
     (b"\x03\0\0\x02#x\0\x01\r", WireFault::Bad(6)),
     (b"\x0e\0\x06who #x", WireFault::Bad(1)),
     (b"", WireFault::Short),
     (b"\x03", WireFault::Short),
+    (b"\x0f", WireFault::Short),
     (b"\x03\0\0\x02#x", WireFault::Short),
     (b"\x04\0", WireFault::Short),
     (b"\x04\0\x03bo", WireFault::Short),
@@ -110,7 +115,14 @@ fn is_copied_channel(alloc: Global, bytes: &[u8]) -> Result<bool, Fail> {
 fn an_action_has_one_spelling(rt: HostRuntime) -> Result<(), Fail> {
     let alloc = rt.alloc();
     assert!(rt; are_read(alloc)?);
-    assert!(rt; is_made(alloc, Action::Attach, b"\x01")?);
+    assert!(rt; is_made(alloc, Action::Attach(None), b"\x01")?);
+    assert!(rt;
+        is_made(
+            alloc,
+            Action::Attach(Some(name(alloc, b"a")?)),
+            b"\x0f\0\x01a"
+        )?
+    );
     assert!(rt; is_made(alloc, Action::Leave, b"\x02")?);
     assert!(rt; is_made(alloc, Action::ClearChannels, b"\x0a")?);
     assert!(rt; is_made(alloc, Action::ClearQueries, b"\x0b")?);

@@ -127,7 +127,7 @@ fn store(alloc: Global, channels: &mut Channels, name: &str, text: &str) -> Resu
 
 fn store_line(channels: &mut Channels, name: &str, line: KeptLine) {
     let place = channels.place_of(name.as_bytes());
-    channels.store_at(place, line);
+    channels.store_at(place, line, &[]);
 }
 
 fn check(rt: &impl Abort, alloc: Global, channels: &Channels, wanted: &str) -> Result<(), Fail> {

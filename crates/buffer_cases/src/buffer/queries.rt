@@ -80,7 +80,7 @@ fn store(alloc: Global, queries: &mut Queries, bytes: &str, text: &str) -> Resul
 }
 
 fn store_line(queries: &mut Queries, name: &Name, line: KeptLine) -> Result<(), AllocError> {
-    queries.store(name, line, 2, 3)
+    queries.store(name, line, &[], 2, 3)
 }
 
 fn check(rt: &impl Abort, alloc: Global, queries: &Queries, wanted: &str) -> Result<(), Fail> {

@@ -1,5 +1,5 @@
 //! What leaves a node.
-ghost use Rattle.std.specs.Prelude.{◌≡◌, IfErr};
+ghost use Rattle.std.specs.Prelude.{◌≡◌, IfErr, OnOk, ⊤};
 
 use crate::running::clusters::Counter;
 use bouncer_tower::TowerEffect;
@@ -18,12 +18,17 @@ pub struct Watch {
 }
 
 impl Outlet<TowerEffect> for Watch {
+    ghost use Rattle.std.specs.Prelude.{⊤};
+
+    ghost has_taken = { λ _ _ _. ⊤ };
+
     fn report<R: Wait>(
         &mut self,
         _rt: &R,
         report: Report<TowerEffect>,
     ) -> Result<(), Report<TowerEffect>>
-        ensures { IfErr result (λ back. back ≡ report) }
+        ensures taken { OnOk result ⊤ }
+        ensures back { IfErr result (λ back. back ≡ report) }
     {
         for effect in &report.effects {
             match effect {

@@ -1,8 +1,9 @@
 //! Journals over files of the system, by examples.
 use crate::file::fault_file::FaultFile;
 use fault_disks::{Fails, FaultDisk};
-use file_disk::{FileDisk, FileJournal, OpenFault, adopt_or_make, open_journal};
+use file_disk::{FileDisk, FileJournal, OpenFault, open_journal};
 use journal_store::{Disk, DiskFault, JournalStore};
+use raft_log::Log;
 use stable_store::{Change, Stable, StoreFault};
 use std::alloc::Global;
 use std::fs;
@@ -18,7 +19,7 @@ const FOUND: &str = "file_cases_found";
 
 /// A journal of one change: boot 1, term 0, no vote, no entries.
 const BOOT: [u8; 41] = [
-    82, 66, 83, 84, 79, 82, 48, 49, 1, 0, 0, 0, 27, 0, 0, 0, 0, 0, 0, 0, 1, 0, 0, 0, 0, 0, 0, 0, 0,
+    82, 66, 83, 84, 79, 82, 48, 50, 1, 0, 0, 0, 27, 0, 0, 0, 0, 0, 0, 0, 1, 0, 0, 0, 0, 0, 0, 0, 0,
     0, 0, 0, 0, 0, 0, 0, 0, 0, 0, 0, 0,
 ];
 
@@ -31,7 +32,7 @@ fn save(alloc: Global, store: &mut FileJournal<u8>) -> Result<(), StoreFault> {
 
 /// The boot in the journal of a path, or why it is not opened.
 fn boot(rt: &HostRuntime, path: &str) -> Result<u64, OpenFault> {
-    let store: FileJournal<u8> = open_journal(rt, rt.alloc(), path)?;
+    let store: FileJournal<u8> = open_journal(rt, rt.alloc(), path, &Log::new(rt.alloc()))?;
     Ok(store.read()?.boot.value())
 }
 
@@ -65,7 +66,7 @@ fn check_text(rt: &impl Abort, told: &str, wanted: &str) {
 
 /// Saves boot 1 in the journal of a path, which serves again. Answers how many calls failed.
 fn saved(rt: &HostRuntime, path: &str) -> Result<u64, Fail> {
-    let mut store: FileJournal<u8> = open_journal(rt, rt.alloc(), path)?;
+    let mut store: FileJournal<u8> = open_journal(rt, rt.alloc(), path, &Log::new(rt.alloc()))?;
     save(rt.alloc(), &mut store)?;
     store.again()?;
     Ok(store.failures())
@@ -85,7 +86,7 @@ fn a_journal_over_a_file_keeps_what_is_saved(rt: HostRuntime) -> Result<(), Fail
 
 /// How the journal of a path is opened while it is open.
 fn opened_twice(rt: &HostRuntime, path: &str) -> Result<&'static str, Fail> {
-    let store: FileJournal<u8> = open_journal(rt, rt.alloc(), path)?;
+    let store: FileJournal<u8> = open_journal(rt, rt.alloc(), path, &Log::new(rt.alloc()))?;
     let outcome = outcome(rt, path);
     drop(store);
     Ok(outcome)
@@ -111,7 +112,11 @@ fn a_short_file_becomes_a_journal_and_a_longer_one_stays(rt: HostRuntime) -> Res
     fs::create_dir(&rt, FOUND)?;
     let path = "file_cases_found/node-1";
     check_text(&rt, &opened(&rt, path, b"")?, "boot 0");
+    check_bytes(&rt, &fs::read(&rt, path)?, b"RBSTOR02\0");
     check_text(&rt, &opened(&rt, path, b"RBSTOR01\x01")?, "boot 0");
+    check_bytes(&rt, &fs::read(&rt, path)?, b"RBSTOR02\0");
+    // an empty journal of before clients had names is none to be made anew
+    check_text(&rt, &opened(&rt, path, b"RBSTOR01\0")?, "boot 0");
     check_bytes(&rt, &fs::read(&rt, path)?, b"RBSTOR01\0");
     let damaged = "the journal cannot be read: the store is damaged at byte 8";
     check_text(&rt, &opened(&rt, path, b"RBSTOR01\x01\0")?, damaged);
@@ -156,7 +161,7 @@ fn check_disk(
 
 /// The boot of the journal on a disk, and how many of its calls failed.
 fn adopted(alloc: Global, disk: FileDisk<FaultFile>) -> Result<(u64, u64), StoreFault> {
-    let store: JournalStore<u8, FileDisk<FaultFile>> = adopt_or_make(alloc, disk)?;
+    let store: JournalStore<u8, FileDisk<FaultFile>> = JournalStore::adopt_or_make(alloc, disk)?;
     Ok((store.read()?.boot.value(), store.failures()))
 }
 

@@ -13,7 +13,10 @@ use world_run::Outcome;
 
 /// A run of three nodes, of which one is recorded, over a setup that is spelled in one byte.
 const TEXT: &[u8] =
-    b"RBREC01 3\n2a\ntimeout 1\nclaim 1\noutputs\n2 1 refused 5 NoLeader\nnode 1 candidate term 1 vote 1 log 2 last 0 commit 0 applied 0\n";
+    b"RBREC02 3\n2a\ntimeout 1\nclaim 1\noutputs\n2 1 refused 5 NoLeader\nnode 1 candidate term 1 vote 1 log 2 last 0 commit 0 applied 0\n";
+
+/// The events of such a run, in a file of before clients had names.
+const FIRST_TEXT: &[u8] = b"RBREC01 3\n2a\ntimeout 1\nclaim 1\noutputs\n";
 
 /// What node 1 is when it asked for votes once.
 fn candidate() -> NodeFields {
@@ -67,7 +70,7 @@ fn turns_stand_by_ticket_then_node_then_place(rt: HostRuntime) -> Result<(), Fai
 
 /// A run of which no turn was recorded, over a setup that is spelled in one byte.
 const NO_TURNS: &[u8] =
-    b"RBREC01 3\n2a\noutputs\nnode 1 candidate term 1 vote 1 log 2 last 0 commit 0 applied 0\n";
+    b"RBREC02 3\n2a\noutputs\nnode 1 candidate term 1 vote 1 log 2 last 0 commit 0 applied 0\n";
 
 /// Whether a run of which no turn was recorded is written so.
 fn is_written(alloc: Global, wanted: &[u8]) -> Result<bool, Fail> {
@@ -93,5 +96,6 @@ fn a_run_is_written_as_its_file_which_is_read_up_to_its_outputs(
 ) -> Result<(), Fail> {
     assert!(rt; is_written(rt.alloc(), NO_TURNS)?);
     assert!(rt; is_read(rt.alloc(), TEXT, b"2 1 refused 5 NoLeader\nnode 1 ")?);
+    assert!(rt; is_read(rt.alloc(), FIRST_TEXT, b"")?);
     Ok(())
 }

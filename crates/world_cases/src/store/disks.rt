@@ -10,7 +10,7 @@ use std::test::Fail;
 use wire_bytes::Number;
 
 /// A journal in which nothing is saved.
-const EMPTY: [u8; 9] = *b"RBSTOR01\0";
+const EMPTY: [u8; 9] = *b"RBSTOR02\0";
 
 const IMAGES: [Unsynced; 4] = [
     Unsynced::Kept,

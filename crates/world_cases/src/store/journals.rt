@@ -2,23 +2,24 @@
 ghost use Rattle.std.specs.Prelude.{◌≡◌, ◌≢◌, ◌≤◌, length, IfOk, IsTrue, List, ℕ, []};
 ghost use Rattle.journal_store.specs.Disks.{now};
 
+use bouncer_tower::TowerBody;
 use journal_store::{Disk, JournalStore, MemoryDisk, begin, may_follow};
 use raft_log::{ENTRY_LIMIT, Entry, LoggedBody};
 use stable_store::{Change, Saved, Stable, StoreFault};
 use std::alloc::{AllocError, Global};
 use std::process::Abort;
 use std::test::Fail;
-use wire_bytes::Number;
+use wire_bytes::{Number, Wire};
 
 /// A journal of one change: boot 1, term 0, no vote, no entries.
 const BOOT: [u8; 41] = [
-    82, 66, 83, 84, 79, 82, 48, 49, 1, 0, 0, 0, 27, 0, 0, 0, 0, 0, 0, 0, 1, 0, 0, 0, 0, 0, 0, 0, 0,
+    82, 66, 83, 84, 79, 82, 48, 50, 1, 0, 0, 0, 27, 0, 0, 0, 0, 0, 0, 0, 1, 0, 0, 0, 0, 0, 0, 0, 0,
     0, 0, 0, 0, 0, 0, 0, 0, 0, 0, 0, 0,
 ];
 
 /// The same, and behind it a change of boot 1, term 1 and a vote for node 2.
 const VOTE: [u8; 73] = [
-    82, 66, 83, 84, 79, 82, 48, 49, 1, 0, 0, 0, 27, 0, 0, 0, 0, 0, 0, 0, 1, 0, 0, 0, 0, 0, 0, 0, 0,
+    82, 66, 83, 84, 79, 82, 48, 50, 1, 0, 0, 0, 27, 0, 0, 0, 0, 0, 0, 0, 1, 0, 0, 0, 0, 0, 0, 0, 0,
     0, 0, 0, 0, 0, 0, 0, 0, 0, 0, 0, 1, 0, 0, 0, 27, 0, 0, 0, 0, 0, 0, 0, 1, 0, 0, 0, 0, 0, 0, 0,
     1, 2, 0, 0, 0, 0, 0, 0, 0, 0, 0, 0, 0,
 ];
@@ -93,7 +94,12 @@ fn voted(alloc: Global) -> Result<JournalStore<u8, MemoryDisk>, StoreFault> {
 
 /// What a file stands for: boot, term, vote or 0, and how many entries; or why it is refused.
 fn found(alloc: Global, file: &[u8]) -> Result<(u64, u64, u8, u64), StoreFault> {
-    let store: JournalStore<u8, MemoryDisk> = JournalStore::adopt(alloc, disk(alloc, file)?)?;
+    found_of::<u8>(alloc, file)
+}
+
+/// The same of a file with bodies of this kind.
+fn found_of<B: Wire>(alloc: Global, file: &[u8]) -> Result<(u64, u64, u8, u64), StoreFault> {
+    let store: JournalStore<B, MemoryDisk> = JournalStore::adopt(alloc, disk(alloc, file)?)?;
     let saved = store.read()?;
     let vote = match saved.vote {
         None => 0,
@@ -125,7 +131,7 @@ fn check_made(rt: &impl Abort, alloc: Global, store: &JournalStore<u8, MemoryDis
 
 /// The bytes are a header and a closed gate, and stand for nothing.
 fn check_new(rt: &impl Abort, alloc: Global, bytes: &[u8]) {
-    check_bytes(rt, bytes, b"RBSTOR01\0");
+    check_bytes(rt, bytes, b"RBSTOR02\0");
     assert!(rt; found(alloc, bytes) == Ok((0, 0, 0, 0)));
 }
 
@@ -145,8 +151,11 @@ const OTHERS: &[(&[u8], StoreFault)] = &[
     (b"RBSTOR01", StoreFault::NotAStore),
     (b"RBSTOS01\0", StoreFault::NotAStore),
     (b"rbstor02\0", StoreFault::NotAStore),
-    (b"RBSTOR02\0", StoreFault::Version),
-    (b"RBSTOR01\x01", StoreFault::Damaged(8)),
+    (b"RBSTOR00\0", StoreFault::Version),
+    (b"RBSTOR03\0", StoreFault::Version),
+    (b"RBSTOR12\0", StoreFault::Version),
+    (b"RBSTOR01\x02", StoreFault::Damaged(8)),
+    (b"RBSTOR02\x01", StoreFault::Damaged(8)),
 ];
 
 #[test]
@@ -155,6 +164,9 @@ fn a_file_stands_for_its_records_up_to_a_closed_gate(rt: HostRuntime) {
     assert!(rt; found(alloc, &BOOT) == Ok((1, 0, 0, 0)));
     assert!(rt; found(alloc, &VOTE) == Ok((1, 1, 2, 0)));
     let mut file = VOTE;
+    // of before clients had names
+    file[7] = 49;
+    assert!(rt; found(alloc, &file) == Ok((1, 1, 2, 0)));
     // any other byte than 0 opens a gate, and what follows a closed one counts for nothing
     file[8] = 3;
     assert!(rt; found(alloc, &file) == Ok((1, 1, 2, 0)));
@@ -196,6 +208,39 @@ fn a_record_that_does_not_fit_or_follow_is_damage_at_its_gate(rt: HostRuntime) {
     file[61] = 2;
     file[69] = 1;
     assert!(rt; found(alloc, &file) == Err(StoreFault::Damaged(40)));
+}
+
+/// The journal of these bytes, adopted or made, in which boot 1 is saved.
+fn booted_on(alloc: Global, bytes: &[u8]) -> Result<JournalStore<u8, MemoryDisk>, StoreFault> {
+    let mut store = JournalStore::adopt_or_make(alloc, disk(alloc, bytes)?)?;
+    save(alloc, &mut store, (1, 0), None, 0, None)?;
+    Ok(store)
+}
+
+/// An empty journal keeps its header, and any other file as short becomes a new one.
+#[test]
+fn a_journal_keeps_its_header(rt: HostRuntime) -> Result<(), Fail> {
+    let alloc = rt.alloc();
+    let mut older = BOOT;
+    older[7] = 49;
+    check_bytes(&rt, booted_on(alloc, b"RBSTOR01\0")?.disk().bytes(), &older);
+    for file in [b"RBSTOR02\0", b"RBSTOR03\0", b"RBSTOR01\x01"] {
+        check_bytes(&rt, booted_on(alloc, file)?.disk().bytes(), &BOOT);
+    }
+    Ok(())
+}
+
+/// A journal of the older version, of one change with one entry: a client attaches with the name `a`.
+const NAMED: [u8; 91] = [
+    82, 66, 83, 84, 79, 82, 48, 49, 1, 0, 0, 0, 77, 0, 0, 0, 0, 0, 0, 0, 1, 0, 0, 0, 0, 0, 0, 0, 1,
+    0, 0, 0, 0, 0, 0, 0, 0, 0, 0, 1, 0, 0, 0, 0, 0, 0, 0, 1, 0, 0, 0, 38, 1, 1, 0, 0, 0, 0, 0, 0,
+    0, 1, 0, 0, 0, 0, 0, 0, 0, 1, 0, 0, 0, 0, 0, 0, 0, 1, 0, 0, 0, 0, 101, 83, 241, 0, 15, 0, 1,
+    97, 0,
+];
+
+#[test]
+fn a_journal_of_the_older_version_takes_a_name(rt: HostRuntime) {
+    assert!(rt; found_of::<TowerBody>(rt.alloc(), &NAMED) == Ok((1, 1, 0, 1)));
 }
 
 /// A store in which entries of the bodies 5 and 6 follow, of which 7 takes the place of the last.
