@@ -1,7 +1,8 @@
-"""Times `fold` of the programs named as arguments on two mixes of commands, each at a length and at twice that.
+"""Times `fold` of the programs named as arguments on mixes of commands, each at a length and at twice that.
 
 Prints for each program the least time of five runs, commands a second, and the greatest peak memory; how many times as
-long twice the commands take; and how many times as long each further program takes as the first.
+long twice the commands take; and how many times as long each further program takes as the first. The mixes of clients with
+names, which older programs do not read, are timed by the first program alone, and beside the same clients without names.
 """
 import os
 import subprocess
@@ -76,6 +77,38 @@ def many(count):
             yield ask(client, T + i, (b"\x06" if i // 10 % 2 else b"\x07") + field(name))
 
 
+def attach(client, is_named):
+    return b"\x0f" + field(b"device-%d" % client) if is_named else b"\x01"
+
+
+def coming(count, is_named):
+    """Eight clients attach; then in ten commands six lines from upstream, two Says, and one of them leaves and attaches again."""
+    last = {}
+
+    def ask(client, at, action):
+        last[client] = last.get(client, 0) + 1
+        return asked(client, last[client], at, action)
+
+    for client in range(1, 9):
+        yield ask(client, T, attach(client, is_named))
+    for i in range(count - 8):
+        kind, client = i % 10, 1 + i // 10 % 8
+        if kind < 6:
+            yield upstream(T + i, b":a!b@c PRIVMSG #x :line %d of the day" % i)
+        elif kind < 8:
+            yield ask(1 + i % 8, T + i, b"\x03\x00" + field(NAME) + field(b"reply %d" % i))
+        else:
+            yield ask(client, T + i, b"\x02" if kind == 8 else attach(client, is_named))
+
+
+def nameless(count):
+    return coming(count, False)
+
+
+def named(count):
+    return coming(count, True)
+
+
 def fold(program, path):
     """The seconds and the peak bytes of one run."""
     with open(path, "rb") as source:
@@ -108,18 +141,26 @@ def timed(programs, bodies, count, path):
     return least
 
 
+def compared(title, programs, bodies, count, path):
+    """Times a mix at this length and at twice that. The least seconds of the first program at the latter."""
+    print(f"{title}:")
+    first = timed(programs, bodies, count, path)
+    second = timed(programs, bodies, 2 * count, path)
+    print(f"twice the commands take {second[0] / first[0]:.2f} times as long")
+    for program, seconds in list(zip(programs, second))[1:]:
+        print(f"{program} takes {seconds / second[0]:.2f} times as long as the first")
+    return second[0]
+
+
 def main():
     programs = sys.argv[1:]
-    mixes = (("two clients, one channel", few, 200_000), ("50 clients, 100 channels", many, 20_000))
     with tempfile.TemporaryDirectory() as work:
         path = os.path.join(work, "bodies")
-        for title, bodies, count in mixes:
-            print(f"{title}:")
-            first = timed(programs, bodies, count, path)
-            second = timed(programs, bodies, 2 * count, path)
-            print(f"twice the commands take {second[0] / first[0]:.2f} times as long")
-            for program, seconds in list(zip(programs, second))[1:]:
-                print(f"{program} takes {seconds / second[0]:.2f} times as long as the first")
+        compared("two clients, one channel", programs, few, 200_000, path)
+        compared("50 clients, 100 channels", programs, many, 20_000, path)
+        without = compared("eight clients who come and go", programs, nameless, 200_000, path)
+        seconds = compared("the same clients with names", programs[:1], named, 200_000, path)
+        print(f"with names they take {seconds / without:.2f} times as long as without")
 
 
 main()

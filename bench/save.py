@@ -13,7 +13,7 @@ import time
 RUNS = 5
 SAVES = 1000
 ENTRIES = 100_000
-HEADER = b"RBSTOR01"
+HEADER = b"RBSTOR02"
 
 
 def number(n):

@@ -151,11 +151,11 @@ class Bouncer:
         self.process.wait(LONGEST)
         self.process.stdin.close()
 
-    def attach(self, node, nick="me"):
+    def attach(self, node, nick="me", password="pw"):
         """A client that a node took. A node that is not up takes none."""
         end = time.monotonic() + LONGEST
         while True:
-            client = Client(self.ports[node - 1], nick, "pw")
+            client = Client(self.ports[node - 1], nick, password)
             try:
                 client.wait("Welcome to the bouncer")
                 return client

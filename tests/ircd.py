@@ -1,5 +1,6 @@
 """An IRC server, ngircd, and people at it."""
 
+import itertools
 import os
 import socket
 import subprocess
@@ -9,6 +10,7 @@ from harness import Bouncer, Ports
 
 HEARD = 3  # seconds after which a mark is said again
 MARKS = 20
+marks = itertools.count()
 
 
 class Server:
@@ -62,8 +64,8 @@ def peer(room, nick, channel="#x"):
 
 def hears(client, other, channel="#x"):
     """Waits until a client hears at once what another one says in a channel: all that was said before came, too."""
-    for number in range(MARKS):
-        mark = f"mark {id(client)} {number}"
+    for _ in range(MARKS):
+        mark = f"mark {next(marks)}"
         other.say(f"PRIVMSG {channel} :{mark}")
         try:
             return until(lambda: client.has(f"PRIVMSG {channel} :{mark}"), "a mark", HEARD)

@@ -2,7 +2,7 @@
 
 import struct
 
-HEADER = b"RBSTOR01"
+HEADER = b"RBSTOR02"
 CHANGE = struct.Struct(">QQBQH")  # boot, term, vote, entries kept, entries that follow
 ENTRY = struct.Struct(">QI")  # term, length of the body
 MOST_ENTRIES = 256  # in one change

@@ -1,8 +1,8 @@
 #!/usr/bin/env python3
 """Writes the lines that `bouncer fold` reads, by bodies in words, one a line of standard input: `up`, `down`, `gone 2 2` (the
 runs of node 2 below its second), `heard 0 :a!b@c PRIVMSG #x :hi` (a line from upstream at the second 0, which is 22:13:20),
-`1.1.1 #2 play #x` (a client's second request, at the second 0), `blank`, and `mark 2.5.7` (the mark 7 of the run 5 of
-node 2)."""
+`1.1.1 #2 play #x` (a client's second request, at the second 0; `attach phone` is an attaching by name), `blank`, and
+`mark 2.5.7` (the mark 7 of the run 5 of node 2)."""
 
 import sys
 
@@ -19,6 +19,7 @@ KINDS = {
     "clear": 9,
     "size": 13,
 }
+NAMED = 15  # attaches by a name
 
 
 def number(word, length):
@@ -43,6 +44,8 @@ def action(words):
     verb, _, rest = words.partition(" ")
     kind = bytes([KINDS[verb]])
     target, _, last = rest.partition(" ")
+    if verb == "attach" and target:
+        return bytes([NAMED]) + field(target)
     if verb in ("attach", "leave"):
         return kind
     if verb == "say":
