@@ -27,6 +27,8 @@ pub enum EdgeNews {
     Refused(String),
     /// The server took the session of this node, by this nick.
     Nick(NodeId, Name),
+    /// A client attached by this name.
+    Named(NodeId, u64, Name),
     /// Standard input ended, which ends the bouncer.
     InputEnded,
 }
@@ -40,6 +42,7 @@ impl EdgeNews {
             EdgeNews::Unregistered(node, _, _) => Some(*node),
             EdgeNews::GaveWay(node, _, _) | EdgeNews::Crowded(node, _) => Some(*node),
             EdgeNews::Deaf(node, _) | EdgeNews::Nick(node, _) => Some(*node),
+            EdgeNews::Named(node, _, _) => Some(*node),
             EdgeNews::Refused(_) | EdgeNews::InputEnded => None,
         }
     }
@@ -67,11 +70,14 @@ impl fmt::Display for EdgeNews {
             EdgeNews::Crowded(_, from) => write!(f, "too many clients: {from} is turned away"),
             EdgeNews::Deaf(_, error) => write!(f, "no client can be taken: {error}"),
             EdgeNews::Refused(text) => write!(f, "the server says: {text}"),
-            EdgeNews::Nick(_, nick) => {
-                let nick = from_utf8(nick.as_bytes()).unwrap_or("one that is no text");
-                write!(f, "the nick is {nick}")
-            }
+            EdgeNews::Nick(_, nick) => write!(f, "the nick is {}", text_of(nick)),
+            EdgeNews::Named(_, number, name) => write!(f, "client {number} is {}", text_of(name)),
             EdgeNews::InputEnded => write!(f, "standard input ended: stopping"),
         }
     }
+}
+
+/// A name as text, if it is text.
+fn text_of(name: &Name) -> &str {
+    from_utf8(name.as_bytes()).unwrap_or("one that is no text")
 }

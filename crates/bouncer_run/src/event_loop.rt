@@ -6,10 +6,14 @@ use crate::clock::{Clockwork, Ticks};
 use crate::edge_news::EdgeNews;
 use crate::inlet::LoopMessage;
 use crate::sockets::Sockets;
+use buffer_commands::Action;
 use crossbeam_channel::Receiver;
 use driver::{Driver, News, Now, Order, TowerNote};
+use irc_line::Name;
 use mio::Events;
+use node_notes::Note;
 use raft_log::NodeId;
+use request_once::Body;
 use std::alloc::{AllocError, Global};
 use std::net::Net;
 use std::rt::Clock;
@@ -17,6 +21,7 @@ use std::sync::Wait;
 use std::time::Duration;
 use std::vec::IntoIter;
 use thiserror::Error;
+use wire_bytes::{Copied, Origin};
 
 /// How many sockets are told of at once.
 const EVENTS: usize = 256;
@@ -191,10 +196,55 @@ fn carry_out<R: Net + Wait, N: Nodes, O: Operator>(
         Order::Submit(node, note) => if !nodes.tell(rt, node, note) {
             return Err(LoopFault::Memory);
         },
-        Order::Log(news) => log(now, driver, sockets, operator, news)?,
+        Order::Log(news) => return tell_news(now, driver, sockets, operator, news, rest),
         other => return sockets.carry_out(rt, now, driver, other, rest),
     }
     Ok(rest.next())
+}
+
+/// An operator is told of news, and by which name a client attached. The next order, of those that are left.
+fn tell_news<O: Operator>(
+    now: &Now,
+    driver: &mut Driver,
+    sockets: &mut Sockets,
+    operator: &mut O,
+    news: News,
+    rest: &mut IntoIter<Order, Global>,
+) -> Result<Option<Order>, LoopFault> {
+    let has_come = matches!(news, News::Attached(_));
+    log(now, driver, sockets, operator, news)?;
+    let next = rest.next();
+    if let Some(asked) = &next {
+        if has_come {
+            tell_name(now, sockets.alloc, operator, asked)?;
+        }
+    }
+    Ok(next)
+}
+
+/// An operator is told by which name a client attached, where that is what is asked.
+fn tell_name<O: Operator>(
+    now: &Now,
+    alloc: Global,
+    operator: &mut O,
+    asked: &Order,
+) -> Result<(), AllocError> {
+    if let Some((origin, name)) = named(asked) {
+        let node = NodeId::new(origin.node());
+        let name = name.copy(alloc)?;
+        operator.hear_edge(now, EdgeNews::Named(node, origin.client(), name));
+    }
+    Ok(())
+}
+
+/// The client that asks to attach by a name, and the name.
+fn named(order: &Order) -> Option<(Origin, &Name)> {
+    match order {
+        Order::Submit(_, Note::Ask(Body::Asked(origin, _, _, Action::Attach(Some(name))))) => {
+            Some((*origin, name))
+        }
+        _ => None,
+    }
 }
 
 /// An operator is told of news, and so are clients whom they concern.
