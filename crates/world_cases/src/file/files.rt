@@ -161,7 +161,11 @@ fn check_disk(
 
 /// The boot of the journal on a disk, and how many of its calls failed.
 fn adopted(alloc: Global, disk: FileDisk<FaultFile>) -> Result<(u64, u64), StoreFault> {
-    let store: JournalStore<u8, FileDisk<FaultFile>> = JournalStore::adopt_or_make(alloc, disk)?;
+    let store: JournalStore<u8, FileDisk<FaultFile>> = JournalStore::adopt_or_make(
+        alloc,
+        disk,
+        &Log::new(alloc),
+    )?;
     Ok((store.read()?.boot.value(), store.failures()))
 }
 

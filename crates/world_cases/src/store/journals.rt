@@ -4,7 +4,7 @@ ghost use Rattle.journal_store.specs.Disks.{now};
 
 use bouncer_tower::TowerBody;
 use journal_store::{Disk, JournalStore, MemoryDisk, begin, may_follow};
-use raft_log::{ENTRY_LIMIT, Entry, LoggedBody};
+use raft_log::{ENTRY_LIMIT, Entry, Log, LoggedBody};
 use stable_store::{Change, Saved, Stable, StoreFault};
 use std::alloc::{AllocError, Global};
 use std::process::Abort;
@@ -212,7 +212,7 @@ fn a_record_that_does_not_fit_or_follow_is_damage_at_its_gate(rt: HostRuntime) {
 
 /// The journal of these bytes, adopted or made, in which boot 1 is saved.
 fn booted_on(alloc: Global, bytes: &[u8]) -> Result<JournalStore<u8, MemoryDisk>, StoreFault> {
-    let mut store = JournalStore::adopt_or_make(alloc, disk(alloc, bytes)?)?;
+    let mut store = JournalStore::adopt_or_make(alloc, disk(alloc, bytes)?, &Log::new(alloc))?;
     save(alloc, &mut store, (1, 0), None, 0, None)?;
     Ok(store)
 }
