@@ -103,6 +103,8 @@ def named(room):
     plain_one.wait("JOIN #x")
     hears(plain_one, gus)
     check("a client without a name is played all that is kept", lines(plain_one) == said, (lines(plain_one), said))
+    log = bouncer.log()
+    check("the log tells who attached", " is phone" in log and " is laptop" in log and "pw" not in log, log[-2000:])
     check("it ends", bouncer.end() == 0)
     gus.close()
 
