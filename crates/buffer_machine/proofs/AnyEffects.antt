@@ -1,37 +1,26 @@
 -- What the machine answers is what its definitions say, whatever the command.
-use Rattle.std.proofs.Common.{◌≡◌, ℕ, List, [], ◌∷◌, ◌++◌, map, refl, ap, ◌∙◌, sym, append_assoc, Bool, true, false, not, ◌&&◌, subst}
-use Rattle.std.specs.Prelude.{Option, Some, None, if◌then◌else◌, filter, find, flat_map, unwrap_or, codes}
-use Rattle.std.specs.List.{list_all}
+use Rattle.std.proofs.Common.{◌≡◌, ℕ, List, [], ◌∷◌, refl, ap, ◌∙◌, sym, Bool, true, false}
+use Rattle.std.specs.Prelude.{if◌then◌else◌, codes}
 use Rattle.irc_line.specs.Names.{fold_name}
-use Rattle.irc_line.specs.Keys.{at_key, is_in}
 use Rattle.irc_line.specs.Lines.{Parts}
-use Rattle.buffer_targets.specs.Targets.{ChannelLines}
 use Rattle.wire_bytes.specs.declared.origin.Origin.{Origin}
 use Rattle.buffer_commands.specs.Settings.{Settings}
 use Rattle.buffer_commands.specs.declared.command.Verb.{Verb}
 use Rattle.buffer_commands.specs.declared.command.Action.TheVariants.{Attach, Leave, Say, Join, Part, Detach, Reattach, Play, Clear, ClearChannels, ClearQueries, ClearAll, SetBuffer, Pass}
 use Rattle.buffer_commands.specs.declared.command.Command.{Command}
 use Rattle.buffer_commands.specs.declared.command.Command.TheVariants.{Client, Upstream, NodeGone, Up, Down}
-use Rattle.buffer_commands.specs.declared.effect.Effect.{Effect}
-use Rattle.buffer_commands.specs.declared.effect.Effect.TheVariants.{Close, Send, Rejoin}
-use Rattle.buffer_machine.specs.Messages.{is_among, channel_of, bare, own_line, is_query_name}
-use Rattle.buffer_machine.specs.Buffers.{nick, channels, queries, is_known, joined, detached, is_past}
-use Rattle.buffer_machine.specs.Crowd.{attached, floor, id_of, ids, takes}
-use Rattle.buffer_machine.specs.Marks.{playback_by}
-use Rattle.buffer_machine.proofs.Holders.{each_shown, flat_same, place}
-use Rattle.buffer_machine.specs.Effects.{show_all, show_each, send_all, status, named, open_channels, closings, if_some, shown_again, sent_again, shown, sent, effects}
-use Rattle.buffer_machine.specs.Answering.{played_by, shown_joined, standing, closed_out, others, shown_at_attach, sent_at_attach, answers, answers_attaching, answers_again, answers_joining, answers_parting, answers_detaching, answers_reattaching, answers_taking}
-use Rattle.buffer_machine.specs.Held.{IsSound, channel_held, target_held, held}
-use Rattle.buffer_machine.proofs.Folded.{query-key}
-use Rattle.buffer_machine.proofs.Lists.{flat_map_at, flat_map_through, map_through}
-use Rattle.buffer_machine.proofs.Names.{all-at}
-use Rattle.buffer_machine.proofs.Standing.{queries-are, not_a_channel}
-use Rattle.buffer_machine.proofs.Unknown.{detached-unknown}
-use Rattle.buffer_machine.proofs.Found.{channel_under, channel-found, found-detached}
-use Rattle.buffer_machine.proofs.Playing.{played_by-both, played_by-channel, played_by-query, played-lines, standing-is, asked-is, done-is}
+use Rattle.buffer_commands.specs.declared.effect.Effect.TheVariants.{Close, Rejoin}
+use Rattle.buffer_machine.specs.Messages.{is_among, channel_of, bare}
+use Rattle.buffer_machine.specs.Buffers.{nick, channels, is_known, is_past}
+use Rattle.buffer_machine.specs.Crowd.{attached, floor}
+use Rattle.buffer_machine.specs.Effects.{status, closings, shown, sent, effects}
+use Rattle.buffer_machine.specs.Answering.{closed_out, answers, answers_taking}
+use Rattle.buffer_machine.specs.Held.{IsSound, channel_held, held}
+use Rattle.buffer_machine.proofs.Lists.{map_through}
+use Rattle.buffer_machine.proofs.Found.{found-detached}
+use Rattle.buffer_machine.proofs.Playing.{asked-is, done-is}
 use Rattle.buffer_machine.proofs.AnyChannel.{floor_now}
 use Rattle.std.proofs.lemmas.List.{append-nil}
-use Rattle.buffer_machine.proofs.Named.{named-known, named-unknown, known-is}
 use Rattle.buffer_machine.proofs.EffectsStep.{attach-is, detach-is, join-is, part-is, parts_by, reattach-is, shows_by}
 
 -- ---- the other commands

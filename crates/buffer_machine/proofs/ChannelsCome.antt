@@ -1,5 +1,5 @@
 -- One step of the machine holds the channels of a history, where a channel comes or goes too.
-use Rattle.std.proofs.Common.{◌≡◌, ℕ, List, [], ◌∷◌, length, map, refl, ap, ◌∙◌, sym, Bool, true, false, not, ◌&&◌, ◌||◌, subst}
+use Rattle.std.proofs.Common.{◌≡◌, ℕ, List, [], ◌∷◌, map, refl, ap, ◌∙◌, sym, Bool, true, false, not, ◌&&◌, ◌||◌, subst}
 use Rattle.std.specs.Prelude.{Some, None, if◌then◌else◌, filter, codes}
 use Rattle.std.specs.List.{list_all, list_any}
 use Rattle.irc_line.specs.Names.{fold_name, is_channel}
@@ -7,30 +7,28 @@ use Rattle.irc_line.specs.Keys.{at_key, is_in, is_below, put_in}
 use Rattle.irc_line.specs.Lines.{Parts, parameter}
 use Rattle.irc_line.proofs.Booleans.{and_left, and_right, and_true, not_true, and_false, not_from}
 use Rattle.buffer_lines.specs.Stamps.{ring}
-use Rattle.buffer_targets.specs.Targets.{ChannelLines, channel, counted, none_seen, target, with_joined, has_key, at_channel, channel_of_key, joined_by, put_channel, without_channel}
+use Rattle.buffer_targets.specs.Targets.{ChannelLines, channel, none_seen, target, with_joined, has_key, at_channel, channel_of_key, joined_by, put_channel, without_channel}
 use Rattle.wire_bytes.specs.declared.origin.Origin.{Origin}
 use Rattle.buffer_commands.specs.Settings.{Settings}
-use Rattle.buffer_commands.specs.declared.command.Action.TheVariants.{Attach, Leave, Say, Join, Part, Detach, Reattach, Play, Clear, ClearChannels, ClearQueries, ClearAll, SetBuffer, Pass}
+use Rattle.buffer_commands.specs.declared.command.Action.TheVariants.{Say, Part}
 use Rattle.buffer_commands.specs.declared.command.Command.{Command}
-use Rattle.buffer_commands.specs.declared.command.Command.TheVariants.{Client, Upstream, NodeGone, Up, Down}
+use Rattle.buffer_commands.specs.declared.command.Command.TheVariants.{Client, Upstream}
 use Rattle.buffer_machine.specs.Messages.{has_command, is_among, is_by, is_own, is_own_kick, is_storable}
-use Rattle.buffer_machine.specs.Buffers.{keeps, nick, channels, joined, joined_after, detached, size, kept, said, made_by, with_made, is_own_at, is_removed}
+use Rattle.buffer_machine.specs.Buffers.{keeps, nick, channels, joined, joined_after, detached, size, kept, made_by, with_made, is_own_at, is_removed}
 use Rattle.buffer_machine.specs.Crowd.{attached, floor, ids}
 use Rattle.buffer_commands.specs.declared.command.Verb.{Verb}
 use Rattle.buffer_machine.specs.Steps.{channels_storing, let_go, channels_after}
-use Rattle.buffer_machine.specs.NameSteps.{here_of}
-use Rattle.buffer_machine.specs.Held.{IsSound, channel_held, held, names_held, seen_held}
-use Rattle.buffer_machine.proofs.SeenLists.{again_list}
+use Rattle.buffer_machine.specs.Held.{IsSound, channel_held, held, seen_held}
 use Rattle.buffer_machine.proofs.Unnamed.{ids-more}
 use Rattle.buffer_machine.proofs.Lists.{map_at}
 use Rattle.buffer_machine.proofs.Names.{all-at, in-filter, all-filter}
 use Rattle.buffer_machine.proofs.Standing.{channels-more, channels-are}
 use Rattle.buffer_machine.proofs.Kept.{other_command, not_storable}
 use Rattle.buffer_machine.proofs.Unknown.{removed-is, stored-not_storable}
-use Rattle.buffer_machine.proofs.Next.{StoresAlone, next_channel, seen-channel, unsaid, channel-next, channel-made, no_part, no_kick, join_removes}
+use Rattle.buffer_machine.proofs.Next.{StoresAlone, next_channel, unsaid, channel-next, channel-made, no_part, no_kick, join_removes}
 use Rattle.buffer_machine.proofs.Found.{found-joined, found-known}
 use Rattle.buffer_machine.proofs.OneChannel.{one, upon, same}
-use Rattle.buffer_machine.proofs.ChannelsStep.{empties_channels, quiet_told, filter_all, mapped, quiet_held, attach-held, play-held, clear-held, clear_channels-held, clear_all-held, clear_queries-held, size-held, detach-held, again-held, lines, fits}
+use Rattle.buffer_machine.proofs.ChannelsStep.{empties_channels, quiet_told, filter_all, mapped, lines, fits}
 use Rattle.buffer_machine.proofs.ChannelsStoring.{storing-held}
 use Rattle.irc_line.proofs.Order.{key_is, at_key-sym, in-own}
 use Rattle.buffer_machine.proofs.Filters.{filter_same, filter_map, filter_absent}

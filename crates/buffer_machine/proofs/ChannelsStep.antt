@@ -1,36 +1,35 @@
 -- One step of the machine holds the channels of a history.
-use Rattle.std.proofs.Common.{◌≡◌, ℕ, suc, ◌-◌, ◌≤◌, List, [], ◌∷◌, map, length, refl, ap, ◌∙◌, sym, Bool, true, false, not, ◌&&◌, ◌||◌, subst}
+use Rattle.std.proofs.Common.{◌≡◌, ℕ, ◌-◌, ◌≤◌, List, [], ◌∷◌, map, length, refl, ap, ◌∙◌, sym, Bool, true, false, not, ◌&&◌, subst}
 use Rattle.std.specs.Prelude.{Option, Some, None, if◌then◌else◌, filter}
 use Rattle.std.specs.List.{list_all}
 use Rattle.irc_line.specs.Names.{fold_name, is_channel}
 use Rattle.irc_line.specs.Keys.{at_key, is_in}
-use Rattle.irc_line.specs.Lines.{Parts, line_of, parameter}
-use Rattle.buffer_targets.specs.Targets.{ChannelLines, cleared, counted, fewer, none_seen, resized, pushed, over, seen_all, with_detached, has_key, at_channel, channel_of_key}
+use Rattle.irc_line.specs.Lines.{Parts}
+use Rattle.buffer_targets.specs.Targets.{ChannelLines, cleared, counted, fewer, none_seen, resized, over, seen_all, with_detached, has_key, at_channel, channel_of_key}
 use Rattle.wire_bytes.specs.declared.origin.Origin.{Origin}
 use Rattle.buffer_commands.specs.Settings.{Settings}
 use Rattle.buffer_commands.specs.declared.command.Action.TheVariants.{Attach, Detach, Play, Clear, ClearChannels, ClearQueries, ClearAll, SetBuffer}
 use Rattle.buffer_commands.specs.declared.command.Command.{Command}
 use Rattle.buffer_commands.specs.declared.command.Command.TheVariants.{Client}
-use Rattle.buffer_machine.specs.Messages.{is_among, is_storable}
-use Rattle.buffer_machine.specs.Buffers.{emptied, empties, is_known, plays, said, size_after, stored, keeps, nick, channels, joined, detached, size, kept, is_past, made_by, with_made, is_removed}
-use Rattle.buffer_machine.specs.Crowd.{attached, floor, holds, id_of, ids, is_id, is_some_of, takes}
+use Rattle.buffer_machine.specs.Messages.{is_among}
+use Rattle.buffer_machine.specs.Buffers.{emptied, empties, plays, size_after, stored, nick, channels, joined, detached, size, kept, is_past, made_by, with_made, is_removed}
+use Rattle.buffer_machine.specs.Crowd.{attached, floor, id_of, ids, is_id, is_some_of, takes}
 use Rattle.buffer_machine.specs.Marks.{seen}
-use Rattle.buffer_machine.specs.Steps.{after_play, channels_played, channels_storing, attached_again, channels_after, clears_attaching, clears_now, is_detached, reader_named, reader_of}
-use Rattle.buffer_machine.specs.NameSteps.{here_in, here_of}
+use Rattle.buffer_machine.specs.Steps.{after_play, channels_played, attached_again, channels_after, clears_attaching, clears_now, is_detached, reader_named, reader_of}
+use Rattle.buffer_machine.specs.NameSteps.{here_of}
 use Rattle.buffer_machine.specs.Held.{IsSound, Names, channel_held, for_each, held, names_held, seen_held}
-use Rattle.buffer_machine.proofs.SeenLists.{attach_list, play_list, pushed_length, pushed_list, sized_told}
-use Rattle.buffer_machine.proofs.NamesStep.{here-is, nobody_here}
+use Rattle.buffer_machine.proofs.SeenLists.{attach_list, play_list, sized_told}
 use Rattle.buffer_machine.proofs.Folded.{channel-key}
-use Rattle.buffer_machine.proofs.Lists.{map_at, map_same, map_through}
+use Rattle.buffer_machine.proofs.Lists.{map_at, map_through}
 use Rattle.buffer_machine.proofs.Names.{all-at}
 use Rattle.buffer_machine.proofs.Standing.{channels-more, channels-are}
-use Rattle.buffer_machine.proofs.Kept.{kept_fits, channel_stored, stored-channel}
-use Rattle.buffer_machine.proofs.Unknown.{removed-is, removes-channel}
-use Rattle.buffer_machine.proofs.Next.{StoresAlone, channel_empties, emptied-channel, next_channel, channel-next, seen-channel, size-channel, stores-empties, unsaid}
+use Rattle.buffer_machine.proofs.Kept.{kept_fits}
+use Rattle.buffer_machine.proofs.Unknown.{removed-is}
+use Rattle.buffer_machine.proofs.Next.{channel_empties, emptied-channel, next_channel, channel-next, seen-channel, size-channel, unsaid}
 use Rattle.buffer_machine.proofs.Found.{found-detached}
 use Rattle.buffer_machine.proofs.Pointwise.{if_map, map_id}
-use Rattle.buffer_machine.proofs.OneChannel.{upon, same, play_one, clear_one, clear_channel, clear_any, clear_query, size_one, store_one, attach_one, detach_one, again_one}
-use Rattle.irc_line.proofs.Booleans.{not_from, and_false, and_left, and_right, and_true}
+use Rattle.buffer_machine.proofs.OneChannel.{upon, same, play_one, clear_one, clear_channel, clear_any, clear_query, size_one, attach_one, detach_one, again_one}
+use Rattle.irc_line.proofs.Booleans.{not_from, and_false, and_left, and_true}
 use Rattle.irc_line.proofs.Order.{key_is, at_key-sym, in-own}
 
 -- ---- where no channel comes or goes

@@ -1,22 +1,14 @@
 -- What nobody sees, and what was played and kept, by whether a name is known.
-use Rattle.std.proofs.Common.{◌≡◌, ℕ, zero, suc, ◌+◌, ◌<◌, ◌≤◌, Bool, true, false, not, ◌||◌, List, [], ◌∷◌, ◌++◌, length, take, drop, set, get_or, refl, sym, ap, arith, subst, ◌∙◌}
-use Rattle.std.specs.Prelude.{◌==◌, if◌then◌else◌, nat_lt, replicate, filter, map, Option, Some, None}
-use Rattle.std.specs.List.{list_any}
-use Rattle.std.proofs.lemmas.Bool.Decides.{nat_tests}
-use Rattle.irc_line.specs.Names.{same_bytes}
+use Rattle.std.proofs.Common.{◌≡◌, ℕ, ◌≤◌, Bool, true, false, not, List, [], ◌∷◌, length, take, refl, sym, ap, arith}
+use Rattle.std.specs.Prelude.{if◌then◌else◌, replicate, map, Option, Some, None}
 use Rattle.irc_line.specs.Lines.{Parts}
 use Rattle.buffer_targets.specs.Targets.{ChannelLines, TargetLines, at_channel, at_query, cleared, has_key, has_name_key, open_seen, over, pushed, reader, seen_all, channel_of_key, with_detached}
-use Rattle.irc_line.proofs.Booleans.{and_left, and_right}
-use Rattle.irc_line.proofs.SameBytes.{same_bytes-refl}
 use Rattle.wire_bytes.specs.declared.origin.Origin.{Origin}
 use Rattle.buffer_commands.specs.Settings.{Settings}
-use Rattle.buffer_machine.specs.Crowd.{is_id_in, is_some_of, may_name, with_id}
-use Rattle.buffer_machine.specs.Held.{Held, Names, holding, index_in}
-use Rattle.machine_laws.specs.Origins.{same_origin}
+use Rattle.buffer_machine.specs.Crowd.{is_some_of}
+use Rattle.buffer_machine.specs.Held.{Held, Names, holding}
 use Rattle.buffer_machine.specs.Steps.{after_play, attached_again, is_detached, kept_in, clears_now, played_emptied, played_out, played_seen, reader_at, reader_of}
-use Rattle.buffer_machine.specs.NameSteps.{here_of, flags, flags_from, here_from, index_of, stand_below}
-use Rattle.std.proofs.Math.ListN.{drop_of_length-le}
-use Rattle.std.proofs.Math.Seq.{drop-cons, take-suc}
+use Rattle.buffer_machine.specs.NameSteps.{here_of, here_from, index_of}
 use Rattle.buffer_machine.proofs.Readers.{flags_none, flags_taken}
 
 -- ---- what nobody sees

@@ -9,32 +9,27 @@ use Rattle.irc_line.specs.Lines.{Parts, line_of, parameter}
 use Rattle.irc_line.proofs.Booleans.{and_right, or_second, and_false, or_left_false, or_right_false}
 use Rattle.irc_line.proofs.Order.{own_key, at_key-sym, in-own}
 use Rattle.buffer_lines.specs.Stamps.{ring}
-use Rattle.buffer_targets.specs.Targets.{TargetLines, counted, fewer, none_seen, target, cleared, resized, pushed, has_name_key, at_query, query_stored, newest}
+use Rattle.buffer_targets.specs.Targets.{TargetLines, counted, none_seen, target, pushed, has_name_key, at_query, query_stored, newest}
 use Rattle.buffer_commands.specs.Settings.{Settings}
-use Rattle.buffer_commands.specs.declared.command.Action.TheVariants.{Attach, Leave, Say, Join, Part, Detach, Reattach, Play, Clear, ClearChannels, ClearQueries, ClearAll, SetBuffer, Pass}
 use Rattle.buffer_commands.specs.declared.command.Command.{Command}
-use Rattle.buffer_commands.specs.declared.command.Command.TheVariants.{Client, Upstream, NodeGone, Up, Down}
-use Rattle.buffer_machine.specs.Messages.{is_among, is_storable, is_query_line, is_query_name, source}
-use Rattle.buffer_machine.specs.Buffers.{detached, emptied, empties, is_known, plays, stored, keeps, nick, channels, queries, size, kept, is_past, said, stored_query, with_new, size_after}
-use Rattle.wire_bytes.specs.declared.origin.Origin.{Origin}
+use Rattle.buffer_machine.specs.Messages.{is_storable, is_query_line, is_query_name, source}
+use Rattle.buffer_machine.specs.Buffers.{detached, empties, is_known, plays, stored, keeps, nick, channels, queries, size, kept, said, stored_query, with_new, size_after}
 use Rattle.buffer_machine.specs.Crowd.{attached, ids, takes}
-use Rattle.buffer_machine.specs.Steps.{after_play, queries_storing, queries_after, reader_named, reader_of}
+use Rattle.buffer_machine.specs.Steps.{queries_storing}
 use Rattle.buffer_machine.specs.NameSteps.{here_of}
 use Rattle.buffer_machine.specs.Held.{IsSound, target_held, held, names_held, seen_held}
 use Rattle.buffer_machine.proofs.Folded.{query-key}
-use Rattle.buffer_machine.proofs.ChannelsStep.{attach_told, clears_named, clears_same, either_way, play_told}
-use Rattle.buffer_machine.proofs.SeenLists.{pushed_length, pushed_list, sized_told}
+use Rattle.buffer_machine.proofs.ChannelsStep.{either_way}
+use Rattle.buffer_machine.proofs.SeenLists.{pushed_length, pushed_list}
 use Rattle.buffer_machine.proofs.Unknown.{removes-query}
 use Rattle.buffer_machine.proofs.Lists.{map_at, map_through}
 use Rattle.buffer_machine.proofs.Names.{is_made_at, all-at, in-append, newest-all}
 use Rattle.buffer_machine.proofs.Standing.{queries-more, queries-are, queries-fit}
 use Rattle.buffer_machine.proofs.Kept.{kept_fits, line_if, stored-query}
-use Rattle.buffer_machine.proofs.Next.{StoresAlone, emptied-query, next_query, query-next, query-made, query_empties, seen-query, shown_here, size-query, stays_in, stores-empties, unsaid}
+use Rattle.buffer_machine.proofs.Next.{StoresAlone, emptied-query, next_query, query-next, query-made, query_empties, seen-query, shown_here, size-query, stays_in, stores-empties}
 use Rattle.buffer_machine.proofs.Found.{found-known}
-use Rattle.buffer_machine.proofs.Pointwise.{if_map, map_id}
-use Rattle.buffer_machine.proofs.OneQuery.{following, same_query, attach_query, play_query, again_query, clear_query_one, clear_channels_query, clear_queries_query, clear_all_query, size_query_one, store_query_one}
-use Rattle.buffer_machine.proofs.ChannelsCome.{line_alone, said_alone}
-use Rattle.buffer_machine.proofs.AnyChannel.{floor_now}
+use Rattle.buffer_machine.proofs.Pointwise.{map_id}
+use Rattle.buffer_machine.proofs.OneQuery.{following, same_query, store_query_one}
 
 -- ---- where no query comes or goes
 

@@ -1,11 +1,7 @@
 -- Where no client ever gives a name, all is as it was before clients could.
-use Rattle.std.proofs.Common.{◌≡◌, ℕ, suc, Bool, true, false, not, ◌&&◌, ◌||◌, List, [], ◌∷◌, ◌++◌, refl, ap, ◌∙◌}
-use Rattle.std.specs.Prelude.{if◌then◌else◌, nat_lt, Option, Some, None, length}
+use Rattle.std.proofs.Common.{◌≡◌, ℕ, suc, Bool, true, false, not, ◌&&◌, ◌||◌, List, [], ◌∷◌, refl, ap, ◌∙◌}
+use Rattle.std.specs.Prelude.{if◌then◌else◌, Option, Some, None, length}
 use Rattle.std.specs.List.{list_any}
-use Rattle.std.proofs.Common.{◌<◌, ◌≤◌, arith}
-use Rattle.std.proofs.lemmas.Bool.Decides.{nat_tests}
-use Rattle.std.proofs.lemmas.List.{length-append}
-use Rattle.irc_line.specs.Names.{same_bytes}
 use Rattle.machine_laws.specs.Origins.{same_origin}
 use Rattle.buffer_machine.specs.Messages.{is_none_of}
 use Rattle.irc_line.proofs.Booleans.{and_left, and_right, and_false, and_true, or_false}
@@ -15,7 +11,7 @@ use Rattle.buffer_commands.specs.Settings.{Settings}
 use Rattle.buffer_commands.specs.declared.command.Action.TheVariants.{Attach, Leave, Say, Join, Part, Detach, Reattach, Play, Clear, ClearChannels, ClearQueries, ClearAll, SetBuffer, Pass}
 use Rattle.buffer_commands.specs.declared.command.Command.{Command}
 use Rattle.buffer_commands.specs.declared.command.Command.TheVariants.{Client, Upstream, NodeGone, Up, Down}
-use Rattle.buffer_machine.specs.Crowd.{attached, attached_after, id_after, id_limit, is_id_in, may_name, with_id, can_attach, floor, holds, id_of, ids, ids_after, crowd, is_id, is_naming, takes}
+use Rattle.buffer_machine.specs.Crowd.{attached, attached_after, id_after, can_attach, floor, holds, id_of, ids, ids_after, crowd, is_id, is_naming, takes}
 use Rattle.buffer_machine.specs.Buffers.{clears, detached, empties, emptied, is_known, keeps, plays, stored, stored_query}
 use Rattle.buffer_machine.specs.Marks.{mark, sees, is_shown_to}
 use Rattle.buffer_machine.specs.Before.{attached_before, emptied_before, is_unnamed, stored_before, stored_query_before, was_taken}

@@ -1,11 +1,10 @@
 -- One step of the machine, on what it holds: what it holds next. These steps need not be believed: that they come to what
 -- Buffers defines is proved.
-use Rattle.std.specs.Prelude.{◌≡◌, ℕ, zero, suc, ◌<◌, ◌==◌, Bool, true, false, not, ◌&&◌, ◌||◌, if◌then◌else◌, nat_lt, max, List, [], ◌∷◌, ◌++◌, length, map, filter, find, option_map, Option, Some, None, is_some, codes, slice_index, slice_set, ⊤}
-use Rattle.std.specs.List.{list_all, list_any}
+use Rattle.std.specs.Prelude.{◌≡◌, ℕ, ◌<◌, Bool, true, false, not, ◌&&◌, ◌||◌, if◌then◌else◌, List, [], map, filter, Option, Some, None, is_some, codes, ⊤}
 use Rattle.irc_line.specs.Names.{fold_name, is_channel}
 use Rattle.irc_line.specs.Lines.{Parts, parameter}
 use Rattle.buffer_lines.specs.Stamps.{ring}
-use Rattle.buffer_targets.specs.Targets.{StandsAt, ChannelLines, TargetLines, channel, target, cleared, resized, pushed, over, with_joined, with_detached, at_channel, channel_of_key, joined_by, without_channel, open_cleared, open_seen, seen_all, none_seen, reader, readers, at_query, query_stored}
+use Rattle.buffer_targets.specs.Targets.{StandsAt, ChannelLines, TargetLines, channel, target, cleared, resized, pushed, over, with_joined, with_detached, at_channel, channel_of_key, joined_by, without_channel, open_cleared, open_seen, seen_all, none_seen, reader, at_query, query_stored}
 use Rattle.wire_bytes.specs.declared.origin.Origin.{Origin}
 use Rattle.buffer_commands.specs.Settings.{Settings}
 use Rattle.buffer_commands.specs.declared.command.Action.TheVariants.{Attach, Leave, Say, Join, Part, Detach, Reattach, Play, Clear, ClearChannels, ClearQueries, ClearAll, SetBuffer, Pass}
@@ -15,8 +14,8 @@ use Rattle.buffer_commands.specs.declared.command.Command.TheVariants.{Client, U
 use Rattle.buffer_machine.specs.Messages.{is_among, is_storable, is_own, is_own_kick, is_query_line, source, channel_of, own_said}
 use Rattle.machine_laws.specs.Origins.{same_origin}
 use Rattle.buffer_machine.specs.Buffers.{is_past, keeps, nick_after, said}
-use Rattle.buffer_machine.specs.Crowd.{attached_after, is_some_of, is_taken, with_id}
-use Rattle.buffer_machine.specs.Held.{Held, Names, holder, holding, index_in, names_of}
+use Rattle.buffer_machine.specs.Crowd.{attached_after, is_some_of}
+use Rattle.buffer_machine.specs.Held.{Held, Names, holding, index_in, names_of}
 use Rattle.buffer_machine.specs.NameSteps.{here_in, here_of, index_of, names_after, taken_now, with_holder}
 
 -- what the types of a command keep: its client's node is one of 1 to 7
