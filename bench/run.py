@@ -7,7 +7,8 @@ lines at 200 a second from the server to the clients of the node that leads, and
 percentile; how long a client waits for a playback of 500 lines; the memory at the end; and the lines a second of the flood to
 1 client where each sync takes 2 ms longer.
 
-All is read and written by this one process, so that its own time is in every number.
+All is read and written by this one process, so that its own time is in the rates. How late a line comes is told by the kernel,
+which notes when the bytes came to a client's socket: how long this process takes to read them is in no delay.
 """
 import os
 import re
@@ -15,6 +16,7 @@ import selectors
 import shutil
 import socket
 import statistics
+import struct
 import subprocess
 import sys
 import tempfile
@@ -28,9 +30,11 @@ FLOOD = 20_000
 PACED = 2_000
 RATE = 200
 PLAYED = 500
+PLAYBACKS = 5
 LIMIT = 200
 MARK = b" PRIVMSG #x :"
 SYNC_MS = 2
+SO_TIMESTAMPNS = 35  # of Linux: with what is read comes when it came, as seconds and nanoseconds
 QUIET = 2.5  # seconds without a change of a journal after which all that was said is in it
 
 
@@ -49,7 +53,7 @@ class Late(Exception):
 
 
 class End:
-    """One end of a connection: what is to be sent, and the lines that came."""
+    """One end of a connection: what is to be sent, and the lines that came, with the nanoseconds since 1970 at which they did."""
 
     def __init__(self, room, stream):
         self.room, self.stream, self.rest = room, stream, b""
@@ -57,6 +61,7 @@ class End:
         self.keeps = True
         stream.setblocking(False)
         stream.setsockopt(socket.IPPROTO_TCP, socket.TCP_NODELAY, 1)
+        stream.setsockopt(socket.SOL_SOCKET, SO_TIMESTAMPNS, 1)
         room.register(stream, selectors.EVENT_READ, self)
 
     def send(self, data):
@@ -66,26 +71,26 @@ class End:
 
     def read(self):
         try:
-            data = self.stream.recv(1 << 20)
+            data, notes, _, _ = self.stream.recvmsg(1 << 20, socket.CMSG_SPACE(16))
         except ConnectionResetError:
             data = b""
         if not data:
             raise Closed
         if self.keeps:
-            self.keep(time.perf_counter(), self.rest + data)
+            self.keep(moment(notes), self.rest + data)
             return
         # a part of a mark at the end is counted with what comes next
         whole = self.rest + data
         self.count += whole.count(MARK)
         self.rest = whole[1 - len(MARK) :]
 
-    def keep(self, now, whole):
-        """Keeps the lines that came by now."""
+    def keep(self, at, whole):
+        """Keeps the lines that came at a moment."""
         *lines, self.rest = whole.split(b"\r\n")
         said = [line for line in lines if MARK in line]
         self.count += len(said)
         self.lines += lines
-        self.times += [(now, line) for line in said]
+        self.times += [(at, line) for line in said]
 
     def close(self):
         self.room.unregister(self.stream)
@@ -220,6 +225,15 @@ class Run:
         shutil.rmtree(self.folder)
 
 
+def moment(notes):
+    """When the bytes came that were read with these notes, in nanoseconds since 1970: where the kernel noted it, else now."""
+    for _, kind, value in notes:
+        if kind == SO_TIMESTAMPNS:
+            seconds, nanoseconds = struct.unpack("qq", value)
+            return seconds * 10**9 + nanoseconds
+    return time.time_ns()
+
+
 def said(number):
     return b":bob!b@there PRIVMSG #x :line %d\r\n" % number
 
@@ -263,7 +277,7 @@ def delays(run, count):
         due = began + number / RATE
         while time.perf_counter() < due:
             run.serve(max(0, due - time.perf_counter()))
-        sent[b"line %d" % number] = time.perf_counter()
+        sent[b"line %d" % number] = time.time_ns()
         run.upstream.send(said(number))
     run.until(lambda: all(client.count >= PACED for client in clients))
     leading = late(clients[::3], sent)
@@ -278,22 +292,26 @@ def late(clients, sent):
     delays = sorted(at - sent[line.split(b" :", 1)[1]] for client in clients for at, line in client.times)
     if not delays:
         return None
-    return 1000 * statistics.median(delays), 1000 * delays[len(delays) * 99 // 100]
+    return statistics.median(delays) / 1e6, delays[len(delays) * 99 // 100] / 1e6
 
 
 def playback(run):
-    """How long a client waits for what it missed, from PASS to the last line, in milliseconds."""
+    """How long a client waits for what it missed, from PASS to the last line, in milliseconds: the median of some."""
+    return statistics.median(played(run) for _ in range(PLAYBACKS))
+
+
+def played(run):
+    """How long one client waits for what it missed."""
     run.rest()
     run.upstream.send(b"".join(said(number) for number in range(PLAYED)))
     run.rest()
     stream = socket.create_connection(("127.0.0.1", run.ports[run.leader()]))
     client = End(run.room, stream)
-    began = time.perf_counter()
+    began = time.time_ns()
     client.send(run.hello())
     run.until(lambda: client.count >= PLAYED)
-    taken = time.perf_counter() - began
     client.close()
-    return 1000 * taken
+    return (client.times[-1][0] - began) / 1e6
 
 
 def syncs(folder):
