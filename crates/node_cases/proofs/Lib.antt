@@ -1,3 +1,4 @@
 mod Seating
 pub mod New
 pub mod Lengths
+mod Appending

@@ -1,13 +1,18 @@
 //! What happens to one node by an event.
-ghost use Rattle.std.specs.Prelude.{◌≡◌, ◌<◌, None, IfOk};
+ghost use Rattle.std.specs.Prelude.{◌≡◌, ◌≤◌, ◌<◌, None, IfOk, length};
+ghost use Rattle.node_cells.specs.Inputs.{OnlyAppend, input_of};
+ghost use Rattle.raft_node.specs.Together.{OnlyAppends};
 ghost use Rattle.world_views.specs.Views.{carries};
 
 use raft_node::Input as NodeStep;
 use std::alloc::Global;
 use std::test::Fail;
 use wire_bytes::{Copied, Wire};
-use world_events::Input;
+use world_events::{Event, Input};
 use world_views::NodeInput;
+
+/// A cell takes no more inputs at once.
+const MOST_TOGETHER: usize = 256;
 
 /// The place of the node of this number, from 1, among so many.
 pub fn place_of(node: u64, count: usize) -> Result<usize, Fail>
@@ -55,4 +60,43 @@ pub fn own_step<B: Wire, L: Wire, T>(
         NodeInput::Claim => NodeStep::Claim,
         NodeInput::Apply => NodeStep::Apply,
     })
+}
+
+/// The first so many of these events as the inputs of a cell, by each of which a leader only appends.
+pub fn first_inputs<B: Wire, L: Wire, T>(
+    alloc: Global,
+    events: &[Event<B, L, T>],
+    count: usize,
+) -> Result<Vec<NodeInput<B, L>>, Fail>
+    ensures appends { IfOk result (λ v. OnlyAppend v.items) }
+    ensures few { IfOk result (λ v. length v.items ≤ 256) }
+{
+    let mut inputs = Vec::new(alloc);
+    for event in events {
+        if inputs.len() >= count || inputs.len() >= MOST_TOGETHER {
+            break;
+        }
+        let Event::Does(input) = event else {
+            return Err(Fail::from("no such event here"));
+        };
+        inputs.push(appending(alloc, input)?)?;
+    }
+    Ok(inputs)
+}
+
+/// The input that the cell of a node takes, by which a leader only appends.
+fn appending<B: Wire, L: Wire, T>(
+    alloc: Global,
+    input: &Input<B, L, T>,
+) -> Result<NodeInput<B, L>, Fail>
+    ensures { IfOk result (λ i. OnlyAppends (input_of i)) }
+{
+    match input {
+        Input::Ask(_, body) => Ok(NodeInput::Ask(body.copy(alloc)?)),
+        Input::Opened(_) => Ok(NodeInput::Opened),
+        Input::Closed(_) => Ok(NodeInput::Closed),
+        Input::Heard(_, at, line) => Ok(NodeInput::Heard(*at, line.copy(alloc)?)),
+        Input::Claim(_) => Ok(NodeInput::Claim),
+        _ => Err(Fail::from("no input by which a leader only appends")),
+    }
 }

@@ -21,13 +21,13 @@ type Seats<M> = Vec<Seat<M, MemoryStore<<M as Machine>::Command>, NoUpstream>>;
 
 /// An ether, with its passes.
 #[derive(Drop)]
-struct NewEther<M: Hosted> {
-    ether: Arc<Ether<M>, Global>,
-    passes: Vec<Pass<M::Command, M::Line, M::Target>>,
+pub struct NewEther<M: Hosted> {
+    pub ether: Arc<Ether<M>, Global>,
+    pub passes: Vec<Pass<M::Command, M::Line, M::Target>>,
 }
 
 /// An ether to which nothing happened yet.
-fn make_ether<M: Hosted>(
+pub fn make_ether<M: Hosted>(
     alloc: Global,
     size: GroupSize,
     setup: &M::Setup,

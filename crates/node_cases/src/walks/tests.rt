@@ -1,8 +1,9 @@
-use crate::walks::case::{ADDRESSED, NUMBERED};
+use crate::walks::case::{ADDRESSED, BEFORE, BEHIND, NUMBERED, ROUND};
 use crate::walks::cells::walk_cells;
 use crate::walks::gate::walk_gate;
 use crate::walks::nodes::walk_nodes;
 use crate::walks::opening::walk_ether;
+use crate::walks::rounds::{Case, walk_rounds};
 use bouncer_tower::Tower;
 use buffer_commands::Setup;
 use raft_log::GroupSize;
@@ -58,6 +59,20 @@ fn cell_of_node_2(rt: HostRuntime) -> Result<(), Fail> {
 #[test]
 fn cell_of_node_3(rt: HostRuntime) -> Result<(), Fail> {
     let text = record(rt.alloc(), 3)?;
+    io::writer(&rt).write_all(&text)?;
+    Ok(())
+}
+
+#[test]
+fn rounds(rt: HostRuntime) -> Result<(), Fail> {
+    let alloc = rt.alloc();
+    let setup = WireSetup::new(Setup::plain(alloc)?);
+    let case = Case {
+        before: BEFORE.as_bytes(),
+        round: ROUND.as_bytes(),
+        behind: BEHIND.as_bytes(),
+    };
+    let text = walk_rounds::<Tower>(alloc, setup.setup(), &setup, &case, 20)?;
     io::writer(&rt).write_all(&text)?;
     Ok(())
 }
