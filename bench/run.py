@@ -7,8 +7,8 @@ lines at 200 a second from the server to the clients of the node that leads, and
 percentile; how long a client waits for a playback of 500 lines; the memory at the end; and the lines a second of the flood to
 1 client where each sync takes 2 ms longer.
 
-All is read and written by this one process, so that its own time is in the rates. How late a line comes is told by the kernel,
-which notes when the bytes came to a client's socket: how long this process takes to read them is in no delay.
+All is read and written by this one process, so its own time is in the rates. It is not in the delays, nor in the wait for a
+playback: these end when the bytes reach a client's socket, by the kernel's clock.
 """
 import os
 import re
@@ -34,7 +34,7 @@ PLAYBACKS = 5
 LIMIT = 200
 MARK = b" PRIVMSG #x :"
 SYNC_MS = 2
-SO_TIMESTAMPNS = 35  # of Linux: with what is read comes when it came, as seconds and nanoseconds
+SO_TIMESTAMPNS = 35  # Linux's option by which a read also tells when its bytes came, in seconds and nanoseconds
 QUIET = 2.5  # seconds without a change of a journal after which all that was said is in it
 
 
@@ -53,7 +53,7 @@ class Late(Exception):
 
 
 class End:
-    """One end of a connection: what is to be sent, and the lines that came, with the nanoseconds since 1970 at which they did."""
+    """One end of a connection: what is to be sent, and the lines that came, each with its moment in nanoseconds since 1970."""
 
     def __init__(self, room, stream):
         self.room, self.stream, self.rest = room, stream, b""
@@ -226,7 +226,7 @@ class Run:
 
 
 def moment(notes):
-    """When the bytes came that were read with these notes, in nanoseconds since 1970: where the kernel noted it, else now."""
+    """When the bytes came that were read with these notes, in nanoseconds since 1970; now, where the kernel does not tell."""
     for _, kind, value in notes:
         if kind == SO_TIMESTAMPNS:
             seconds, nanoseconds = struct.unpack("qq", value)
@@ -296,7 +296,7 @@ def late(clients, sent):
 
 
 def playback(run):
-    """How long a client waits for what it missed, from PASS to the last line, in milliseconds: the median of some."""
+    """How long a client waits for what it missed, from PASS to the last line, in milliseconds: the median of PLAYBACKS clients."""
     return statistics.median(played(run) for _ in range(PLAYBACKS))
 
 
