@@ -16,12 +16,12 @@ use Rattle.agreement.proofs.Headline.{Goes, goes_stay, run_goes, run_append, bef
 
 module _ {B : Type 0} where
   -- two moments, with what is known at each: the second goes on from the first
-  record Two (size : ℕ) (u v : List (Node B)) : Type 0 where
-    first : Ghost B
-    second : Ghost B
-    first_good : Good size first u
-    second_good : Good size second v
-    more : Extends first second
+  pub record Two (size : ℕ) (u v : List (Node B)) : Type 0 where
+    pub first : Ghost B
+    pub second : Ghost B
+    pub first_good : Good size first u
+    pub second_good : Good size second v
+    pub more : Extends first second
 
   take_none : (i : ℕ) → take {A = (Event B)} i [] ≡ []
   take_none zero = refl
@@ -35,7 +35,7 @@ module _ {B : Type 0} where
       let same : k - j ≡ suc k - suc j = omega arith in
       ap (λ z. e ∷ z) (take_later es j k (omega arith) ∙ ap (λ i. take j es ++ take i (drop j es)) same)
 
-  two_moments : (blank : B) (size : ℕ) (es : List (Event B)) (j k : ℕ) → j ≤ k → Two size (moment blank size es j) (moment blank size es k)
+  pub two_moments : (blank : B) (size : ℕ) (es : List (Event B)) (j k : ℕ) → j ≤ k → Two size (moment blank size es j) (moment blank size es k)
   two_moments blank size es j k le =
       let one : Goes before (moment blank size es j) size = run_goes blank size (take j es) before (start size) (start_good size) in
       let late : List (Event B) = take (k - j) (drop j es) in

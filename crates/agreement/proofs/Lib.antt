@@ -15,6 +15,7 @@ pub mod Commits
 pub mod Headline
 pub mod Holds
 pub mod Brought
+pub mod UpToDate
 pub mod Ruled
 pub mod Elected
 mod Cases

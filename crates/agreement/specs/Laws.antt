@@ -3,7 +3,7 @@ use Rattle.std.specs.Prelude.{◌≡◌, ◌⊎◌, ◌<◌, ◌≤◌, ℕ, suc
 use Rattle.raft_log.specs.declared.entry.Entry.{Entry}
 use Rattle.raft_log.specs.declared.role.Role.TheVariants.{Follower, Leader}
 use Rattle.raft_log.specs.Lists.{item}
-use Rattle.raft_log.specs.Logs.{entry_limit, term_at}
+use Rattle.raft_log.specs.Logs.{entry_limit, last_term, term_at, up_to_date}
 use Rattle.raft_log.specs.Node.{Node}
 use Rattle.agreement.specs.World.{Act, Stops, acted, own, Input, Timeout, Beat, Deliver, Ask, Lift, Idle, Event, Does, Restart, StopIn, happens, run, start, committed, Begins}
 
@@ -79,6 +79,18 @@ LeadersHold B blank =
     (size : ℕ) (es : List (Event B)) (j k a b : ℕ) (s t : Node B) →
     item (moment blank size es j) a ≡ Some s → item (moment blank size es k) b ≡ Some t →
     t.role ≡ Leader → s.term < t.term → Begins (take s.commit s.log) t.log
+
+-- a log is at least as up to date as that of each node (section 5.4.1): it ends in a later term, or in the same and is no shorter
+abbrev pub IsMostUpToDate : {B : Type 0} → List (Node B) → List (Entry B) → Type 0
+IsMostUpToDate {B} w log =
+    (c : ℕ) (u : Node B) → item w c ≡ Some u → up_to_date (last_term log) (length log) (last_term u.log) (length u.log) ≡ true
+
+-- what a node commits, then or earlier, stands in the log of a node that is at least as up to date as that of each
+abbrev pub UpToDateHolds : (B : Type 0) → B → Type 0
+UpToDateHolds B blank =
+    (size : ℕ) (es : List (Event B)) (j k a b : ℕ) (s t : Node B) → j ≤ k →
+    item (moment blank size es j) a ≡ Some s → item (moment blank size es k) b ≡ Some t →
+    IsMostUpToDate (moment blank size es k) t.log → Begins (take s.commit s.log) t.log
 
 module _ {B : Type 0} where
   -- the body, if any, as a list

@@ -1,7 +1,7 @@
 //! What holds over every list of events of a group, for bodies of any type.
 ghost use Rattle.agreement.specs.Laws.{AgreedGrows, AllBrought, InAgreed, LeadersHold, LogsMatch};
 ghost use Rattle.agreement.specs.Laws.{OneLeader, OneList, OneRun, OneVote};
-ghost use Rattle.agreement.specs.Laws.{FullLeads, LeadsWithBlank, StopKeepsBlank};
+ghost use Rattle.agreement.specs.Laws.{FullLeads, LeadsWithBlank, StopKeepsBlank, UpToDateHolds};
 
 /// Over every list of timeouts, deliveries, losses, repeats, reorderings, requests, restarts and stops within a step,
 /// in a group of any size. Figure 3 of Raft's paper: election safety, leader append-only and log matching (`logs_match`),
@@ -16,6 +16,12 @@ pub fn the_nodes_agree<B>()
     ensures one_vote { (blank : B) → OneVote B blank }
     ensures logs_match { (blank : B) → LogsMatch B blank }
     ensures leaders_hold { (blank : B) → LeadersHold B blank }
+{}
+
+/// A node whose log is at least as up to date as that of each node holds all that any node committed: it is the log
+/// by which a group may go on where all stopped, or begin anew (section 5.4.1).
+pub fn the_most_up_to_date_log_holds_all<B>()
+    ensures { (blank : B) → UpToDateHolds B blank }
 {}
 
 /// Whatever makes a node a leader leaves a blank entry of its term behind its log, in the same step, so that a stop after

@@ -5,4 +5,6 @@
 
 mod laws;
 
-pub use laws::{a_new_leader_appends_a_blank_entry, the_nodes_agree};
+pub use laws::{
+    a_new_leader_appends_a_blank_entry, the_most_up_to_date_log_holds_all, the_nodes_agree,
+};

@@ -11,12 +11,13 @@ use Rattle.raft_node.specs.Machine.{Machine}
 use Rattle.world_run.specs.World.{Event, stepper, own_of, world_by, happens, run, moment, agreed}
 use Rattle.agreement.specs.Laws as core_laws
 use Rattle.agreement.proofs.Holds as core
+use Rattle.agreement.proofs.UpToDate as core_up
 use Rattle.agreement.proofs.Brought as brought
-use Rattle.agreement.specs.Laws.{IsAmong, EachIn}
+use Rattle.agreement.specs.Laws.{IsAmong, EachIn, IsMostUpToDate}
 use Rattle.agreement.proofs.Lists.{begins_either}
 use Rattle.raft_node.proofs.Items.{item_of_with, item_of_replicate}
 use Rattle.agreement.proofs.Ruled as ruled
-use Rattle.world_run.specs.Laws.{OverAll, OneList, InAgreed, AgreedGrows, EachBrought, NoMoreLeaves, SessionsApart, OneLeader, OneVote, LogsMatch, LeadersHold}
+use Rattle.world_run.specs.Laws.{OverAll, OneList, InAgreed, AgreedGrows, EachBrought, NoMoreLeaves, SessionsApart, OneLeader, OneVote, LogsMatch, LeadersHold, UpToDateHolds}
 use Rattle.world_run.proofs.Lowers.{lowered, run_lowered, longest_lowered, lowered_append, brought_lowered, Always, raise, always_at}
 use Rattle.raft_node.proofs.Fares.{own_step}
 use Rattle.raft_node.proofs.Keeps.{Upper, upper_step}
@@ -164,3 +165,8 @@ module _ (M : Machine) where
 
   pub leaders_hold : OverAll M LeadersHold
   leaders_hold size es j k a b s t x y lead lt = core.leaders_hold M.blank size (lowered M es (start size)) j k a b s t (core_at size es j a s x) (core_at size es k b t y) lead lt
+
+  pub up_to_date_holds : OverAll M UpToDateHolds
+  up_to_date_holds size es j k a b s t le x y most =
+      core_up.up_to_date_holds M.blank size (lowered M es (start size)) j k a b s t le (core_at size es j a s x) (core_at size es k b t y)
+      (subst (λ w. IsMostUpToDate w t.log) (sym (run_lowered M es (start size) k)) most)

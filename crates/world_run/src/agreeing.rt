@@ -1,6 +1,6 @@
 //! That the nodes agree, over every list of events.
 ghost use Rattle.world_run.specs.Laws.{AgreedGrows, EachBrought, InAgreed, OneList, OverAll};
-ghost use Rattle.world_run.specs.Laws.{LeadersHold, LogsMatch, OneLeader, OneVote};
+ghost use Rattle.world_run.specs.Laws.{LeadersHold, LogsMatch, OneLeader, OneVote, UpToDateHolds};
 ghost use Rattle.world_run.specs.Laws.{FullLeads, LeadsWithBlank, StopKeepsBlank};
 
 use machine_laws::Hosted;
@@ -35,6 +35,12 @@ pub fn logs_match<M: Hosted>()
 /// What a node commits stands in the log of each leader of a later term. Leader completeness of Raft's paper, Figure 3.
 pub fn later_leaders_hold_what_is_committed<M: Hosted>()
     ensures { (s : M.Setup) → OverAll (⟦<M as Described>⟧.machine s) LeadersHold }
+{}
+
+/// A node whose log is at least as up to date as that of each node holds all that any node committed: a group that
+/// stopped may go on from that log, or begin anew from it. Raft's paper, section 5.4.1.
+pub fn the_most_up_to_date_log_holds_all<M: Hosted>()
+    ensures { (s : M.Setup) → OverAll (⟦<M as Described>⟧.machine s) UpToDateHolds }
 {}
 
 /// Whatever makes a node a leader leaves a blank entry of its term behind its log, in the same step; a stop after that step

@@ -18,6 +18,7 @@ mod world;
 pub use agreeing::{
     a_new_leader_appends_a_blank_entry, a_vote_is_never_changed, committed_lists_agree,
     later_leaders_hold_what_is_committed, logs_match, one_leader_a_term,
+    the_most_up_to_date_log_holds_all,
 };
 pub use cell::Cell;
 pub use confirmed::what_is_asked_later_stands_above;
