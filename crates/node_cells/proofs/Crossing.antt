@@ -6,14 +6,17 @@ use denote.RattleType.{RattleType}
 use denote.Struct.Field.{row_field}
 use denote.Param.Send.{IsSend, IsSync, enum_send, recorded_send, sendable, view_send}
 use denote.Param.SendFields.{as_row_send, declared_send}
+use denote.Hole.{as_row}
 use Rattle.std.specs.contracts.option.Option as Option
 use Rattle.std.specs.contracts.result.Result as Result
 use Rattle.std.proofs.Crossing as std
 use Rattle.std.proofs.Crossing.{Vec-send, crosses}
+use Rattle.wire_bytes.specs.contracts.number.Number as Number
 use Rattle.wire_bytes.specs.declared.copied.Copied as copied
 use Rattle.wire_bytes.specs.declared.wire.Wire as wire
 use Rattle.machine_laws.specs.declared.hosted.Hosted as hosted
 use Rattle.machine_laws.specs.declared.machine.Machine as machine
+use Rattle.machine_laws.specs.declared.marking.Marking as marking
 use Rattle.stable_store.specs.declared.stable.Stable as stable
 use Rattle.node_steps.specs.contracts.refusal.Refusal as Refusal
 use Rattle.raft_node.proofs.node.Node.TheSendSync as node
@@ -47,17 +50,23 @@ module _ (C L T : RattleType) (g : wire.Ghosts C.Denot) where
       recorded_send (enum.Enum (shape phase)) phase.D phase.to phase.to_one
       (enum_send (shape phase) (tt, ((told_send, (copy_send one, (search sendable, tt))), ((all_told, (copies, (answers, tt))), (tt, tt)))))
 
-module _ (M S U A L T P Setup C E : RattleType) (g : hosted.Ghosts M.Denot A.Denot L.Denot T.Denot P.Denot Setup.Denot C.Denot E.Denot)
-    (machine-M : machine.Ghosts M.Denot Setup.Denot C.Denot E.Denot) (copied-Setup : copied.Ghosts Setup.Denot) (wire-C : wire.Ghosts C.Denot) (copied-C : copied.Ghosts C.Denot)
+number_send : IsSend Number.the_row
+number_send = search (sendable, crosses) depth 40
+
+maybe_send : IsSend (as_row (Option.the_field Number.the_row))
+maybe_send = search (number_send, sendable, crosses) depth 40
+
+module _ (M S U A L T P Setup C E : RattleType) (marking-M : marking.Ghosts M.Denot A.Denot L.Denot T.Denot P.Denot Setup.Denot C.Denot E.Denot)
+    (g : hosted.Ghosts M.Denot A.Denot L.Denot T.Denot P.Denot Setup.Denot C.Denot E.Denot) (machine-M : machine.Ghosts M.Denot Setup.Denot C.Denot E.Denot) (copied-Setup : copied.Ghosts Setup.Denot) (wire-C : wire.Ghosts C.Denot) (copied-C : copied.Ghosts C.Denot)
     (copied-E : copied.Ghosts E.Denot) (wire-A : wire.Ghosts A.Denot) (copied-A : copied.Ghosts A.Denot) (wire-L : wire.Ghosts L.Denot) (copied-L : copied.Ghosts L.Denot)
     (wire-T : wire.Ghosts T.Denot) (copied-T : copied.Ghosts T.Denot) (copied-P : copied.Ghosts P.Denot) (stable-S : stable.Ghosts S.Denot C.Denot)
     (upstream-U : upstream.Ghosts U.Denot) where
   -- the cell of a node may go to any thread
   pub cell_send : IsSend M → IsSend S → IsSend U → IsSend L → IsSend T → IsSend P → IsSend Setup → IsSend C → IsSend E → IsSync Setup → IsSync C
-      → IsSend (NodeCell.the_row M S U A L T P Setup C E g machine-M copied-Setup wire-C copied-C copied-E wire-A copied-A wire-L copied-L wire-T copied-T copied-P stable-S upstream-U)
+      → IsSend (NodeCell.the_row M S U A L T P Setup C E marking-M g machine-M copied-Setup wire-C copied-C copied-E wire-A copied-A wire-L copied-L wire-T copied-T copied-P stable-S upstream-U)
   cell_send m s u l t p setup c e setup-sync c-sync =
-      view_send (inside.the_row M S U A L T P Setup C E g machine-M copied-Setup wire-C copied-C copied-E wire-A copied-A wire-L copied-L wire-T copied-T copied-P stable-S upstream-U) _ _ _ _
-      (declared_send (inside.the_type M S U A L T P Setup C E g machine-M copied-Setup wire-C copied-C copied-E wire-A copied-A wire-L copied-L wire-T copied-T copied-P stable-S upstream-U) (
+      view_send (inside.the_row M S U A L T P Setup C E marking-M g machine-M copied-Setup wire-C copied-C copied-E wire-A copied-A wire-L copied-L wire-T copied-T copied-P stable-S upstream-U) _ _ _ _
+      (declared_send (inside.the_type M S U A L T P Setup C E marking-M g machine-M copied-Setup wire-C copied-C copied-E wire-A copied-A wire-L copied-L wire-T copied-T copied-P stable-S upstream-U) (
         std.send,
-        (book.the_send M A L T P Setup C E g machine-M copied-Setup wire-C copied-C copied-E wire-A copied-A wire-L copied-L wire-T copied-T copied-P l t p setup c e setup-sync c-sync, (node.the_send M S A L T P Setup C E g machine-M wire-C wire-A wire-L wire-T stable-S m s setup c c-sync, (as_row_send (row_field U) u, (phase_send C L T wire-C (input.the_send C L wire-C c l c-sync), (search sendable, (fields.the_send, tt)))))),
+        (book.the_send M A L T P Setup C E g machine-M copied-Setup wire-C copied-C copied-E wire-A copied-A wire-L copied-L wire-T copied-T copied-P l t p setup c e setup-sync c-sync, (node.the_send M S A L T P Setup C E g machine-M wire-C wire-A wire-L wire-T stable-S m s setup c c-sync, (as_row_send (row_field U) u, (phase_send C L T wire-C (input.the_send C L wire-C c l c-sync), (search sendable, (fields.the_send, (number_send, (maybe_send, tt)))))))),
       ))

@@ -18,3 +18,6 @@ pub mod Stopping
 pub mod Together
 pub mod OneInput
 pub mod Crossing
+pub mod MarksApplied
+pub mod MarksAfter
+pub mod MarksKept

@@ -8,6 +8,8 @@ pub mod Inputs
 pub mod Cells
 pub mod Causes
 pub mod Turns
+pub mod Marks
+pub mod Marking
 pub mod Restarts
 pub mod Together
 pub mod Openings

@@ -19,10 +19,11 @@ use crate::copying::{addressees, input_copy, input_of, outcome_of};
 use crate::for_record::ForRecord;
 use crate::handing::hand_all;
 use crate::phase::Phase;
+use crate::reaching::{asks, larger, reached_after};
 use crate::record::{Recording, TurnOutput};
 use crate::told_input::ToldInput;
 use crate::upstream::Upstream;
-use machine_laws::{Hosted, Machine};
+use machine_laws::{Hosted, Machine, Marking};
 use raft_log::Message;
 use raft_node::{Cause, Described, Node, NodeFault, Output};
 use recorder::NodeFields;
@@ -34,6 +35,7 @@ use world_run::Outcome;
 use world_views::{Envelope, NodeInput};
 
 mod leaving;
+mod marking;
 mod playing;
 mod reading;
 mod restart;
@@ -46,9 +48,10 @@ const MOST_SENT: usize = 7;
 /// A running node: what a worker keeps under its lock. It has no lock of its own, and no call waits.
 ///
 /// While the node is down the cell shows the state from before the turn, or the refused restart, in
-/// which it went down.
+/// which it went down. A look that waits for a mark is played by a list that begins with all that any
+/// node had committed when the mark was asked.
 #[derive(Drop)]
-pub struct NodeCell<M: Hosted, S: Stable<M::Command>, U: Upstream> {
+pub struct NodeCell<M: Marking, S: Stable<M::Command>, U: Upstream> {
     alloc: Global,
     book: Book<M>,
     node: Node<M, S>,
@@ -56,12 +59,18 @@ pub struct NodeCell<M: Hosted, S: Stable<M::Command>, U: Upstream> {
     phase: Phase<M::Command, M::Line, M::Target>,
     refused: u64,
     shown: NodeFields,
+    /// The greatest number of a mark that this run asked, 0 where it asked none.
+    asked: Number,
+    /// The greatest number of a mark of this run among what was applied.
+    reached: Option<Number>,
 }
 
-impl<M: Hosted, S: Stable<M::Command>, U: Upstream> Model for NodeCell<M, S, U> {
+impl<M: Marking, S: Stable<M::Command>, U: Upstream> Model for NodeCell<M, S, U> {
     ghost use Rattle.raft_node.specs.Hosts.{hosted};
     ghost use Rattle.raft_node.specs.Parts.{keeper};
+    ghost use Rattle.ether.specs.Passes.{view_of};
     ghost use Rattle.node_cells.specs.Cells.{CellRoom, IsCell, cell_of};
+    ghost use Rattle.node_cells.specs.Marks.{KnowsMarks};
 
     ghost Value = { CellRoom M.Setup M S M.Command M.Line M.Target M.Effect M.Played U };
 
@@ -74,10 +83,11 @@ impl<M: Hosted, S: Stable<M::Command>, U: Upstream> Model for NodeCell<M, S, U> 
         (M.effects c.book.ether.setup) (M.next_claim c.book.ether.setup)
         (M.playback c.book.ether.setup) M.class)
         (keeper S.saved S.may_stand S.condition)
-        (cell_of c.book c.node c.upstream c.phase c.refused c.shown) };
+        (cell_of c.book c.node c.upstream c.phase c.refused c.shown)
+        × KnowsMarks M.marked (view_of c.book.pass) c.asked c.reached };
 }
 
-impl<M: Hosted, S: Stable<M::Command>, U: Upstream> NodeCell<M, S, U> {
+impl<M: Marking, S: Stable<M::Command>, U: Upstream> NodeCell<M, S, U> {
     /// One event at the cell's own view: its step, its tick, its posts, its hands.
     ///
     /// Room in the record and tickets are settled first, and then a copy of the input is made, where turns
@@ -138,6 +148,8 @@ impl<M: Hosted, S: Stable<M::Command>, U: Upstream> NodeCell<M, S, U> {
         ensures cause { HasCause (keeper S.saved S.may_stand S.condition) self.old.parts result
             self.new.parts }
     {
+        let number = asks::<M>(&input);
+        let before = self.node.state().standing.applied;
         match self.node.step(input_of(input)) {
             Ok(output) => {
                 let Output {
@@ -155,6 +167,9 @@ impl<M: Hosted, S: Stable<M::Command>, U: Upstream> NodeCell<M, S, U> {
                 self.book.post_all(messages, &mut replaced);
                 hand_all::<M, U>(&mut self.upstream, &effects);
                 self.shown = NodeFields::of(self.node.state());
+                self.asked = larger(self.asked, number);
+                let (node, state) = (self.node.id(), self.node.state());
+                self.reached = reached_after::<M>(self.reached, node, before, state);
                 Ok(TurnOutput {
                     posted_to,
                     replaced,
@@ -166,6 +181,7 @@ impl<M: Hosted, S: Stable<M::Command>, U: Upstream> NodeCell<M, S, U> {
                 if let NodeFault::Refused(refusal) = &fault {
                     let outcome = ForRecord::of(Outcome::Refused(*refusal));
                     self.book.note(told.done(copy), outcome);
+                    self.asked = larger(self.asked, number);
                     return Err(CellFault::Node(fault));
                 }
                 self.phase = Phase::DownInTurn(told, copy, false);

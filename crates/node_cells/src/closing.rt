@@ -7,7 +7,7 @@ use crate::cell::NodeCell;
 use crate::record::{NodeRecord, Recording};
 use crate::upstream::Upstream;
 use ether::{Ether, Pass};
-use machine_laws::{Hosted, Machine};
+use machine_laws::{Hosted, Machine, Marking};
 use raft_node::Described;
 use stable_store::Stable;
 use std::alloc::{AllocError, Global};
@@ -48,7 +48,7 @@ impl<M: Hosted> Model for Closing<M> {
         × (c.ether.value.size ≤ vec_capacity c.records) };
 }
 
-impl<M: Hosted> Closing<M> {
+impl<M: Marking> Closing<M> {
     /// Nothing yet, with room for what all nodes of the ether leave, whose cells all record or all don't.
     pub fn new(
         alloc: Global,

@@ -1,11 +1,7 @@
 -- A worker may go to any thread, as its parts may.
-use denote.Hole.{as_row}
 use denote.RattleType.{RattleType}
-use denote.Param.Send.{IsSend, IsSync, sendable, view_send}
+use denote.Param.Send.{IsSend, IsSync}
 use denote.Param.SendFields.{declared_send}
-use Rattle.std.specs.contracts.option.Option as Option
-use Rattle.std.proofs.Crossing.{crosses}
-use Rattle.wire_bytes.specs.contracts.number.Number as Number
 use Rattle.wire_bytes.specs.declared.copied.Copied as copied
 use Rattle.wire_bytes.specs.declared.wire.Wire as wire
 use Rattle.machine_laws.specs.declared.hosted.Hosted as hosted
@@ -14,15 +10,8 @@ use Rattle.machine_laws.specs.declared.marking.Marking as marking
 use Rattle.stable_store.specs.declared.stable.Stable as stable
 use Rattle.node_cells.specs.declared.upstream.Upstream as upstream
 use Rattle.node_cells.proofs.Crossing.{cell_send}
-use Rattle.marked_cells.specs.contracts.marked_cell.MarkedCell.TheInside as inside
 use Rattle.node_threads.specs.contracts.worker.Worker as worker
 use Rattle.node_threads.proofs.worker_loop.WorkerLoop.TheSendSync as loop
-
-number_send : IsSend Number.the_row
-number_send = search (sendable, crosses) depth 40
-
-maybe_send : IsSend (as_row (Option.the_field Number.the_row))
-maybe_send = search (number_send, sendable, crosses) depth 40
 
 module _ (M S U G O A L T P Setup C E : RattleType) (marking-M : marking.Ghosts M.Denot A.Denot L.Denot T.Denot P.Denot Setup.Denot C.Denot E.Denot)
     (g : hosted.Ghosts M.Denot A.Denot L.Denot T.Denot P.Denot Setup.Denot C.Denot E.Denot) (machine-M : machine.Ghosts M.Denot Setup.Denot C.Denot E.Denot)
@@ -33,6 +22,5 @@ module _ (M S U G O A L T P Setup C E : RattleType) (marking-M : marking.Ghosts 
   pub worker_send : IsSend M → IsSend S → IsSend U → IsSend G → IsSend O → IsSend L → IsSend T → IsSend P → IsSend Setup → IsSend C → IsSend E → IsSync G → IsSync Setup → IsSync C
       → IsSend (worker.the_row M S U G O A L T P Setup C E marking-M g machine-M copied-Setup wire-C copied-C copied-E wire-A copied-A wire-L copied-L wire-T copied-T copied-P stable-S upstream-U)
   worker_send m s u gate outlet l t p setup c e gate-sync setup-sync c-sync =
-      let cell = cell_send M S U A L T P Setup C E g machine-M copied-Setup wire-C copied-C copied-E wire-A copied-A wire-L copied-L wire-T copied-T copied-P stable-S upstream-U m s u l t p setup c e setup-sync c-sync in
-      let marked = view_send (inside.the_row M S U A L T P Setup C E marking-M g machine-M copied-Setup wire-C copied-C copied-E wire-A copied-A wire-L copied-L wire-T copied-T copied-P stable-S upstream-U) _ _ _ _ (declared_send (inside.the_type M S U A L T P Setup C E marking-M g machine-M copied-Setup wire-C copied-C copied-E wire-A copied-A wire-L copied-L wire-T copied-T copied-P stable-S upstream-U) (cell, (number_send, (maybe_send, tt)))) in
-      declared_send (worker.the_type M S U G O A L T P Setup C E marking-M g machine-M copied-Setup wire-C copied-C copied-E wire-A copied-A wire-L copied-L wire-T copied-T copied-P stable-S upstream-U) (marked, (loop.the_send M G O A L T P Setup C E gate outlet l t p c e gate-sync, tt))
+      let cell = cell_send M S U A L T P Setup C E marking-M g machine-M copied-Setup wire-C copied-C copied-E wire-A copied-A wire-L copied-L wire-T copied-T copied-P stable-S upstream-U m s u l t p setup c e setup-sync c-sync in
+      declared_send (worker.the_type M S U G O A L T P Setup C E marking-M g machine-M copied-Setup wire-C copied-C copied-E wire-A copied-A wire-L copied-L wire-T copied-T copied-P stable-S upstream-U) (cell, (loop.the_send M G O A L T P Setup C E gate outlet l t p c e gate-sync, tt))

@@ -7,8 +7,8 @@ use Rattle.node_cells.specs.declared.cell_fault.CellFault.{CellFault}
 use Rattle.node_cells.specs.declared.cell_fault.CellFault.TheVariants.{Memory, Spent, Node}
 use Rattle.node_cells.specs.Turns.{CellOf}
 use Rattle.node_cells.specs.Upstreams.{Tally}
-use Rattle.marked_cells.specs.declared.mark_turn.MarkTurn.{MarkTurn}
-use Rattle.marked_cells.specs.Marking.{HasLookedAfter, HasMarked, LooksWhere}
+use Rattle.node_cells.specs.declared.mark_turn.MarkTurn.{MarkTurn}
+use Rattle.node_cells.specs.Marking.{HasLookedAfter, HasMarked, LooksWhere}
 use Rattle.node_threads.specs.Homes.{IsSameHome}
 use Rattle.node_threads.proofs.Home.{home_after_look, home_after_turn, same_home}
 

@@ -9,7 +9,7 @@ use Rattle.raft_node.specs.declared.node_fault.NodeFault.{NodeFault}
 use Rattle.raft_node.specs.declared.node_fault.NodeFault.TheVariants.{Refused}
 use Rattle.node_cells.specs.declared.cell_fault.CellFault.{CellFault}
 use Rattle.node_cells.specs.declared.record.TurnOutput.{TurnOutput}
-use Rattle.marked_cells.specs.declared.mark_turn.MarkTurn.{MarkTurn}
+use Rattle.node_cells.specs.declared.mark_turn.MarkTurn.{MarkTurn}
 use Rattle.node_threads.specs.declared.worker_loop.round.Round.{Round}
 use Rattle.node_threads.specs.Forwarding.{forwarded_after}
 use Rattle.node_threads.specs.Reports.{told_fault}

@@ -6,8 +6,8 @@ use Rattle.raft_node.specs.Machine.{Machine}
 use Rattle.world_views.specs.declared.envelope.Envelope.{Envelope}
 use Rattle.world_views.specs.declared.node_event.NodeInput.{NodeInput}
 use Rattle.world_views.specs.declared.node_event.NodeInput.TheVariants as input
-use Rattle.marked_cells.specs.declared.mark_turn.MarkTurn.{MarkTurn}
-use Rattle.marked_cells.specs.Marking.{HasLookedAfter, HasMarked}
+use Rattle.node_cells.specs.declared.mark_turn.MarkTurn.{MarkTurn}
+use Rattle.node_cells.specs.Marking.{HasLookedAfter, HasMarked}
 use Rattle.node_cells.specs.declared.cell_fault.CellFault.{CellFault}
 use Rattle.node_cells.specs.declared.record.TurnOutput.{TurnOutput}
 use Rattle.node_cells.specs.Openings.{HasTakenIn}

@@ -6,7 +6,6 @@ use crate::outlet::Outlet;
 use crate::task::Task;
 use crate::worker_loop::WorkerLoop;
 use machine_laws::{Hosted, Machine, Marking};
-use marked_cells::MarkedCell;
 use node_cells::{NodeCell, Upstream};
 use stable_store::Stable;
 use std::snapshot::Snapshot;
@@ -16,7 +15,7 @@ use std::thread::{Promise, PromisedHandle};
 /// The worker of a node, which alone has its cell.
 #[derive(Drop)]
 pub struct Worker<M: Marking, S: Stable<M::Command>, U: Upstream, G: Drop, O: Outlet<M::Effect>> {
-    pub cell: MarkedCell<M, S, U>,
+    pub cell: NodeCell<M, S, U>,
     pub worker_loop: WorkerLoop<M, G, O>,
 }
 
@@ -46,14 +45,14 @@ where
         let mut cell = cell;
         let mut worker_loop = worker_loop;
         worker_loop.work(rt, &mut cell);
-        cell.into_cell()
+        cell
     }
 }
 
 /// That a worker leaves the cell of its node, which was this as it was opened.
 #[derive(Drop)]
 pub struct WorkerPromise<M: Marking, S: Stable<M::Command>, U: Upstream> {
-    pub cell: Snapshot<MarkedCell<M, S, U>>,
+    pub cell: Snapshot<NodeCell<M, S, U>>,
 }
 
 impl<M: Marking, S: Stable<M::Command>, U: Upstream> Promise<NodeCell<M, S, U>>

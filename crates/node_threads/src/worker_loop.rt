@@ -13,8 +13,7 @@ use crate::worker_loop::round::Round;
 use crate::worker_loop::telling::{Told, leads, wake};
 use crossbeam_channel::{Receiver, Sender};
 use machine_laws::{Hosted, Machine, Marking};
-use marked_cells::MarkedCell;
-use node_cells::Upstream;
+use node_cells::{NodeCell, Upstream};
 use raft_log::NodeId;
 use raft_node::Described;
 use stable_store::Stable;
@@ -83,7 +82,7 @@ impl<M: Marking, G: Gate + Drop, O: Outlet<M::Effect>> WorkerLoop<M, G, O> {
     pub fn work<R: Wait, S: Stable<M::Command>, U: Upstream>(
         &mut self,
         rt: &R,
-        cell: &mut MarkedCell<M, S, U>,
+        cell: &mut NodeCell<M, S, U>,
     )
         ensures { IsSameHome cell.old.parts cell.new.parts }
     {
@@ -98,7 +97,7 @@ impl<M: Marking, G: Gate + Drop, O: Outlet<M::Effect>> WorkerLoop<M, G, O> {
     fn do_round<R: Wait, S: Stable<M::Command>, U: Upstream>(
         &mut self,
         rt: &R,
-        cell: &mut MarkedCell<M, S, U>,
+        cell: &mut NodeCell<M, S, U>,
     ) -> bool
         ensures { IsSameHome cell.old.parts cell.new.parts }
     {
@@ -113,7 +112,7 @@ impl<M: Marking, G: Gate + Drop, O: Outlet<M::Effect>> WorkerLoop<M, G, O> {
     fn go_round<R: Wait, S: Stable<M::Command>, U: Upstream>(
         &mut self,
         rt: &R,
-        cell: &mut MarkedCell<M, S, U>,
+        cell: &mut NodeCell<M, S, U>,
     ) -> bool
         ensures { HasGoneRound (⟦<M as Described>⟧.machine cell.old.parts.ether.setup) U.tally
             self.old.forwarded self.old.requests.waiting.items cell.old.parts cell.new.parts }
@@ -134,7 +133,7 @@ impl<M: Marking, G: Gate + Drop, O: Outlet<M::Effect>> WorkerLoop<M, G, O> {
     fn beat_on_news<R: Wait, S: Stable<M::Command>, U: Upstream>(
         &mut self,
         rt: &R,
-        cell: &mut MarkedCell<M, S, U>,
+        cell: &mut NodeCell<M, S, U>,
     )
         ensures { HasBeaten (⟦<M as Described>⟧.machine cell.old.parts.ether.setup) U.tally
             (is_news self.old.beats self.old.beaten self.old.round.is_behind cell.old.parts)
@@ -157,7 +156,7 @@ impl<M: Marking, G: Gate + Drop, O: Outlet<M::Effect>> WorkerLoop<M, G, O> {
 
     /// Whether the node leads, and its log or what is agreed of it grew since it sent last in its term, or
     /// a node that lags behind it answered; and its worker is to send by itself.
-    fn has_news<S: Stable<M::Command>, U: Upstream>(&self, cell: &MarkedCell<M, S, U>) -> bool
+    fn has_news<S: Stable<M::Command>, U: Upstream>(&self, cell: &NodeCell<M, S, U>) -> bool
         ensures { result ≡ is_news self.now.beats self.now.beaten self.now.round.is_behind
             cell.now.parts }
     {

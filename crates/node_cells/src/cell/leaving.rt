@@ -7,11 +7,11 @@ use crate::cell::NodeCell;
 use crate::record::NodeRecord;
 use crate::upstream::Upstream;
 use ether::Pass;
-use machine_laws::{Hosted, Machine};
+use machine_laws::{Hosted, Machine, Marking};
 use raft_node::Described;
 use stable_store::Stable;
 
-impl<M: Hosted, S: Stable<M::Command>, U: Upstream> NodeCell<M, S, U> {
+impl<M: Marking, S: Stable<M::Command>, U: Upstream> NodeCell<M, S, U> {
     /// The record of the node's turns, empty where they were not recorded, and the line of the state that
     /// the cell shows.
     pub fn close(self) -> NodeRecord<M::Command, M::Line, M::Target, M::Effect, M::Played>

@@ -12,13 +12,13 @@ use crate::copying::played_of;
 use crate::for_record::ForRecord;
 use crate::record::Recording;
 use crate::upstream::Upstream;
-use machine_laws::{Hosted, Machine};
+use machine_laws::{Hosted, Machine, Marking};
 use raft_node::{Described, Looked, NodeFault};
 use stable_store::Stable;
 use world_run::Outcome;
 use world_views::NodeEvent;
 
-impl<M: Hosted, S: Stable<M::Command>, U: Upstream> NodeCell<M, S, U> {
+impl<M: Marking, S: Stable<M::Command>, U: Upstream> NodeCell<M, S, U> {
     /// A playback of a target, where what was applied reaches to this place; else `Behind`. Both are
     /// events that change nothing. Where there is no memory it is none.
     pub fn look(

@@ -10,14 +10,14 @@ use crate::cell::NodeCell;
 use crate::phase::Phase;
 use crate::record::Recording;
 use crate::upstream::Upstream;
-use machine_laws::{Hosted, Machine};
+use machine_laws::{Hosted, Machine, Marking};
 use raft_log::{GroupSize, NodeId, NodeState};
 use raft_node::Cause;
 use recorder::NodeFields;
 use stable_store::Stable;
 use wire_bytes::Number;
 
-impl<M: Hosted, S: Stable<M::Command>, U: Upstream> NodeCell<M, S, U> {
+impl<M: Marking, S: Stable<M::Command>, U: Upstream> NodeCell<M, S, U> {
     /// Why the node is down, if it is.
     pub fn down(&self) -> Option<Cause>
         ensures up { (result ≡ None) ↔ (self.now.parts.phase ≡ Up) }

@@ -12,16 +12,18 @@ use crate::cell_fault::CellFault;
 use crate::phase::{Phase, fallen};
 use crate::remembered::Remembered;
 use crate::upstream::Upstream;
-use machine_laws::{Hosted, Machine};
+use machine_laws::{Hosted, Machine, Marking};
 use raft_node::Described;
 use recorder::NodeFields;
 use stable_store::Stable;
 use std::mem::replace;
+use wire_bytes::Number;
 
-impl<M: Hosted, S: Stable<M::Command>, U: Upstream> NodeCell<M, S, U> {
+impl<M: Marking, S: Stable<M::Command>, U: Upstream> NodeCell<M, S, U> {
     /// The node stops, and is started again over its store: one event, or one for each input of those that
     /// were saved together, and one more for each earlier start that failed after it saved its run. What it
-    /// had in memory tells whether the store kept the turns in which it went down.
+    /// had in memory tells whether the store kept the turns in which it went down. Its next run has asked
+    /// for no mark, and applied none.
     pub fn restart(&mut self) -> Result<(), CellFault>
         ensures restart { HasRestarted (⟦<M as Described>⟧.machine self.old.parts.ether.setup)
             self.old.parts result self.new.parts }
@@ -61,6 +63,8 @@ impl<M: Hosted, S: Stable<M::Command>, U: Upstream> NodeCell<M, S, U> {
         self.book.note_restarts(more);
         self.refused = 0;
         self.shown = NodeFields::of(self.node.state());
+        self.asked = Number::new(0);
+        self.reached = None;
         Ok(())
     }
 }

@@ -12,15 +12,16 @@ use crate::phase::Phase;
 use crate::record::Recording;
 use crate::upstream::Upstream;
 use ether::{Ether, Pass};
-use machine_laws::{Hosted, Machine};
+use machine_laws::{Hosted, Machine, Marking};
 use raft_log::NodeId;
 use raft_node::Node;
 use recorder::NodeFields;
 use stable_store::Stable;
 use std::alloc::Global;
 use std::sync::Arc;
+use wire_bytes::Number;
 
-impl<M: Hosted, S: Stable<M::Command>, U: Upstream> NodeCell<M, S, U> {
+impl<M: Marking, S: Stable<M::Command>, U: Upstream> NodeCell<M, S, U> {
     /// The opening: the node of the pass is started over its store. Where it fails all is dropped. Whether
     /// its turns are recorded stays so until the cell is closed.
     pub fn open(
@@ -59,6 +60,8 @@ impl<M: Hosted, S: Stable<M::Command>, U: Upstream> NodeCell<M, S, U> {
             phase: Phase::Up,
             refused: 0,
             shown,
+            asked: Number::new(0),
+            reached: None,
         })
     }
 }

@@ -9,22 +9,25 @@ ghost use Rattle.node_cells.specs.Causes.{HasCause};
 ghost use Rattle.node_cells.specs.Cells.{view_in};
 ghost use Rattle.node_cells.specs.Copies.{AreCopies};
 ghost use Rattle.node_cells.specs.Inputs.{OnlyAppend, input_of};
+ghost use Rattle.node_cells.specs.Marks.{asked_by_all, asked_in};
 ghost use Rattle.node_cells.specs.Together.{AreNoTurns, AreTurned};
 
 use crate::cell::NodeCell;
 use crate::cell_fault::CellFault;
 use crate::copying::{input_copies, inputs_of};
 use crate::phase::down_in;
+use crate::reaching::asked_by_all;
 use crate::told_input::ToldInput;
 use crate::upstream::Upstream;
-use machine_laws::{Hosted, Machine};
+use machine_laws::{Hosted, Machine, Marking};
 use node_steps::Refusal;
 use raft_node::{Described, Input, NodeFault, Unsaved};
 use recorder::NodeFields;
 use stable_store::Stable;
+use wire_bytes::Number;
 use world_views::NodeInput;
 
-impl<M: Hosted, S: Stable<M::Command>, U: Upstream> NodeCell<M, S, U> {
+impl<M: Marking, S: Stable<M::Command>, U: Upstream> NodeCell<M, S, U> {
     /// Inputs that only append, one after the other at a node that leads, saved at once: an event for
     /// each, with its own ticket and its own answer. Nothing is posted and nothing handed out.
     ///
@@ -52,21 +55,24 @@ impl<M: Hosted, S: Stable<M::Command>, U: Upstream> NodeCell<M, S, U> {
             return Err(CellFault::Node(NodeFault::Down(cause)));
         }
         self.make_room(inputs.len() as u64 - 1)?;
+        let asked = asked_by_all::<M>(self.asked, &inputs);
         let Ok(copies) = input_copies(self.alloc, self.recording(), &inputs) else {
             return Err(CellFault::Memory);
         };
         let Ok((taken, told)) = inputs_of(self.alloc, inputs) else {
             return Err(CellFault::Memory);
         };
-        self.run_all(told, copies, taken)
+        self.run_all(told, copies, taken, asked)
     }
 
-    /// Inputs of a node that is up and leads, where there is room for them. The copies are for the record.
+    /// Inputs of a node that is up and leads, where there is room for them. The copies are for the record,
+    /// and `asked` is the greatest number of a mark that was asked once they are done.
     fn run_all(
         &mut self,
         told: Vec<ToldInput<M::Command, M::Line, M::Target>>,
         copies: Vec<NodeInput<M::Command, M::Line>>,
         taken: Vec<Input<M::Command, M::Line>>,
+        asked: Number,
     ) -> Result<Vec<Result<(), Refusal>>, CellFault>
         requires up { self.old.parts.phase ≡ Up }
         requires leads { is_leader (role_of self.old.parts.node.state.standing.position) ≡ true }
@@ -77,6 +83,8 @@ impl<M: Hosted, S: Stable<M::Command>, U: Upstream> NodeCell<M, S, U> {
             × (length (view_in self.old.parts).turns + length told.items ≤ 2 ^ 60) }
         requires taken { taken.items ≡ map input_of told.items }
         requires copied { AreCopies self.old.parts.recording told.items copies.items }
+        requires asked { asked
+            ≡ asked_by_all M.marked (asked_in M.marked (view_in self.old.parts)) told.items }
         ensures done { IfOk result (λ answers. AreTurned
             (⟦<M as Described>⟧.machine self.old.parts.ether.setup) self.old.parts told.items
             answers.items self.new.parts) }
@@ -91,6 +99,7 @@ impl<M: Hosted, S: Stable<M::Command>, U: Upstream> NodeCell<M, S, U> {
             Ok(answers) => {
                 self.book.note_all(told, copies, &answers);
                 self.shown = NodeFields::of(self.node.state());
+                self.asked = asked;
                 Ok(answers)
             }
             Err(Unsaved { cause, answers }) => {

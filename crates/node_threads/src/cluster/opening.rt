@@ -20,8 +20,7 @@ use crate::worker_loop::round::Round;
 use crossbeam_channel::{Receiver, Sender, unbounded};
 use ether::{Ether, Pass};
 use machine_laws::{Hosted, Machine, Marking};
-use marked_cells::MarkedCell;
-use node_cells::{Recording, Upstream};
+use node_cells::{NodeCell, Recording, Upstream};
 use raft_log::{GroupSize, NodeId};
 use stable_store::Stable;
 use std::alloc::Global;
@@ -110,7 +109,7 @@ fn open_worker<M: Marking, S: Stable<M::Command>, U: Upstream, G: Drop, O: Outle
     let Ok(ether) = Arc::try_clone(ether) else {
         return Err(ClusterFault::Memory);
     };
-    let cell = MarkedCell::open(alloc, ether, pass, store, upstream, recording)?;
+    let cell = NodeCell::open(alloc, ether, pass, store, upstream, recording)?;
     let worker_loop = worker_loop(alloc, cell.id(), gate, outlet, ends)?;
     Ok(Worker { cell, worker_loop })
 }

@@ -13,8 +13,7 @@ use crate::worker_loop::forwarding::{asks_first, request_at};
 use crate::worker_loop::gathering::has_some;
 use crate::worker_loop::telling::leads;
 use machine_laws::{Hosted, Machine, Marking};
-use marked_cells::MarkedCell;
-use node_cells::Upstream;
+use node_cells::{NodeCell, Upstream};
 use raft_log::Position;
 use raft_node::Described;
 use stable_store::Stable;
@@ -35,7 +34,7 @@ impl<M: Marking, G: Gate + Drop, O: Outlet<M::Effect>> WorkerLoop<M, G, O> {
     pub fn ask_before<R: Wait, S: Stable<M::Command>, U: Upstream>(
         &mut self,
         rt: &R,
-        cell: &mut MarkedCell<M, S, U>,
+        cell: &mut NodeCell<M, S, U>,
     )
         ensures { AsksBefore (⟦<M as Described>⟧.machine cell.old.parts.ether.setup) U.tally
             (asks_first self.old.forwarded (leader_in cell.old.parts))
@@ -52,7 +51,7 @@ impl<M: Marking, G: Gate + Drop, O: Outlet<M::Effect>> WorkerLoop<M, G, O> {
     pub fn ask_all<R: Wait, S: Stable<M::Command>, U: Upstream>(
         &mut self,
         rt: &R,
-        cell: &mut MarkedCell<M, S, U>,
+        cell: &mut NodeCell<M, S, U>,
     ) -> bool
         ensures { HasAskedOn (⟦<M as Described>⟧.machine cell.old.parts.ether.setup) U.tally
             self.old.requests.waiting.items cell.old.parts cell.new.parts }
@@ -67,7 +66,7 @@ impl<M: Marking, G: Gate + Drop, O: Outlet<M::Effect>> WorkerLoop<M, G, O> {
     fn ask_together<R: Wait, S: Stable<M::Command>, U: Upstream>(
         &mut self,
         rt: &R,
-        cell: &mut MarkedCell<M, S, U>,
+        cell: &mut NodeCell<M, S, U>,
     ) -> bool
         ensures { HasTriedTogether (⟦<M as Described>⟧.machine cell.old.parts.ether.setup) U.tally
             self.old.requests.waiting.items result cell.old.parts cell.new.parts }
@@ -87,7 +86,7 @@ impl<M: Marking, G: Gate + Drop, O: Outlet<M::Effect>> WorkerLoop<M, G, O> {
     /// memory for them, and then all wait on.
     fn next_asks<S: Stable<M::Command>, U: Upstream>(
         &mut self,
-        cell: &MarkedCell<M, S, U>,
+        cell: &NodeCell<M, S, U>,
     ) -> Vec<NodeInput<M::Command, M::Line>>
         ensures front { TakesFront self.old.requests.waiting.items result.items
             self.new.requests.waiting.items }
@@ -111,7 +110,7 @@ impl<M: Marking, G: Gate + Drop, O: Outlet<M::Effect>> WorkerLoop<M, G, O> {
     fn ask_each<R: Wait, S: Stable<M::Command>, U: Upstream>(
         &mut self,
         rt: &R,
-        cell: &mut MarkedCell<M, S, U>,
+        cell: &mut NodeCell<M, S, U>,
     ) -> bool
         ensures { HasAskedEach (⟦<M as Described>⟧.machine cell.old.parts.ether.setup) U.tally
             cell.old.parts cell.new.parts }
@@ -128,7 +127,7 @@ impl<M: Marking, G: Gate + Drop, O: Outlet<M::Effect>> WorkerLoop<M, G, O> {
     fn ask_one<R: Wait, S: Stable<M::Command>, U: Upstream>(
         &mut self,
         rt: &R,
-        cell: &mut MarkedCell<M, S, U>,
+        cell: &mut NodeCell<M, S, U>,
     ) -> bool
         ensures { HasAskedFirstOf (⟦<M as Described>⟧.machine cell.old.parts.ether.setup) U.tally
             self.old.requests.waiting.items result cell.old.parts cell.new.parts }
@@ -151,7 +150,7 @@ impl<M: Marking, G: Gate + Drop, O: Outlet<M::Effect>> WorkerLoop<M, G, O> {
     /// answer to what lies there would replace the request. Of an older leader this says nothing.
     pub fn leader_left<S: Stable<M::Command>, U: Upstream>(
         &self,
-        cell: &mut MarkedCell<M, S, U>,
+        cell: &mut NodeCell<M, S, U>,
     ) -> Option<u8>
         ensures { HasLeft (request_at self.now.forwarded (leader_in cell.old.parts))
             cell.old.parts result cell.new.parts }
@@ -165,7 +164,7 @@ impl<M: Marking, G: Gate + Drop, O: Outlet<M::Effect>> WorkerLoop<M, G, O> {
 }
 
 /// Whether the node may ask: it is up, and leads, or knows a leader that took its last message.
-fn may_ask<M: Marking, S: Stable<M::Command>, U: Upstream>(cell: &mut MarkedCell<M, S, U>) -> bool
+fn may_ask<M: Marking, S: Stable<M::Command>, U: Upstream>(cell: &mut NodeCell<M, S, U>) -> bool
     ensures { MayAsk cell.old.parts result cell.new.parts }
 {
     if cell.down().is_some() {
@@ -180,7 +179,7 @@ fn may_ask<M: Marking, S: Stable<M::Command>, U: Upstream>(cell: &mut MarkedCell
 
 /// Whether the node of this number took the last message that was posted to it.
 fn has_taken<M: Marking, S: Stable<M::Command>, U: Upstream>(
-    cell: &mut MarkedCell<M, S, U>,
+    cell: &mut NodeCell<M, S, U>,
     node: u8,
 ) -> bool
     ensures { HasSeenIf node cell.old.parts result cell.new.parts }

@@ -11,8 +11,7 @@ use crate::outlet::Outlet;
 use crate::worker_loop::WorkerLoop;
 use crate::worker_loop::telling::leads;
 use machine_laws::{Hosted, Machine, Marking};
-use marked_cells::MarkedCell;
-use node_cells::Upstream;
+use node_cells::{NodeCell, Upstream};
 use raft_node::Described;
 use stable_store::Stable;
 use std::mem::replace;
@@ -25,7 +24,7 @@ impl<M: Marking, G: Gate + Drop, O: Outlet<M::Effect>> WorkerLoop<M, G, O> {
     pub fn take_up<R: Wait, S: Stable<M::Command>, U: Upstream>(
         &mut self,
         rt: &R,
-        cell: &mut MarkedCell<M, S, U>,
+        cell: &mut NodeCell<M, S, U>,
         job: Job<M>,
         gathered: &mut Vec<NodeInput<M::Command, M::Line>>,
     ) -> bool
@@ -50,7 +49,7 @@ impl<M: Marking, G: Gate + Drop, O: Outlet<M::Effect>> WorkerLoop<M, G, O> {
     fn add<R: Wait, S: Stable<M::Command>, U: Upstream>(
         &mut self,
         rt: &R,
-        cell: &mut MarkedCell<M, S, U>,
+        cell: &mut NodeCell<M, S, U>,
         input: NodeInput<M::Command, M::Line>,
         gathered: &mut Vec<NodeInput<M::Command, M::Line>>,
     ) -> bool
@@ -74,7 +73,7 @@ impl<M: Marking, G: Gate + Drop, O: Outlet<M::Effect>> WorkerLoop<M, G, O> {
     fn do_behind<R: Wait, S: Stable<M::Command>, U: Upstream>(
         &mut self,
         rt: &R,
-        cell: &mut MarkedCell<M, S, U>,
+        cell: &mut NodeCell<M, S, U>,
         job: Job<M>,
         gathered: &mut Vec<NodeInput<M::Command, M::Line>>,
     ) -> bool
@@ -96,7 +95,7 @@ impl<M: Marking, G: Gate + Drop, O: Outlet<M::Effect>> WorkerLoop<M, G, O> {
     pub fn turn_gathered<R: Wait, S: Stable<M::Command>, U: Upstream>(
         &mut self,
         rt: &R,
-        cell: &mut MarkedCell<M, S, U>,
+        cell: &mut NodeCell<M, S, U>,
         gathered: &mut Vec<NodeInput<M::Command, M::Line>>,
     )
         requires { AreReady gathered.old.items cell.old.parts }
@@ -113,7 +112,7 @@ impl<M: Marking, G: Gate + Drop, O: Outlet<M::Effect>> WorkerLoop<M, G, O> {
     pub fn turn_all<R: Wait, S: Stable<M::Command>, U: Upstream>(
         &mut self,
         rt: &R,
-        cell: &mut MarkedCell<M, S, U>,
+        cell: &mut NodeCell<M, S, U>,
         inputs: Vec<NodeInput<M::Command, M::Line>>,
     )
         requires { AreReady inputs.items cell.old.parts }

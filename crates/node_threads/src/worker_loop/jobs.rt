@@ -13,8 +13,7 @@ use crate::worker_loop::WorkerLoop;
 use crate::worker_loop::telling::{leads, status};
 use crossbeam_channel::TryRecvError;
 use machine_laws::{Hosted, Machine, Marking};
-use marked_cells::MarkedCell;
-use node_cells::Upstream;
+use node_cells::{NodeCell, Upstream};
 use node_notes::Note;
 use raft_node::Described;
 use stable_store::Stable;
@@ -44,7 +43,7 @@ impl<M: Marking, G: Gate + Drop, O: Outlet<M::Effect>> WorkerLoop<M, G, O> {
     pub fn do_jobs<R: Wait, S: Stable<M::Command>, U: Upstream>(
         &mut self,
         rt: &R,
-        cell: &mut MarkedCell<M, S, U>,
+        cell: &mut NodeCell<M, S, U>,
         may_wait: bool,
     ) -> bool
         ensures { HasDoneSome (⟦<M as Described>⟧.machine cell.old.parts.ether.setup) U.tally
@@ -60,7 +59,7 @@ impl<M: Marking, G: Gate + Drop, O: Outlet<M::Effect>> WorkerLoop<M, G, O> {
     fn take_jobs<R: Wait, S: Stable<M::Command>, U: Upstream>(
         &mut self,
         rt: &R,
-        cell: &mut MarkedCell<M, S, U>,
+        cell: &mut NodeCell<M, S, U>,
         may_wait: bool,
         gathered: &mut Vec<NodeInput<M::Command, M::Line>>,
     ) -> bool
@@ -109,7 +108,7 @@ impl<M: Marking, G: Gate + Drop, O: Outlet<M::Effect>> WorkerLoop<M, G, O> {
     pub fn do_job<R: Wait, S: Stable<M::Command>, U: Upstream>(
         &mut self,
         rt: &R,
-        cell: &mut MarkedCell<M, S, U>,
+        cell: &mut NodeCell<M, S, U>,
         job: Job<M>,
     )
         ensures { HasDone (⟦<M as Described>⟧.machine cell.old.parts.ether.setup) U.tally
@@ -150,7 +149,7 @@ impl<M: Marking, G: Gate + Drop, O: Outlet<M::Effect>> WorkerLoop<M, G, O> {
     fn follow<R: Wait, S: Stable<M::Command>, U: Upstream>(
         &mut self,
         rt: &R,
-        cell: &mut MarkedCell<M, S, U>,
+        cell: &mut NodeCell<M, S, U>,
         note: Note<M::Command, M::Line>,
     )
         ensures done { HasDoneNote (⟦<M as Described>⟧.machine cell.old.parts.ether.setup) U.tally
@@ -189,7 +188,7 @@ impl<M: Marking, G: Gate + Drop, O: Outlet<M::Effect>> WorkerLoop<M, G, O> {
     fn time_out<R: Wait, S: Stable<M::Command>, U: Upstream>(
         &mut self,
         rt: &R,
-        cell: &mut MarkedCell<M, S, U>,
+        cell: &mut NodeCell<M, S, U>,
         contacts: u64,
     )
         ensures { HasTimedOut (⟦<M as Described>⟧.machine cell.old.parts.ether.setup) U.tally
@@ -204,7 +203,7 @@ impl<M: Marking, G: Gate + Drop, O: Outlet<M::Effect>> WorkerLoop<M, G, O> {
     /// Whether the node leads not, and has heard of a leader at most so often.
     fn is_due<S: Stable<M::Command>, U: Upstream>(
         &self,
-        cell: &MarkedCell<M, S, U>,
+        cell: &NodeCell<M, S, U>,
         contacts: u64,
     ) -> bool
         ensures { result ≡ (nat_le self.now.contacts contacts && not (leads_in cell.now.parts)) }

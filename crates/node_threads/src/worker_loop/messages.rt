@@ -11,8 +11,7 @@ use crate::worker_loop::WorkerLoop;
 use crate::worker_loop::forwarding::is_left;
 use crate::worker_loop::telling::wake;
 use machine_laws::{Hosted, Machine, Marking};
-use marked_cells::MarkedCell;
-use node_cells::Upstream;
+use node_cells::{NodeCell, Upstream};
 use raft_log::{Kind, Message};
 use raft_node::Described;
 use stable_store::Stable;
@@ -25,7 +24,7 @@ impl<M: Marking, G: Gate + Drop, O: Outlet<M::Effect>> WorkerLoop<M, G, O> {
     pub fn take_all<R: Wait, S: Stable<M::Command>, U: Upstream>(
         &mut self,
         rt: &R,
-        cell: &mut MarkedCell<M, S, U>,
+        cell: &mut NodeCell<M, S, U>,
         left: Option<u8>,
     )
         ensures { HasTakenBut (⟦<M as Described>⟧.machine cell.old.parts.ether.setup) U.tally left
@@ -41,7 +40,7 @@ impl<M: Marking, G: Gate + Drop, O: Outlet<M::Effect>> WorkerLoop<M, G, O> {
     fn take_unless<R: Wait, S: Stable<M::Command>, U: Upstream>(
         &mut self,
         rt: &R,
-        cell: &mut MarkedCell<M, S, U>,
+        cell: &mut NodeCell<M, S, U>,
         is_left: bool,
         from: u64,
     )
@@ -59,7 +58,7 @@ impl<M: Marking, G: Gate + Drop, O: Outlet<M::Effect>> WorkerLoop<M, G, O> {
     fn take_from<R: Wait, S: Stable<M::Command>, U: Upstream>(
         &mut self,
         rt: &R,
-        cell: &mut MarkedCell<M, S, U>,
+        cell: &mut NodeCell<M, S, U>,
         from: u64,
     )
         ensures { from < cell.old.parts.ether.size
@@ -84,7 +83,7 @@ impl<M: Marking, G: Gate + Drop, O: Outlet<M::Effect>> WorkerLoop<M, G, O> {
     fn notice<R: Wait, S: Stable<M::Command>, U: Upstream>(
         &mut self,
         rt: &R,
-        cell: &MarkedCell<M, S, U>,
+        cell: &NodeCell<M, S, U>,
         message: &Message<M::Command>,
     )
         ensures contacts { self.new.contacts
@@ -115,7 +114,7 @@ impl<M: Marking, G: Gate + Drop, O: Outlet<M::Effect>> WorkerLoop<M, G, O> {
 
 /// The delivery of what lies in the mailbox from the node at this place, from 0 on, if something does.
 fn next_from<M: Marking, S: Stable<M::Command>, U: Upstream>(
-    cell: &mut MarkedCell<M, S, U>,
+    cell: &mut NodeCell<M, S, U>,
     from: u64,
 ) -> Option<NodeInput<M::Command, M::Line>>
     requires { from < cell.old.parts.ether.size }

@@ -10,8 +10,7 @@ use crate::outlet::Outlet;
 use crate::worker_loop::WorkerLoop;
 use crate::worker_loop::telling::{Told, status};
 use machine_laws::{Hosted, Machine, Marking};
-use marked_cells::MarkedCell;
-use node_cells::Upstream;
+use node_cells::{NodeCell, Upstream};
 use node_notes::{Progress, Report};
 use raft_log::NodeId;
 use raft_node::Described;
@@ -27,7 +26,7 @@ impl<M: Marking, G: Gate + Drop, O: Outlet<M::Effect>> WorkerLoop<M, G, O> {
     pub fn tell<R: Wait, S: Stable<M::Command>, U: Upstream>(
         &mut self,
         rt: &R,
-        cell: &MarkedCell<M, S, U>,
+        cell: &NodeCell<M, S, U>,
     ) -> bool
         ensures order { TellsFirst (leaving self.old.round) (leaving self.new.round) }
         ensures all { result ≡ true → self.new.round.effects.items ≡ [] }
@@ -59,7 +58,7 @@ impl<M: Marking, G: Gate + Drop, O: Outlet<M::Effect>> WorkerLoop<M, G, O> {
     }
 
     /// How the node stands, and how far its worker is.
-    fn stand<S: Stable<M::Command>, U: Upstream>(&mut self, cell: &MarkedCell<M, S, U>) -> Told
+    fn stand<S: Stable<M::Command>, U: Upstream>(&mut self, cell: &NodeCell<M, S, U>) -> Told
         ensures stands { StandsSo M.next_claim cell.now.parts self.old result }
         ensures requests { queue_of self.new.requests
             ≡ in_term cell.now.parts.node.state.standing.term (queue_of self.old.requests) }

@@ -5,8 +5,7 @@ ghost use Rattle.node_threads.specs.Reports.{IsGrownAlone, IsStatusOf, leads_in,
 use crate::job::{Job, put};
 use crossbeam_channel::Sender;
 use machine_laws::{Hosted, Machine, Marking};
-use marked_cells::MarkedCell;
-use node_cells::{CellFault, Upstream};
+use node_cells::{CellFault, NodeCell, Upstream};
 use node_notes::{Note, Progress, Status};
 use raft_node::{Cause, NodeFault};
 use stable_store::Stable;
@@ -27,14 +26,14 @@ pub fn wake<M: Hosted>(rt: &impl Wait, inboxes: &[Sender<Job<M>>], node: u8) {
 }
 
 /// How the node of a cell stands.
-pub fn status<M: Marking, S: Stable<M::Command>, U: Upstream>(cell: &MarkedCell<M, S, U>) -> Status
+pub fn status<M: Marking, S: Stable<M::Command>, U: Upstream>(cell: &NodeCell<M, S, U>) -> Status
     ensures { IsStatusOf M.next_claim cell.now.parts result }
 {
     Status::of(cell.state(), cell.next_claim(), cell.down())
 }
 
 /// Whether the node of a cell leads, and is up.
-pub fn leads<M: Marking, S: Stable<M::Command>, U: Upstream>(cell: &MarkedCell<M, S, U>) -> bool
+pub fn leads<M: Marking, S: Stable<M::Command>, U: Upstream>(cell: &NodeCell<M, S, U>) -> bool
     ensures { result ≡ leads_in cell.now.parts }
 {
     status(cell).leads()

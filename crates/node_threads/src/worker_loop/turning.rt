@@ -11,8 +11,7 @@ use crate::worker_loop::WorkerLoop;
 use crate::worker_loop::forwarding::{forwarded_after, is_request};
 use crate::worker_loop::telling::status;
 use machine_laws::{Hosted, Machine, Marking};
-use marked_cells::{MarkTurn, MarkedCell};
-use node_cells::{CellFault, TurnOutput, Upstream};
+use node_cells::{CellFault, MarkTurn, NodeCell, TurnOutput, Upstream};
 use raft_log::{Kind, Message};
 use raft_node::Described;
 use stable_store::Stable;
@@ -28,7 +27,7 @@ impl<M: Marking, G: Gate + Drop, O: Outlet<M::Effect>> WorkerLoop<M, G, O> {
     pub fn turn<R: Wait, S: Stable<M::Command>, U: Upstream>(
         &mut self,
         rt: &R,
-        cell: &mut MarkedCell<M, S, U>,
+        cell: &mut NodeCell<M, S, U>,
         input: NodeInput<M::Command, M::Line>,
     ) -> bool
         requires { HasHeard (view_in cell.old.parts) (carries input) }
@@ -62,7 +61,7 @@ impl<M: Marking, G: Gate + Drop, O: Outlet<M::Effect>> WorkerLoop<M, G, O> {
     pub fn mark<R: Wait, S: Stable<M::Command>, U: Upstream>(
         &mut self,
         rt: &R,
-        cell: &mut MarkedCell<M, S, U>,
+        cell: &mut NodeCell<M, S, U>,
     ) -> Result<u64, CellFault>
         ensures mark { HasMarkedOne (⟦<M as Described>⟧.machine cell.old.parts.ether.setup) U.tally
             M.marked M.mark cell.old.parts result cell.new.parts }
@@ -86,7 +85,7 @@ impl<M: Marking, G: Gate + Drop, O: Outlet<M::Effect>> WorkerLoop<M, G, O> {
     /// What came of a turn, which was a request or not, is kept for the end of the round.
     fn gather<S: Stable<M::Command>, U: Upstream>(
         &mut self,
-        cell: &MarkedCell<M, S, U>,
+        cell: &NodeCell<M, S, U>,
         output: TurnOutput<M::Command, M::Effect>,
         is_request: bool,
     )
@@ -112,7 +111,7 @@ impl<M: Marking, G: Gate + Drop, O: Outlet<M::Effect>> WorkerLoop<M, G, O> {
     /// A request that lay on its way to the leader of this term comes first again.
     fn take_back<S: Stable<M::Command>, U: Upstream>(
         &mut self,
-        cell: &MarkedCell<M, S, U>,
+        cell: &NodeCell<M, S, U>,
         envelope: &Envelope<M::Command>,
     )
         ensures round { self.new.round ≡ self.old.round }
@@ -145,7 +144,7 @@ impl<M: Marking, G: Gate + Drop, O: Outlet<M::Effect>> WorkerLoop<M, G, O> {
     pub fn apply_all<R: Wait, S: Stable<M::Command>, U: Upstream>(
         &mut self,
         rt: &R,
-        cell: &mut MarkedCell<M, S, U>,
+        cell: &mut NodeCell<M, S, U>,
     ) -> bool
         ensures applied { HasApplied (⟦<M as Described>⟧.machine cell.old.parts.ether.setup) U.tally
             cell.old.parts cell.new.parts }

@@ -1,5 +1,4 @@
 use Rattle.std.proofs.Common.{◌≡◌, ◌≢◌, ◌+◌, ◌<◌, ℕ, suc, length, get_or, sym, ◌∙◌, arith}
-use Rattle.raft_log.specs.Logs.{term_at}
 use Rattle.node_cells.proofs.Looping.{differ}
 use Rattle.node_cells.proofs.Terms.{same_more, same_other}
 use Rattle.node_cells.proofs.remembered.same_terms.Goals as goal

@@ -1,4 +1,4 @@
-use Rattle.std.proofs.Common.{◌≡◌, ◌+◌, ◌<◌, ◌++◌, ◌∷◌, [], ℕ, List, length, take, ap, ◌∙◌, arith}
+use Rattle.std.proofs.Common.{◌≡◌, ◌+◌, ◌<◌, ◌++◌, ◌∷◌, [], ℕ, length, take, ◌∙◌, arith}
 use Rattle.raft_log.specs.Logs.{term_at}
 use Rattle.node_cells.specs.Sending.{terms_of}
 use Rattle.node_cells.proofs.Terms.{terms_more}

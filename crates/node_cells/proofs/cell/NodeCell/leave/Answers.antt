@@ -23,4 +23,4 @@ returns-clause-record g c =
     let r : NodeRecord g.row.M-Command.Denot g.row.M-Line.Denot g.row.M-Target.Denot g.row.M-Effect.Denot g.row.M-Played.Denot = record { node = c.id-node.result; turns = c.into_parts-pass.result.1; state = i.shown } in
     subst (λ (z : CellRoom g.row.M-Setup.Denot g.row.M.Denot g.row.S.Denot g.row.M-Command.Denot g.row.M-Line.Denot g.row.M-Target.Denot g.row.M-Effect.Denot g.row.M-Played.Denot g.row.U.Denot).
     IsClosed (machine g z.parts.ether.setup) z.parts r) c.self.view_is
-    (closed_cell (machine g i.book.ether.setup) (kept g) (cell_of i.book i.node i.upstream i.phase i.refused i.shown) r c.self.invariant c.id-node.ensures c.into_parts-pass.ensures.1 refl)
+    (closed_cell (machine g i.book.ether.setup) (kept g) (cell_of i.book i.node i.upstream i.phase i.refused i.shown) r c.self.invariant.0 c.id-node.ensures c.into_parts-pass.ensures.1 refl)

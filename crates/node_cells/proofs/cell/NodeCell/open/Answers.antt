@@ -1,4 +1,4 @@
-use Rattle.std.proofs.Common.{rules, ◌≡◌, ◌≤◌, ℕ, suc, [], refl, ap, ◌∙◌, subst}
+use Rattle.std.proofs.Common.{rules, ◌≡◌, ◌≤◌, ℕ, suc, [], None, refl, sym, ap, ◌∙◌, subst}
 use Rattle.raft_log.specs.declared.node_state.NodeState.{NodeState}
 use Rattle.raft_log.specs.Seen.{seen}
 use Rattle.raft_node.specs.Starting.{IsFirst}
@@ -6,8 +6,12 @@ use Rattle.recorder.specs.NodeLines.{fields_of}
 use Rattle.raft_node.specs.Hosts.{hosted}
 use Rattle.raft_node.specs.Machine.{Machine}
 use Rattle.raft_node.specs.Parts.{Keeper, keeper}
-use Rattle.ether.specs.Passes.{EtherParts, IsOpenPass}
+use Rattle.ether.specs.Passes.{EtherParts, IsOpenPass, view_of}
+use Rattle.node_cells.specs.declared.phase.Phase.TheVariants.{Up}
 use Rattle.node_cells.specs.Books.{BookParts}
+use Rattle.node_cells.specs.Cells.{cell_of}
+use Rattle.node_cells.specs.Marks.{KnowsMarks}
+use Rattle.node_cells.proofs.MarksKept.{fresh_keeps}
 use Rattle.node_cells.proofs.Opening.{fresh, fresh_cell}
 use Rattle.node_cells.proofs.cell.NodeCell.open.Given as given
 use Rattle.node_cells.proofs.cell.NodeCell.open.Goals as goal
@@ -36,9 +40,15 @@ invariant_of-result g c =
     let first = subst (λ (z : (ℕ × ℕ) × g.row.M-Setup.Denot). IsFirst (kept g) z.0.0 z.0.1 z.1 c.args.store c.in-Ok.node) (λ d. ((id d, size d), setup d)) c.in-Ok.ensures in
     let b : BookParts g.row.M-Setup.Denot g.row.M-Command.Denot g.row.M-Line.Denot g.row.M-Target.Denot g.row.M-Effect.Denot g.row.M-Played.Denot = record { ether = c.args.ether.value; pass = c.opening.new.pass; recording = c.args.recording; turns = c.new.result.items; sent = 0; room = 0 } in
     let opened = subst (λ (e : EtherParts g.row.M-Setup.Denot). IsOpenPass e c.opening.new.pass) c.deref-3.ensures c.opening.ensures.open.0 in
-    fresh_cell (machine g c.args.ether.value.setup) (kept g) b c.args.pass c.in-Ok.node c.opening.result c.args.store first c.new.ensures.items opened c.opening.ensures.open.1 c.opening.ensures.view c.requires.pass.2
-    refl (subst (λ (m : ℕ). m ≤ 7) size small) c.args.upstream c.of-shown.result
-    (c.of-shown.ensures ∙ ap (λ (s : NodeState g.row.M-Command.Denot). fields_of (seen s [])) c.state.ensures)
+    let none : c.new-2.result ≡ 0 = c.new-2.ensures in (
+      fresh_cell (machine g c.args.ether.value.setup) (kept g) b c.args.pass c.in-Ok.node c.opening.result c.args.store first c.new.ensures.items opened c.opening.ensures.open.1 c.opening.ensures.view c.requires.pass.2
+          refl (subst (λ (m : ℕ). m ≤ 7) size small) c.args.upstream c.of-shown.result
+          (c.of-shown.ensures ∙ ap (λ (s : NodeState g.row.M-Command.Denot). fields_of (seen s [])) c.state.ensures),
+      subst (λ (a : ℕ). KnowsMarks g.M.Marking.marked (view_of c.opening.new.pass) a None) (sym none)
+          (fresh_keeps g.M.Marking.marked (kept g) c.args.ether.value c.args.pass c.args.store c.args.upstream c.args.recording (cell_of b c.in-Ok.node c.args.upstream Up 0 c.of-shown.result)
+          (fresh (machine g c.args.ether.value.setup) (kept g) b c.args.pass c.in-Ok.node c.opening.result c.args.store first c.new.ensures.items opened c.opening.ensures.open.1 c.opening.ensures.view c.requires.pass.2
+          c.args.upstream c.of-shown.result) c.requires.pass.0.many c.requires.pass.2),
+    )
 
 pub returns : goal.returns
 returns g c =

@@ -27,6 +27,7 @@ use Rattle.node_cells.specs.declared.phase.Phase.TheVariants.{Up}
 use Rattle.node_cells.specs.Cells.{CellRoom, IsCell, cell_of}
 use Rattle.node_cells.specs.Turns.{IsEvent, IsLookedAt, IsNoLook, IsPlayed}
 use Rattle.node_cells.proofs.Looking.{look_is}
+use Rattle.node_cells.proofs.MarksKept.{look_keeps}
 use Rattle.node_cells.proofs.Showing.{looked_still}
 use Rattle.node_cells.proofs.Turning.{still_cell, still_event}
 use Rattle.node_cells.proofs.cell.NodeCell.play.Given as given
@@ -106,9 +107,9 @@ note-requires-clause-out g c =
     let i = c.self.inside in
     let up : i.phase ≡ Up = ap (λ (z : RoomOf g). z.parts.phase) c.self.view_is ∙ c.requires.up in
     let o = c.in-Ok-played_of.outcome.told.value in
-    let comes = played g _ _ i.node c.args.from_place c.args.target c.in-Ok.looked o c.self.invariant.setup c.in-Ok-played_of.ensures.played c.in-Ok.ensures in
+    let comes = played g _ _ i.node c.args.from_place c.args.target c.in-Ok.looked o c.self.invariant.0.setup c.in-Ok-played_of.ensures.played c.in-Ok.ensures in
     let v = view_of i.book.pass in
-    λ honest. (looked_still (machine g i.book.ether.setup) (kept g) _ c.self.invariant up c.args.from_place c.args.target _ comes).out honest
+    λ honest. (looked_still (machine g i.book.ether.setup) (kept g) _ c.self.invariant.0 up c.args.from_place c.args.target _ comes).out honest
     ∙ ap (λ (e : SeenOf g). own_out (machine g i.book.ether.setup) v.size (suc v.node) v.state e) (sym c.of-event.ensures.0)
 
 pub invariant_of-self : goal.invariant_of-self
@@ -116,51 +117,57 @@ invariant_of-self g c =
     let i = c.self.inside in
     let up : i.phase ≡ Up = ap (λ (z : RoomOf g). z.parts.phase) c.self.view_is ∙ c.requires.up in
     let o = c.in-Ok-played_of.outcome.told.value in
-    let comes = played g _ _ i.node c.args.from_place c.args.target c.in-Ok.looked o c.self.invariant.setup c.in-Ok-played_of.ensures.played c.in-Ok.ensures in
-    subst (λ (e : EtherParts g.row.M-Setup.Denot). IsCell (machine g e.setup) (kept g) (cell_of c.note.new.self i.node i.upstream i.phase i.refused i.shown)) (sym c.note.ensures.noted.ether)
-    (still_cell (machine g i.book.ether.setup) (kept g) g.U.Upstream.tally i.book i.node i.upstream i.phase i.refused i.shown c.self.invariant up (Look c.args.from_place c.args.target) o c.note.new.self
-    (looked_still (machine g i.book.ether.setup) (kept g) _ c.self.invariant up c.args.from_place c.args.target _ comes) (noted_look g i.book.ether.setup i.book c.note.new.self c.of-event.result.told.value (Look c.args.from_place c.args.target) o c.of-event.ensures.0 c.note.ensures.noted) c.note.ensures.book)
+    let comes = played g _ _ i.node c.args.from_place c.args.target c.in-Ok.looked o c.self.invariant.0.setup c.in-Ok-played_of.ensures.played c.in-Ok.ensures in
+    let noted = noted_look g i.book.ether.setup i.book c.note.new.self c.of-event.result.told.value (Look c.args.from_place c.args.target) o c.of-event.ensures.0 c.note.ensures.noted in (
+      subst (λ (e : EtherParts g.row.M-Setup.Denot). IsCell (machine g e.setup) (kept g) (cell_of c.note.new.self i.node i.upstream i.phase i.refused i.shown)) (sym c.note.ensures.noted.ether)
+          (still_cell (machine g i.book.ether.setup) (kept g) g.U.Upstream.tally i.book i.node i.upstream i.phase i.refused i.shown c.self.invariant.0 up (Look c.args.from_place c.args.target) o c.note.new.self
+          (looked_still (machine g i.book.ether.setup) (kept g) _ c.self.invariant.0 up c.args.from_place c.args.target _ comes) noted c.note.ensures.book),
+      look_keeps (machine g i.book.ether.setup) g.M.Marking.marked (view_of i.book.pass) (view_of c.note.new.self.pass) i.asked i.reached c.self.invariant.1 noted.ticket c.args.from_place c.args.target noted.view,
+    )
 
 pub returns-in-Ok-played_of-clause-look : goal.returns-in-Ok-played_of-clause-look
 returns-in-Ok-played_of-clause-look g c =
     let i = c.self.inside in
     let up : i.phase ≡ Up = ap (λ (z : RoomOf g). z.parts.phase) c.self.view_is ∙ c.requires.up in
     let o = c.in-Ok-played_of.outcome.told.value in
-    let comes = played g _ _ i.node c.args.from_place c.args.target c.in-Ok.looked o c.self.invariant.setup c.in-Ok-played_of.ensures.played c.in-Ok.ensures in
+    let comes = played g _ _ i.node c.args.from_place c.args.target c.in-Ok.looked o c.self.invariant.0.setup c.in-Ok-played_of.ensures.played c.in-Ok.ensures in
     subst (λ (w : Vec g.row.M-Played.Denot Global). let l : PlayedAt g.row.M-Played.Denot = record { place = c.in-Ok.looked.place; lines = w } in
     IsLookedAt (machine g c.args.self.now.parts.ether.setup) g.U.Upstream.tally c.args.self.now.parts c.args.from_place c.args.target l (cell_of c.note.new.self i.node i.upstream i.phase i.refused i.shown)) (sym c.in-Ok-played_of.ensures.lines)
     (subst (λ (z : CellRoom g.row.M-Setup.Denot g.row.M.Denot g.row.S.Denot g.row.M-Command.Denot g.row.M-Line.Denot g.row.M-Target.Denot g.row.M-Effect.Denot g.row.M-Played.Denot g.row.U.Denot).
     IsLookedAt (machine g z.parts.ether.setup) g.U.Upstream.tally z.parts c.args.from_place c.args.target c.in-Ok.looked (cell_of c.note.new.self i.node i.upstream i.phase i.refused i.shown)) c.self.view_is
-    (look_is (machine g i.book.ether.setup) (kept g) g.U.Upstream.tally i.book c.note.new.self i.node i.upstream i.phase i.refused i.shown c.self.invariant up c.args.from_place c.args.target c.in-Ok.looked o
+    (look_is (machine g i.book.ether.setup) (kept g) g.U.Upstream.tally i.book c.note.new.self i.node i.upstream i.phase i.refused i.shown c.self.invariant.0 up c.args.from_place c.args.target c.in-Ok.looked o
     (played_out g i.book.ether.setup c.in-Ok.looked o c.in-Ok-played_of.ensures.played) comes (noted_look g i.book.ether.setup i.book c.note.new.self c.of-event.result.told.value (Look c.args.from_place c.args.target) o c.of-event.ensures.0 c.note.ensures.noted)))
 
 pub note-requires-in-Refused-clause-out : goal.note-requires-in-Refused-clause-out
 note-requires-in-Refused-clause-out g c =
     let i = c.self.inside in
     let up : i.phase ≡ Up = ap (λ (z : RoomOf g). z.parts.phase) c.self.view_is ∙ c.requires.up in
-    let comes = behind g _ _ i.node c.args.from_place c.args.target c.in-Err.fault c.in-Refused.refusal c.self.invariant.setup c.in-Refused.is c.in-Err.ensures in
+    let comes = behind g _ _ i.node c.args.from_place c.args.target c.in-Err.fault c.in-Refused.refusal c.self.invariant.0.setup c.in-Refused.is c.in-Err.ensures in
     let v = view_of i.book.pass in
     λ honest. ap (λ (o : CameOf g). out_of (machine g i.book.ether.setup) o) c.of.ensures.0
-    ∙ (looked_still (machine g i.book.ether.setup) (kept g) _ c.self.invariant up c.args.from_place c.args.target _ comes).out honest
+    ∙ (looked_still (machine g i.book.ether.setup) (kept g) _ c.self.invariant.0 up c.args.from_place c.args.target _ comes).out honest
     ∙ ap (λ (e : SeenOf g). own_out (machine g i.book.ether.setup) v.size (suc v.node) v.state e) (sym c.of-event-in-Refused.ensures.0)
 
 pub invariant_of-self-in-Refused : goal.invariant_of-self-in-Refused
 invariant_of-self-in-Refused g c =
     let i = c.self.inside in
     let up : i.phase ≡ Up = ap (λ (z : RoomOf g). z.parts.phase) c.self.view_is ∙ c.requires.up in
-    let comes = behind g _ _ i.node c.args.from_place c.args.target c.in-Err.fault c.in-Refused.refusal c.self.invariant.setup c.in-Refused.is c.in-Err.ensures in
-    subst (λ (e : EtherParts g.row.M-Setup.Denot). IsCell (machine g e.setup) (kept g) (cell_of c.note-in-Refused.new.self i.node i.upstream i.phase i.refused i.shown)) (sym c.note-in-Refused.ensures.noted.ether)
-    (still_cell (machine g i.book.ether.setup) (kept g) g.U.Upstream.tally i.book i.node i.upstream i.phase i.refused i.shown c.self.invariant up (Look c.args.from_place c.args.target) (Refused c.in-Refused.refusal) c.note-in-Refused.new.self
-    (looked_still (machine g i.book.ether.setup) (kept g) _ c.self.invariant up c.args.from_place c.args.target _ comes) (noted_refused g i.book.ether.setup i.book c.note-in-Refused.new.self c.of-event-in-Refused.result.told.value (Look c.args.from_place c.args.target) c.of.result.told.value (Refused c.in-Refused.refusal) c.of-event-in-Refused.ensures.0 c.of.ensures.0 c.note-in-Refused.ensures.noted) c.note-in-Refused.ensures.book)
+    let comes = behind g _ _ i.node c.args.from_place c.args.target c.in-Err.fault c.in-Refused.refusal c.self.invariant.0.setup c.in-Refused.is c.in-Err.ensures in
+    let noted = noted_refused g i.book.ether.setup i.book c.note-in-Refused.new.self c.of-event-in-Refused.result.told.value (Look c.args.from_place c.args.target) c.of.result.told.value (Refused c.in-Refused.refusal) c.of-event-in-Refused.ensures.0 c.of.ensures.0 c.note-in-Refused.ensures.noted in (
+      subst (λ (e : EtherParts g.row.M-Setup.Denot). IsCell (machine g e.setup) (kept g) (cell_of c.note-in-Refused.new.self i.node i.upstream i.phase i.refused i.shown)) (sym c.note-in-Refused.ensures.noted.ether)
+          (still_cell (machine g i.book.ether.setup) (kept g) g.U.Upstream.tally i.book i.node i.upstream i.phase i.refused i.shown c.self.invariant.0 up (Look c.args.from_place c.args.target) (Refused c.in-Refused.refusal) c.note-in-Refused.new.self
+          (looked_still (machine g i.book.ether.setup) (kept g) _ c.self.invariant.0 up c.args.from_place c.args.target _ comes) noted c.note-in-Refused.ensures.book),
+      look_keeps (machine g i.book.ether.setup) g.M.Marking.marked (view_of i.book.pass) (view_of c.note-in-Refused.new.self.pass) i.asked i.reached c.self.invariant.1 noted.ticket c.args.from_place c.args.target noted.view,
+    )
 
 pub returns-in-Refused-clause-look : goal.returns-in-Refused-clause-look
 returns-in-Refused-clause-look g c =
     let i = c.self.inside in
     let up : i.phase ≡ Up = ap (λ (z : RoomOf g). z.parts.phase) c.self.view_is ∙ c.requires.up in
-    let comes = behind g _ _ i.node c.args.from_place c.args.target c.in-Err.fault c.in-Refused.refusal c.self.invariant.setup c.in-Refused.is c.in-Err.ensures in
+    let comes = behind g _ _ i.node c.args.from_place c.args.target c.in-Err.fault c.in-Refused.refusal c.self.invariant.0.setup c.in-Refused.is c.in-Err.ensures in
     let now = cell_of c.note-in-Refused.new.self i.node i.upstream i.phase i.refused i.shown in
     subst (λ (f : NodeFault). IsNoLook (machine g c.args.self.now.parts.ether.setup) g.U.Upstream.tally c.args.self.now.parts c.args.from_place c.args.target (OfNode f) now) (sym c.in-Refused.is)
     (subst (λ (z : CellRoom g.row.M-Setup.Denot g.row.M.Denot g.row.S.Denot g.row.M-Command.Denot g.row.M-Line.Denot g.row.M-Target.Denot g.row.M-Effect.Denot g.row.M-Played.Denot g.row.U.Denot).
     IsEvent (machine g z.parts.ether.setup) g.U.Upstream.tally z.parts (Look c.args.from_place c.args.target) (Refused c.in-Refused.refusal) now) c.self.view_is
-    (still_event (machine g i.book.ether.setup) (kept g) g.U.Upstream.tally i.book i.node i.upstream i.phase i.refused i.shown c.self.invariant up (Look c.args.from_place c.args.target) (Refused c.in-Refused.refusal) c.note-in-Refused.new.self
-    (looked_still (machine g i.book.ether.setup) (kept g) _ c.self.invariant up c.args.from_place c.args.target _ comes) (noted_refused g i.book.ether.setup i.book c.note-in-Refused.new.self c.of-event-in-Refused.result.told.value (Look c.args.from_place c.args.target) c.of.result.told.value (Refused c.in-Refused.refusal) c.of-event-in-Refused.ensures.0 c.of.ensures.0 c.note-in-Refused.ensures.noted) refl))
+    (still_event (machine g i.book.ether.setup) (kept g) g.U.Upstream.tally i.book i.node i.upstream i.phase i.refused i.shown c.self.invariant.0 up (Look c.args.from_place c.args.target) (Refused c.in-Refused.refusal) c.note-in-Refused.new.self
+    (looked_still (machine g i.book.ether.setup) (kept g) _ c.self.invariant.0 up c.args.from_place c.args.target _ comes) (noted_refused g i.book.ether.setup i.book c.note-in-Refused.new.self c.of-event-in-Refused.result.told.value (Look c.args.from_place c.args.target) c.of.result.told.value (Refused c.in-Refused.refusal) c.of-event-in-Refused.ensures.0 c.of.ensures.0 c.note-in-Refused.ensures.noted) refl))

@@ -1,4 +1,4 @@
-use Rattle.std.proofs.Common.{Global, suc, Option, Some, Vec, arith, inl, true, ◌≡◌, List, [], length, Result, Ok, Err, refl, sym, ap, ◌∙◌, subst, map}
+use Rattle.std.proofs.Common.{rules, ℕ, Global, suc, Option, Some, Vec, arith, inl, true, ◌≡◌, List, [], length, Result, Ok, Err, refl, sym, ap, ◌∙◌, subst, map}
 use Rattle.raft_log.specs.Seen.{seen}
 use Rattle.raft_log.specs.declared.node_state.NodeState.{NodeState}
 use Rattle.recorder.specs.NodeLines.{fields_of}
@@ -15,7 +15,7 @@ use Rattle.world_run.specs.declared.outcome.Outcome.TheVariants.{Refused}
 use Rattle.world_views.specs.declared.node_event.NodeEvent.TheVariants.{Does}
 use Rattle.world_views.specs.declared.node_event.NodeInput.{NodeInput}
 use Rattle.world_run.specs.Told.{out_of}
-use Rattle.world_views.specs.Own.{act_of, own_out}
+use Rattle.world_views.specs.Own.{ViewOf, act_of, own_out}
 use Rattle.world_views.specs.Views.{View, carries}
 use Rattle.ether.specs.Passes.{EtherParts, view_of}
 use Rattle.node_cells.specs.declared.cell_fault.CellFault.TheVariants.{Node as OfNode}
@@ -29,14 +29,17 @@ use Rattle.node_cells.specs.declared.for_record.ForRecord.{ForRecord}
 use Rattle.node_cells.specs.declared.record.Recording.{Recording}
 use Rattle.node_cells.specs.Copies.{IsCopy, IsKept}
 use Rattle.node_cells.specs.Books.{BookParts, HasNoted, HasPosted, IsBook}
-use Rattle.node_cells.specs.Cells.{CellRoom, HasHeard, IsCell, cell_of}
+use Rattle.node_cells.specs.Cells.{CellRoom, HasHeard, IsCell, IsIn, cell_of}
+use Rattle.node_cells.specs.Marks.{KnowsMarks}
+use Rattle.node_cells.specs.Posts.{posts_from}
 use Rattle.node_cells.specs.Sending.{to_of}
 use Rattle.node_cells.specs.Inputs.{input_of}
 use Rattle.node_cells.specs.Turns.{FallsInTurn, IsEvent, IsGiven, IsNoTurn, IsTurn}
 use Rattle.node_cells.specs.Upstreams.{HandsOut}
 use Rattle.node_cells.proofs.Acting.{down_case, refused_case, same_act}
 use Rattle.node_cells.proofs.Turning.{comes_out, done_cell, fallen_cell, falls_in, few_posts, few_sent, goes_within, may_post, still_cell, still_event, turn_is, turned_cell}
-use Rattle.node_cells.proofs.Showing.{declined}
+use Rattle.node_cells.proofs.MarksKept.{refusal_keeps, turn_keeps}
+use Rattle.node_cells.proofs.Showing.{declined, id_is, is_up}
 use Rattle.node_cells.proofs.cell.NodeCell.run.Given as given
 use Rattle.node_cells.proofs.cell.NodeCell.run.Goals as goal
 
@@ -101,10 +104,11 @@ pub invariant_of-self : goal.invariant_of-self
 invariant_of-self g c =
     let i = c.self.inside in
     let up : i.phase ≡ Up = ap (λ (z : RoomOf g). z.parts.phase) c.self.view_is ∙ c.requires.up in
-    let a = acted g _ _ c.args.input c.args.told c.input_of.result i.node c.step.new.self (Ok c.in-Ok.output) c.self.invariant.setup c.input_of.ensures c.requires.told c.in-Ok.ensures in
-    done_cell (machine g i.book.ether.setup) (kept g) g.U.Upstream.tally i.book i.node i.upstream i.phase i.refused i.shown c.self.invariant up c.args.told c.in-Ok.output c.step.new.self a.0 a.1 g.met.S.Stable.sure
+    let a = acted g _ _ c.args.input c.args.told c.input_of.result i.node c.step.new.self (Ok c.in-Ok.output) c.self.invariant.0.setup c.input_of.ensures c.requires.told c.in-Ok.ensures in
+    let cell = done_cell (machine g i.book.ether.setup) (kept g) g.U.Upstream.tally i.book i.node i.upstream i.phase i.refused i.shown c.self.invariant.0 up c.args.told c.in-Ok.output c.step.new.self a.0 a.1 g.met.S.Stable.sure
     (heard g _ (view_of i.book.pass) c.args.input c.args.told (λ d. view_of (c.self.view_is d).parts.pass) c.requires.told c.requires.heard)
-    c.args.copy (copy_here g _ c.args.self.now c.args.recording c.args.told c.args.copy c.requires.recording c.self.view_is c.requires.copy)
+    c.args.copy (copy_here g _ c.args.self.now c.args.recording c.args.told c.args.copy c.requires.recording c.self.view_is c.requires.copy) in
+    (cell, c.self.invariant.1)
 
 pub note-requires-clause-heard : goal.note-requires-clause-heard
 note-requires-clause-heard g c =
@@ -131,43 +135,43 @@ pub note-requires-clause-out : goal.note-requires-clause-out
 note-requires-clause-out g c =
     let i = c.self.inside in
     let up : i.phase ≡ Up = ap (λ (z : RoomOf g). z.parts.phase) c.self.view_is ∙ c.requires.up in
-    let a = acted g _ _ c.args.input c.args.told c.input_of.result i.node c.step.new.self (Ok c.in-Ok.output) c.self.invariant.setup c.input_of.ensures c.requires.told c.in-Ok.ensures in
+    let a = acted g _ _ c.args.input c.args.told c.input_of.result i.node c.step.new.self (Ok c.in-Ok.output) c.self.invariant.0.setup c.input_of.ensures c.requires.told c.in-Ok.ensures in
     let given : IsGiven c.in-Ok.output.place c.in-Ok.output.effects.items c.in-Ok-outputs.outcome.told.value =
     c.in-Ok-outputs.ensures.given in
     let v = view_of i.book.pass in
-    λ honest. comes_out (machine g i.book.ether.setup) (kept g) g.U.Upstream.tally i.book i.node i.upstream i.phase i.refused i.shown c.self.invariant up c.args.told c.in-Ok.output c.step.new.self a.0 a.1 c.in-Ok-outputs.outcome.told.value given honest
+    λ honest. comes_out (machine g i.book.ether.setup) (kept g) g.U.Upstream.tally i.book i.node i.upstream i.phase i.refused i.shown c.self.invariant.0 up c.args.told c.in-Ok.output c.step.new.self a.0 a.1 c.in-Ok-outputs.outcome.told.value given honest
     ∙ ap (λ (e : EventOf' g). own_out (machine g i.book.ether.setup) v.size (suc v.node) v.state e) (sym c.done.ensures.told)
 
 pub post_all-requires-clause-within : goal.post_all-requires-clause-within
 post_all-requires-clause-within g c =
     let i = c.self.inside in
     let up : i.phase ≡ Up = ap (λ (z : RoomOf g). z.parts.phase) c.self.view_is ∙ c.requires.up in
-    let a = acted g _ _ c.args.input c.args.told c.input_of.result i.node c.step.new.self (Ok c.in-Ok.output) c.self.invariant.setup c.input_of.ensures c.requires.told c.in-Ok.ensures in
-    goes_within (machine g i.book.ether.setup) (kept g) g.U.Upstream.tally i.book i.node i.upstream i.phase i.refused i.shown c.self.invariant up c.args.told c.in-Ok.output c.step.new.self a.0 a.1
+    let a = acted g _ _ c.args.input c.args.told c.input_of.result i.node c.step.new.self (Ok c.in-Ok.output) c.self.invariant.0.setup c.input_of.ensures c.requires.told c.in-Ok.ensures in
+    goes_within (machine g i.book.ether.setup) (kept g) g.U.Upstream.tally i.book i.node i.upstream i.phase i.refused i.shown c.self.invariant.0 up c.args.told c.in-Ok.output c.step.new.self a.0 a.1
     c.in-Ok-outputs.outcome.told.value c.note.new.self (noted_does g i.book.ether.setup i.book c.note.new.self c.done.result.told.value c.args.told c.in-Ok-outputs.outcome.told.value c.done.ensures.told c.note.ensures.noted)
 
 pub post_all-requires-clause-stand : goal.post_all-requires-clause-stand
 post_all-requires-clause-stand g c =
     let i = c.self.inside in
     let up : i.phase ≡ Up = ap (λ (z : RoomOf g). z.parts.phase) c.self.view_is ∙ c.requires.up in
-    let a = acted g _ _ c.args.input c.args.told c.input_of.result i.node c.step.new.self (Ok c.in-Ok.output) c.self.invariant.setup c.input_of.ensures c.requires.told c.in-Ok.ensures in
-    may_post (machine g i.book.ether.setup) (kept g) g.U.Upstream.tally i.book i.node i.upstream i.phase i.refused i.shown c.self.invariant up c.args.told c.in-Ok.output c.step.new.self a.0 a.1
+    let a = acted g _ _ c.args.input c.args.told c.input_of.result i.node c.step.new.self (Ok c.in-Ok.output) c.self.invariant.0.setup c.input_of.ensures c.requires.told c.in-Ok.ensures in
+    may_post (machine g i.book.ether.setup) (kept g) g.U.Upstream.tally i.book i.node i.upstream i.phase i.refused i.shown c.self.invariant.0 up c.args.told c.in-Ok.output c.step.new.self a.0 a.1
     c.in-Ok-outputs.outcome.told.value c.note.new.self (noted_does g i.book.ether.setup i.book c.note.new.self c.done.result.told.value c.args.told c.in-Ok-outputs.outcome.told.value c.done.ensures.told c.note.ensures.noted)
 
 pub post_all-requires-clause-few : goal.post_all-requires-clause-few
 post_all-requires-clause-few g c =
     let i = c.self.inside in
     let up : i.phase ≡ Up = ap (λ (z : RoomOf g). z.parts.phase) c.self.view_is ∙ c.requires.up in
-    let a = acted g _ _ c.args.input c.args.told c.input_of.result i.node c.step.new.self (Ok c.in-Ok.output) c.self.invariant.setup c.input_of.ensures c.requires.told c.in-Ok.ensures in
-    few_posts (machine g i.book.ether.setup) (kept g) g.U.Upstream.tally i.book i.node i.upstream i.phase i.refused i.shown c.self.invariant up c.args.told c.in-Ok.output c.step.new.self a.0 a.1
+    let a = acted g _ _ c.args.input c.args.told c.input_of.result i.node c.step.new.self (Ok c.in-Ok.output) c.self.invariant.0.setup c.input_of.ensures c.requires.told c.in-Ok.ensures in
+    few_posts (machine g i.book.ether.setup) (kept g) g.U.Upstream.tally i.book i.node i.upstream i.phase i.refused i.shown c.self.invariant.0 up c.args.told c.in-Ok.output c.step.new.self a.0 a.1
     c.in-Ok-outputs.outcome.told.value c.note.new.self (noted_does g i.book.ether.setup i.book c.note.new.self c.done.result.told.value c.args.told c.in-Ok-outputs.outcome.told.value c.done.ensures.told c.note.ensures.noted)
 
 pub post_all-requires-clause-room : goal.post_all-requires-clause-room
 post_all-requires-clause-room g c =
     let i = c.self.inside in
     let up : i.phase ≡ Up = ap (λ (z : RoomOf g). z.parts.phase) c.self.view_is ∙ c.requires.up in
-    let a = acted g _ _ c.args.input c.args.told c.input_of.result i.node c.step.new.self (Ok c.in-Ok.output) c.self.invariant.setup c.input_of.ensures c.requires.told c.in-Ok.ensures in
-    let few = few_sent (machine g i.book.ether.setup) (kept g) g.U.Upstream.tally i.book i.node i.upstream i.phase i.refused i.shown c.self.invariant up c.args.told c.in-Ok.output c.step.new.self a.0 a.1
+    let a = acted g _ _ c.args.input c.args.told c.input_of.result i.node c.step.new.self (Ok c.in-Ok.output) c.self.invariant.0.setup c.input_of.ensures c.requires.told c.in-Ok.ensures in
+    let few = few_sent (machine g i.book.ether.setup) (kept g) g.U.Upstream.tally i.book i.node i.upstream i.phase i.refused i.shown c.self.invariant.0 up c.args.told c.in-Ok.output c.step.new.self a.0 a.1
     c.in-Ok-outputs.outcome.told.value c.note.new.self (noted_does g i.book.ether.setup i.book c.note.new.self c.done.result.told.value c.args.told c.in-Ok-outputs.outcome.told.value c.done.ensures.told c.note.ensures.noted) in
     let room = c.requires.replaced.1 in
     omega (arith, few, room)
@@ -176,21 +180,33 @@ pub invariant_of-self-in-Ok : goal.invariant_of-self-in-Ok
 invariant_of-self-in-Ok g c =
     let i = c.self.inside in
     let up : i.phase ≡ Up = ap (λ (z : RoomOf g). z.parts.phase) c.self.view_is ∙ c.requires.up in
-    let a = acted g _ _ c.args.input c.args.told c.input_of.result i.node c.step.new.self (Ok c.in-Ok.output) c.self.invariant.setup c.input_of.ensures c.requires.told c.in-Ok.ensures in
+    let a = acted g _ _ c.args.input c.args.told c.input_of.result i.node c.step.new.self (Ok c.in-Ok.output) c.self.invariant.0.setup c.input_of.ensures c.requires.told c.in-Ok.ensures in
     let noted = noted_does g i.book.ether.setup i.book c.note.new.self c.done.result.told.value c.args.told c.in-Ok-outputs.outcome.told.value c.done.ensures.told c.note.ensures.noted in
     let b2 = c.post_all.new.self in
     let moved : IsBook (machine g i.book.ether.setup) b2 × HasPosted (machine g i.book.ether.setup) c.note.new.self (length c.in-Ok.output.messages.items) b2 =
     subst (λ (e : EtherParts g.row.M-Setup.Denot). IsBook (machine g e.setup) b2 × HasPosted (machine g e.setup) c.note.new.self (length c.in-Ok.output.messages.items) b2) noted.ether (c.post_all.ensures.book, c.post_all.ensures.posted) in
-    subst (λ (e : EtherParts g.row.M-Setup.Denot). IsCell (machine g e.setup) (kept g) (cell_of b2 c.step.new.self c.hand_all.new.upstream i.phase i.refused c.of-self-inside.result)) (sym (moved.1.ether ∙ noted.ether))
-    (turned_cell (machine g i.book.ether.setup) (kept g) g.U.Upstream.tally i.book i.node i.upstream i.phase i.refused i.shown c.self.invariant up c.args.told c.in-Ok.output c.step.new.self a.0 a.1
+    let m = machine g i.book.ether.setup in
+    let d = cell_of b2 c.step.new.self c.hand_all.new.upstream i.phase i.refused c.of-self-inside.result in
+    let cell : IsCell m (kept g) d =
+    turned_cell m (kept g) g.U.Upstream.tally i.book i.node i.upstream i.phase i.refused i.shown c.self.invariant.0 up c.args.told c.in-Ok.output c.step.new.self a.0 a.1
     c.in-Ok-outputs.outcome.told.value c.note.new.self noted b2 moved.1 c.hand_all.new.upstream c.of-self-inside.result moved.0
-    (c.of-self-inside.ensures ∙ ap (λ (s : NodeState g.row.M-Command.Denot). fields_of (seen s [])) c.state.ensures))
+    (c.of-self-inside.ensures ∙ ap (λ (s : NodeState g.row.M-Command.Denot). fields_of (seen s [])) c.state-in-Ok.ensures) in (
+      subst (λ (e : EtherParts g.row.M-Setup.Denot). IsCell (machine g e.setup) (kept g) d) (sym (moved.1.ether ∙ noted.ether)) cell,
+      subst (λ (r : Option ℕ). KnowsMarks g.M.Marking.marked (view_of b2.pass) c.larger-self-inside.result r) (sym c.reached_after-self-inside.ensures)
+          (turn_keeps m g.M.Marking.marked (view_of i.book.pass) (view_of b2.pass) i.asked i.reached c.self.invariant.1 noted.ticket c.note.new.self.sent (length c.in-Ok.output.messages.items) c.args.told
+          (moved.1.view ∙ ap (λ (v : ViewOf m). posts_from v c.note.new.self.sent (length c.in-Ok.output.messages.items)) noted.view)
+          c.state.result.now c.state-state.result.now c.id-node.result c.larger-self-inside.result
+          (λ honest. subst (λ (s : NodeState g.row.M-Command.Denot). IsIn s (view_of i.book.pass).state) (sym c.state.ensures)
+          (is_up m (kept g) (cell_of i.book i.node i.upstream i.phase i.refused i.shown) c.self.invariant.0 up honest))
+          (λ honest. subst (λ (s : NodeState g.row.M-Command.Denot). IsIn s (view_of b2.pass).state) (sym c.state-state.ensures) (is_up m (kept g) d cell up honest))
+          (c.id-node.ensures ∙ sym (id_is m (kept g) d cell)) (search rules)),
+    )
 
 pub returns-in-Ok-outputs-clause-turn : goal.returns-in-Ok-outputs-clause-turn
 returns-in-Ok-outputs-clause-turn g c =
     let i = c.self.inside in
     let up : i.phase ≡ Up = ap (λ (z : RoomOf g). z.parts.phase) c.self.view_is ∙ c.requires.up in
-    let a = acted g _ _ c.args.input c.args.told c.input_of.result i.node c.step.new.self (Ok c.in-Ok.output) c.self.invariant.setup c.input_of.ensures c.requires.told c.in-Ok.ensures in
+    let a = acted g _ _ c.args.input c.args.told c.input_of.result i.node c.step.new.self (Ok c.in-Ok.output) c.self.invariant.0.setup c.input_of.ensures c.requires.told c.in-Ok.ensures in
     let noted = noted_does g i.book.ether.setup i.book c.note.new.self c.done.result.told.value c.args.told c.in-Ok-outputs.outcome.told.value c.done.ensures.told c.note.ensures.noted in
     let b2 = c.post_all.new.self in
     let moved : IsBook (machine g i.book.ether.setup) b2 × HasPosted (machine g i.book.ether.setup) c.note.new.self (length c.in-Ok.output.messages.items) b2 =
@@ -203,18 +219,18 @@ returns-in-Ok-outputs-clause-turn g c =
     let now = cell_of b2 c.step.new.self c.hand_all.new.upstream i.phase i.refused c.of-self-inside.result in
     subst (λ (z : CellRoom g.row.M-Setup.Denot g.row.M.Denot g.row.S.Denot g.row.M-Command.Denot g.row.M-Line.Denot g.row.M-Target.Denot g.row.M-Effect.Denot g.row.M-Played.Denot g.row.U.Denot × NodeInput g.row.M-Command.Denot g.row.M-Line.Denot).
     IsTurn (machine g z.0.parts.ether.setup) g.U.Upstream.tally z.0.parts z.1 out now) (λ d. (c.self.view_is d, c.requires.told d))
-    (turn_is (machine g i.book.ether.setup) (kept g) g.U.Upstream.tally i.book i.node i.upstream i.phase i.refused i.shown c.self.invariant up c.args.told c.in-Ok.output c.step.new.self a.0 a.1
+    (turn_is (machine g i.book.ether.setup) (kept g) g.U.Upstream.tally i.book i.node i.upstream i.phase i.refused i.shown c.self.invariant.0 up c.args.told c.in-Ok.output c.step.new.self a.0 a.1
     c.in-Ok-outputs.outcome.told.value c.note.new.self noted b2 moved.1 c.hand_all.new.upstream c.of-self-inside.result moved.0
-    (c.of-self-inside.ensures ∙ ap (λ (s : NodeState g.row.M-Command.Denot). fields_of (seen s [])) c.state.ensures)
+    (c.of-self-inside.ensures ∙ ap (λ (s : NodeState g.row.M-Command.Denot). fields_of (seen s [])) c.state-in-Ok.ensures)
     given handed out refl c.in-Ok-outputs.ensures.effects (c.in-Ok-outputs.ensures.posted ∙ ap (map to_of) c.deref.ensures.value) c.post_all.ensures.replaced)
 
 pub note-requires-in-Refused-clause-out : goal.note-requires-in-Refused-clause-out
 note-requires-in-Refused-clause-out g c =
     let i = c.self.inside in
     let up : i.phase ≡ Up = ap (λ (z : RoomOf g). z.parts.phase) c.self.view_is ∙ c.requires.up in
-    let a = acted g _ _ c.args.input c.args.told c.input_of.result i.node c.step.new.self (Err c.in-Err.fault) c.self.invariant.setup c.input_of.ensures c.requires.told c.in-Err.ensures in
+    let a = acted g _ _ c.args.input c.args.told c.input_of.result i.node c.step.new.self (Err c.in-Err.fault) c.self.invariant.0.setup c.input_of.ensures c.requires.told c.in-Err.ensures in
     let v = view_of i.book.pass in
-    let still = declined (machine g i.book.ether.setup) (kept g) _ c.self.invariant up c.args.told c.in-Refused.refusal c.step.new.self
+    let still = declined (machine g i.book.ether.setup) (kept g) _ c.self.invariant.0 up c.args.told c.in-Refused.refusal c.step.new.self
     (refused_case (machine g i.book.ether.setup) (kept g) _ i.node c.step.new.self c.in-Err.fault c.in-Refused.refusal c.in-Refused.is a.0) in
     λ honest. ap (λ (o : OutcomeOf' g). out_of (machine g i.book.ether.setup) o) c.of-outcome.ensures.0 ∙ still.out honest
     ∙ ap (λ (e : EventOf' g). own_out (machine g i.book.ether.setup) v.size (suc v.node) v.state e) (sym c.done-in-Refused.ensures.told)
@@ -223,24 +239,28 @@ pub invariant_of-self-in-Refused : goal.invariant_of-self-in-Refused
 invariant_of-self-in-Refused g c =
     let i = c.self.inside in
     let up : i.phase ≡ Up = ap (λ (z : RoomOf g). z.parts.phase) c.self.view_is ∙ c.requires.up in
-    let a = acted g _ _ c.args.input c.args.told c.input_of.result i.node c.step.new.self (Err c.in-Err.fault) c.self.invariant.setup c.input_of.ensures c.requires.told c.in-Err.ensures in
+    let a = acted g _ _ c.args.input c.args.told c.input_of.result i.node c.step.new.self (Err c.in-Err.fault) c.self.invariant.0.setup c.input_of.ensures c.requires.told c.in-Err.ensures in
     let d = refused_case (machine g i.book.ether.setup) (kept g) _ i.node c.step.new.self c.in-Err.fault c.in-Refused.refusal c.in-Refused.is a.0 in
     let noted = noted_refused g i.book.ether.setup i.book c.note-in-Refused.new.self c.done-in-Refused.result.told.value c.args.told c.of-outcome.result.told.value c.in-Refused.refusal c.done-in-Refused.ensures.told c.of-outcome.ensures.0 c.note-in-Refused.ensures.noted in
     let b1 = c.note-in-Refused.new.self in
-    subst (λ (z : EtherParts g.row.M-Setup.Denot × Inner g). IsCell (machine g z.0.setup) (kept g) (cell_of b1 z.1 i.upstream i.phase i.refused i.shown)) (λ t. (sym noted.ether t, sym d.same t))
-    (still_cell (machine g i.book.ether.setup) (kept g) g.U.Upstream.tally i.book i.node i.upstream i.phase i.refused i.shown c.self.invariant up (Does c.args.told) (Refused c.in-Refused.refusal) b1
-    (declined (machine g i.book.ether.setup) (kept g) _ c.self.invariant up c.args.told c.in-Refused.refusal c.step.new.self d) noted c.note-in-Refused.ensures.book)
+    let m = machine g i.book.ether.setup in
+    let still = declined m (kept g) (cell_of i.book i.node i.upstream i.phase i.refused i.shown) c.self.invariant.0 up c.args.told c.in-Refused.refusal c.step.new.self d in (
+      subst (λ (z : EtherParts g.row.M-Setup.Denot × Inner g). IsCell (machine g z.0.setup) (kept g) (cell_of b1 z.1 i.upstream i.phase i.refused i.shown)) (λ t. (sym noted.ether t, sym d.same t))
+          (still_cell m (kept g) g.U.Upstream.tally i.book i.node i.upstream i.phase i.refused i.shown c.self.invariant.0 up (Does c.args.told) (Refused c.in-Refused.refusal) b1 still noted c.note-in-Refused.ensures.book),
+      refusal_keeps m g.M.Marking.marked (view_of i.book.pass) (view_of b1.pass) i.asked i.reached c.self.invariant.1 noted.ticket c.args.told c.in-Refused.refusal noted.view still.out c.larger-self-inside-in-Refused.result
+          (search rules),
+    )
 
 pub returns-in-Refused-clause-turn : goal.returns-in-Refused-clause-turn
 returns-in-Refused-clause-turn g c =
     let i = c.self.inside in
     let up : i.phase ≡ Up = ap (λ (z : RoomOf g). z.parts.phase) c.self.view_is ∙ c.requires.up in
-    let a = acted g _ _ c.args.input c.args.told c.input_of.result i.node c.step.new.self (Err c.in-Err.fault) c.self.invariant.setup c.input_of.ensures c.requires.told c.in-Err.ensures in
+    let a = acted g _ _ c.args.input c.args.told c.input_of.result i.node c.step.new.self (Err c.in-Err.fault) c.self.invariant.0.setup c.input_of.ensures c.requires.told c.in-Err.ensures in
     let d = refused_case (machine g i.book.ether.setup) (kept g) _ i.node c.step.new.self c.in-Err.fault c.in-Refused.refusal c.in-Refused.is a.0 in
     let noted = noted_refused g i.book.ether.setup i.book c.note-in-Refused.new.self c.done-in-Refused.result.told.value c.args.told c.of-outcome.result.told.value c.in-Refused.refusal c.done-in-Refused.ensures.told c.of-outcome.ensures.0 c.note-in-Refused.ensures.noted in
     let b1 = c.note-in-Refused.new.self in
-    let event = still_event (machine g i.book.ether.setup) (kept g) g.U.Upstream.tally i.book i.node i.upstream i.phase i.refused i.shown c.self.invariant up (Does c.args.told) (Refused c.in-Refused.refusal) b1
-    (declined (machine g i.book.ether.setup) (kept g) _ c.self.invariant up c.args.told c.in-Refused.refusal c.step.new.self d) noted refl in
+    let event = still_event (machine g i.book.ether.setup) (kept g) g.U.Upstream.tally i.book i.node i.upstream i.phase i.refused i.shown c.self.invariant.0 up (Does c.args.told) (Refused c.in-Refused.refusal) b1
+    (declined (machine g i.book.ether.setup) (kept g) _ c.self.invariant.0 up c.args.told c.in-Refused.refusal c.step.new.self d) noted refl in
     subst (λ (f : NodeFault). IsNoTurn (machine g c.args.self.now.parts.ether.setup) g.U.Upstream.tally c.args.self.now.parts c.args.input (OfNode f) (cell_of b1 c.step.new.self i.upstream i.phase i.refused i.shown)) (sym c.in-Refused.is)
     (subst (λ (z : (CellRoom g.row.M-Setup.Denot g.row.M.Denot g.row.S.Denot g.row.M-Command.Denot g.row.M-Line.Denot g.row.M-Target.Denot g.row.M-Effect.Denot g.row.M-Played.Denot g.row.U.Denot × NodeInput g.row.M-Command.Denot g.row.M-Line.Denot) × Inner g).
     IsEvent (machine g z.0.0.parts.ether.setup) g.U.Upstream.tally z.0.0.parts (Does z.0.1) (Refused c.in-Refused.refusal) (cell_of b1 z.1 i.upstream i.phase i.refused i.shown)) (λ t. ((c.self.view_is t, c.requires.told t), sym d.same t)) event)
@@ -249,16 +269,17 @@ pub invariant_of-self-in-Err-step : goal.invariant_of-self-in-Err-step
 invariant_of-self-in-Err-step g c =
     let i = c.self.inside in
     let up : i.phase ≡ Up = ap (λ (z : RoomOf g). z.parts.phase) c.self.view_is ∙ c.requires.up in
-    let a = acted g _ _ c.args.input c.args.told c.input_of.result i.node c.step.new.self (Err c.in-Err.fault) c.self.invariant.setup c.input_of.ensures c.requires.told c.in-Err.ensures in
-    let d = down_case (machine g i.book.ether.setup) (kept g) _ i.node c.step.new.self c.in-Err.fault c.in_default-fault.not-Refused (c.self.invariant.up up) a.0 in
-    fallen_cell (machine g i.book.ether.setup) (kept g) g.U.Upstream.tally i.book i.node i.upstream i.phase i.refused i.shown c.self.invariant up c.args.told d.0 c.step.new.self d.1 a.1
+    let a = acted g _ _ c.args.input c.args.told c.input_of.result i.node c.step.new.self (Err c.in-Err.fault) c.self.invariant.0.setup c.input_of.ensures c.requires.told c.in-Err.ensures in
+    let d = down_case (machine g i.book.ether.setup) (kept g) _ i.node c.step.new.self c.in-Err.fault c.in_default-fault.not-Refused (c.self.invariant.0.up up) a.0 in
+    let cell = fallen_cell (machine g i.book.ether.setup) (kept g) g.U.Upstream.tally i.book i.node i.upstream i.phase i.refused i.shown c.self.invariant.0 up c.args.told d.0 c.step.new.self d.1 a.1
     (heard g _ (view_of i.book.pass) c.args.input c.args.told (λ t. view_of (c.self.view_is t).parts.pass) c.requires.told c.requires.heard)
-    c.args.copy (copy_here g _ c.args.self.now c.args.recording c.args.told c.args.copy c.requires.recording c.self.view_is c.requires.copy)
+    c.args.copy (copy_here g _ c.args.self.now c.args.recording c.args.told c.args.copy c.requires.recording c.self.view_is c.requires.copy) in
+    (cell, c.self.invariant.1)
 
 pub returns-in_default-clause-turn : goal.returns-in_default-clause-turn
 returns-in_default-clause-turn g c =
     let i = c.self.inside in
     let up : i.phase ≡ Up = ap (λ (z : RoomOf g). z.parts.phase) c.self.view_is ∙ c.requires.up in
-    let falls = falls_in (machine g i.book.ether.setup) (kept g) g.U.Upstream.tally i.book i.node i.upstream i.phase i.refused i.shown c.self.invariant up c.args.told c.args.copy true c.step.new.self in
+    let falls = falls_in (machine g i.book.ether.setup) (kept g) g.U.Upstream.tally i.book i.node i.upstream i.phase i.refused i.shown c.self.invariant.0 up c.args.told c.args.copy true c.step.new.self in
     inl (subst (λ (z : CellRoom g.row.M-Setup.Denot g.row.M.Denot g.row.S.Denot g.row.M-Command.Denot g.row.M-Line.Denot g.row.M-Target.Denot g.row.M-Effect.Denot g.row.M-Played.Denot g.row.U.Denot × NodeInput g.row.M-Command.Denot g.row.M-Line.Denot).
     FallsInTurn (machine g z.0.parts.ether.setup) z.0.parts z.1 (cell_of i.book c.step.new.self i.upstream (DownInTurn c.args.told c.args.copy true) i.refused i.shown)) (λ d. (c.self.view_is d, c.requires.told d)) falls)

@@ -1,4 +1,4 @@
-use Rattle.std.proofs.Common.{rules, arith, ◌≡◌, List, [], length, map, true, suc, inl, refl, sym, ap, ◌∙◌, subst}
+use Rattle.std.proofs.Common.{rules, arith, ◌≡◌, ℕ, List, [], length, map, true, suc, inl, refl, sym, ap, ◌∙◌, subst}
 use Rattle.raft_log.specs.declared.node_state.NodeState.{NodeState}
 use Rattle.raft_log.specs.Node.{is_leader}
 use Rattle.raft_log.specs.Positions.{role_of}
@@ -17,8 +17,10 @@ use Rattle.node_cells.specs.Copies.{AreCopies}
 use Rattle.node_cells.specs.Cells.{AreAnswered, CellRoom, HasCopies, IsCell, cell_of}
 use Rattle.node_cells.specs.Inputs.{Answer, input_of}
 use Rattle.node_cells.specs.Causes.{own_cause}
+use Rattle.node_cells.specs.Marks.{KnowsMarks, asked_by_all, asked_in}
 use Rattle.node_cells.specs.Restarts.{HasNotedAll}
 use Rattle.node_cells.specs.Together.{AreTurned, FallsInTurns, all_done}
+use Rattle.node_cells.proofs.MarksKept.{turns_keep}
 use Rattle.node_cells.proofs.Together.{all_answered, done_together, downed_here, fallen_cell_by, falls_in_turns, many_are, turned_together}
 use Rattle.node_cells.proofs.cell.NodeCell.run_all.Given as given
 use Rattle.node_cells.proofs.cell.NodeCell.run_all.Goals as goal
@@ -60,8 +62,8 @@ note_all-requires-clause-enough g c =
     let i = c.self.inside in
     let up : i.phase ≡ Up = search rules in
     let leads : is_leader (role_of i.node.state.standing.position) ≡ true = search rules in
-    let done = are_done g _ i.book.ether.setup c.args.taken.items c.args.told.items i.node c.step_all.new.self c.in-Ok.answers.items c.self.invariant.setup c.requires.taken c.in-Ok.ensures.done in
-    let many = many_are (machine g i.book.ether.setup) (kept g) i.book i.node i.upstream i.phase i.refused i.shown c.self.invariant up c.args.told.items c.requires.appends leads c.step_all.new.self c.in-Ok.ensures.same c.in-Ok.answers.items done in
+    let done = are_done g _ i.book.ether.setup c.args.taken.items c.args.told.items i.node c.step_all.new.self c.in-Ok.answers.items c.self.invariant.0.setup c.requires.taken c.in-Ok.ensures.done in
+    let many = many_are (machine g i.book.ether.setup) (kept g) i.book i.node i.upstream i.phase i.refused i.shown c.self.invariant.0 up c.args.told.items c.requires.appends leads c.step_all.new.self c.in-Ok.ensures.same c.in-Ok.answers.items done in
     let value = ap (λ (l : List Answer). length l) c.deref.ensures.value in
     omega (arith, many, value)
 
@@ -72,9 +74,9 @@ note_all-requires-clause-answered g c =
     let v = view_of i.book.pass in
     let up : i.phase ≡ Up = search rules in
     let leads : is_leader (role_of i.node.state.standing.position) ≡ true = search rules in
-    let done = are_done g _ i.book.ether.setup c.args.taken.items c.args.told.items i.node c.step_all.new.self c.in-Ok.answers.items c.self.invariant.setup c.requires.taken c.in-Ok.ensures.done in
+    let done = are_done g _ i.book.ether.setup c.args.taken.items c.args.told.items i.node c.step_all.new.self c.in-Ok.answers.items c.self.invariant.0.setup c.requires.taken c.in-Ok.ensures.done in
     λ honest. subst (λ (l : List Answer). AreAnswered m v.size (suc v.node) v.state c.args.told.items l) (sym c.deref.ensures.value)
-    (all_answered m (kept g) i.book i.node i.upstream i.phase i.refused i.shown c.self.invariant up c.args.told.items c.requires.appends leads c.step_all.new.self c.in-Ok.ensures.same c.in-Ok.answers.items done honest)
+    (all_answered m (kept g) i.book i.node i.upstream i.phase i.refused i.shown c.self.invariant.0 up c.args.told.items c.requires.appends leads c.step_all.new.self c.in-Ok.ensures.same c.in-Ok.answers.items done honest)
 
 pub invariant_of-self : goal.invariant_of-self
 invariant_of-self g c =
@@ -82,14 +84,23 @@ invariant_of-self g c =
     let m = machine g i.book.ether.setup in
     let up : i.phase ≡ Up = search rules in
     let leads : is_leader (role_of i.node.state.standing.position) ≡ true = search rules in
-    let done = are_done g _ i.book.ether.setup c.args.taken.items c.args.told.items i.node c.step_all.new.self c.in-Ok.answers.items c.self.invariant.setup c.requires.taken c.in-Ok.ensures.done in
+    let done = are_done g _ i.book.ether.setup c.args.taken.items c.args.told.items i.node c.step_all.new.self c.in-Ok.answers.items c.self.invariant.0.setup c.requires.taken c.in-Ok.ensures.done in
     let b1 = c.note_all.new.self in
     let noted : HasNotedAll m i.book (all_done c.args.told.items c.in-Ok.answers.items) b1 =
     subst (λ (l : List Answer). HasNotedAll m i.book (all_done c.args.told.items l) b1) c.deref.ensures.value c.note_all.ensures.noted in
-    subst (λ (e : EtherParts g.row.M-Setup.Denot). IsCell (machine g e.setup) (kept g) (cell_of b1 c.step_all.new.self i.upstream i.phase i.refused c.of-self-inside.result)) (sym noted.ether)
-    (done_together m (kept g) i.book i.node i.upstream i.phase i.refused i.shown c.self.invariant up c.args.told.items c.requires.appends leads c.step_all.new.self c.in-Ok.ensures.same c.in-Ok.answers.items done
-    b1 noted c.of-self-inside.result c.note_all.ensures.book
-    (c.of-self-inside.ensures ∙ ap (λ (s : NodeState g.row.M-Command.Denot). fields_of (seen s [])) c.state.ensures))
+    let d = cell_of b1 c.step_all.new.self i.upstream i.phase i.refused c.of-self-inside.result in
+    let asked : c.args.asked ≡ asked_by_all g.M.Marking.marked i.asked c.args.told.items =
+    c.requires.asked ∙ (λ t. asked_by_all g.M.Marking.marked (asked_in g.M.Marking.marked (view_of (sym c.self.view_is t).parts.pass)) c.args.told.items)
+    ∙ ap (λ (n : ℕ). asked_by_all g.M.Marking.marked n c.args.told.items) (sym c.self.invariant.1.asked_is) in (
+      subst (λ (e : EtherParts g.row.M-Setup.Denot). IsCell (machine g e.setup) (kept g) d) (sym noted.ether)
+          (done_together m (kept g) i.book i.node i.upstream i.phase i.refused i.shown c.self.invariant.0 up c.args.told.items c.requires.appends leads c.step_all.new.self c.in-Ok.ensures.same c.in-Ok.answers.items done
+          b1 noted c.of-self-inside.result c.note_all.ensures.book
+          (c.of-self-inside.ensures ∙ ap (λ (s : NodeState g.row.M-Command.Denot). fields_of (seen s [])) c.state.ensures)),
+      subst (λ (a : ℕ). KnowsMarks g.M.Marking.marked (view_of b1.pass) a i.reached) (sym asked)
+          (turns_keep m g.M.Marking.marked (cell_of i.book i.node i.upstream i.phase i.refused i.shown) d i.asked i.reached c.self.invariant.1 c.args.told.items c.in-Ok.answers.items
+          (turned_together m (kept g) i.book i.node i.upstream i.phase i.refused i.shown c.self.invariant.0 up c.args.told.items c.requires.appends leads c.step_all.new.self c.in-Ok.ensures.same c.in-Ok.answers.items done
+          b1 noted c.of-self-inside.result)),
+    )
 
 pub returns-in-Ok-clause-done : goal.returns-in-Ok-clause-done
 returns-in-Ok-clause-done g c =
@@ -97,12 +108,12 @@ returns-in-Ok-clause-done g c =
     let m = machine g i.book.ether.setup in
     let up : i.phase ≡ Up = search rules in
     let leads : is_leader (role_of i.node.state.standing.position) ≡ true = search rules in
-    let done = are_done g _ i.book.ether.setup c.args.taken.items c.args.told.items i.node c.step_all.new.self c.in-Ok.answers.items c.self.invariant.setup c.requires.taken c.in-Ok.ensures.done in
+    let done = are_done g _ i.book.ether.setup c.args.taken.items c.args.told.items i.node c.step_all.new.self c.in-Ok.answers.items c.self.invariant.0.setup c.requires.taken c.in-Ok.ensures.done in
     let b1 = c.note_all.new.self in
     let noted : HasNotedAll m i.book (all_done c.args.told.items c.in-Ok.answers.items) b1 =
     subst (λ (l : List Answer). HasNotedAll m i.book (all_done c.args.told.items l) b1) c.deref.ensures.value c.note_all.ensures.noted in
     subst (λ (z : RoomOf g). AreTurned (machine g z.parts.ether.setup) z.parts c.args.told.items c.in-Ok.answers.items (cell_of b1 c.step_all.new.self i.upstream i.phase i.refused c.of-self-inside.result)) c.self.view_is
-    (turned_together m (kept g) i.book i.node i.upstream i.phase i.refused i.shown c.self.invariant up c.args.told.items c.requires.appends leads c.step_all.new.self c.in-Ok.ensures.same c.in-Ok.answers.items done
+    (turned_together m (kept g) i.book i.node i.upstream i.phase i.refused i.shown c.self.invariant.0 up c.args.told.items c.requires.appends leads c.step_all.new.self c.in-Ok.ensures.same c.in-Ok.answers.items done
     b1 noted c.of-self-inside.result)
 
 pub invariant_of-self-in-Err : goal.invariant_of-self-in-Err
@@ -112,9 +123,10 @@ invariant_of-self-in-Err g c =
     c.down_in.ensures.copied i.book.recording (subst (λ (z : RoomOf g). AreCopies z.parts.recording c.args.told.items c.args.copies.items) (sym c.self.view_is) c.requires.copied) in
     let up : i.phase ≡ Up = search rules in
     let leads : is_leader (role_of i.node.state.standing.position) ≡ true = search rules in
-    let failed = have_failed g _ i.book.ether.setup c.args.taken.items c.args.told.items i.node c.step_all.new.self c.in-Err.field-0 c.self.invariant.setup c.requires.taken c.in-Err.ensures.failed in
-    fallen_cell_by (machine g i.book.ether.setup) (kept g) i.book i.node i.upstream i.phase i.refused i.shown c.self.invariant up c.args.told.items c.requires.appends leads c.step_all.new.self c.in-Err.ensures.same
-    c.args.told c.args.copies refl c.requires.some c.in-Err.field-0 failed g.met.S.Stable.sure c.is_whole.ensures.holds c.down_in.result c.down_in.ensures.all c.down_in.ensures.first copied
+    let failed = have_failed g _ i.book.ether.setup c.args.taken.items c.args.told.items i.node c.step_all.new.self c.in-Err.field-0 c.self.invariant.0.setup c.requires.taken c.in-Err.ensures.failed in
+    let cell = fallen_cell_by (machine g i.book.ether.setup) (kept g) i.book i.node i.upstream i.phase i.refused i.shown c.self.invariant.0 up c.args.told.items c.requires.appends leads c.step_all.new.self c.in-Err.ensures.same
+    c.args.told c.args.copies refl c.requires.some c.in-Err.field-0 failed g.met.S.Stable.sure c.is_whole.ensures.holds c.down_in.result c.down_in.ensures.all c.down_in.ensures.first copied in
+    (cell, c.self.invariant.1)
 
 pub returns-in-Err-clause-failed : goal.returns-in-Err-clause-failed
 returns-in-Err-clause-failed g c =
@@ -123,8 +135,8 @@ returns-in-Err-clause-failed g c =
     c.down_in.ensures.copied i.book.recording (subst (λ (z : RoomOf g). AreCopies z.parts.recording c.args.told.items c.args.copies.items) (sym c.self.view_is) c.requires.copied) in
     let up : i.phase ≡ Up = search rules in
     let leads : is_leader (role_of i.node.state.standing.position) ≡ true = search rules in
-    let failed = have_failed g _ i.book.ether.setup c.args.taken.items c.args.told.items i.node c.step_all.new.self c.in-Err.field-0 c.self.invariant.setup c.requires.taken c.in-Err.ensures.failed in
-    let falls = falls_in_turns (machine g i.book.ether.setup) (kept g) i.book i.node i.upstream i.phase i.refused i.shown c.self.invariant up c.args.told.items c.requires.appends leads c.step_all.new.self c.in-Err.ensures.same
+    let failed = have_failed g _ i.book.ether.setup c.args.taken.items c.args.told.items i.node c.step_all.new.self c.in-Err.field-0 c.self.invariant.0.setup c.requires.taken c.in-Err.ensures.failed in
+    let falls = falls_in_turns (machine g i.book.ether.setup) (kept g) i.book i.node i.upstream i.phase i.refused i.shown c.self.invariant.0 up c.args.told.items c.requires.appends leads c.step_all.new.self c.in-Err.ensures.same
     c.args.told c.args.copies refl c.requires.some c.in-Err.field-0 failed g.met.S.Stable.sure c.is_whole.ensures.holds c.down_in.result c.down_in.ensures.all c.down_in.ensures.first copied in
     inl (subst (λ (z : RoomOf g). FallsInTurns (machine g z.parts.ether.setup) z.parts c.args.told.items (cell_of i.book c.step_all.new.self i.upstream c.down_in.result i.refused i.shown)) c.self.view_is falls)
 
@@ -132,8 +144,8 @@ pub returns-in-Err-clause-cause : goal.returns-in-Err-clause-cause
 returns-in-Err-clause-cause g c =
     let i = c.self.inside in
     let up : i.phase ≡ Up = search rules in
-    let failed = have_failed g _ i.book.ether.setup c.args.taken.items c.args.told.items i.node c.step_all.new.self c.in-Err.field-0 c.self.invariant.setup c.requires.taken c.in-Err.ensures.failed in
-    let falls = downed_here (machine g i.book.ether.setup) (kept g) c.args.told.items i.node c.step_all.new.self c.in-Err.field-0 failed (c.self.invariant.up up) in (
+    let failed = have_failed g _ i.book.ether.setup c.args.taken.items c.args.told.items i.node c.step_all.new.self c.in-Err.field-0 c.self.invariant.0.setup c.requires.taken c.in-Err.ensures.failed in
+    let falls = downed_here (machine g i.book.ether.setup) (kept g) c.args.told.items i.node c.step_all.new.self c.in-Err.field-0 failed (c.self.invariant.0.up up) in (
       sym (ap own_cause falls.is_down),
       λ was is. subst (λ (z : RoomOf g). IsBlamed c.in-Err.field-0.cause (g.S.Stable.condition z.parts.node.store) (g.S.Stable.condition c.step_all.new.self.store)) c.self.view_is falls.blamed,
     )

@@ -2,8 +2,9 @@ use Rattle.std.proofs.Common.{sym, subst}
 use Rattle.raft_node.specs.Hosts.{hosted}
 use Rattle.raft_node.specs.Machine.{Machine}
 use Rattle.raft_node.specs.Parts.{Keeper, keeper}
-use Rattle.ether.specs.Passes.{EtherParts}
+use Rattle.ether.specs.Passes.{EtherParts, view_of}
 use Rattle.node_cells.specs.Cells.{IsCell, cell_of}
+use Rattle.node_cells.proofs.MarksKept.{taken_keeps}
 use Rattle.node_cells.proofs.Opening.{taken_cell}
 use Rattle.node_cells.proofs.cell.NodeCell.take.Given as given
 use Rattle.node_cells.proofs.cell.NodeCell.take.Goals as goal
@@ -18,6 +19,8 @@ kept g = keeper g.S.Stable.saved g.S.Stable.may_stand g.S.Stable.condition
 
 pub invariant_of-self : goal.invariant_of-self
 invariant_of-self g c =
-    let i = c.self.inside in
-    subst (λ (e : EtherParts g.row.M-Setup.Denot). IsCell (machine g e.setup) (kept g) (cell_of c.take.new.self i.node i.upstream i.phase i.refused i.shown)) (sym c.take.ensures.taken.ether)
-    (taken_cell (machine g i.book.ether.setup) (kept g) i.book c.take.new.self i.node i.upstream i.phase i.refused i.shown c.args.from c.take.result c.self.invariant c.take.ensures.taken c.take.ensures.book)
+    let i = c.self.inside in (
+      subst (λ (e : EtherParts g.row.M-Setup.Denot). IsCell (machine g e.setup) (kept g) (cell_of c.take.new.self i.node i.upstream i.phase i.refused i.shown)) (sym c.take.ensures.taken.ether)
+          (taken_cell (machine g i.book.ether.setup) (kept g) i.book c.take.new.self i.node i.upstream i.phase i.refused i.shown c.args.from c.take.result c.self.invariant.0 c.take.ensures.taken c.take.ensures.book),
+      taken_keeps (machine g i.book.ether.setup) g.M.Marking.marked (view_of i.book.pass) (view_of c.take.new.self.pass) i.asked i.reached c.self.invariant.1 c.take.result c.take.ensures.taken.view,
+    )

@@ -38,4 +38,4 @@ returns-clause-failed g c =
     IfErr c.run_all.result (λ fault. AreNoTurns (machine g z.0.ether.setup) z.0 z.1 fault c.run_all.new.self.parts)) (λ d. (parts d, same d)) c.run_all.ensures.failed
 
 pub run_all-requires-clause-copied : goal.run_all-requires-clause-copied
-run_all-requires-clause-copied g c = λ on. c.in-Ok.ensures.copies (c.recording.ensures ∙ on) ∙ c.deref.ensures.value ∙ sym c.in-Ok-inputs_of.ensures.1
+run_all-requires-clause-copied g c = λ on. c.in-Ok.ensures.copies (c.recording.ensures ∙ on) ∙ c.deref-2.ensures.value ∙ sym c.in-Ok-inputs_of.ensures.1

@@ -18,7 +18,7 @@ pub spawn_task-requires-send-T-Left : goal.spawn_task-requires-send-T-Left
 spawn_task-requires-send-T-Left g c κs within =
     let b = c.type_bounds in
     param_send _ _ (arg_send _ no _
-    (cell_send (param 0 g.row.M) (param 1 g.row.S) (param 2 g.row.U) (param 3 g.row.M-Action) (param 4 g.row.M-Line) (param 5 g.row.M-Target) (param 6 g.row.M-Played) (param 7 g.row.M-Setup) (param 8 g.row.M-Command) (param 9 g.row.M-Effect) g.M.Hosted g.M.Machine g.M.Setup.Copied g.M.Command.Wire g.M.Command.Copied g.M.Effect.Copied g.M.Action.Wire g.M.Action.Copied g.M.Line.Wire g.M.Line.Copied g.M.Target.Wire g.M.Target.Copied g.M.Played.Copied g.S.Stable g.U.Upstream
+    (cell_send (param 0 g.row.M) (param 1 g.row.S) (param 2 g.row.U) (param 3 g.row.M-Action) (param 4 g.row.M-Line) (param 5 g.row.M-Target) (param 6 g.row.M-Played) (param 7 g.row.M-Setup) (param 8 g.row.M-Command) (param 9 g.row.M-Effect) g.M.Marking g.M.Hosted g.M.Machine g.M.Setup.Copied g.M.Command.Wire g.M.Command.Copied g.M.Effect.Copied g.M.Action.Wire g.M.Action.Copied g.M.Line.Wire g.M.Line.Copied g.M.Target.Wire g.M.Target.Copied g.M.Played.Copied g.S.Stable g.U.Upstream
     b.send-M b.send-S b.send-U b.send-M-Line b.send-M-Target b.send-M-Played b.send-M-Setup b.send-M-Command b.send-M-Effect b.sync-M-Setup b.sync-M-Command))
 
 pub returns : goal.returns

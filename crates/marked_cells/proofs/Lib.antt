@@ -1,3 +1,0 @@
-pub mod Applied
-pub mod Kept
-pub mod Runs

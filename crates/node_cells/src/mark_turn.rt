@@ -1,0 +1,11 @@
+//! What comes of the turn that asks for a mark.
+use crate::record::TurnOutput;
+use wire_bytes::Wire;
+
+/// What comes of the turn that asks for a mark.
+#[derive(Drop)]
+pub struct MarkTurn<B: Wire, E> {
+    /// The mark's number.
+    pub number: u64,
+    pub output: TurnOutput<B, E>,
+}
