@@ -38,6 +38,19 @@ impl KeptLine {
         KeptLine { at, line }
     }
 
+    /// The moment at which the line came.
+    pub fn at(&self) -> Moment
+        ensures { result ≡ self.now.0 }
+    {
+        self.at
+    }
+
+    pub fn line(&self) -> &Line
+        ensures { result.now ≡ self.now.1 }
+    {
+        &self.line
+    }
+
     /// What is shown of the line when it is played: its text has the time before it.
     #[tactic(auto, using(crate::proofs::Heads::spelling_timed))]
     pub(crate) fn played(&self, alloc: Global, offset: Offset) -> Result<Shown, AllocError>
@@ -45,7 +58,9 @@ impl KeptLine {
     {
         let line = &self.line;
         let text = line.parameter(1);
-        let mut out = Vec::with_capacity(alloc, text.len().saturating_add(STAMP_LEN))?;
+        // The played line is longer by the time, and by a colon where its text had none.
+        let len = line.spelling().len().saturating_add(STAMP_LEN + 1);
+        let mut out = Vec::with_capacity(alloc, len)?;
         push_head(&mut out, line.prefix(), line.command(), line.parameter(0))?;
         push_stamped(&mut out, offset, self.at, text)?;
         Shown::of_bytes(out)

@@ -1,4 +1,4 @@
-ghost use Rattle.std.specs.Prelude.{◌≡◌, ◌≤◌, ◌<◌, ◌^◌, [], ◌++◌, codes, drop, length, IfOk, IsOk, OnOk, OnErr};
+ghost use Rattle.std.specs.Prelude.{◌≡◌, ◌≤◌, ◌<◌, ◌^◌, [], ◌++◌, codes, drop, length, option_map, slice_get, IfOk, IsOk, OnOk, OnErr};
 ghost use Rattle.irc_line.specs.Lines.{spelling};
 ghost use Rattle.buffer_lines.specs.Stamps.{frame, of_size, ring, shown_framed, shown_timed, with_line};
 
@@ -106,6 +106,20 @@ impl LineRing {
         ensures within { result < 2 ^ 63 }
     {
         self.lines.len()
+    }
+
+    /// How many lines may be kept.
+    pub fn size(&self) -> usize
+        ensures { result ≡ self.now.size }
+    {
+        self.size
+    }
+
+    /// A kept line, the oldest being 0.
+    pub fn line(&self, place: usize) -> Option<&KeptLine>
+        ensures { option_map (λ k. k.now) result ≡ slice_get self.now.lines place }
+    {
+        self.lines.get(place)
     }
 }
 

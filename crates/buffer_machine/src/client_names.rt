@@ -55,6 +55,13 @@ impl Names {
         }
     }
 
+    /// The names, in the order in which they first came.
+    pub fn ids(&self) -> &[Name]
+        ensures { result.now ≡ self.now.ids }
+    {
+        self.ids.as_slice()
+    }
+
     /// Whether no client ever gave a name.
     pub fn is_empty(&self) -> bool
         ensures none { result ≡ not (is_some_of self.now.ids) }

@@ -1,21 +1,22 @@
-ghost use Rattle.std.specs.Prelude.{◌≡◌, ◌∷◌, ◌↔◌, false, map, IfErr, IfOk, IsErr, IsOk, IsTrue, OnErr, OnOk};
+ghost use Rattle.std.specs.Prelude.{◌≡◌, ◌<◌, ◌∷◌, ◌↔◌, false, map, IfErr, IfOk, IsErr, IsOk, IsTrue, OnErr, OnOk};
 ghost use Rattle.irc_line.specs.Lines.{spelling};
 ghost use Rattle.irc_line.specs.Names.{fold_name};
 ghost use Rattle.machine_laws.specs.Runs.{History};
 ghost use Rattle.buffer_commands.specs.Settings.{Settings};
 ghost use Rattle.buffer_machine.specs.Buffers.{nick, playback};
-ghost use Rattle.buffer_machine.specs.Crowd.{attached};
+ghost use Rattle.buffer_machine.specs.Crowd.{attached, floor};
 ghost use Rattle.buffer_machine.specs.Effects.{TakesNone};
-ghost use Rattle.buffer_machine.specs.Held.{IsSound, commands};
+ghost use Rattle.buffer_machine.specs.Held.{IsSound, commands, held};
 ghost use Rattle.buffer_machine.specs.Machine.{held_of};
 ghost use Rattle.buffer_machine.specs.Messages.{is_among};
 ghost use Rattle.buffer_machine.specs.Answering.{played_of, target_of_key};
 
 use crate::buffers::Buffers;
-use crate::floors::Floors;
+use crate::floors::{Floors, floor_of};
 use crate::step::step;
 use buffer_commands::{Action, Command, Effect, Setup};
 use buffer_lines::{Offset, Shown};
+use buffer_targets::{Channel, Target};
 use irc_line::Name;
 use machine_laws::{ApplyFault, HasClients, Machine};
 use std::alloc::{AllocError, Global};
@@ -58,6 +59,54 @@ impl BufferMachine {
             → result ≡ is_among client (attached s (commands history)) }
     {
         self.buffers.clients.is_attached(client)
+    }
+
+    /// The clients that are attached, in order of attaching.
+    pub fn clients(&self) -> &[Origin]
+        ensures { (s : Settings) (history : History Command) → Stands self.now s history
+            → result.now ≡ (held s (commands history)).clients }
+    {
+        self.buffers.clients.as_slice()
+    }
+
+    /// The names that clients gave as they attached, in the order in which they first came.
+    pub fn ids(&self) -> &[Name]
+        ensures { (s : Settings) (history : History Command) → Stands self.now s history
+            → result.now ≡ (held s (commands history)).names.ids }
+    {
+        self.buffers.names.ids()
+    }
+
+    /// The attached clients that have a name, in order of attaching, each with where its name stands.
+    pub fn holders(&self) -> &[(Origin, usize)]
+        ensures { (s : Settings) (history : History Command) → Stands self.now s history
+            → result.now ≡ (held s (commands history)).names.holders }
+    {
+        self.buffers.names.holders()
+    }
+
+    /// The channels, in order of their keys.
+    pub fn channels(&self) -> &[Channel]
+        ensures { (s : Settings) (history : History Command) → Stands self.now s history
+            → result.now ≡ (held s (commands history)).channels }
+    {
+        self.buffers.channels.as_slice()
+    }
+
+    /// The queries, in order of making.
+    pub fn queries(&self) -> &[Target]
+        ensures { (s : Settings) (history : History Command) → Stands self.now s history
+            → result.now ≡ (held s (commands history)).queries }
+    {
+        self.buffers.queries.as_slice()
+    }
+
+    /// The floor of a node: its runs below it are gone.
+    pub fn floor(&self, node: u8) -> u64
+        ensures { (s : Settings) (history : History Command) → Stands self.now s history
+            → node < 8 → result ≡ floor (commands history) node }
+    {
+        floor_of(&self.floors, node)
     }
 }
 

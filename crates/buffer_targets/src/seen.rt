@@ -34,6 +34,13 @@ impl Seen {
         }
     }
 
+    /// How many each reader has seen.
+    pub fn counts(&self) -> &[usize]
+        ensures { result.now ≡ self.now }
+    {
+        &self.counts
+    }
+
     /// How many a reader has seen; 0 of one that there may not be.
     pub fn of(&self, reader: usize) -> usize
         ensures { result ≡ slice_index self.now reader }

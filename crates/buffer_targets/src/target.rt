@@ -62,6 +62,13 @@ impl Target {
         &self.lines
     }
 
+    /// How many of the kept lines, from the oldest on, each reader has seen.
+    pub fn seen(&self) -> &[usize]
+        ensures { result.now ≡ self.now.seen }
+    {
+        self.seen.counts()
+    }
+
     /// Lets all lines go.
     pub(crate) fn clear(&mut self)
         ensures { self.new ≡ cleared self.old }

@@ -1,5 +1,5 @@
 -- Lines for upstream that are numbered, and claimed once. A history has each command with its place, the newest first.
-use Rattle.std.specs.Prelude.{ℕ, ◌+◌, ◌-◌, Bool, ◌&&◌, if◌then◌else◌, ◌==◌, nat_lt, nat_le, List, [], ◌∷◌, ◌++◌, length, take, Option, Some, None, slice_get}
+use Rattle.std.specs.Prelude.{ℕ, ◌+◌, ◌-◌, Bool, ◌&&◌, if◌then◌else◌, ◌==◌, nat_lt, nat_le, List, [], ◌∷◌, ◌++◌, length, take, drop, Option, Some, None, slice_get}
 use Rattle.irc_line.specs.Lines.{Parts}
 use Rattle.machine_laws.specs.Runs.{History}
 use Rattle.machine_laws.specs.Sessions.{is_that}
@@ -95,6 +95,10 @@ module _ {C E : Type 0} (session : History C → Option SessionId) (sends : E �
   -- the claims that took effect, in order: number and session
   unfoldable pub claimed : History (ClaimsCommand C) → List (ℕ × SessionId)
   claimed h = (numbered h).claimed
+
+  -- the lines that were numbered and not claimed, the one to be claimed next first
+  unfoldable pub waiting : History (ClaimsCommand C) → List Parts
+  waiting h = drop (length (claimed h)) (outgoing h)
 
   -- what a command brings about at a place
   unfoldable pub answers : History (ClaimsCommand C) → ℕ → ClaimsCommand C → List (ClaimsEffect E)

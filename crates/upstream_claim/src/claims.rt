@@ -1,15 +1,17 @@
 //! A machine whose lines for upstream are numbered and claimed once.
 ghost use Rattle.std.specs.Prelude.{◌≡◌, ℕ, ◌+◌, List, [], ◌∷◌, length, nat_lt, Some, None, if◌then◌else◌, IfOk, IfErr, OnOk, OnErr, IsTrue, true, false};
 ghost use Rattle.machine_laws.specs.Runs.{History};
-ghost use Rattle.upstream_claim.specs.Numbered.{plain, numbered, answers, next_claim};
+ghost use Rattle.upstream_claim.specs.Numbered.{plain, numbered, answers, next_claim, waiting};
 ghost use Rattle.upstream_claim.specs.States.{IsKept};
 
 use crate::command::ClaimsCommand;
 use crate::effect::ClaimsEffect;
 use crate::step::step;
 use crate::unclaimed::Unclaimed;
+use irc_line::Line;
 use machine_laws::{ApplyFault, HasClients, HasSession, Machine};
 use std::alloc::{AllocError, Global};
+use std::collections::VecDeque;
 use wire_bytes::{Moment, Number, Origin};
 
 /// A machine whose lines for upstream are numbered from 1 and kept until the session in force claims them, in their
@@ -42,6 +44,15 @@ impl<M: HasSession> Claims<M> {
             → result ≡ next_claim M.session M.sends (M.effects s) earlier }
     {
         self.unclaimed.next()
+    }
+
+    /// The lines that wait to be claimed, the one to be claimed next first.
+    pub fn waiting(&self) -> &VecDeque<Line>
+        ensures { (s : M.Setup) (earlier : History (ClaimsCommand M.Command))
+            → ⟦<Claims<M> as Machine>⟧.stands self.now s earlier
+            → result.now.items ≡ waiting M.session M.sends (M.effects s) earlier }
+    {
+        &self.unclaimed.lines
     }
 }
 
