@@ -1,0 +1,6 @@
+pub mod Later
+pub mod Parts
+pub mod Tests
+pub mod Settled
+pub mod Entries
+pub mod Comes

@@ -1,0 +1,3 @@
+pub mod Renewed
+pub mod Bounds
+pub mod Lists

@@ -1,0 +1,100 @@
+-- The lists of bodies that are begun anew. A history has each body with its place, the newest first.
+use Rattle.std.specs.Prelude.{◌≡◌, ℕ, ◌+◌, ◌≤◌, Bool, true, false, ◌==◌, List, [], ◌∷◌, ◌++◌, length, map, drop}
+use Rattle.std.specs.List.{list_all}
+use Rattle.irc_line.specs.Lines.{Parts}
+use Rattle.wire_bytes.specs.declared.origin.Origin.{Origin}
+use Rattle.wire_bytes.specs.declared.session_id.SessionId.{SessionId}
+use Rattle.machine_laws.specs.Origins.{same_origin}
+use Rattle.machine_laws.specs.Runs.{History, came_at, run}
+use Rattle.buffer_commands.specs.Settings.{Settings}
+use Rattle.buffer_commands.specs.declared.command.Command.TheVariants as command
+use Rattle.session_fence.specs.declared.command.FenceCommand.TheVariants as fence
+use Rattle.upstream_claim.specs.declared.command.ClaimsCommand.TheVariants as claims
+use Rattle.request_once.specs.declared.body.Body.TheVariants as body
+use Rattle.buffer_machine.specs.Buffers.{joined}
+use Rattle.buffer_machine.specs.Held.{commands, held}
+use Rattle.raft_log.specs.declared.entry.Entry.{Entry}
+use Rattle.bouncer_tower.specs.Bodies.{Claimed, Sessioned, TowerBody, claimed, outgoing, plain}
+use Rattle.bouncer_tower.specs.Hosting.{of_buffers}
+use Rattle.renewal.specs.Bounds.{most_bodies}
+use Rattle.renewal.specs.Renewed.{Renewed}
+
+-- the bodies by which the runs of these nodes below their floors are gone with all their clients, each a node and its floor, and no
+-- session is in force
+abbrev pub settling : List (ℕ × ℕ) → List TowerBody
+settling floors = map (λ f. of_buffers (command.NodeGone f.0 f.1)) floors ++ of_buffers command.Down ∷ []
+
+-- a history with these behind it
+abbrev pub settled : List (ℕ × ℕ) → History TowerBody → History TowerBody
+settled floors h = came_at 0 (settling floors) h
+
+-- the lines that clients sent and that wait to go upstream, in their order
+abbrev pub waiting : Settings → History TowerBody → List Parts
+waiting s h = drop (length (claimed s h)) (outgoing s h)
+
+-- a session of this term
+abbrev pub is_of : ℕ → SessionId → Bool
+is_of term id = id.0 == term
+
+-- what a leader of this term brings of its sessions, and what a node brings: that another is gone
+abbrev pub is_session_brought : ℕ → Sessioned → Bool
+is_session_brought term (fence.Opened id) = is_of term id
+is_session_brought term (fence.Shut id) = is_of term id
+is_session_brought term (fence.Heard id n at line) = is_of term id
+is_session_brought term (fence.Inner (command.NodeGone node floor)) = true
+is_session_brought term (fence.Inner c) = false
+
+abbrev pub is_claim_brought : ℕ → Claimed → Bool
+is_claim_brought term (claims.Claim id n) = is_of term id
+is_claim_brought term (claims.Inner c) = is_session_brought term c
+
+-- a body of a kind that nodes bring: of a leader of this term, of this client, or that a node is gone
+abbrev pub is_brought : ℕ → Origin → TowerBody → Bool
+is_brought term client body.Blank = true
+is_brought term client (body.Asked o n at a) = same_origin client o
+is_brought term client (body.Inner c) = is_claim_brought term c
+is_brought term client (body.Mark m) = false
+
+-- A list of bodies is begun anew by another: it leaves the same behind, with the same lines waiting to go upstream. The new one has bodies
+-- alone of kinds that nodes bring, of one term and one client
+pub record BegunAnew (s : Settings) (term : ℕ) (client : Origin) (old : History TowerBody) (new : List TowerBody) : Type 0 where
+  pub renewed : Renewed s (commands (plain old)) (commands (plain (run new)))
+  pub waits : waiting s (run new) ≡ waiting s old
+  pub brought : list_all (is_brought term client) new ≡ true
+
+-- so many bodies may begin this list anew, where there are so many nodes
+abbrev pub most : Settings → History TowerBody → ℕ → ℕ
+most s old nodes = most_bodies (held s (commands (plain old))) (length s.channels + length (waiting s old) + nodes)
+
+-- Logs
+
+-- an entry of a term
+abbrev pub entry_of : {B : Type 0} → ℕ → B → Entry B
+entry_of term b = record { term = term; body = b }
+
+-- the bodies of entries
+abbrev pub bodies_of : {B : Type 0} → List (Entry B) → List B
+bodies_of entries = map (λ e. e.body) entries
+
+-- each of these nodes, from this one on, with a floor two above its greatest run: one above that of the renewal
+abbrev pub floors_from : ℕ → List ℕ → List (ℕ × ℕ)
+floors_from node [] = []
+floors_from node (boot ∷ boots) = (node, boot + 2) ∷ floors_from (node + 1) boots
+
+-- of all nodes, node 1 first
+abbrev pub floors_of : List ℕ → List (ℕ × ℕ)
+floors_of boots = floors_from 1 boots
+
+-- the client of a renewal: of a run of node 1 above its greatest one
+abbrev pub client_of : List ℕ → Origin
+client_of [] = (1, 1, 1)
+client_of (boot ∷ boots) = (1, boot + 1, 1)
+
+-- A log is begun anew by another, where these are the greatest run of each node and the greatest term: with all clients of these runs gone
+-- and no channel joined, its bodies are begun anew by the other's, of which there are no more than there may be; all entries of the other
+-- are of the next term
+pub record IsRenewal (s : Settings) (boots : List ℕ) (term : ℕ) (old new : List (Entry TowerBody)) : Type 0 where
+  pub begun : BegunAnew s (term + 1) (client_of boots) (settled (floors_of boots) (run (bodies_of old))) (bodies_of new)
+  pub parted : (c : List ℕ) → joined s (commands (plain (settled (floors_of boots) (run (bodies_of old))))) c ≡ false
+  pub few : length new ≤ most s (settled (floors_of boots) (run (bodies_of old))) (length boots)
+  pub terms : new ≡ map (entry_of (term + 1)) (bodies_of new)

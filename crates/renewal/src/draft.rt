@@ -1,0 +1,199 @@
+//! A list of bodies in the making: those that a leader of one term brings for one client.
+ghost use Rattle.std.specs.Prelude.{◌≡◌, ◌≤◌, ◌^◌, IfOk};
+
+use crate::fault::RenewalFault;
+use bouncer_tower::TowerBody;
+use buffer_commands::{Action, Command, WireLine};
+use irc_line::{Line, LineFault, Name, is_same, is_same_name};
+use request_once::Body;
+use session_fence::FenceCommand;
+use std::alloc::Global;
+use upstream_claim::ClaimsCommand;
+use wire_bytes::{Moment, Number, Origin, SessionId};
+
+/// The greatest number that a value may have.
+const MOST: u64 = 1 << 60;
+
+/// Whose bodies a new list has: those of a leader of a term, and of one client of a run. No older list has any of
+/// this term, or of this run.
+#[derive(Clone, Copy)]
+pub struct Start {
+    pub term: Number,
+    pub client: Origin,
+}
+
+/// The bodies so far, and what comes next.
+#[derive(Drop)]
+pub struct Draft {
+    alloc: Global,
+    term: Number,
+    client: Origin,
+    bodies: Vec<TowerBody>,
+    /// The attempts of the term, the lines of the session, the client's requests, and the lines that it sent.
+    sessions: u64,
+    heard: u64,
+    asked: u64,
+    sent: u64,
+    nick: Vec<u8>,
+    attached: bool,
+}
+
+/// A number, where it is within its limit.
+fn number(value: u64) -> Result<Number, RenewalFault>
+    ensures { IfOk result (λ n. n ≡ value) }
+{
+    if value > MOST {
+        return Err(RenewalFault::Spent);
+    }
+    Ok(Number::new(value))
+}
+
+/// The moment of requests that keep no line.
+fn no_moment() -> Moment {
+    Moment::new(0)
+}
+
+impl Draft {
+    pub fn new(alloc: Global, start: &Start) -> Draft {
+        Draft {
+            alloc,
+            term: start.term,
+            client: start.client,
+            bodies: Vec::new(alloc),
+            sessions: 0,
+            heard: 0,
+            asked: 0,
+            sent: 0,
+            nick: Vec::new(alloc),
+            attached: false,
+        }
+    }
+
+    pub fn allocator(&self) -> Global {
+        self.alloc
+    }
+
+    pub fn into_bodies(self) -> Vec<TowerBody> {
+        self.bodies
+    }
+
+    fn add(&mut self, body: TowerBody) -> Result<(), RenewalFault> {
+        match self.bodies.push(body) {
+            Ok(()) => Ok(()),
+            Err(_) => Err(RenewalFault::Memory),
+        }
+    }
+
+    fn add_of_session(
+        &mut self,
+        command: FenceCommand<Command, WireLine>,
+    ) -> Result<(), RenewalFault> {
+        self.add(Body::Inner(ClaimsCommand::Inner(command)))
+    }
+
+    fn session(&self) -> Result<SessionId, RenewalFault> {
+        let attempt = number(self.sessions)?;
+        Ok(SessionId::new(self.term.value(), attempt.value()))
+    }
+
+    /// What a new leader appends first.
+    pub fn blank(&mut self) -> Result<(), RenewalFault> {
+        self.add(Body::Blank)
+    }
+
+    /// The next session is opened.
+    pub fn open(&mut self) -> Result<(), RenewalFault> {
+        self.sessions = self.sessions.saturating_add(1);
+        self.heard = 0;
+        let session = self.session()?;
+        self.add_of_session(FenceCommand::Opened(session))
+    }
+
+    /// The session is shut: the own nick is in no channel.
+    pub fn shut(&mut self) -> Result<(), RenewalFault> {
+        let session = self.session()?;
+        self.add_of_session(FenceCommand::Shut(session))
+    }
+
+    /// A line comes from upstream at a moment.
+    pub fn hear(&mut self, at: Moment, line: WireLine) -> Result<(), RenewalFault> {
+        self.heard = self.heard.saturating_add(1);
+        let (session, place) = (self.session()?, number(self.heard)?);
+        self.add_of_session(FenceCommand::Heard(session, place, at, line))
+    }
+
+    /// A line of these bytes comes from upstream.
+    pub fn hear_bytes(&mut self, bytes: &[u8]) -> Result<(), RenewalFault> {
+        let line = match Line::parse(self.alloc, bytes) {
+            Ok(line) => line,
+            Err(LineFault::Memory) => return Err(RenewalFault::Memory),
+            Err(_) => return Err(RenewalFault::NotTheSame),
+        };
+        let line = WireLine::from_line(line).ok_or(RenewalFault::NotTheSame)?;
+        self.hear(no_moment(), line)
+    }
+
+    /// The server gives the own nick another name, unless it has it.
+    pub fn be(&mut self, nick: &[u8]) -> Result<(), RenewalFault> {
+        if is_same(&self.nick, nick) {
+            return Ok(());
+        }
+        let mut line = Vec::from_slice(self.alloc, b"001 ")?;
+        line.extend_from_slice(nick)?;
+        self.hear_bytes(&line)?;
+        self.nick = Vec::from_slice(self.alloc, nick)?;
+        Ok(())
+    }
+
+    /// The own nick is one that answers to a name.
+    pub fn answer_to(&mut self, nick: &[u8]) -> Result<(), RenewalFault> {
+        if is_same_name(&self.nick, nick) {
+            return Ok(());
+        }
+        self.be(nick)
+    }
+
+    /// The client asks for something at a moment.
+    pub fn ask_at(&mut self, at: Moment, action: Action) -> Result<(), RenewalFault> {
+        self.asked = self.asked.saturating_add(1);
+        let (client, place) = (self.client, number(self.asked)?);
+        self.add(Body::Asked(client, place, at, action))
+    }
+
+    pub fn ask(&mut self, action: Action) -> Result<(), RenewalFault> {
+        self.ask_at(no_moment(), action)
+    }
+
+    /// The session takes the line that the client sent, so that no later one does.
+    pub fn claim(&mut self) -> Result<(), RenewalFault> {
+        self.sent = self.sent.saturating_add(1);
+        let (session, place) = (self.session()?, number(self.sent)?);
+        self.add(Body::Inner(ClaimsCommand::Claim(session, place)))
+    }
+
+    pub fn is_attached(&self) -> bool {
+        self.attached
+    }
+
+    /// The client attaches without a name.
+    pub fn attach(&mut self) -> Result<(), RenewalFault> {
+        self.attached = true;
+        self.ask(Action::Attach(None))
+    }
+
+    pub fn leave(&mut self) -> Result<(), RenewalFault> {
+        self.attached = false;
+        self.ask(Action::Leave)
+    }
+
+    /// The client attaches by a name, and leaves: the name has seen all that is shown.
+    pub fn look_in(&mut self, id: &Name) -> Result<(), RenewalFault> {
+        self.ask(Action::Attach(Some(id.copy(self.alloc)?)))?;
+        self.ask(Action::Leave)
+    }
+
+    /// The runs of a node below this one are gone.
+    pub fn gone(&mut self, node: u8, floor: Number) -> Result<(), RenewalFault> {
+        self.add_of_session(FenceCommand::Inner(Command::NodeGone(node, floor)))
+    }
+}
