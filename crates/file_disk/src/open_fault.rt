@@ -3,6 +3,7 @@ ghost use Rattle.file_disk.specs.declared.open_fault.OpenFault.TheVariants.{Stor
 
 use stable_store::StoreFault;
 use std::io;
+use std::io::ErrorKind;
 use thiserror::Error;
 
 /// Why no journal is opened at a path.
@@ -16,6 +17,17 @@ pub enum OpenFault {
     System(#[from] io::Error),
     #[error("the journal cannot be read: {0}")]
     Store(StoreFault),
+}
+
+impl OpenFault {
+    /// Whether this is want of memory, also where the system tells it.
+    pub fn is_memory(&self) -> bool {
+        match self {
+            OpenFault::System(error) => error.kind() == ErrorKind::OutOfMemory,
+            OpenFault::Store(StoreFault::Memory) => true,
+            OpenFault::InUse | OpenFault::NotAFile | OpenFault::Store(_) => false,
+        }
+    }
 }
 
 impl From<StoreFault> for OpenFault {

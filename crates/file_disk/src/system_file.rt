@@ -65,12 +65,38 @@ impl FileDisk<SystemFile> {
     pub fn open<R: Files<File = File>>(rt: &R, alloc: Global, path: &str) -> Result<Self, OpenFault>
         ensures { IfOk result (λ d. d.failures ≡ 0) }
     {
-        let mut file = OpenOptions::new()
+        let file = OpenOptions::new()
             .read(true)
             .write(true)
             .create(true)
             .mode(OWNERS)
             .open(rt, path)?;
+        Self::over(rt, alloc, path, file)
+    }
+
+    /// The file of a path that is there, locked until the disk is dropped, as `open` says. None is made: an error of
+    /// the system tells that none is there.
+    pub fn open_existing<R: Files<File = File>>(
+        rt: &R,
+        alloc: Global,
+        path: &str,
+    ) -> Result<Self, OpenFault>
+        ensures { IfOk result (λ d. d.failures ≡ 0) }
+    {
+        let file = OpenOptions::new().read(true).write(true).open(rt, path)?;
+        Self::over(rt, alloc, path, file)
+    }
+
+    /// A file that was opened at a path, locked.
+    fn over<R: Files<File = File>>(
+        rt: &R,
+        alloc: Global,
+        path: &str,
+        file: File,
+    ) -> Result<Self, OpenFault>
+        ensures { IfOk result (λ d. d.failures ≡ 0) }
+    {
+        let mut file = file;
         // what is printed to a standard stream that was closed must not land in the file
         if file.as_raw_fd() <= 2 {
             file = file.try_clone()?;

@@ -1,0 +1,25 @@
+-- What lies beside a folder.
+use Rattle.std.specs.Prelude.{◌≡◌, ℕ, ◌==◌, if◌then◌else◌, List, ◌++◌, Option, None, Some, codes, decimal, option_map, string_bytes}
+use Rattle.std.specs.Path.{path_file_name, path_with_file_name}
+use Rattle.journal_folder.specs.declared.paths.Paths.{Paths}
+
+-- in the same folder, the name of this one with an ending; none where it has no name of its own, as `.` and `/`
+abbrev pub beside : List ℕ → List ℕ → Option (List ℕ)
+beside folder ending = option_map (λ name. path_with_file_name folder (name ++ codes "." ++ ending)) (path_file_name folder)
+
+-- the new journals of a folder lie beside it, under one name until all are whole, and under another one from then on
+abbrev pub ArePaths : List ℕ → Option Paths → Type 0
+ArePaths folder None = beside folder (codes "renewing") ≡ None
+ArePaths folder (Some paths) =
+    (string_bytes paths.folder ≡ folder)
+    × (beside folder (codes "renewing") ≡ Some (string_bytes paths.renewing))
+    × (beside folder (codes "renewed") ≡ Some (string_bytes paths.renewed))
+
+-- the first old folder is called old, and the next ones old-2, old-3 and so on
+abbrev pub old_ending : ℕ → List ℕ
+old_ending number = if number == 1 then codes "old" else codes "old-" ++ decimal number
+
+-- a name of an old folder beside this one
+pub record IsOldName (folder name : List ℕ) : Type 0 where
+  pub number : ℕ
+  pub is : beside folder (old_ending number) ≡ Some name

@@ -1,0 +1,7 @@
+pub mod Beside
+pub mod Counting
+pub mod Faults
+pub mod Moved
+pub mod Planning
+pub mod Runs
+pub mod Saving

@@ -1,0 +1,88 @@
+//! What a list tells of a node's runs.
+ghost use Rattle.std.specs.Prelude.{◌≡◌, ◌≤◌, ◌^◌};
+ghost use Rattle.std.specs.List.{All};
+ghost use Rattle.journal_folder.specs.Runs.{greatest_boot, boot_in, boot_in_claims, boot_in_command, boot_in_session, boot_of};
+
+use bouncer_tower::TowerBody;
+use buffer_commands::{Command, WireLine};
+use raft_log::{Log, NodeId};
+use request_once::Body;
+use session_fence::FenceCommand;
+use upstream_claim::ClaimsCommand;
+use wire_bytes::{Number, Origin};
+
+/// The greatest boot of a node that the entries of a log tell of, 0 where they tell of none.
+#[tactic(auto, using(crate::proofs::Greatest::one_more, crate::proofs::Greatest::none_is_later))]
+pub fn greatest_boot(node: NodeId, log: &Log<TowerBody>) -> u64
+    ensures greatest { result ≡ greatest_boot node log.now }
+    ensures none_is_later { All (λ e. boot_in node e.body ≤ result) log.now }
+    ensures limit { result ≤ 2 ^ 60 }
+{
+    let mut greatest = 0u64;
+    for before in 0..log.len().value() {
+        let body = log.body(Number::new(before + 1));
+        greatest = greatest.max(boot_in(node, body.get()));
+    }
+    greatest
+}
+
+/// The boot of a node that a body tells of, 0 where it tells of none.
+pub fn boot_in(node: NodeId, body: &TowerBody) -> u64
+    ensures boot { result ≡ boot_in node body.now }
+    ensures limit { result ≤ 2 ^ 60 }
+{
+    match body {
+        Body::Inner(command) => boot_in_claims(node, command),
+        Body::Asked(origin, _, _, _) => boot_of(node, *origin),
+        Body::Blank => 0,
+        Body::Mark(mark) => if mark.node == node.value() {
+            mark.boot.value()
+        } else {
+            0
+        },
+    }
+}
+
+/// The boot of a client, where it is of this node.
+fn boot_of(node: NodeId, origin: Origin) -> u64
+    ensures boot { result ≡ boot_of node origin }
+    ensures limit { result ≤ 2 ^ 60 }
+{
+    if origin.node() == node.value() {
+        origin.boot()
+    } else {
+        0
+    }
+}
+
+fn boot_in_claims(node: NodeId, command: &ClaimsCommand<FenceCommand<Command, WireLine>>) -> u64
+    ensures boot { result ≡ boot_in_claims node command.now }
+    ensures limit { result ≤ 2 ^ 60 }
+{
+    match command {
+        ClaimsCommand::Inner(command) => boot_in_session(node, command),
+        ClaimsCommand::Claim(_, _) => 0,
+    }
+}
+
+fn boot_in_session(node: NodeId, command: &FenceCommand<Command, WireLine>) -> u64
+    ensures boot { result ≡ boot_in_session node command.now }
+    ensures limit { result ≤ 2 ^ 60 }
+{
+    match command {
+        FenceCommand::Inner(command) => boot_in_command(node, command),
+        FenceCommand::Opened(_) | FenceCommand::Shut(_) | FenceCommand::Heard(_, _, _, _) => 0,
+    }
+}
+
+/// The floor below which runs of the node are gone is a boot that it may have had.
+fn boot_in_command(node: NodeId, command: &Command) -> u64
+    ensures boot { result ≡ boot_in_command node command.now }
+    ensures limit { result ≤ 2 ^ 60 }
+{
+    match command {
+        Command::Client(origin, _, _) => boot_of(node, *origin),
+        Command::NodeGone(gone, floor) if *gone == node.value() => floor.value(),
+        _ => 0,
+    }
+}

@@ -1,0 +1,30 @@
+//! A folder, and the one that it lies in.
+use std::fs::{DirBuilder, File, Files};
+use std::io::ErrorKind;
+use std::os::unix::fs::DirBuilderExt;
+use std::path::Path;
+use std::{fs, io};
+
+/// Nobody but its owner looks into the folder of the journals.
+const OWNERS: u32 = 0o700;
+
+/// The folder of a path is there, one that is made where it is not. The folder around it is synced,
+/// so that a crash leaves it there.
+pub fn make_folder<R: Files<File = File>>(rt: &R, path: &str) -> io::Result<()> {
+    match DirBuilder::new().mode(OWNERS).create(rt, path) {
+        Ok(()) => {}
+        Err(error) => if error.kind() != ErrorKind::AlreadyExists {
+            return Err(error);
+        },
+    }
+    sync_around(rt, path)
+}
+
+/// Syncs the folder in which a path lies, so that a crash leaves the names in it.
+pub fn sync_around<R: Files<File = File>>(rt: &R, path: &str) -> io::Result<()> {
+    let around = match Path::new(path).parent() {
+        Some(folder) if !folder.as_str().is_empty() => folder.as_str(),
+        _ => ".",
+    };
+    fs::open(rt, around)?.sync_all()
+}

@@ -1,0 +1,49 @@
+ghost use Rattle.std.specs.Prelude.{◌≡◌};
+ghost use Rattle.journal_folder.specs.declared.folder_fault.FolderFault.TheVariants.{Memory};
+
+use file_disk::OpenFault;
+use std::alloc::{AllocError, Global};
+use std::io;
+use std::io::ErrorKind;
+use thiserror::Error;
+
+/// Why a folder does not take the place of another, with the path that it is about.
+#[derive(Debug, Drop, Error)]
+pub enum FolderFault {
+    #[error("{0}: {1}")]
+    Journal(String, OpenFault),
+    #[error("{0}: {1}")]
+    System(String, io::Error),
+    #[error("{0}: too many old folders lie beside it: move them away")]
+    NoFreeName(String),
+    #[error("out of memory")]
+    Memory,
+}
+
+impl FolderFault {
+    /// The system refuses what is asked of a path.
+    pub fn of_system(alloc: Global, path: &str, error: io::Error) -> FolderFault {
+        match String::from_str(alloc, path) {
+            Ok(path) => FolderFault::System(path, error),
+            Err(_) => FolderFault::Memory,
+        }
+    }
+
+    /// Whether this is want of memory, also where the system tells it.
+    pub fn is_memory(&self) -> bool {
+        match self {
+            FolderFault::Memory => true,
+            FolderFault::Journal(_, fault) => fault.is_memory(),
+            FolderFault::System(_, error) => error.kind() == ErrorKind::OutOfMemory,
+            FolderFault::NoFreeName(_) => false,
+        }
+    }
+}
+
+impl From<AllocError> for FolderFault {
+    ghost from_gives = { λ _ e. e ≡ Memory };
+
+    fn from(_error: AllocError) -> Self {
+        FolderFault::Memory
+    }
+}

@@ -1,0 +1,27 @@
+//! What a renewal did.
+use std::fmt;
+use wire_bytes::Number;
+
+/// What a renewal did: how many entries the log had and has, how much is kept in it, and where the old journals
+/// lie now.
+#[derive(Drop)]
+pub struct Renewed {
+    pub before: Number,
+    pub now: Number,
+    pub targets: u64,
+    pub lines: u64,
+    pub old: Option<String>,
+}
+
+impl fmt::Display for Renewed {
+    fn fmt<W: fmt::Write>(&self, f: &mut fmt::Formatter<W>) -> fmt::Result {
+        writeln!(f, "entries before: {}", self.before.value())?;
+        writeln!(f, "entries now: {}", self.now.value())?;
+        writeln!(f, "targets: {}", self.targets)?;
+        write!(f, "lines kept: {}", self.lines)?;
+        match &self.old {
+            Some(old) => write!(f, "\nold folder: {old}"),
+            None => Ok(()),
+        }
+    }
+}
