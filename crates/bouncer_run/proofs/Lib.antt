@@ -1,5 +1,6 @@
-pub mod Covering
-pub mod Greatest
+pub mod Entries
+pub mod Longest
+pub mod Marks
 pub mod Movements
 pub mod PasswordTexts
 pub mod Places

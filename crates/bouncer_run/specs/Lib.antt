@@ -7,10 +7,10 @@ pub mod Groups
 pub mod Guests
 pub mod Inputs
 pub mod Levels
-pub mod Moved
 pub mod Moving
 pub mod Pasts
-pub mod Runs
 pub mod Settings
 pub mod Turns
 pub mod LoopMessages
+pub mod Days
+pub mod Rates

@@ -30,9 +30,16 @@ impl Clockwork {
             .as_secs()
             .saturating_mul(1000)
             .saturating_add(passed.subsec_millis() as u64);
-        let at = moment_of(seconds_of_day(rt));
-        Ok(Now { ms, at })
+        Ok(Now {
+            ms,
+            at: time_of_day(rt),
+        })
     }
+}
+
+/// The moment now by the time of day, 1970 where it is not known.
+pub fn time_of_day(rt: &impl Clock) -> Moment {
+    moment_of(seconds_of_day(rt))
 }
 
 /// The seconds since 1970 by the time of day, 0 where it is earlier than that, or is not known.

@@ -5,6 +5,7 @@ ghost use Rattle.bouncer_run.specs.LoopMessages.{IsHeard, is_end};
 use crate::clock::{Clockwork, Ticks};
 use crate::edge_news::EdgeNews;
 use crate::inlet::LoopMessage;
+use crate::operator::Operator;
 use crate::sockets::Sockets;
 use buffer_commands::Action;
 use crossbeam_channel::Receiver;
@@ -56,15 +57,6 @@ pub trait Nodes {
     fn tell<R: Wait>(&self, rt: &R, node: NodeId, note: TowerNote) -> bool;
 }
 
-/// Who is told what happens.
-pub trait Operator {
-    /// What the driver tells.
-    fn hear(&mut self, now: &Now, news: News);
-
-    /// What happened at the edge.
-    fn hear_edge(&mut self, now: &Now, news: EdgeNews);
-}
-
 /// Waits for sockets, for messages and for time to pass, until it is told to end; an operator is told
 /// what happens.
 pub fn run_loop<R: Net + Wait + Clock, N: Nodes, O: Operator>(
@@ -91,9 +83,7 @@ pub fn run_loop<R: Net + Wait + Clock, N: Nodes, O: Operator>(
         let is_over = hear_messages(rt, &now, driver, messages)?;
         sockets.take_turns(&now, driver)?;
         if ticks.take(now.ms) {
-            driver.tick(&now)?;
-            driver.watch_log()?;
-            sockets.tick(&now, driver)?;
+            tick(&now, driver, sockets, operator)?;
         }
         // what the sockets tell comes before what the driver made of it
         tell_edge(&now, sockets, operator);
@@ -105,6 +95,22 @@ pub fn run_loop<R: Net + Wait + Clock, N: Nodes, O: Operator>(
         }
     }
     sockets.finish(&now);
+    Ok(())
+}
+
+/// Time has passed: the driver and the sockets do what is due, and an operator is told how long the log is.
+fn tick<O: Operator>(
+    now: &Now,
+    driver: &mut Driver,
+    sockets: &mut Sockets,
+    operator: &mut O,
+) -> Result<(), LoopFault> {
+    driver.tick(now)?;
+    driver.watch_log()?;
+    sockets.tick(now, driver)?;
+    if let Some(entries) = driver.log_length() {
+        operator.hear_length(now, entries)?;
+    }
     Ok(())
 }
 

@@ -8,21 +8,14 @@ use crate::system::System;
 use bouncer_config::Config;
 use bouncer_tower::TowerBody;
 use file_disk::{FileJournal, OpenFault, open_journal};
+use journal_folder::finish_renewal;
 use raft_log::{GroupSize, Log, NodeId};
 use run_plan::journal_path;
 use stable_store::StoreFault;
-use std::fs::DirBuilder;
-use std::io::ErrorKind;
-use std::os::unix::fs::DirBuilderExt;
-use std::path::Path;
-use std::{fs, io};
-
-/// Nobody but its owner looks into the folder of the journals.
-const OWNERS: u32 = 0o700;
 
 /// A journal for each node, node 1's first, in the folder that the configuration names, which is
-/// made where it is not there. Where there is none, a line was written to standard error that names
-/// the folder or the file, and says why.
+/// made where it is not there. A renewal that was decided is finished first. Where there are no journals, a line
+/// was written to standard error that names the folder or the file, and says why.
 pub fn journals<R: System>(
     rt: &R,
     config: &Config,
@@ -35,6 +28,7 @@ pub fn journals<R: System>(
     let alloc = rt.alloc();
     let folder = config.store.as_str();
     make_folder(rt, folder)?;
+    finish(rt, folder)?;
     let mut journals: Vec<FileJournal<TowerBody>> = Vec::new(alloc);
     for index in 0..size.value() {
         let path = journal_path(alloc, folder, NodeId::new(index + 1))?;
@@ -80,12 +74,11 @@ fn fault_of(fault: &OpenFault) -> RunFault
     }
 }
 
-/// The folder of a path is there, one that is made where it is not. The folder around it is synced,
-/// so that a crash leaves it there.
+/// The folder of a path is there, one that is made where it is not.
 fn make_folder<R: System>(rt: &R, path: &str) -> Result<(), RunFault>
     ensures { IfErr result (IsOrMemory RunFault.Store) }
 {
-    match make_synced(rt, path) {
+    match journal_folder::make_folder(rt, path) {
         Ok(()) => Ok(()),
         Err(error) => {
             let _ = eprintln!(rt; "{path}: {error}");
@@ -94,16 +87,20 @@ fn make_folder<R: System>(rt: &R, path: &str) -> Result<(), RunFault>
     }
 }
 
-fn make_synced<R: System>(rt: &R, path: &str) -> io::Result<()> {
-    match DirBuilder::new().mode(OWNERS).create(rt, path) {
-        Ok(()) => {}
-        Err(error) => if error.kind() != ErrorKind::AlreadyExists {
-            return Err(error);
-        },
+/// A renewal that was decided is finished. Where it was not finished before, a line was written that says where the
+/// old folder lies now.
+fn finish<R: System>(rt: &R, folder: &str) -> Result<(), RunFault>
+    ensures { IfErr result (IsOrMemory RunFault.Store) }
+{
+    match finish_renewal(rt, folder) {
+        Ok(None) => Ok(()),
+        Ok(Some(old)) => {
+            let _ = eprintln!(rt; "{folder}: the renewal is finished, and the old folder is {old}");
+            Ok(())
+        }
+        Err(fault) => {
+            let _ = eprintln!(rt; "{fault}");
+            Err(RunFault::of_store(fault.is_memory()))
+        }
     }
-    let around = match Path::new(path).parent() {
-        Some(folder) if !folder.as_str().is_empty() => folder.as_str(),
-        _ => ".",
-    };
-    fs::open(rt, around)?.sync_all()
 }

@@ -2,11 +2,13 @@
 ghost use Rattle.std.specs.Prelude.{◌≡◌, ◌⊎◌, IfErr, IfOk};
 ghost use Rattle.bouncer_run.specs.Faults.{IsOrMemory};
 
-use crate::clock::Clockwork;
+use crate::clock::{Clockwork, time_of_day};
 use crate::driver_settings::settings_of;
 use crate::ending::watch_input;
 use crate::event_loop::run_loop;
+use crate::first_mark::rate_of;
 use crate::group::{address_of, size_of};
+use crate::growth::Growth;
 use crate::inlet::{Inlet, LoopMessage};
 use crate::inlets::Inlets;
 use crate::input::open_input;
@@ -24,11 +26,13 @@ use crate::system::System;
 use crate::telling::Telling;
 use crate::warnings::warn;
 use bouncer_config::Config;
+use bouncer_tower::TowerBody;
 use crossbeam_channel::{Receiver, unbounded};
 use driver::Driver;
+use file_disk::FileJournal;
 use node_cells::Upstream;
 use raft_log::NodeId;
-use std::alloc::Global;
+use std::alloc::{AllocError, Global};
 use std::io;
 use std::io::Read;
 use std::os::fd::AsRawFd;
@@ -55,14 +59,26 @@ pub fn run<
     let size = size_of(&config);
     let mut journals = journals(rt, &config, size)?;
     set_apart(rt, &config, &mut journals)?;
-    let errors = JournalErrors::of(rt.alloc(), journals.as_slice())?;
+    let telling = telling_of(rt, &config, journals.as_slice())?;
     let mut edge = Edge::new(rt, &config)?;
     let parts = parts(rt, &edge.inlets, journals, hands)?;
     let running = Running::start(rt, &config, size, parts)?;
-    let ran = edge.serve(rt, &config, errors, input, &running);
+    let ran = edge.serve(rt, &config, telling, input, &running);
     let records = running.stop(rt);
     ran?;
     write_record(rt, config, size, records)
+}
+
+/// Who tells of a bouncer over these journals: also why one of them fails, and when a log that fills is full.
+fn telling_of<R: System>(
+    rt: &R,
+    config: &Config,
+    journals: &[FileJournal<TowerBody>],
+) -> Result<Telling<R>, AllocError> {
+    let alloc = rt.alloc();
+    let errors = JournalErrors::of(alloc, journals)?;
+    let rate = rate_of(alloc, journals, time_of_day(rt))?;
+    Ok(Telling::over(*rt, config.log, errors, Growth::new(rate)))
 }
 
 /// The sockets, and what the loop is told by other threads.
@@ -100,7 +116,7 @@ impl Edge {
         &mut self,
         rt: &R,
         config: &Config,
-        errors: JournalErrors,
+        telling: Telling<R>,
         input: Option<I>,
         running: &Running<U>,
     ) -> Result<(), RunFault>
@@ -111,7 +127,7 @@ impl Edge {
             .map_err(socket_fault)?
             .now(rt)
             .map_err(socket_fault)?;
-        let mut telling = Telling::over(*rt, config.log, errors);
+        let mut telling = telling;
         warn(&now, config, &telling);
         listen_all(rt, config, &now, &mut self.sockets, &telling)?;
         try_record(rt, config)?;

@@ -1,7 +1,8 @@
 //! Why a bouncer does not run, or ended before it was to.
-ghost use Rattle.std.specs.Prelude.{◌≡◌};
+ghost use Rattle.std.specs.Prelude.{◌≡◌, if◌then◌else◌};
 ghost use Rattle.std.specs.IoError.{error_kind};
 ghost use Rattle.bouncer_run.specs.Faults.{IsFaultOfError, IsOrMemory, fault_of_loop};
+ghost use Rattle.bouncer_run.specs.declared.run_fault.RunFault.TheVariants.{Memory, Store};
 
 use crate::event_loop::LoopFault;
 use std::alloc::AllocError;
@@ -46,6 +47,19 @@ impl RunFault {
             RunFault::Memory
         } else {
             otherwise
+        }
+    }
+
+    /// What it is to the program that a folder of journals is not as it is to be: want of memory, where it is
+    /// that, and else the store.
+    pub fn of_store(is_memory: bool) -> RunFault
+        ensures kind { result ≡ (if is_memory then Memory else Store) }
+        ensures either { IsOrMemory Store result }
+    {
+        if is_memory {
+            RunFault::Memory
+        } else {
+            RunFault::Store
         }
     }
 

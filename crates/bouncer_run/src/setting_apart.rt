@@ -3,13 +3,13 @@ ghost use Rattle.std.specs.Prelude.{◌≡◌, ◌<◌, ◌≤◌, IfErr, length
 ghost use Rattle.bouncer_run.specs.Faults.{IsOrMemory};
 
 use crate::clock::Clockwork;
-use crate::moved_away::{Earlier, earlier_of, give};
 use crate::run_fault::RunFault;
 use crate::system::System;
 use crate::telling::Telling;
 use bouncer_config::Config;
 use bouncer_tower::TowerBody;
 use file_disk::{FileJournal, may_be_new};
+use journal_folder::{Earlier, earlier_of, give};
 use raft_log::NodeId;
 use stable_store::StoreFault;
 use std::{fmt, io};

@@ -3,11 +3,13 @@ ghost use Rattle.std.specs.Prelude.{◌≡◌};
 ghost use Rattle.bouncer_run.specs.Levels.{is_told};
 
 use crate::edge_news::EdgeNews;
-use crate::event_loop::Operator;
+use crate::growth::{FullIn, Growth};
 use crate::journal_errors::{Because, JournalErrors};
+use crate::operator::Operator;
 use bouncer_config::LogLevel;
 use driver::{News, Now};
 use jiff::Timestamp;
+use std::alloc::AllocError;
 use std::fmt::Display;
 use std::io;
 use std::rt::Runtime;
@@ -19,24 +21,27 @@ pub struct Telling<R: Runtime> {
     rt: R,
     level: LogLevel,
     errors: Option<JournalErrors>,
+    growth: Option<Growth>,
 }
 
 impl<R: Runtime> Telling<R> {
-    /// Of a store that fails it is not told why.
+    /// Of a store that fails it does not tell why, nor of a log that fills when it is full.
     pub fn new(rt: R, level: LogLevel) -> Telling<R> {
         Telling {
             rt,
             level,
             errors: None,
+            growth: None,
         }
     }
 
-    /// It tells, too, why the store of a node failed.
-    pub fn over(rt: R, level: LogLevel, errors: JournalErrors) -> Telling<R> {
+    /// It tells, too, why the store of a node failed, and when a log that fills is full.
+    pub fn over(rt: R, level: LogLevel, errors: JournalErrors, growth: Growth) -> Telling<R> {
         Telling {
             rt,
             level,
             errors: Some(errors),
+            growth: Some(growth),
         }
     }
 
@@ -58,6 +63,14 @@ impl<R: Runtime> Telling<R> {
         }
     }
 
+    /// In how many days the log is full, where this tells that it fills, and it is known.
+    fn days_of(&self, now: &Now, news: &News) -> Option<u64> {
+        match &self.growth {
+            Some(growth) => growth.days_of(now, news),
+            None => None,
+        }
+    }
+
     /// One event that is of no node.
     pub fn tell_all<E: Display>(&self, now: &Now, event: &E) {
         if !is_told(self.level, false) {
@@ -70,13 +83,22 @@ impl<R: Runtime> Telling<R> {
 }
 
 impl<R: Runtime> Operator for Telling<R> {
+    fn hear_length(&mut self, now: &Now, entries: u64) -> Result<(), AllocError> {
+        match &mut self.growth {
+            Some(growth) => growth.hear(now, entries),
+            None => Ok(()),
+        }
+    }
+
     fn hear(&mut self, now: &Now, news: News) {
-        match self.error_of(&news) {
-            Some(error) => {
-                let because = Because { news: &news, error };
-                self.tell(now, news.node(), &because);
-            }
-            None => self.tell(now, news.node(), &news),
+        if let Some(error) = self.error_of(&news) {
+            let because = Because { news: &news, error };
+            self.tell(now, news.node(), &because);
+        } else if let Some(days) = self.days_of(now, &news) {
+            let full_in = FullIn { news: &news, days };
+            self.tell(now, news.node(), &full_in);
+        } else {
+            self.tell(now, news.node(), &news);
         }
     }
 

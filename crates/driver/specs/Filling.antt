@@ -69,6 +69,17 @@ pub record Watches (old new : Driver) : Type 0 where
   pub is_leader : IsLeader old.monitors leader
   pub watches : WatchesFor leader old new
 
+-- how many entries this node has, as far as is known; nothing where there is no node
+abbrev pub entries_of : List NodeMonitor → Option ℕ → Option ℕ
+entries_of monitors None = None
+entries_of monitors (Some node) = Some (last_in (slice_get monitors (node - 1)))
+
+-- So many entries the leader has, as far as is known; nothing is said where none leads.
+pub record IsLogLength (monitors : List NodeMonitor) (entries : Option ℕ) : Type 0 where
+  pub leader : Option ℕ
+  pub is_leader : IsLeader monitors leader
+  pub is_its : entries ≡ entries_of monitors leader
+
 -- nothing new is taken of a client that registered, nor of the server, where the log is full
 abbrev pub is_full : Level → Bool
 is_full Roomy = false

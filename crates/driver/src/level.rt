@@ -4,7 +4,7 @@ ghost use Rattle.driver.specs.Filling.{is_full, level_of, rank, words_of};
 
 /// Of the entries that a log takes the last 1,000 are kept for blank entries, for sessions that end, and for
 /// clients that attach: so a bouncer whose log is full still starts, joins, and plays all that it kept.
-const FULL: u64 = 999_000;
+pub const FULL: u64 = 999_000;
 
 /// An operator who is told now has days left at the rate of a busy bouncer.
 const NEARLY_FULL: u64 = 950_000;

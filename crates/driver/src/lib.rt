@@ -25,7 +25,7 @@ mod timer;
 
 pub use backoff::Backoff;
 pub use driver::Driver;
-pub use level::Level;
+pub use level::{FULL, Level};
 pub use news::{Ending, News};
 pub use order::{Now, Order, TowerNote, TowerReport};
 pub use pace::Pace;

@@ -102,9 +102,18 @@ impl fmt::Display for News {
             News::Down(_, cause) => write!(f, "down: {cause}"),
             News::Up(_, boot) => write!(f, "up, run {}", boot.value()),
             News::TurnedAway(_) => write!(f, "client turned away: the node is down"),
-            News::LogFills(_, Level::Full) => write!(f, "the log is full: nothing new is taken"),
-            News::LogFills(_, Level::NearlyFull) => write!(f, "the log is 95 percent full"),
-            News::LogFills(_, Level::Filling) => write!(f, "the log is 80 percent full"),
+            News::LogFills(_, Level::Full) => {
+                write!(
+                    f,
+                    "the log is full: nothing new is taken: run bouncer renew"
+                )
+            }
+            News::LogFills(_, Level::NearlyFull) => {
+                write!(f, "the log is 95 percent full: run bouncer renew")
+            }
+            News::LogFills(_, Level::Filling) => {
+                write!(f, "the log is 80 percent full: run bouncer renew")
+            }
             News::LogFills(_, Level::Roomy) => write!(f, "the log has room"),
         }
     }

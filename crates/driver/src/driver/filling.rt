@@ -1,6 +1,6 @@
 //! How full the log is, and what people are told of it.
 ghost use Rattle.std.specs.Prelude.{◌≡◌, ◌-◌, OnOk, Some, slice_get};
-ghost use Rattle.driver.specs.Filling.{TellsLevel, Watches, WatchesFor, is_left_out, is_refused, last_in, words_of};
+ghost use Rattle.driver.specs.Filling.{IsLogLength, TellsLevel, Watches, WatchesFor, is_left_out, is_refused, last_in, words_of};
 ghost use Rattle.driver.specs.Nicks.{IsWritten, nick_in, notice};
 ghost use Rattle.driver.specs.Rosters.{client_at};
 ghost use Rattle.driver.specs.declared.level.Level.TheVariants.{Full};
@@ -49,6 +49,14 @@ impl Driver {
             Some(status) => status.last.value(),
             None => 0,
         }
+    }
+
+    /// How many entries the leader has, as far as is known; `None` where no node leads.
+    pub fn log_length(&self) -> Option<u64>
+        ensures { IsLogLength self.now.monitors result }
+    {
+        let node = leader_of(&self.monitors)?;
+        Some(self.last_of(node))
     }
 
     /// Whether what this client sends is not taken: it registered, and the log is full.

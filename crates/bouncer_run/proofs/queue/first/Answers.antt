@@ -1,6 +1,6 @@
 use Rattle.std.proofs.Common.{Bool, false, slice_index_or, subst}
 use Rattle.bouncer_run.specs.Turns.{MayBeRead}
-use Rattle.bouncer_run.proofs.Covering.{all_of_them, one_more}
+use Rattle.journal_folder.proofs.Covering.{all_of_them, one_more}
 use Rattle.bouncer_run.proofs.queue.first.Goals as goal
 
 pub loop-index-preserved : goal.loop-index-preserved
