@@ -1,7 +1,7 @@
 //! `bouncer`: runs a bouncer; folds numbered commands into what its clients are shown, and runs events over
-//! its nodes, again too where they were recorded; shows what a journal holds.
+//! its nodes, again too where they were recorded; shows what a journal holds, and begins a log anew.
 //! No crate stands on it. Its arguments, exit codes and standard error are tested; what its tasks do is promised by
-//! bouncer_run, fold_app, world_app and chat_log.
+//! bouncer_run, journal_folder, fold_app, world_app and chat_log.
 #![tactic(auto)]
 
 mod help;
@@ -9,9 +9,10 @@ mod show;
 
 use crate::help::{HELP, USAGE, VERSION, WAITING};
 use crate::show::show;
-use bouncer_run::{Hands, check, run};
+use bouncer_run::{Hands, RunFault, check, read, run};
 use fold_app::{FoldFault, fold};
 use irc_line::Name;
+use journal_folder::renew;
 use records::{ReplayFault, Verdict};
 use std::alloc::Global;
 use std::env::{Args, args};
@@ -42,14 +43,16 @@ enum Task {
     Run(String),
     /// To say what that run would do.
     Check(String),
+    /// To begin the log of that bouncer anew.
+    Renew(String),
     Help,
     Version,
 }
 
 /// What the words, the program's name first, ask for: a fold where none follows, or `fold` alone; the
 /// events of a world where `world` and a number follow; a record's where `replay` and a path do, and its picture
-/// where `draw` and a path do; a journal's chat where `show`, a path and a name or none do; a bouncer's run, or a
-/// check of its configuration, where `run` or `check` and a path do.
+/// where `draw` and a path do; a journal's chat where `show`, a path and a name or none do; a bouncer's run, a
+/// check of its configuration, or a new log, where `run`, `check` or `renew` and a path do.
 fn asked(words: Args) -> Option<Task> {
     let mut words = words.skip(1);
     let Some(word) = words.next() else {
@@ -63,6 +66,7 @@ fn asked(words: Args) -> Option<Task> {
         "show" => Task::Show(words.next()?, target_of(words.next())?),
         "run" => Task::Run(words.next()?),
         "check" => Task::Check(words.next()?),
+        "renew" => Task::Renew(words.next()?),
         "help" | "--help" | "-h" => Task::Help,
         "--version" => Task::Version,
         _ => return None,
@@ -170,6 +174,22 @@ fn run_check(rt: &HostRuntime, path: &str) -> ExitCode {
     ExitCode::SUCCESS
 }
 
+/// Begins the log of the bouncer of a configuration anew, and says what was done. The exit code is 0, or 1 with the
+/// fault on standard error, and a line before it that says why.
+fn run_renew(rt: &HostRuntime, path: &str) -> ExitCode {
+    let config = match read(rt, path) {
+        Ok(config) => config,
+        Err(fault) => return failed(rt, fault),
+    };
+    match renew(rt, &config) {
+        Ok(renewed) => told(rt, &renewed),
+        Err(fault) => {
+            let _ = eprintln!(rt; "{fault}");
+            failed(rt, RunFault::of_store(fault.is_memory()))
+        }
+    }
+}
+
 /// Tells a person at a terminal that the program waits for what they type.
 fn tell_waiting(rt: &HostRuntime, input: &impl IsTerminal) {
     if input.is_terminal() {
@@ -178,7 +198,7 @@ fn tell_waiting(rt: &HostRuntime, input: &impl IsTerminal) {
 }
 
 /// Writes a text to standard output, as a line.
-fn told(rt: &HostRuntime, line: &str) -> ExitCode {
+fn told<T: Display>(rt: &HostRuntime, line: &T) -> ExitCode {
     match println!(rt; "{line}") {
         Ok(()) => ExitCode::SUCCESS,
         Err(_) => failed(rt, FoldFault::Write),
@@ -210,8 +230,9 @@ fn main(rt: HostRuntime) -> ExitCode {
                 Err(fault) => failed(&rt, fault),
             },
             Some(Task::Check(path)) => run_check(&rt, path.as_str()),
-            Some(Task::Help) => told(&rt, HELP),
-            Some(Task::Version) => told(&rt, VERSION),
+            Some(Task::Renew(path)) => run_renew(&rt, path.as_str()),
+            Some(Task::Help) => told(&rt, &HELP),
+            Some(Task::Version) => told(&rt, &VERSION),
             None => usage(&rt),
         },
         Err(error) => if error.kind() == ErrorKind::OutOfMemory {
