@@ -2,3 +2,4 @@ mod Seating
 pub mod New
 pub mod Lengths
 mod Appending
+mod Taken

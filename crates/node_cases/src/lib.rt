@@ -10,6 +10,8 @@ mod drive;
 #[cfg(test)]
 mod marked;
 #[cfg(test)]
+mod opening;
+#[cfg(test)]
 mod running;
 #[cfg(test)]
 mod tickets;

@@ -1,59 +1,17 @@
 //! Three cells of one ether, in one thread.
-ghost use Rattle.std.specs.Prelude.{IfOk};
-ghost use Rattle.std.specs.Arc.{arc_value};
-ghost use Rattle.ether.specs.Passes.{AreNew};
-
-use crate::cell::upstream::NoUpstream;
-use ether::{Ether, Pass};
-use node_cells::{NodeCell, Recording};
-use raft_log::GroupSize;
+use crate::opening::{MemoryCell, three_cells};
+use node_cells::Recording;
 use recorder::NodeFields;
-use stable_store::MemoryStore;
 use std::alloc::Global;
-use std::sync::Arc;
 use std::test::Fail;
 use toy_machine::Toy;
 use world_views::NodeInput;
 
-pub type ToyCell = NodeCell<Toy, MemoryStore<u8>, NoUpstream>;
-
-pub type ToyPass = Pass<u8, u8, u8>;
+pub type ToyCell = MemoryCell<Toy>;
 
 /// The cells of the three nodes of an ether, over new stores, node 1's first.
 pub fn three(alloc: Global, recording: Recording) -> Result<Vec<ToyCell>, Fail> {
-    let Some(size) = GroupSize::new(3) else {
-        return Err(Fail::from("no such size"));
-    };
-    let (ether, passes) = Ether::<Toy>::new(alloc, size, &0)?;
-    let ether = Arc::new(alloc, ether)?;
-    let mut passes = passes;
-    let third = open_last(alloc, &ether, &mut passes, recording)?;
-    let second = open_last(alloc, &ether, &mut passes, recording)?;
-    let first = open_last(alloc, &ether, &mut passes, recording)?;
-    let mut cells = Vec::new(alloc);
-    cells.push(first)?;
-    cells.push(second)?;
-    cells.push(third)?;
-    Ok(cells)
-}
-
-/// The cell of the last of some new passes, over a new store.
-fn open_last(
-    alloc: Global,
-    ether: &Arc<Ether<Toy>, Global>,
-    passes: &mut Vec<ToyPass>,
-    recording: Recording,
-) -> Result<ToyCell, Fail>
-    requires { AreNew (arc_value ether.now) passes.old.items }
-    ensures { IfOk result (λ _. AreNew (arc_value ether.now) passes.new.items) }
-{
-    let Some(pass) = passes.pop() else {
-        return Err(Fail::from("no pass is left"));
-    };
-    let store = MemoryStore::new(alloc);
-    let twin = Arc::try_clone(ether)?;
-    let cell = NodeCell::open(alloc, twin, pass, store, NoUpstream::new(), recording)?;
-    Ok(cell)
+    three_cells::<Toy>(alloc, &0, recording)
 }
 
 /// This happens to the node at this place, from 0 on.

@@ -1,61 +1,19 @@
 //! Three cells of one ether, in one thread.
-ghost use Rattle.std.specs.Prelude.{IfOk};
-ghost use Rattle.std.specs.Arc.{arc_value};
-ghost use Rattle.ether.specs.Passes.{AreNew};
-
-use crate::cell::upstream::NoUpstream;
 use crate::marked::noting::Notes;
-use ether::{Ether, Pass};
-use marked_cells::MarkedCell;
+use crate::opening::{MemoryCell, three_cells};
 use node_cells::{CellFault, Recording};
 use node_steps::Refusal;
-use raft_log::GroupSize;
 use raft_node::NodeFault;
-use stable_store::MemoryStore;
 use std::alloc::Global;
-use std::sync::Arc;
 use std::test::Fail;
 use wire_bytes::Mark;
 use world_views::NodeInput;
 
-pub type NotesCell = MarkedCell<Notes, MemoryStore<Mark>, NoUpstream>;
-
-pub type NotesPass = Pass<Mark, u8, u8>;
+pub type NotesCell = MemoryCell<Notes>;
 
 /// The cells of the three nodes of an ether, over new stores, node 1's first.
 pub fn three(alloc: Global) -> Result<Vec<NotesCell>, Fail> {
-    let Some(size) = GroupSize::new(3) else {
-        return Err(Fail::from("no such size"));
-    };
-    let (ether, passes) = Ether::<Notes>::new(alloc, size, &0)?;
-    let ether = Arc::new(alloc, ether)?;
-    let mut passes = passes;
-    let third = open_last(alloc, &ether, &mut passes)?;
-    let second = open_last(alloc, &ether, &mut passes)?;
-    let first = open_last(alloc, &ether, &mut passes)?;
-    let mut cells = Vec::new(alloc);
-    cells.push(first)?;
-    cells.push(second)?;
-    cells.push(third)?;
-    Ok(cells)
-}
-
-/// The cell of the last of some new passes, over a new store.
-fn open_last(
-    alloc: Global,
-    ether: &Arc<Ether<Notes>, Global>,
-    passes: &mut Vec<NotesPass>,
-) -> Result<NotesCell, Fail>
-    requires { AreNew (arc_value ether.now) passes.old.items }
-    ensures { IfOk result (λ _. AreNew (arc_value ether.now) passes.new.items) }
-{
-    let Some(pass) = passes.pop() else {
-        return Err(Fail::from("no pass is left"));
-    };
-    let store = MemoryStore::new(alloc);
-    let twin = Arc::try_clone(ether)?;
-    let cell = MarkedCell::open(alloc, twin, pass, store, NoUpstream::new(), Recording::On)?;
-    Ok(cell)
+    three_cells::<Notes>(alloc, &0, Recording::On)
 }
 
 /// This happens to the node at this place, from 0 on.

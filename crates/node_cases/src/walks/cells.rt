@@ -4,7 +4,7 @@ use crate::walks::opening::three;
 use crate::walks::seat::{Seat, Settled};
 use buffer_commands::WireLine;
 use irc_line::Name;
-use machine_laws::{Hosted, Machine};
+use machine_laws::{Hosted, Machine, Marking};
 use node_cells::{NodeRecord, Upstream};
 use raft_log::GroupSize;
 use recorder::{Words, parse_events};
@@ -28,7 +28,7 @@ pub fn walk_cells<M>(
     tried: u8,
 ) -> Result<Vec<u8>, Fail>
 where
-    M: Hosted<Line = WireLine, Target = Name>,
+    M: Marking<Line = WireLine, Target = Name>,
     M::Effect: Words + Drop,
     M::Played: Spelled + Drop,
 {
@@ -45,7 +45,7 @@ where
 }
 
 /// An event happens.
-fn happen<M: Hosted, S: Stable<M::Command>, U: Upstream>(
+fn happen<M: Marking, S: Stable<M::Command>, U: Upstream>(
     alloc: Global,
     seats: &mut [Seat<M, S, U>],
     event: &Event<M::Command, M::Line, M::Target>,
@@ -54,7 +54,10 @@ fn happen<M: Hosted, S: Stable<M::Command>, U: Upstream>(
     match event {
         Event::Does(Input::Deliver(_, to)) => {
             let to = place_of(*to, seats.len())?;
-            seats[to].deliver(node as u64)?;
+            let Some(seat) = seats.get_mut(to) else {
+                return Err(Fail::from("no such node"));
+            };
+            seat.deliver(node as u64)?;
             Ok(())
         }
         Event::Does(input) => turn(alloc, &mut seats[node], input),
@@ -64,7 +67,7 @@ fn happen<M: Hosted, S: Stable<M::Command>, U: Upstream>(
 }
 
 /// A turn of an input other than a delivery or a look, and a second one where that was refused.
-fn turn<M: Hosted, S: Stable<M::Command>, U: Upstream>(
+fn turn<M: Marking, S: Stable<M::Command>, U: Upstream>(
     alloc: Global,
     seat: &mut Seat<M, S, U>,
     input: &Input<M::Command, M::Line, M::Target>,
@@ -78,7 +81,7 @@ fn turn<M: Hosted, S: Stable<M::Command>, U: Upstream>(
 }
 
 /// The records of all cells, in order.
-fn closed<M: Hosted, S: Stable<M::Command>, U: Upstream>(
+fn closed<M: Marking, S: Stable<M::Command>, U: Upstream>(
     alloc: Global,
     seats: Vec<Seat<M, S, U>>,
 ) -> Result<Vec<NodeRecord<M::Command, M::Line, M::Target, M::Effect, M::Played>>, AllocError> {

@@ -1,22 +1,27 @@
 //! What happens to one node by an event.
-ghost use Rattle.std.specs.Prelude.{◌≡◌, ◌≤◌, ◌<◌, None, IfOk, length};
+ghost use Rattle.std.specs.Prelude.{◌≡◌, ◌⊎◌, ◌≤◌, ◌<◌, None, IfOk, IfErr, length, map, suc, take};
+ghost use Rattle.node_cases.specs.Events.{done_by, input_at};
 ghost use Rattle.node_cells.specs.Inputs.{OnlyAppend, input_of};
 ghost use Rattle.raft_node.specs.Together.{OnlyAppends};
+ghost use Rattle.world_lines.specs.OutputText.{named_in};
 ghost use Rattle.world_views.specs.Views.{carries};
 
+use raft_log::NodeId;
 use raft_node::Input as NodeStep;
 use std::alloc::Global;
 use std::test::Fail;
 use wire_bytes::{Copied, Wire};
 use world_events::{Event, Input};
+use world_lines::named_by;
 use world_views::NodeInput;
 
-/// A cell takes no more inputs at once.
+// a cell takes no more inputs at once
 const MOST_TOGETHER: usize = 256;
 
 /// The place of the node of this number, from 1, among so many.
 pub fn place_of(node: u64, count: usize) -> Result<usize, Fail>
-    ensures { IfOk result (λ place. place < count) }
+    ensures place { IfOk result (λ place. (place < count) × (suc place ≡ node)) }
+    ensures none { IfErr result (λ _. (node ≡ 0) ⊎ (count < node)) }
 {
     if node == 0 || node > count as u64 {
         return Err(Fail::from("no such node"));
@@ -29,7 +34,8 @@ pub fn own_input<B: Wire, L: Wire, T>(
     alloc: Global,
     input: &Input<B, L, T>,
 ) -> Result<NodeInput<B, L>, Fail>
-    ensures { IfOk result (λ i. carries i ≡ None) }
+    ensures input { IfOk result (λ i. input_at (named_in input.now) i ≡ input.now) }
+    ensures brings { IfOk result (λ i. carries i ≡ None) }
 {
     match input {
         Input::Timeout(_) => Ok(NodeInput::Timeout),
@@ -62,19 +68,23 @@ pub fn own_step<B: Wire, L: Wire, T>(
     })
 }
 
-/// The first so many of these events as the inputs of a cell, by each of which a leader only appends.
+/// The inputs of this node's cell that the first so many of these events are, by each of which a leader only appends.
 pub fn first_inputs<B: Wire, L: Wire, T>(
     alloc: Global,
+    node: NodeId,
     events: &[Event<B, L, T>],
     count: usize,
 ) -> Result<Vec<NodeInput<B, L>>, Fail>
+    ensures those { IfOk result (λ v. map (done_by node) v.items
+        ≡ take count (take MOST_TOGETHER events.now)) }
     ensures appends { IfOk result (λ v. OnlyAppend v.items) }
-    ensures few { IfOk result (λ v. length v.items ≤ 256) }
+    ensures few { IfOk result (λ v. length v.items ≤ MOST_TOGETHER) }
 {
+    let most = &events[..MOST_TOGETHER.min(events.len())];
     let mut inputs = Vec::new(alloc);
-    for event in events {
-        if inputs.len() >= count || inputs.len() >= MOST_TOGETHER {
-            break;
+    for event in &most[..count.min(most.len())] {
+        if named_by(event).value() != node.value() {
+            return Err(Fail::from("an event of another node"));
         }
         let Event::Does(input) = event else {
             return Err(Fail::from("no such event here"));
@@ -89,7 +99,8 @@ fn appending<B: Wire, L: Wire, T>(
     alloc: Global,
     input: &Input<B, L, T>,
 ) -> Result<NodeInput<B, L>, Fail>
-    ensures { IfOk result (λ i. OnlyAppends (input_of i)) }
+    ensures input { IfOk result (λ i. input_at (named_in input.now) i ≡ input.now) }
+    ensures appends { IfOk result (λ i. OnlyAppends (input_of i)) }
 {
     match input {
         Input::Ask(_, body) => Ok(NodeInput::Ask(body.copy(alloc)?)),

@@ -4,11 +4,12 @@ ghost use Rattle.std.specs.Arc.{arc_value};
 ghost use Rattle.ether.specs.Passes.{AreNew};
 
 use crate::cell::upstream::NoUpstream;
+use crate::opening::{NewEther, make_ether, open_in_memory};
 use crate::walks::marks::mark;
 use crate::walks::seat::Seat;
 use ether::{Ether, EtherFault, Pass};
-use machine_laws::{Hosted, Machine};
-use node_cells::{Closing, NodeCell, Recording};
+use machine_laws::{Hosted, Machine, Marking};
+use node_cells::{Closing, Recording};
 use raft_log::GroupSize;
 use recorder::push_number;
 use stable_store::MemoryStore;
@@ -19,30 +20,8 @@ use std::test::Fail;
 /// The seats of nodes over stores in memory.
 type Seats<M> = Vec<Seat<M, MemoryStore<<M as Machine>::Command>, NoUpstream>>;
 
-/// An ether, with its passes.
-#[derive(Drop)]
-pub struct NewEther<M: Hosted> {
-    pub ether: Arc<Ether<M>, Global>,
-    pub passes: Vec<Pass<M::Command, M::Line, M::Target>>,
-}
-
-/// An ether to which nothing happened yet.
-pub fn make_ether<M: Hosted>(
-    alloc: Global,
-    size: GroupSize,
-    setup: &M::Setup,
-) -> Result<NewEther<M>, EtherFault>
-    ensures { IfOk result (λ new. AreNew (arc_value new.ether) new.passes.items) }
-{
-    let (ether, passes) = Ether::<M>::new(alloc, size, setup)?;
-    let Ok(ether) = Arc::new(alloc, ether) else {
-        return Err(EtherFault::Memory);
-    };
-    Ok(NewEther { ether, passes })
-}
-
 /// An ether is made, with what its cells are closed by, and then one of which nothing is refused: a line for each.
-pub fn walk_ether<M: Hosted>(
+pub fn walk_ether<M: Marking>(
     alloc: Global,
     size: GroupSize,
     setup: &M::Setup,
@@ -57,7 +36,7 @@ pub fn walk_ether<M: Hosted>(
 }
 
 /// How many passes a new ether has, whose cells may be closed.
-fn made<M: Hosted>(alloc: Global, size: GroupSize, setup: &M::Setup) -> Result<usize, EtherFault> {
+fn made<M: Marking>(alloc: Global, size: GroupSize, setup: &M::Setup) -> Result<usize, EtherFault> {
     let new = make_ether::<M>(alloc, size, setup)?;
     let _closing = Closing::new(alloc, &new.ether, Recording::On)?;
     Ok(new.passes.len())
@@ -78,7 +57,7 @@ fn push_made(out: &mut Vec<u8>, passes: Result<usize, EtherFault>) -> Result<(),
 }
 
 /// The seats of three nodes, node 1's first. Allocations may be refused in what this node does.
-pub fn three<M: Hosted>(
+pub fn three<M: Marking>(
     alloc: Global,
     size: GroupSize,
     setup: &M::Setup,
@@ -87,14 +66,14 @@ pub fn three<M: Hosted>(
     let NewEther { ether, passes } = make_ether(alloc, size, setup)?;
     let mut passes = passes;
     let mut seats = Vec::new(alloc);
-    open_last(alloc, &ether, &mut passes, &mut seats, tried == 3)?;
-    open_last(alloc, &ether, &mut passes, &mut seats, tried == 2)?;
-    open_last(alloc, &ether, &mut passes, &mut seats, tried == 1)?;
+    seat_last(alloc, &ether, &mut passes, &mut seats, tried == 3)?;
+    seat_last(alloc, &ether, &mut passes, &mut seats, tried == 2)?;
+    seat_last(alloc, &ether, &mut passes, &mut seats, tried == 1)?;
     Ok(seats)
 }
 
 /// The last of some new passes is opened, over a new store, and its seat stands before the others.
-fn open_last<M: Hosted>(
+fn seat_last<M: Marking>(
     alloc: Global,
     ether: &Arc<Ether<M>, Global>,
     passes: &mut Vec<Pass<M::Command, M::Line, M::Target>>,
@@ -104,12 +83,7 @@ fn open_last<M: Hosted>(
     requires { AreNew (arc_value ether.now) passes.old.items }
     ensures { IfOk result (λ _. AreNew (arc_value ether.now) passes.new.items) }
 {
-    let Some(pass) = passes.pop() else {
-        return Err(Fail::from("no pass is left"));
-    };
-    let store = MemoryStore::new(alloc);
-    let twin = Arc::try_clone(ether)?;
-    let cell = NodeCell::open(alloc, twin, pass, store, NoUpstream::new(), Recording::On)?;
+    let cell = open_in_memory(alloc, ether, passes, Recording::On)?;
     seats.insert(0, Seat::new(alloc, cell, is_tried))?;
     Ok(())
 }

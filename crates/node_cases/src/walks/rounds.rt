@@ -8,9 +8,9 @@ use crate::walks::inputs::{first_inputs, own_input, place_of};
 use crate::walks::journals::{JournalCell, three};
 use buffer_commands::WireLine;
 use irc_line::Name;
-use machine_laws::{Hosted, Machine};
+use machine_laws::{Hosted, Machine, Marking};
 use node_cells::{CellFault, NodeCell, Upstream};
-use raft_log::{GroupSize, Position};
+use raft_log::{GroupSize, NodeId, Position};
 use raft_node::{Cause, NodeFault};
 use recorder::{Words, parse_events, push_number};
 use records::run_text;
@@ -54,7 +54,7 @@ pub fn walk_rounds<M>(
     longest: usize,
 ) -> Result<Vec<u8>, Fail>
 where
-    M: Hosted<Line = WireLine, Target = Name>,
+    M: Marking<Line = WireLine, Target = Name>,
     M::Effect: Words + Drop,
     M::Played: Spelled + Drop,
 {
@@ -78,7 +78,7 @@ fn push_run<M>(
     out: &mut Vec<u8>,
 ) -> Result<(), Fail>
 where
-    M: Hosted<Line = WireLine, Target = Name>,
+    M: Marking<Line = WireLine, Target = Name>,
     M::Effect: Words + Drop,
     M::Played: Spelled + Drop,
 {
@@ -120,9 +120,9 @@ fn round<M>(
     count: usize,
 ) -> Result<Came, Fail>
 where
-    M: Hosted<Line = WireLine, Target = Name>,
+    M: Marking<Line = WireLine, Target = Name>,
 {
-    let inputs = first_inputs(alloc, events, count)?;
+    let inputs = first_inputs(alloc, NodeId::new(1), events, count)?;
     let Some(cell) = cells.first_mut() else {
         return Err(Fail::from("no node"));
     };
@@ -139,7 +139,7 @@ where
 }
 
 /// Whether the node of a cell leads.
-fn leads<M: Hosted, S: Stable<M::Command>, U: Upstream>(cell: &NodeCell<M, S, U>) -> bool
+fn leads<M: Marking, S: Stable<M::Command>, U: Upstream>(cell: &NodeCell<M, S, U>) -> bool
     ensures { result ≡ true
         → is_leader (role_of cell.now.parts.node.state.standing.position) ≡ true }
 {
@@ -152,7 +152,7 @@ fn leads<M: Hosted, S: Stable<M::Command>, U: Upstream>(cell: &NodeCell<M, S, U>
 /// The events of a text happen. `deliver 2 1` is of what lies in the mailbox from node 2 to node 1, if something does.
 fn happen_all<M>(alloc: Global, cells: &mut [JournalCell<M>], text: &[u8]) -> Result<(), Fail>
 where
-    M: Hosted<Line = WireLine, Target = Name>,
+    M: Marking<Line = WireLine, Target = Name>,
 {
     for event in &parse_events::<M::Command>(alloc, text)? {
         happen(alloc, cells, event)?;
@@ -161,7 +161,7 @@ where
 }
 
 /// An event other than a restart, a stop or a look happens.
-fn happen<M: Hosted, S: Stable<M::Command>, U: Upstream>(
+fn happen<M: Marking, S: Stable<M::Command>, U: Upstream>(
     alloc: Global,
     cells: &mut [NodeCell<M, S, U>],
     event: &Event<M::Command, M::Line, M::Target>,
@@ -170,18 +170,24 @@ fn happen<M: Hosted, S: Stable<M::Command>, U: Upstream>(
     match event {
         Event::Does(Input::Deliver(_, to)) => {
             let to = place_of(*to, cells.len())?;
-            deliver(&mut cells[to], node as u64)
+            match cells.get_mut(to) {
+                Some(cell) => deliver(cell, node as u64),
+                None => Err(Fail::from("no such node")),
+            }
         }
         Event::Does(input) => {
             let input = own_input(alloc, input)?;
-            turn(&mut cells[node], input)
+            match cells.get_mut(node) {
+                Some(cell) => turn(cell, input),
+                None => Err(Fail::from("no such node")),
+            }
         }
         Event::Restart(_) | Event::StopIn(_, _) => Err(Fail::from("no such event here")),
     }
 }
 
 /// A turn of this input. A node that goes down in it is started again.
-fn turn<M: Hosted, S: Stable<M::Command>, U: Upstream>(
+fn turn<M: Marking, S: Stable<M::Command>, U: Upstream>(
     cell: &mut NodeCell<M, S, U>,
     input: NodeInput<M::Command, M::Line>,
 ) -> Result<(), Fail>
@@ -195,7 +201,7 @@ fn turn<M: Hosted, S: Stable<M::Command>, U: Upstream>(
 
 /// What lies in the mailbox from the node at this place, from 0 on, comes, if something does. A node that goes down in it
 /// is started again.
-fn deliver<M: Hosted, S: Stable<M::Command>, U: Upstream>(
+fn deliver<M: Marking, S: Stable<M::Command>, U: Upstream>(
     cell: &mut NodeCell<M, S, U>,
     from: u64,
 ) -> Result<(), Fail> {
@@ -209,7 +215,7 @@ fn deliver<M: Hosted, S: Stable<M::Command>, U: Upstream>(
 }
 
 /// A node that went down because its store failed is started again. One that refused what came stays as it is.
-fn again<M: Hosted, S: Stable<M::Command>, U: Upstream>(
+fn again<M: Marking, S: Stable<M::Command>, U: Upstream>(
     cell: &mut NodeCell<M, S, U>,
     fault: CellFault,
 ) -> Result<(), Fail> {

@@ -3,7 +3,7 @@ ghost use Rattle.std.specs.Prelude.{◌≡◌, None};
 ghost use Rattle.world_views.specs.Views.{carries};
 
 use crate::walks::marks::mark;
-use machine_laws::{Hosted, Machine};
+use machine_laws::{Hosted, Machine, Marking};
 use node_cells::{CellFault, NodeCell, NodeRecord, Upstream};
 use raft_node::{Cause, NodeFault};
 use recorder::NodeFields;
@@ -14,7 +14,7 @@ use world_views::NodeInput;
 
 /// A cell.
 #[derive(Drop)]
-pub struct Seat<M: Hosted, S: Stable<M::Command>, U: Upstream> {
+pub struct Seat<M: Marking, S: Stable<M::Command>, U: Upstream> {
     alloc: Global,
     cell: NodeCell<M, S, U>,
     /// Whether allocations may be refused in what it does.
@@ -29,7 +29,7 @@ pub enum Settled {
     No,
 }
 
-impl<M: Hosted, S: Stable<M::Command>, U: Upstream> Seat<M, S, U> {
+impl<M: Marking, S: Stable<M::Command>, U: Upstream> Seat<M, S, U> {
     pub fn new(alloc: Global, cell: NodeCell<M, S, U>, is_tried: bool) -> Self {
         Seat {
             alloc,

@@ -1,7 +1,7 @@
 use Rattle.std.proofs.Common.{◌≡◌, sym, subst}
 use Rattle.std.specs.Arc.{arc_value}
 use Rattle.ether.specs.Passes.{AreNew, EtherParts}
-use Rattle.node_cases.proofs.walks.opening.make_ether.Goals as goal
+use Rattle.node_cases.proofs.opening.make_ether.Goals as goal
 
 pub returns : goal.returns
 returns g c =
