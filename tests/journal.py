@@ -15,6 +15,12 @@ def said(line, at=1_700_000_000):
     return SAID + struct.pack(">QH", at, len(text)) + text
 
 
+def heard(line, at):
+    """A line of a session that is over, as a body."""
+    text = line.encode()
+    return b"\x00\x00\x03" + struct.pack(">QQQQH", 1, 1, 1, at, len(text)) + text
+
+
 
 def records(data):
     """What each open record of a journal holds."""
