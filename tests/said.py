@@ -80,5 +80,6 @@ def body(words):
     return request(words)
 
 
-for line in sys.stdin:
-    print(body(line.rstrip("\n")).hex())
+if __name__ == "__main__":
+    for line in sys.stdin:
+        print(body(line.rstrip("\n")).hex())
