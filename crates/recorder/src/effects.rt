@@ -1,14 +1,14 @@
 //! What leaves, as words and lines of text.
-ghost use Rattle.std.specs.Prelude.{◌≡◌, ◌++◌, ◌∷◌, decimal, OnOk};
+ghost use Rattle.std.specs.Prelude.{◌≡◌, ◌≤◌, ◌++◌, ◌∷◌, [], decimal, length, OnOk};
 ghost use Rattle.irc_line.specs.Lines.{spelling};
 ghost use Rattle.recorder.specs.EffectWords.{answer_lines};
 ghost use Rattle.recorder.specs.EffectWords.{printed_line, rejoin_words, to_origin};
 
+use crate::backwards::{MOST_DIGITS, MOST_LETTERS, MOST_TO_ORIGIN, write_number, write_to_origin};
 use crate::writing::push_number;
 use buffer_commands::Effect;
 use buffer_lines::Shown;
 use irc_line::Line;
-use itoa::Buffer;
 use request_once::Answer;
 use session_fence::FenceEffect;
 use std::alloc::AllocError;
@@ -41,11 +41,10 @@ pub fn push_answers<E: Words>(
         (out.new.items ≡ out.old.items ++ answer_lines E.words place answers.now) }
 {
     // One place for all answers: its digits are made once.
-    let mut buffer = Buffer::new();
-    let digits = buffer.format(place).as_bytes();
+    let mut text = [b' '; MOST_DIGITS + 1];
+    let start = write_number(place, &mut text, MOST_DIGITS);
     for answer in answers {
-        out.extend_from_slice(digits)?;
-        out.push(b' ')?;
+        out.extend_from_slice(&text[start..])?;
         answer.push_words(out)?;
         out.push(b'\n')?;
     }
@@ -112,13 +111,11 @@ impl Words for Effect {
         match self {
             Effect::Close(origin) => push_to_origin(out, b"close", *origin),
             Effect::Show(origin, shown) => {
-                push_to_origin(out, b"show", *origin)?;
-                out.push(b' ')?;
+                push_before(out, b"show", *origin)?;
                 push_shown(out, shown)
             }
             Effect::Send(origin, line) => {
-                push_to_origin(out, b"send", *origin)?;
-                out.push(b' ')?;
+                push_before(out, b"send", *origin)?;
                 push_sent(out, line)
             }
             Effect::Rejoin(line) => push_rejoin(out, line),
@@ -141,25 +138,33 @@ fn push_numbered(
     origin: Origin,
     number: u64,
 ) -> Result<(), AllocError>
+    requires { length word.now ≤ MOST_LETTERS }
     ensures { OnOk result (out.new.items ≡ out.old.items ++
         (to_origin word.now origin ++ 32 ∷ decimal number)) }
 {
-    push_to_origin(out, word, origin)?;
-    out.push(b' ')?;
+    push_before(out, word, origin)?;
     push_number(out, number)
 }
 
 /// Appends a word and an origin.
 fn push_to_origin(out: &mut Vec<u8>, word: &[u8], origin: Origin) -> Result<(), AllocError>
+    requires { length word.now ≤ MOST_LETTERS }
     ensures { OnOk result (out.new.items ≡ out.old.items ++ to_origin word.now origin) }
 {
-    out.extend_from_slice(word)?;
-    out.push(b' ')?;
-    push_number(out, origin.node() as u64)?;
-    out.push(b'.')?;
-    push_number(out, origin.boot())?;
-    out.push(b'.')?;
-    push_number(out, origin.client())
+    let mut text = [0; MOST_TO_ORIGIN];
+    let start = write_to_origin(word, origin, &mut text, MOST_TO_ORIGIN);
+    out.extend_from_slice(&text[start..])
+}
+
+/// Appends a word, an origin and a space.
+fn push_before(out: &mut Vec<u8>, word: &[u8], origin: Origin) -> Result<(), AllocError>
+    requires { length word.now ≤ MOST_LETTERS }
+    ensures { OnOk result (out.new.items ≡ out.old.items ++ to_origin word.now origin ++ 32 ∷ []) }
+{
+    // the space stands there already
+    let mut text = [b' '; MOST_TO_ORIGIN + 1];
+    let start = write_to_origin(word, origin, &mut text, MOST_TO_ORIGIN);
+    out.extend_from_slice(&text[start..])
 }
 
 /// Appends what is printed of a shown line.

@@ -4,6 +4,7 @@
 //! of events have one text.
 #![tactic(auto)]
 
+mod backwards;
 mod dated;
 mod effects;
 mod event;
