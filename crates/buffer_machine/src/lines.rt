@@ -84,8 +84,8 @@ pub fn is_own_kick(line: &Line, nick: &[u8]) -> bool
 pub fn is_new_nick(line: &Line, nick: &[u8]) -> bool
     ensures { result ≡ is_new_nick nick.now line.now }
 {
-    is_a_name(line.parameter(0))
-        && (has_command(line, b"001") || (has_command(line, b"NICK") && is_by(line, nick)))
+    (has_command(line, b"001") || (has_command(line, b"NICK") && is_by(line, nick)))
+        && is_a_name(line.parameter(0))
 }
 
 /// Whether a line is a message to this nick from one who may have a query.

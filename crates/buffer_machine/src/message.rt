@@ -25,6 +25,9 @@ pub const SIZE_IS_PAST: &[u8] = b"Size is past 500.";
 /// The answer where a target is not known.
 pub const NO_SUCH_TARGET: &[u8] = b"No such target.";
 
+/// What follows the nick in the prefix of what clients say.
+const OWN_HOST: &[u8] = b"!bouncer@local";
+
 /// What a client of this nick says, as the others see it.
 pub fn own_message(
     alloc: Global,
@@ -96,8 +99,10 @@ fn prefix_of(alloc: Global, nick: &Name) -> Result<Vec<u8>, AllocError>
     ensures value { IfOk result (λ v. v.items ≡ own_prefix nick.now) }
     ensures word { IfOk result (λ v. IsTrue (is_word v.items)) }
 {
-    let mut prefix = Vec::from_slice(alloc, nick.as_bytes())?;
-    prefix.extend_from_slice(b"!bouncer@local")?;
+    let nick = nick.as_bytes();
+    let mut prefix = Vec::with_capacity(alloc, nick.len() + OWN_HOST.len())?;
+    prefix.extend_from_slice(nick)?;
+    prefix.extend_from_slice(OWN_HOST)?;
     Ok(prefix)
 }
 

@@ -107,7 +107,7 @@ fn stores_in_channel(setup: &Setup, buffers: &Buffers, place: Option<usize>, lin
     requires { HasPlace line.now (held_of buffers.now) place }
     ensures { result ≡ stores_in_channel setup.now (held_of buffers.now) line.now }
 {
-    may_store(line) && (keeps_now(setup.clears_channels(), buffers) || buffers.is_detached(place))
+    (keeps_now(setup.clears_channels(), buffers) || buffers.is_detached(place)) && may_store(line)
 }
 
 /// Whether a query stores a line now: the line is for no known channel, but to the own nick from one who may have a query.
@@ -115,10 +115,14 @@ fn stores_in_query(setup: &Setup, buffers: &Buffers, place: Option<usize>, line:
     requires { HasPlace line.now (held_of buffers.now) place }
     ensures { result ≡ stores_in_query setup.now (held_of buffers.now) line.now }
 {
-    may_store(line)
-        && !buffers.is_known(place)
-        && keeps_now(setup.clears_queries(), buffers)
-        && is_query_line(line, buffers.nick.as_bytes())
+    // the line is looked at last: most lines are for a channel that is known
+    if buffers.is_known(place) {
+        return false;
+    }
+    if !keeps_now(setup.clears_queries(), buffers) {
+        return false;
+    }
+    may_store(line) && is_query_line(line, buffers.nick.as_bytes())
 }
 
 /// Whether lines are kept now by targets that playing empties, or not: it does not, or nobody is attached, or a client had a name.
