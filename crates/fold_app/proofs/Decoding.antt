@@ -4,6 +4,7 @@ use Rattle.std.specs.List.{list_all}
 use Rattle.std.proofs.Math.ListN.{set}
 use Rattle.std.proofs.lemmas.List.{take_all, take_more, take_more_set}
 use Rattle.std.proofs.lemmas.List.Folds.{list_all_at}
+use Rattle.std.specs.Simd.{first_chunks}
 use Rattle.fold_app.specs.Digits.{is_digit, digit_value, bytes_of}
 
 digit_by : (ds : List ℕ) (k d : ℕ) (b : Bool) → is_digit (get_or ds k d) ≡ b → k < length ds → list_all is_digit ds ≡ true → b ≡ true
@@ -33,6 +34,19 @@ byte_at (high ∷ low ∷ rest) (suc i) lt =
     byte_at rest i (omega arith)
     ∙ (ap (λ (x : ℕ). digit_value x * 16 + digit_value (get_or rest (2 * i + 1) 0)) first
     ∙ ap (λ (y : ℕ). digit_value (get_or (high ∷ low ∷ rest) (2 * suc i) 0) * 16 + digit_value y) second)
+
+-- a pair of digits
+pub pair_at : (k : ℕ) (ds : List ℕ) (i : ℕ) (d : List ℕ) → i < k → 2 * k ≤ length ds → get_or (first_chunks 2 k ds) i d ≡ get_or ds (2 * i) 0 ∷ get_or ds (2 * i + 1) 0 ∷ []
+pair_at zero ds i d lt le = absurd (omega arith)
+pair_at (suc k) [] i d lt le = absurd (omega arith)
+pair_at (suc k) (high ∷ []) i d lt le = absurd (omega arith)
+pair_at (suc k) (high ∷ low ∷ rest) zero d lt le = refl
+pair_at (suc k) (high ∷ low ∷ rest) (suc i) d lt le =
+    let a : suc (suc (2 * i)) ≡ 2 * suc i = omega arith in
+    let b : suc (suc (2 * i + 1)) ≡ 2 * suc i + 1 = omega arith in
+    let first : get_or rest (2 * i) 0 ≡ get_or (high ∷ low ∷ rest) (2 * suc i) 0 = ap (λ (k : ℕ). get_or (high ∷ low ∷ rest) k 0) a in
+    let second : get_or rest (2 * i + 1) 0 ≡ get_or (high ∷ low ∷ rest) (2 * suc i + 1) 0 = ap (λ (k : ℕ). get_or (high ∷ low ∷ rest) k 0) b in
+    pair_at k rest i d (omega arith) (omega arith) ∙ (ap (λ (x : ℕ). x ∷ get_or rest (2 * i + 1) 0 ∷ []) first ∙ ap (λ (y : ℕ). get_or (high ∷ low ∷ rest) (2 * suc i) 0 ∷ y ∷ []) second)
 
 -- one byte more
 pub one_more : (bytes ds : List ℕ) (i v : ℕ) → take i bytes ≡ take i (bytes_of ds) → length ds ≡ 2 * length bytes → i < length bytes

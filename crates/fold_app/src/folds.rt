@@ -72,18 +72,21 @@ fn read_body(alloc: Global, bytes: &[u8]) -> Result<Option<Body<Command, Action>
     }
 }
 
-/// The body of a line, which has this number.
+/// The body of a line, which has this number. Its bytes take the place of these.
 #[tactic(auto, unfolding(crate::specs::Fold::judged_line))]
-fn read_line(alloc: Global, number: u64, line: &[u8]) -> Result<Body<Command, Action>, FoldFault>
+fn read_line(
+    bytes: &mut Vec<u8>,
+    number: u64,
+    line: &[u8],
+) -> Result<Body<Command, Action>, FoldFault>
     ensures ok { IfOk result (λ body. judged_line number line.now ≡ Ok body) }
     ensures err { IfErr result (λ e. e ≢ FoldFault.Memory → judged_line number line.now ≡ Err e) }
     ensures fault { IfErr result (λ e. (e ≡ FoldFault.Memory) ⊎ IsOfALine e) }
 {
-    let bytes = match decode_line(alloc, line)? {
-        Some(bytes) => bytes,
-        None => return Err(FoldFault::BadHex(number)),
-    };
-    match read_body(alloc, &bytes)? {
+    if !decode_line(bytes, line)? {
+        return Err(FoldFault::BadHex(number));
+    }
+    match read_body(*bytes.allocator(), bytes)? {
         Some(body) => Ok(body),
         None => Err(FoldFault::BadBody(number)),
     }
@@ -111,10 +114,11 @@ where
     Ok(())
 }
 
-/// Applies the body of a line at a place, and appends the text of its answers.
+/// Applies the body of a line at a place, and appends the text of its answers. The line's bytes take the place of these.
 fn fold_line<M>(
     machine: &mut M,
     output: &mut Vec<u8>,
+    bytes: &mut Vec<u8>,
     place: u64,
     line: &[u8],
 ) -> Result<(), FoldFault>
@@ -130,7 +134,7 @@ where
     ensures fault { IfErr result (λ e. (e ≡ FoldFault.Memory) ⊎ IsOfALine e) }
     ensures whole { OnOk result (M.spoilt machine.new ≡ false) }
 {
-    let body = read_line(*output.allocator(), place, line)?;
+    let body = read_line(bytes, place, line)?;
     fold_body(machine, output, place, &body)?;
     Ok(())
 }
@@ -148,12 +152,14 @@ where
     ensures fault { IfErr result (λ e. (e ≡ FoldFault.Memory) ⊎ IsOfALine e) }
 {
     let mut output = Vec::new(alloc);
+    // one room for the bytes of each line
+    let mut bytes = Vec::new(alloc);
     let mut place = 0u64;
     let mut rest = input;
     while !rest.is_empty() {
         let (line, after) = split_line(rest);
         place += 1;
-        fold_line(machine, &mut output, place, line)?;
+        fold_line(machine, &mut output, &mut bytes, place, line)?;
         rest = after;
     }
     Ok(output)

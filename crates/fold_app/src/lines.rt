@@ -1,11 +1,11 @@
 //! The lines of an input, and the bytes that they spell in hex.
-ghost use Rattle.std.specs.Prelude.{◌≡◌, ◌<◌, ◌*◌, ◌%◌, ◌==◌, length, option_map, ◌∷◌, IfOk, IsTrue, position};
+ghost use Rattle.std.specs.Prelude.{◌≡◌, ◌<◌, ◌*◌, ◌%◌, ◌==◌, length, ◌∷◌, if◌then◌else◌, Some, None, IfOk, OnOk, IsTrue, position};
 ghost use Rattle.std.specs.List.{list_all};
 ghost use Rattle.fold_app.specs.Lines.{lines_of, hex_bytes};
 ghost use Rattle.fold_app.specs.Digits.{bytes_of, digit_value, is_digit};
 
 use memchr::memchr;
-use std::alloc::{AllocError, Global};
+use std::alloc::AllocError;
 
 /// The first line of what is left of an input, without its LF, and what follows it.
 #[tactic(auto, using(crate::proofs::Splitting::first_ended, crate::proofs::Splitting::first_open))]
@@ -28,14 +28,16 @@ fn line_end(rest: &[u8]) -> Option<usize>
     memchr(b'\n', rest)
 }
 
-/// The bytes that a line spells in lower-case hex digits, or none.
-pub fn decode_line(alloc: Global, line: &[u8]) -> Result<Option<Vec<u8>>, AllocError>
-    ensures { IfOk result (λ bytes. option_map (λ v. v.items) bytes ≡ hex_bytes line.now) }
+/// Puts the bytes that a line spells in lower-case hex digits in place of these, and tells whether it spells any.
+pub fn decode_line(bytes: &mut Vec<u8>, line: &[u8]) -> Result<bool, AllocError>
+    ensures { IfOk result (λ is_hex.
+        (if is_hex then Some bytes.new.items else None) ≡ hex_bytes line.now) }
 {
     if line.len() % 2 == 1 || !are_digits(line) {
-        return Ok(None);
+        return Ok(false);
     }
-    Ok(Some(decoded(alloc, line)?))
+    decode(bytes, line)?;
+    Ok(true)
 }
 
 /// Whether all are lower-case hex digits.
@@ -57,15 +59,15 @@ fn is_a_digit(b: u8) -> bool
     (b >= b'0' && b <= b'9') || (b >= b'a' && b <= b'f')
 }
 
-/// The bytes of digits, all of them judged before.
-fn decoded(alloc: Global, digits: &[u8]) -> Result<Vec<u8>, AllocError>
+/// Puts the bytes of digits, all of them judged before, in place of these.
+fn decode(bytes: &mut Vec<u8>, digits: &[u8]) -> Result<(), AllocError>
     requires digits { IsTrue (list_all is_digit digits.now) }
     requires even { length digits.now % 2 ≡ 0 }
-    ensures { IfOk result (λ v. v.items ≡ bytes_of digits.now) }
+    ensures { OnOk result (bytes.new.items ≡ bytes_of digits.now) }
 {
-    let mut bytes = vec![in alloc; 0; digits.len() / 2]?;
-    decode_into(&mut bytes, digits);
-    Ok(bytes)
+    bytes.resize(digits.len() / 2, 0)?;
+    decode_into(bytes, digits);
+    Ok(())
 }
 
 /// Writes the bytes of digits over these.
@@ -74,8 +76,11 @@ fn decode_into(bytes: &mut [u8], digits: &[u8])
     requires twice { length digits.now ≡ 2 * length bytes.old }
     ensures { bytes.new ≡ bytes_of digits.now }
 {
+    // By pairs: so the compiler turns the loop into steps of many bytes.
+    let (pairs, _) = digits.as_chunks::<2>();
     for i in 0..bytes.len() {
-        bytes[i] = digit_value(digits[2 * i]) * 16 + digit_value(digits[2 * i + 1]);
+        let pair = pairs[i];
+        bytes[i] = digit_value(pair[0]) * 16 + digit_value(pair[1]);
     }
 }
 

@@ -16,4 +16,4 @@ returns-then-line-eq1 c =
 pub returns : goal.returns
 returns c =
     let all : list_all is_digit c.args.line.now ≡ true = search (rules, common_steps) in
-    rw c.in_ok-decoded.ensures (sym (digits_spell c.args.line.now all c.if-line-eq1.false))
+    rw c.in_ok-decode.ensures (sym (digits_spell c.args.line.now all c.if-line-eq1.false))
