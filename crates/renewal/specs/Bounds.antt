@@ -1,7 +1,11 @@
 -- How many bodies a new list has at the most.
-use Rattle.std.specs.Prelude.{ℕ, ◌+◌, ◌*◌, List, [], ◌∷◌, length}
+use Rattle.std.specs.Prelude.{ℕ, ◌+◌, ◌*◌, ◌-◌, ◌^◌, List, [], ◌∷◌, length, min}
 use Rattle.buffer_targets.specs.Targets.{ChannelLines, TargetLines}
 use Rattle.buffer_machine.specs.Held.{Held}
+
+-- the greatest number that is counted
+abbrev pub greatest_count : ℕ
+greatest_count = 2 ^ 64 - 1
 
 -- how many lines are kept of channels
 abbrev pub lines_of_channels : List ChannelLines → ℕ
@@ -21,3 +25,10 @@ most_of lines channels queries names others = 5 * lines + (12 * channels + 2 * q
 -- for what is held, and for so many channels of the setup, waiting lines and nodes
 abbrev pub most_bodies : Held → ℕ → ℕ
 most_bodies h others = most_of (lines_of_channels h.channels + lines_of_queries h.queries) (length h.channels) (length h.queries) (length h.names.ids) others
+
+-- how many targets there are, and how many lines are kept of them, as they are counted
+abbrev pub targets_counted : Held → ℕ
+targets_counted h = min (length h.channels + length h.queries) greatest_count
+
+abbrev pub lines_counted : Held → ℕ
+lines_counted h = min (lines_of_channels h.channels + lines_of_queries h.queries) greatest_count

@@ -16,7 +16,7 @@ use Rattle.buffer_machine.specs.Held.{commands, held}
 use Rattle.raft_log.specs.declared.entry.Entry.{Entry}
 use Rattle.bouncer_tower.specs.Bodies.{Claimed, Sessioned, TowerBody, claimed, outgoing, plain}
 use Rattle.bouncer_tower.specs.Hosting.{of_buffers}
-use Rattle.renewal.specs.Bounds.{most_bodies}
+use Rattle.renewal.specs.Bounds.{lines_counted, most_bodies, targets_counted}
 use Rattle.renewal.specs.Renewed.{Renewed}
 
 -- the bodies by which the runs of these nodes below their floors are gone with all their clients, each a node and its floor, and no
@@ -98,3 +98,8 @@ pub record IsRenewal (s : Settings) (boots : List ℕ) (term : ℕ) (old new : L
   pub parted : (c : List ℕ) → joined s (commands (plain (settled (floors_of boots) (run (bodies_of old))))) c ≡ false
   pub few : length new ≤ most s (settled (floors_of boots) (run (bodies_of old))) (length boots)
   pub terms : new ≡ map (entry_of (term + 1)) (bodies_of new)
+
+-- what is held behind a history, counted in targets and in lines that are kept of them
+pub record AreCounted (s : Settings) (h : History TowerBody) (targets lines : ℕ) : Type 0 where
+  pub in_targets : targets ≡ targets_counted (held s (commands (plain h)))
+  pub in_lines : lines ≡ lines_counted (held s (commands (plain h)))

@@ -43,6 +43,8 @@ pub fn begun_anew(
     ensures anew { (old : History TowerBody) → ⟦<Layers as Machine>⟧.stands layers.old setup.now old
         → IfOk result (λ v. BegunAnew setup.now start.now.term start.now.client
         (settled floors.now old) v.items) }
+    ensures settled { (old : History TowerBody) → ⟦<Layers as Machine>⟧.stands layers.old setup.now old
+        → OnOk result (⟦<Layers as Machine>⟧.stands layers.new setup.now (settled floors.now old)) }
 {
     settle(alloc, layers, floors)?;
     let bodies = same_list(alloc, setup, layers, start, floors)?;
@@ -77,17 +79,6 @@ fn room(setup: &Setup, layers: &Layers, floors: &[(u8, Number)]) -> usize
         .saturating_add(waiting_of(layers).len())
         .saturating_add(floors.len());
     most_bodies(buffers_of(layers), others)
-}
-
-/// The bodies, where they are at most so many.
-fn within(bodies: Vec<TowerBody>, most: usize) -> Result<Vec<TowerBody>, RenewalFault>
-    ensures same { IfOk result (λ v. v.items ≡ bodies.items) }
-    ensures most { IfOk result (λ v. length v.items ≤ most) }
-{
-    if bodies.len() > most {
-        return Err(RenewalFault::TooLong);
-    }
-    Ok(bodies)
 }
 
 /// A list of bodies that leaves behind what the layers do.

@@ -1,11 +1,11 @@
 //! How many bodies a new list has at the most.
-ghost use Rattle.std.specs.Prelude.{◌≤◌, ◌+◌, ◌*◌, length};
+ghost use Rattle.std.specs.Prelude.{◌≡◌, ◌≤◌, ◌+◌, ◌*◌, length, min};
 ghost use Rattle.machine_laws.specs.Runs.{History};
 ghost use Rattle.buffer_commands.specs.Settings.{Settings};
 ghost use Rattle.buffer_commands.specs.declared.command.Command.{Command};
 ghost use Rattle.buffer_machine.specs.Held.{commands, held};
 ghost use Rattle.buffer_machine.specs.Machine.{Stands};
-ghost use Rattle.renewal.specs.Bounds.{lines_of_channels, lines_of_queries, most_bodies, most_of};
+ghost use Rattle.renewal.specs.Bounds.{greatest_count, lines_of_channels, lines_of_queries, most_bodies, most_of};
 
 use buffer_machine::BufferMachine;
 use buffer_targets::{Channel, Target};
@@ -53,7 +53,7 @@ fn most_of(
 
 /// How many lines are kept of the channels.
 pub fn kept_in_channels(channels: &[Channel]) -> usize
-    ensures { result ≤ lines_of_channels channels.now }
+    ensures { result ≡ min (lines_of_channels channels.now) greatest_count }
 {
     match channels {
         [] => 0,
@@ -67,7 +67,7 @@ pub fn kept_in_channels(channels: &[Channel]) -> usize
 
 /// How many lines are kept of the queries.
 pub fn kept_in_queries(queries: &[Target]) -> usize
-    ensures { result ≤ lines_of_queries queries.now }
+    ensures { result ≡ min (lines_of_queries queries.now) greatest_count }
 {
     match queries {
         [] => 0,

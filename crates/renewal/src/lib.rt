@@ -1,5 +1,5 @@
 //! A full list of bodies begun anew: a short list that leaves the same behind for everybody who may attach.
-//! Stands under bouncer_app.
+//! Stands under journal_folder.
 //! Promises that whatever comes behind the new list brings about the same as behind the old one.
 #![tactic(auto)]
 

@@ -1,8 +1,10 @@
 //! A log begun anew.
 ghost use Rattle.std.specs.Prelude.{◌≡◌, ◌≤◌, ◌+◌, ◌++◌, ◌∷◌, [], length, map, IfOk, OnOk};
-ghost use Rattle.machine_laws.specs.Runs.{run};
+ghost use Rattle.machine_laws.specs.Runs.{History, run};
+ghost use Rattle.buffer_commands.specs.Settings.{Settings};
+ghost use Rattle.bouncer_tower.specs.Bodies.{TowerBody};
 ghost use Rattle.raft_log.specs.declared.entry.Entry.{Entry};
-ghost use Rattle.renewal.specs.Lists.{IsRenewal, client_of, entry_of, floors_from, floors_of};
+ghost use Rattle.renewal.specs.Lists.{AreCounted, IsRenewal, bodies_of, client_of, entry_of, floors_from, floors_of, settled};
 
 use crate::anew::{begun_anew, buffers_of};
 use crate::bound::{kept_in_channels, kept_in_queries};
@@ -34,7 +36,9 @@ pub fn renewed(
     boots: &[Number],
     term: Number,
 ) -> Result<Renewal, RenewalFault>
-    ensures { IfOk result (λ r. IsRenewal setup.now boots.now term log.now r.log) }
+    ensures begun { IfOk result (λ r. IsRenewal setup.now boots.now term log.now r.log) }
+    ensures counted { IfOk result (λ r. AreCounted setup.now
+        (settled (floors_of boots.now) (run (bodies_of log.now))) r.targets r.lines) }
 {
     let start = start_of(boots, term)?;
     let floors = floors_of(alloc, boots)?;
@@ -50,7 +54,10 @@ pub fn renewed(
 }
 
 /// How many targets there are, and how many lines are kept of them.
-fn counted(layers: &Layers) -> (u64, u64) {
+fn counted(layers: &Layers) -> (u64, u64)
+    ensures { (s : Settings) (h : History TowerBody)
+        → ⟦<Layers as Machine>⟧.stands layers.now s h → AreCounted s h result.0 result.1 }
+{
     let buffers = buffers_of(layers);
     let (channels, queries) = (buffers.channels(), buffers.queries());
     let targets = channels.len().saturating_add(queries.len());

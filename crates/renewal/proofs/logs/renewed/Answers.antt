@@ -6,8 +6,8 @@ use Rattle.renewal.specs.Lists.{bodies_of, entry_of}
 use Rattle.renewal.proofs.Entries.{is_renewal}
 use Rattle.renewal.proofs.logs.renewed.Goals as goal
 
-pub returns : goal.returns
-returns c =
+pub returns-clause-begun : goal.returns-clause-begun
+returns-clause-begun c =
     is_renewal c.args.setup.now c.args.boots.now c.args.term c.in_ok-start.start.term c.in_ok-start.start.client c.deref.result.now c.args.log.now c.in_ok-anew.anew
     c.in_ok-bodies.bodies.items c.in_ok-start.ensures.term c.in_ok-start.ensures.client (c.deref.ensures.value ∙ c.in_ok-floors.ensures)
     (c.in_ok-anew.ensures ∙ ap (λ (bs : List TowerBody). map (entry_of c.in_ok-start.start.term) bs) c.deref-2.ensures.value)
