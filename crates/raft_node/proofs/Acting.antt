@@ -21,7 +21,7 @@ use Rattle.raft_node.specs.Steps as steps
 use Rattle.raft_node.specs.Stood.{IsStood, Stands}
 use Rattle.raft_node.proofs.Planned.{turn_goes, turn_declines}
 
-module _ (M : Machine) {Setup Hosted Store : Type 0} (k : Keeper Store M.Body) (input : Input M.Body M.Line) (saves : is_apply input ≡ false)
+module _ (M : Machine) {Setup Hosted Store : Type 0} (k : Keeper Store M.Body) (input : Input (Message M.Body) M.Body M.Line) (saves : is_apply input ≡ false)
     (old : Parts Setup Hosted Store M.Body) (up : old.down ≡ None) where
   -- what is quiet is no refusal
   quiet_so : (r : Refusal) (t : Turn M) (n : Node M.Body) → t ≡ quiet M n → t.out ≡ steps.Refused r → ⊥

@@ -44,7 +44,7 @@ none_left [] n long none = refl
 none_left (x ∷ xs) n long none = absurd (cc (sym long ∙ none))
 
 -- what only appends applies nothing
-pub saves : {B L : Type 0} (input : Input B L) → OnlyAppends input → is_apply input ≡ false
+pub saves : {D B L : Type 0} (input : Input D B L) → OnlyAppends input → is_apply input ≡ false
 saves Timeout h = refl
 saves Beat h = refl
 saves (Deliver m) h = refl
@@ -62,7 +62,7 @@ pub record StaysOn {B : Type 0} (size : ℕ) (s t : Node B) : Type 0 where
   pub applied : t.applied ≡ s.applied
   pub counted : Counted s → Counted t
 
-module _ {B L : Type 0} (b : Bodies B L) (next : Option ℕ) (size i : ℕ) (input : Input B L) (h : OnlyAppends input) (s : Node B) (sound : IsSound size s) where
+module _ {B L : Type 0} (b : Bodies B L) (next : Option ℕ) (size i : ℕ) (input : Input (Message B) B L) (h : OnlyAppends input) (s : Node B) (sound : IsSound size s) where
   stays_by : (p : Plan B) → input_plan b next size i input s ≡ p → StaysOn size s (planned s p)
   stays_by (Goes t) e =
       let k : Keeps size s t = goes_keeps b next size i input (saves input h) s t sound e in
@@ -97,11 +97,11 @@ module _ {B : Type 0} (state : NodeState B) where
       ∙ (ap (λ (l : List (Entry B)). node_of (leading state.standing (live_of state.standing.position) state.standing.attempts) l sent) (ap (λ (l : List (Entry B)). state.log ++ l) ee ∙ append-nil state.log)
       ∙ led_so sent (role_of state.standing.position) (leader_of state.standing.position) k.0 k.1))
 
-module _ {B L : Type 0} (b : Bodies B L) (next : Option ℕ) (i : ℕ) (state : NodeState B) (inputs : List (Input B L)) where
-  abbrev pub plan : Input B L → Node B → Plan B
+module _ {B L : Type 0} (b : Bodies B L) (next : Option ℕ) (i : ℕ) (state : NodeState B) (inputs : List (Input (Message B) B L)) where
+  abbrev pub plan : Input (Message B) B L → Node B → Plan B
   plan = input_plan b next (size_of state) i
 
-  abbrev pub UnderWay : List (Input B L) → Together B → Type 0
+  abbrev pub UnderWay : List (Input (Message B) B L) → Together B → Type 0
   UnderWay = IsUnderWay plan OnlyAppends (size_of state) state inputs
 
   begins : (t : Together B) → is_leader (role_of state.standing.position) ≡ true → IsSound (size_of state) (seen state [])
@@ -123,21 +123,21 @@ module _ {B L : Type 0} (b : Bodies B L) (next : Option ℕ) (i : ℕ) (state : 
       }
 
   -- so it begins
-  pub sets_out : (left : List (Input B L)) (t : Together B) → left ≡ inputs → is_leader (role_of state.standing.position) ≡ true → IsSound (size_of state) (seen state [])
+  pub sets_out : (left : List (Input (Message B) B L)) (t : Together B) → left ≡ inputs → is_leader (role_of state.standing.position) ≡ true → IsSound (size_of state) (seen state [])
       → CountsLines (live_of state.standing.position) (length state.log) → AllByRecursion OnlyAppends inputs → length inputs ≤ 256 → length state.log ≤ entry_limit
       → t.live ≡ live_of state.standing.position → t.attempts ≡ state.standing.attempts → t.entries.items ≡ [] → t.answers.items ≡ [] → UnderWay left t
   sets_out left t all h sound counts appends few limit el ea ee eg =
-      subst (λ (l : List (Input B L)). UnderWay l t) (sym all) (begins t h sound counts appends few limit el ea ee eg)
+      subst (λ (l : List (Input (Message B) B L)). UnderWay l t) (sym all) (begins t h sound counts appends few limit el ea ee eg)
 
   -- the session's next line is not past what a log holds
-  pub counts_within : (left : List (Input B L)) (t : Together B) → UnderWay left t → (standing : Standing) → standing ≡ leading state.standing t.live t.attempts
+  pub counts_within : (left : List (Input (Message B) B L)) (t : Together B) → UnderWay left t → (standing : Standing) → standing ≡ leading state.standing t.live t.attempts
       → CountsLines (live_of standing.position) entry_limit
   counts_within left t w standing e =
       subst (λ (x : Standing). CountsLines (live_of x.position) entry_limit) (sym e)
       (more_entries t.live _ entry_limit (omega (arith, w.room, length-append state.log t.entries.items)) w.counts)
 
   -- what is said of a standing and each log, of this leader
-  pub said : (input : Input B L) (added : Result (Option (Addition B)) Refusal) (t : Together B) (standing : Standing) → standing ≡ leading state.standing t.live t.attempts
+  pub said : (input : Input (Message B) B L) (added : Result (Option (Addition B)) Refusal) (t : Together B) (standing : Standing) → standing ≡ leading state.standing t.live t.attempts
       → ((log : List (Entry B)) (sent : List (Message B)) → plan input (node_of standing log sent) ≡ addition_plan added (node_of standing log sent))
       → (sent : List (Message B)) → plan input (led state t sent) ≡ addition_plan added (led state t sent)
   said input added t standing e h sent =
@@ -145,9 +145,9 @@ module _ {B L : Type 0} (b : Bodies B L) (next : Option ℕ) (i : ℕ) (state : 
       (h (state.log ++ t.entries.items) sent)
 
   -- so it goes on, by one input
-  pub goes_on : (left rest : List (Input B L)) (input : Input B L) (p : Node B → Plan B) (t u : Together B) → UnderWay left t → left ≡ input ∷ rest
+  pub goes_on : (left rest : List (Input (Message B) B L)) (input : Input (Message B) B L) (p : Node B → Plan B) (t u : Together B) → UnderWay left t → left ≡ input ∷ rest
       → ((sent : List (Message B)) → plan input (led state t sent) ≡ p (led state t sent)) → IsTakenIn p state t u → UnderWay rest u
-  goes_on left rest input p t u w e same taken = by (subst (λ (l : List (Input B L)). UnderWay l t) e w)
+  goes_on left rest input p t u w e same taken = by (subst (λ (l : List (Input (Message B) B L)). UnderWay l t) e w)
     where
       is : (sent : List (Message B)) → led state u sent ≡ planned (led state t sent) (plan input (led state t sent))
       is sent = taken.node sent ∙ ap (λ (q : Plan B). planned (led state t sent) q) (sym (same sent))
@@ -185,8 +185,8 @@ module _ {B L : Type 0} (b : Bodies B L) (next : Option ℕ) (i : ℕ) (state : 
       ∙ ap (λ (l : List (Entry B)). node_of (leading state.standing t.live t.attempts) l sent) (log_is t step e)
 
   -- so it ends
-  pub are_planned : (left : List (Input B L)) (t : Together B) (step : Step B) → UnderWay left t → left ≡ [] → step_of t step → ArePlanned plan state inputs step t.answers.items
-  are_planned left t step w e s = by (subst (λ (l : List (Input B L)). UnderWay l t) e w)
+  pub are_planned : (left : List (Input (Message B) B L)) (t : Together B) (step : Step B) → UnderWay left t → left ≡ [] → step_of t step → ArePlanned plan state inputs step t.answers.items
+  are_planned left t step w e s = by (subst (λ (l : List (Input (Message B) B L)). UnderWay l t) e w)
     where
       by : UnderWay [] t → ArePlanned plan state inputs step t.answers.items
       by w =
@@ -196,7 +196,7 @@ module _ {B L : Type 0} (b : Bodies B L) (next : Option ℕ) (i : ℕ) (state : 
             sends = s.3;
           }
 
-  pub together_may_stand : (left : List (Input B L)) (t : Together B) (step : Step B) → IsSound (size_of state) (seen state []) → UnderWay left t → step_of t step → MayStand state step
+  pub together_may_stand : (left : List (Input (Message B) B L)) (t : Together B) (step : Step B) → IsSound (size_of state) (seen state []) → UnderWay left t → step_of t step → MayStand state step
   together_may_stand left t step sound w s =
       let long : length step.entries.items ≡ length t.entries.items = ap (λ v. length v.items) s.2 in
       let within : state.standing.applied ≤ length state.log = omega (arith, sound.0, sound.1.commit_within) in

@@ -181,7 +181,7 @@ module _ {B : Type 0} where
       own_counts s s.live s.attempts (claim live.id number) lead (λ c. more_entries s.live (length s.log) (suc (length s.log)) (omega arith) c)
 
 module _ {B L : Type 0} (b : Bodies B L) (next : Option ℕ) (size i : ℕ) (s : Node B) (v : Lives s) where
-  pub plan_counts : (input : Input B L) → PlanCounts s (input_plan b next size i input s)
+  pub plan_counts : (input : Input (Message B) B L) → PlanCounts s (input_plan b next size i input s)
   plan_counts Timeout =
       cond_both (not (is_leader s.role) && leb (2 ^ 60) s.term) (Declines TermsSpent) (Goes (timed_out size i s)) (λ p. PlanCounts s p)
       (λ x. tt) (λ x. timeout_counts size i s)
@@ -194,7 +194,7 @@ module _ {B L : Type 0} (b : Bodies B L) (next : Option ℕ) (size i : ℕ) (s :
   plan_counts Claim = leading_counts s _ (claiming_counts b.claim next s s.live)
   plan_counts Apply = still size i s
 
-  pub goes_counts : (input : Input B L) (t : Node B) → input_plan b next size i input s ≡ Goes t → Counted s → Counted t
+  pub goes_counts : (input : Input (Message B) B L) (t : Node B) → input_plan b next size i input s ≡ Goes t → Counted s → Counted t
   goes_counts input t e c =
       let now : PlanCounts s (Goes t) = subst (λ (p : Plan B). PlanCounts s p) e (plan_counts input) in
       now.of c

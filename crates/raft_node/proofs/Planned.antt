@@ -1,6 +1,7 @@
 -- What a node plans is what its turn comes to.
 use Rattle.std.proofs.Common.{◌≡◌, ℕ, suc, Bool, true, false, ◌&&◌, not, if◌then◌else◌, Option, Some, None, refl, ap, ◌∙◌}
 use Rattle.std.specs.Prelude.{◌^◌, nat_le}
+use Rattle.raft_log.specs.declared.message.Message.{Message}
 use Rattle.raft_log.specs.declared.node_state.Live.{Live}
 use Rattle.raft_log.specs.Node.{Node, is_leader}
 use Rattle.election.specs.Elections.{timed_out}
@@ -62,7 +63,7 @@ module _ (M : Machine) (s : Node M.Body) where
   claimed_by (Some live) (Some number) = adds_by s.live s.attempts (M.claim live.id number)
 
   -- of each input but that an entry is applied
-  pub turn_planned : (size i : ℕ) (input : Input M.Body M.Line) → is_apply input ≡ false
+  pub turn_planned : (size i : ℕ) (input : Input (Message M.Body) M.Body M.Line) → is_apply input ≡ false
       → turn M size i (act_of M input) s ≡ turn_by (input_plan (bodies_of M) (M.next_claim (applied_history M s)) size i input s)
   turn_planned size i Timeout h = if_by (not (is_leader s.role) && nat_le (2 ^ 60) s.term) (Declines TermsSpent) (Goes (timed_out size i s))
   turn_planned size i Beat h = refl
@@ -75,10 +76,10 @@ module _ (M : Machine) (s : Node M.Body) where
   turn_planned size i Apply h = absurd (cc h)
 
   -- a plan that goes on, or is declined, is such a turn
-  pub turn_goes : (size i : ℕ) (input : Input M.Body M.Line) → is_apply input ≡ false → (t : Node M.Body)
+  pub turn_goes : (size i : ℕ) (input : Input (Message M.Body) M.Body M.Line) → is_apply input ≡ false → (t : Node M.Body)
       → input_plan (bodies_of M) (M.next_claim (applied_history M s)) size i input s ≡ Goes t → turn M size i (act_of M input) s ≡ quiet M t
   turn_goes size i input h t e = turn_planned size i input h ∙ ap (λ (p : Plan M.Body). turn_by p) e
 
-  pub turn_declines : (size i : ℕ) (input : Input M.Body M.Line) → is_apply input ≡ false → (refusal : Refusal)
+  pub turn_declines : (size i : ℕ) (input : Input (Message M.Body) M.Body M.Line) → is_apply input ≡ false → (refusal : Refusal)
       → input_plan (bodies_of M) (M.next_claim (applied_history M s)) size i input s ≡ Declines refusal → turn M size i (act_of M input) s ≡ refused M s refusal
   turn_declines size i input h refusal e = turn_planned size i input h ∙ ap (λ (p : Plan M.Body). turn_by p) e

@@ -1,6 +1,7 @@
 -- A node stays whole where a step that it planned stands.
 use Rattle.std.proofs.Common.{◌≡◌, ℕ, false, List, [], ◌++◌, Option, Some, length, take, sym, ap, subst, ◌∙◌}
 use Rattle.machine_laws.specs.declared.class.Class.TheVariants.{Nowhere}
+use Rattle.raft_log.specs.declared.message.Message.{Message}
 use Rattle.raft_log.specs.declared.entry.Entry.{Entry}
 use Rattle.raft_log.specs.declared.node_state.NodeState.{NodeState}
 use Rattle.raft_log.specs.declared.step.Step.{Step}
@@ -56,7 +57,7 @@ module _ {B L : Type 0} (b : Bodies B L) (next : Option ℕ) where
         class = λ e. Nowhere;
       }
 
-  pub goes_keeps : (size i : ℕ) (input : Input B L) → is_apply input ≡ false → (s t : Node B) → IsSound size s
+  pub goes_keeps : (size i : ℕ) (input : Input (Message B) B L) → is_apply input ≡ false → (s t : Node B) → IsSound size s
       → input_plan b next size i input s ≡ Goes t → Keeps size s t
   goes_keeps size i input h s t sound e =
       let turns : turn plain size i (act_of plain input) s ≡ quiet plain t = turn_goes plain s size i input h t e in
@@ -67,7 +68,7 @@ module _ {B L : Type 0} (b : Bodies B L) (next : Option ℕ) where
       }
 
   -- a step that is planned may stand
-  pub may_stand : (i : ℕ) (input : Input B L) → is_apply input ≡ false → (state : NodeState B) (step : Step B) → IsSound (size_of state) (seen state [])
+  pub may_stand : (i : ℕ) (input : Input (Message B) B L) → is_apply input ≡ false → (state : NodeState B) (step : Step B) → IsSound (size_of state) (seen state [])
       → CountsLines (live_of state.standing.position) (length state.log)
       → IsStepOf (input_plan b next (size_of state) i input) state.standing state.log step → length step.standing.peers.voters ≡ step.standing.peers.size
       → MayStand state step

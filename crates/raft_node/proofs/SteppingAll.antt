@@ -38,7 +38,7 @@ pub if_some : {X : Type 0} (o : Option X) (x : X) (P : X → Type 0) → o ≡ S
 if_some {X} o x P e h = subst (λ (p : Option X). IfSome p P) (sym e) h
 
 module _ (M : Machine) (size i : ℕ) (next : Option ℕ) where
-  abbrev plan : Input M.Body M.Line → Node M.Body → Plan M.Body
+  abbrev plan : Input (Message M.Body) M.Body M.Line → Node M.Body → Plan M.Body
   plan = input_plan (bodies_of M) next size i
 
   node_by : (s : Node M.Body) (p : Plan M.Body) → (turn_by M s p).node ≡ planned s p
@@ -49,18 +49,18 @@ module _ (M : Machine) (size i : ℕ) (next : Option ℕ) where
   out_by s (Goes t) = refl
   out_by s (Declines refusal) = refl
 
-  turn_is : (s : Node M.Body) (input : Input M.Body M.Line) → OnlyAppends input → next ≡ M.next_claim (applied_history M s)
+  turn_is : (s : Node M.Body) (input : Input (Message M.Body) M.Body M.Line) → OnlyAppends input → next ≡ M.next_claim (applied_history M s)
       → turn M size i (act_of M input) s ≡ turn_by M s (plan input s)
   turn_is s input h e =
       turn_planned M s size i input (saves input h)
       ∙ ap (λ (o : Option ℕ). turn_by M s (input_plan (bodies_of M) o size i input s)) (sym e)
 
   -- What turns come to is what plans come to.
-  pub record ArePlans (inputs : List (Input M.Body M.Line)) (s : Node M.Body) : Type 0 where
+  pub record ArePlans (inputs : List (Input (Message M.Body) M.Body M.Line)) (s : Node M.Body) : Type 0 where
     pub node : turned_all M size i (map (act_of M) inputs) s ≡ planned_all plan inputs s
     pub out : outs M size i (map (act_of M) inputs) s ≡ map (out_of M) (answers plan inputs s)
 
-  pub are_plans : (inputs : List (Input M.Body M.Line)) → AllByRecursion OnlyAppends inputs → (s : Node M.Body) → IsSound size s
+  pub are_plans : (inputs : List (Input (Message M.Body) M.Body M.Line)) → AllByRecursion OnlyAppends inputs → (s : Node M.Body) → IsSound size s
       → next ≡ M.next_claim (applied_history M s) → ArePlans inputs s
   are_plans [] h s sound e = record { node = refl; out = refl }
   are_plans (input ∷ inputs) h s sound e =
@@ -81,7 +81,7 @@ module _ (M : Machine) (size i : ℕ) (next : Option ℕ) where
             ∙ ap (λ (os : List (Out M)). out_of M (answer (plan input s)) ∷ os) rest.out);
       }
 
-module _ (M : Machine) {Setup Hosted Store : Type 0} (inputs : List (Input M.Body M.Line)) (n : Parts Setup Hosted Store M.Body) where
+module _ (M : Machine) {Setup Hosted Store : Type 0} (inputs : List (Input (Message M.Body) M.Body M.Line)) (n : Parts Setup Hosted Store M.Body) where
   -- so a node plans what its turns come to
   pub come_to : AllByRecursion OnlyAppends inputs → IsSound (size_of n.state) (seen n.state []) → (next : Option ℕ) → next ≡ M.next_claim (applied_bodies n.state)
       → (step : Step M.Body) (given : List (Result (Unit {0}) Refusal))
@@ -127,7 +127,7 @@ module _ (M : Machine) {Setup Hosted Store : Type 0} (inputs : List (Input M.Bod
         → AreDowned M k inputs n cause new
     all_failed fault cause new h e = subst (λ (x : Cause). AreDowned M k inputs n x new) (sym e) (falls_by fault new h)
 
-module _ (M : Machine) {Setup Hosted Store : Type 0} (inputs : List (Input M.Body M.Line)) (stands : Hosted → Setup → History M.Body → Type 0) (k : Keeper Store M.Body)
+module _ (M : Machine) {Setup Hosted Store : Type 0} (inputs : List (Input (Message M.Body) M.Body M.Line)) (stands : Hosted → Setup → History M.Body → Type 0) (k : Keeper Store M.Body)
     (sure : (s : Store) (v : Saved M.Body) → Serves (k.condition s) → k.may_stand s v ↔ (v ≡ k.saved s)) where
   -- there was no memory to plan them
   pub no_memory : (n old : Parts Setup Hosted Store M.Body) → n ≡ old → old.down ≡ None → IsWhole stands k n → AreDowned M k inputs old Memory (record n { down = Some Memory })

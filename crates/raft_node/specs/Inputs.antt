@@ -2,6 +2,7 @@
 use Rattle.std.specs.Prelude.{ℕ, Bool, true, false, Option}
 use Rattle.wire_bytes.specs.declared.session_id.SessionId.{SessionId}
 use Rattle.machine_laws.specs.declared.class.Source.{Source}
+use Rattle.raft_log.specs.declared.message.Message.{Message}
 use Rattle.raft_log.specs.Node.{Node}
 use Rattle.replication.specs.Replication.{beat}
 use Rattle.node_steps.specs.Messages.{on_message}
@@ -20,17 +21,12 @@ pub record Bodies (B L : Type 0) : Type 0 where
   pub claim : SessionId → ℕ → B
   pub source : B → Source
 
-module _ {B L : Type 0} where
-  -- the bodies with these parts
-  abbrev pub bodies : B → (SessionId → B) → (SessionId → B) → (SessionId → ℕ → ℕ → L → B) → (SessionId → ℕ → B) → (B → Source) → Bodies B L
-  bodies blank opened shut heard claim source =
-      record { blank = blank; opened = opened; shut = shut; heard = heard; claim = claim; source = source }
-
+module _ {D B L : Type 0} where
   -- the next entry is applied
-  abbrev pub is_apply : Input B L → Bool
+  abbrev pub is_apply : Input D B L → Bool
   is_apply Timeout = false
   is_apply Beat = false
-  is_apply (Deliver m) = false
+  is_apply (Deliver d) = false
   is_apply (Ask body) = false
   is_apply Opened = false
   is_apply Closed = false
@@ -38,8 +34,14 @@ module _ {B L : Type 0} where
   is_apply Claim = false
   is_apply Apply = true
 
+module _ {B L : Type 0} where
+  -- the bodies with these parts
+  abbrev pub bodies : B → (SessionId → B) → (SessionId → B) → (SessionId → ℕ → ℕ → L → B) → (SessionId → ℕ → B) → (B → Source) → Bodies B L
+  bodies blank opened shut heard claim source =
+      record { blank = blank; opened = opened; shut = shut; heard = heard; claim = claim; source = source }
+
   -- what the node of this number in a group of this size plans, where this is the line that is to be claimed next
-  abbrev pub input_plan : Bodies B L → Option ℕ → ℕ → ℕ → Input B L → Node B → Plan B
+  abbrev pub input_plan : Bodies B L → Option ℕ → ℕ → ℕ → Input (Message B) B L → Node B → Plan B
   input_plan b next size i Timeout s = election_plan size i s
   input_plan b next size i Beat s = Goes (beat size i s)
   input_plan b next size i (Deliver m) s = Goes (on_message b.blank size i s m)
@@ -56,7 +58,7 @@ module _ (M : Machine) where
   bodies_of = bodies M.blank M.opened M.shut M.heard M.claim M.source
 
   -- the act that it is
-  abbrev pub act_of : Input M.Body M.Line → Act M
+  abbrev pub act_of : Input (Message M.Body) M.Body M.Line → Act M
   act_of Timeout = Expires
   act_of Beat = Beats
   act_of (Deliver m) = Hears m

@@ -63,7 +63,7 @@ module _ (M : Machine) {Setup Hosted Store : Type 0} where
   IsActed k act old (Err (Down cause)) new = IsDowned k act old cause new ⊎ ((old.down ≡ Some cause) × (new ≡ old))
 
   -- what comes of a step
-  abbrev pub IsStepped : Keeper Store M.Body → Input M.Body M.Line → Parts Setup Hosted Store M.Body → Result (Output M.Body M.Effect) NodeFault → Parts Setup Hosted Store M.Body → Type 0
+  abbrev pub IsStepped : Keeper Store M.Body → Input (Message M.Body) M.Body M.Line → Parts Setup Hosted Store M.Body → Result (Output M.Body M.Effect) NodeFault → Parts Setup Hosted Store M.Body → Type 0
   IsStepped k input old result new = IsActed k (act_of M input) old result new × IsSameNode k old new
 
   -- what a look answers: it changes nothing, and only want of memory keeps a node that is up from answering

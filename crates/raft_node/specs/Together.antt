@@ -20,12 +20,12 @@ use Rattle.raft_node.specs.declared.input.Input.TheVariants.{Timeout, Beat, Deli
 use Rattle.raft_node.specs.Machine.{Machine}
 use Rattle.raft_node.specs.Steps.{Act, Out, turn}
 
-module _ {B L : Type 0} where
+module _ {D B L : Type 0} where
   -- a leader appends at most one entry by it, and sends nothing
-  abbrev pub only_appends : Input B L → Bool
+  abbrev pub only_appends : Input D B L → Bool
   only_appends Timeout = false
   only_appends Beat = false
-  only_appends (Deliver m) = false
+  only_appends (Deliver d) = false
   only_appends (Ask body) = true
   only_appends Opened = true
   only_appends Closed = true
@@ -34,7 +34,7 @@ module _ {B L : Type 0} where
   only_appends Apply = false
 
   -- it is such an input
-  abbrev pub OnlyAppends : Input B L → Type 0
+  abbrev pub OnlyAppends : Input D B L → Type 0
   OnlyAppends input = only_appends input ≡ true
 
 -- the standing of a leader with this session and so many attempts made

@@ -11,7 +11,7 @@ ghost use Rattle.raft_node.specs.Together.{IsPlannedBy, OnlyAppends};
 use crate::input::Input;
 use machine_laws::Hosted;
 use node_steps::{Refusal, may_ask};
-use raft_log::{Live, NodeId, Standing};
+use raft_log::{Live, Message, NodeId, Standing};
 use wire_bytes::{Moment, Number, SessionId};
 
 /// A body that a leader is about to append, with its session and the attempts made once it stands.
@@ -28,7 +28,7 @@ pub fn to_append<M: Hosted>(
     id: NodeId,
     standing: &Standing,
     next: &Option<Number>,
-    input: Input<M::Command, M::Line>,
+    input: Input<Message<M::Command>, M::Command, M::Line>,
 ) -> Result<Option<Addition<M::Command>>, Refusal>
     requires leads { is_leader (role_of standing.now.position) ≡ true }
     requires counts { CountsLines (live_of standing.now.position) entry_limit }

@@ -5,15 +5,16 @@ ghost use Rattle.raft_node.specs.Inputs.{is_apply};
 use raft_log::Message;
 use wire_bytes::{Moment, Number, Wire};
 
-/// What happens to a node, over bodies and lines of the machine that it hosts.
+/// What happens to a node, over bodies and lines of the machine that it hosts. A delivery holds the
+/// message, or what the message came in.
 #[derive(Drop)]
-pub enum Input<B: Wire, L> {
+pub enum Input<D, B, L> {
     /// It waited too long for a leader.
     Timeout,
     /// A leader sends to all others.
     Beat,
     /// A message comes.
-    Deliver(Message<B>),
+    Deliver(D),
     /// A client asks, or word comes that a node is gone.
     Ask(B),
     /// The upstream session is registered.
@@ -28,7 +29,7 @@ pub enum Input<B: Wire, L> {
     Apply,
 }
 
-impl<B: Wire, L> Input<B, L> {
+impl<D, B, L> Input<D, B, L> {
     /// Whether an entry is applied, which nothing is saved for.
     pub fn is_apply(&self) -> bool
         ensures { result ≡ is_apply self.now }

@@ -17,7 +17,7 @@ use crate::node_fault::{Cause, NodeFault};
 use crate::prepare::prepare;
 use machine_laws::{Hosted, Machine};
 use node_steps::{Refusal, Unprepared};
-use raft_log::{Entry, GroupSize, NodeId, NodeState, Step};
+use raft_log::{Entry, GroupSize, Message, NodeId, NodeState, Step};
 use stable_store::Stable;
 use std::alloc::{AllocError, Global};
 use std::marker::Model;
@@ -128,7 +128,7 @@ impl<M: Hosted, S: Stable<M::Command>> Node<M, S> {
     /// leaves; after a refusal the node is as it was; after `Down` it shows the state from before.
     pub fn step(
         &mut self,
-        input: Input<M::Command, M::Line>,
+        input: Input<Message<M::Command>, M::Command, M::Line>,
     ) -> Result<Output<M::Command, M::Effect>, NodeFault>
         ensures { IsStepped (⟦<M as Described>⟧.machine self.old.setup)
             (keeper S.saved S.may_stand S.condition) input self.old result self.new }
@@ -150,7 +150,7 @@ impl<M: Hosted, S: Stable<M::Command>> Node<M, S> {
     }
 
     /// What it is about to do. Nothing changes.
-    fn plan(&self, input: Input<M::Command, M::Line>) -> Result<Step<M::Command>, Unprepared>
+    fn plan(&self, input: Input<Message<M::Command>, M::Command, M::Line>) -> Result<Step<M::Command>, Unprepared>
         requires up { self.now.down ≡ None }
         requires saves { is_apply input ≡ false }
         ensures planned { IsPrepared

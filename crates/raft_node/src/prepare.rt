@@ -11,7 +11,7 @@ use machine_laws::Hosted;
 use node_steps::{
     Unprepared, on_ask, on_claim, on_closed, on_heard, on_message, on_opened, on_timeout,
 };
-use raft_log::{NodeId, NodeState, Step};
+use raft_log::{Message, NodeId, NodeState, Step};
 use replication::beat;
 use std::alloc::Global;
 
@@ -21,7 +21,7 @@ pub fn prepare<M: Hosted>(
     id: NodeId,
     state: &NodeState<M::Command>,
     machine: &M,
-    input: Input<M::Command, M::Line>,
+    input: Input<Message<M::Command>, M::Command, M::Line>,
 ) -> Result<Step<M::Command>, Unprepared>
     requires within { IsWithinLog state.now.standing state.now.log }
     requires counts { CountsLines (live_of state.now.standing.position) (length state.now.log) }

@@ -17,7 +17,9 @@ use crate::addition::{Addition, to_append};
 use crate::input::Input;
 use machine_laws::Hosted;
 use node_steps::Refusal;
-use raft_log::{ENTRY_LIMIT, Entry, Live, LoggedBody, NodeId, NodeState, Position, Standing, Step};
+use raft_log::{
+    ENTRY_LIMIT, Entry, Live, LoggedBody, Message, NodeId, NodeState, Position, Standing, Step,
+};
 use std::alloc::{AllocError, Global};
 use wire_bytes::{Number, Wire};
 
@@ -38,7 +40,7 @@ pub fn plan_together<M: Hosted>(
     id: NodeId,
     state: &NodeState<M::Command>,
     next: Option<Number>,
-    inputs: Vec<Input<M::Command, M::Line>>,
+    inputs: Vec<Input<Message<M::Command>, M::Command, M::Line>>,
 ) -> Result<(Step<M::Command>, Vec<Result<(), Refusal>>), AllocError>
     requires leads { is_leader (role_of state.now.standing.position) ≡ true }
     requires sound { IsSound (size_of state.now) (seen state.now []) }

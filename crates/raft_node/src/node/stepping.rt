@@ -16,7 +16,7 @@ use crate::node_fault::{Cause, Unsaved};
 use crate::together::plan_together;
 use machine_laws::{Hosted, Machine};
 use node_steps::Refusal;
-use raft_log::Step;
+use raft_log::{Message, Step};
 use stable_store::Stable;
 use std::alloc::AllocError;
 
@@ -28,7 +28,7 @@ impl<M: Hosted, S: Stable<M::Command>> Node<M, S> {
     /// or all of them may have been saved then.
     pub fn step_all(
         &mut self,
-        inputs: Vec<Input<M::Command, M::Line>>,
+        inputs: Vec<Input<Message<M::Command>, M::Command, M::Line>>,
     ) -> Result<Vec<Result<(), Refusal>>, Unsaved>
         requires leads { self.old.down ≡ None
             → is_leader (role_of self.old.state.standing.position) ≡ true }
@@ -67,7 +67,7 @@ impl<M: Hosted, S: Stable<M::Command>> Node<M, S> {
     /// What it is about to do by these inputs. Nothing changes.
     fn plan_all(
         &self,
-        inputs: Vec<Input<M::Command, M::Line>>,
+        inputs: Vec<Input<Message<M::Command>, M::Command, M::Line>>,
     ) -> Result<(Step<M::Command>, Vec<Result<(), Refusal>>), AllocError>
         requires up { self.now.down ≡ None }
         requires leads { is_leader (role_of self.now.state.standing.position) ≡ true }

@@ -1,5 +1,6 @@
 use Rattle.std.proofs.Common.{List, refl, subst, arith}
 use Rattle.std.specs.Vec.Iter.{into_iter_items}
+use Rattle.raft_log.specs.declared.message.Message.{Message}
 use Rattle.raft_log.specs.declared.step.Step.{Step}
 use Rattle.raft_node.specs.declared.input.Input.{Input}
 use Rattle.raft_node.specs.declared.together.Together.{Together}
@@ -30,7 +31,7 @@ to_append-added-requires-clause-counts g c =
 pub to_append-added-requires-clause-appends : goal.to_append-added-requires-clause-appends
 to_append-added-requires-clause-appends g c =
     let b : Bodies g.row.M-Command.Denot g.row.M-Line.Denot = bodies g.M.Hosted.blank g.M.Hosted.opened g.M.Hosted.shut g.M.Hosted.heard g.M.Hosted.claim g.M.Hosted.source in
-    (subst (λ (l : List (Input g.row.M-Command.Denot g.row.M-Line.Denot)). UnderWay b c.args.next c.args.id c.args.state.now c.args.inputs.items l c.loop-input.together) c.in-Some.ensures.steps.0
+    (subst (λ (l : List (Input (Message g.row.M-Command.Denot) g.row.M-Command.Denot g.row.M-Line.Denot)). UnderWay b c.args.next c.args.id c.args.state.now c.args.inputs.items l c.loop-input.together) c.in-Some.ensures.steps.0
     c.loop-input.invariant.3).appends.0
 
 pub loop-input-preserved : goal.loop-input-preserved
