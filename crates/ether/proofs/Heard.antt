@@ -3,7 +3,7 @@ use Rattle.std.proofs.Common.{◌≡◌, ◌∷◌, ◌++◌, [], length, Some, 
 use Rattle.atomic_table.proofs.Lists.{at_last}
 use Rattle.world_views.specs.declared.envelope.Envelope.{Envelope}
 use Rattle.world_views.specs.declared.node_event.NodeEvent.TheVariants.{Does}
-use Rattle.world_views.specs.declared.node_event.NodeInput.TheVariants.{Deliver}
+use Rattle.raft_node.specs.declared.input.Input.TheVariants.{Deliver}
 use Rattle.world_views.specs.Views.{IsAt, View}
 use Rattle.ether.specs.Passes.{IsHeard}
 use Rattle.ether.specs.Plays.{after_take}

@@ -2,7 +2,7 @@
 use Rattle.std.proofs.Common.{List, [], ◌∷◌, ◌++◌}
 use Rattle.raft_node.specs.Together.{OnlyAppends}
 use Rattle.node_cells.specs.Inputs.{OnlyAppend, input_of}
-use Rattle.world_views.specs.declared.node_event.NodeInput.{NodeInput}
+use Rattle.world_views.specs.Inputs.{NodeInput}
 
 -- one more of them
 pub appends_more : {B L : Type 0} (inputs : List (NodeInput B L)) (x : NodeInput B L) → OnlyAppend inputs → OnlyAppends (input_of x) → OnlyAppend (inputs ++ x ∷ [])

@@ -13,7 +13,7 @@ use Rattle.raft_node.specs.Stepping.{IsDone, IsSameNode}
 use Rattle.raft_node.specs.Steps.{Act, Turn}
 use Rattle.world_views.specs.declared.node_event.NodeEvent.TheVariants.{Does}
 use Rattle.world_views.specs.declared.envelope.Envelope.{Envelope}
-use Rattle.world_views.specs.declared.node_event.NodeInput.{NodeInput}
+use Rattle.world_views.specs.Inputs.{NodeInput}
 use Rattle.world_views.specs.Own.{EventOf, act_of, own_state}
 use Rattle.world_views.proofs.Histories.{item_past}
 use Rattle.ether.specs.Passes.{EtherParts, IsOpen, IsOpenPass, IsPassAt, view_of}

@@ -4,7 +4,7 @@ use Rattle.records.specs.Converting as converting
 use Rattle.world_events.specs.declared.event.Event.{Event}
 use Rattle.world_events.specs.declared.event.Event.TheVariants.{Does}
 use Rattle.world_events.specs.declared.event.Input.{Input}
-use Rattle.world_views.specs.declared.node_event.NodeInput.{NodeInput}
+use Rattle.world_views.specs.Inputs.{NodeInput}
 
 module _ {B L T : Type 0} where
   -- the input, of the node of this number

@@ -1,6 +1,7 @@
 -- What a step of a node is to its cell, by what it answers.
 use Rattle.std.proofs.Common.{◌≡◌, ℕ, zero, suc, List, [], arith, ⊎_elim, Some, None, Result, Err, refl, sym, ap, ◌∙◌, subst}
 use Rattle.node_steps.specs.declared.refusal.Refusal.{Refusal}
+use Rattle.raft_log.specs.declared.message.Message.{Message}
 use Rattle.raft_node.specs.declared.input.Input.{Input}
 use Rattle.raft_node.specs.declared.input.Output.{Output}
 use Rattle.raft_node.specs.declared.node_fault.Cause.{Cause}
@@ -14,8 +15,8 @@ use Rattle.raft_node.specs.Steps.{Act, Out, effects_of}
 use Rattle.raft_node.specs.Steps as steps
 use Rattle.world_run.specs.declared.outcome.Outcome.TheVariants as outcome
 use Rattle.world_run.specs.Told.{out_of}
-use Rattle.world_views.specs.declared.node_event.NodeInput.{NodeInput}
-use Rattle.world_views.specs.declared.node_event.NodeInput.TheVariants.{Timeout, Beat, Deliver, Ask, Opened, Closed, Heard, Claim, Apply}
+use Rattle.world_views.specs.Inputs.{NodeInput}
+use Rattle.raft_node.specs.declared.input.Input.TheVariants.{Timeout, Beat, Deliver, Ask, Opened, Closed, Heard, Claim, Apply}
 use Rattle.world_views.specs.Own.{act_of}
 use Rattle.node_cells.specs.Books.{OutcomeOf}
 use Rattle.node_cells.specs.Inputs.{input_of}
@@ -35,8 +36,8 @@ module _ (M : Machine) where
   act_same Apply = refl
 
   -- the act of the input that the node took, of which the record has a copy
-  pub same_act : (x copy : NodeInput M.Body M.Line) (y : Input M.Body M.Line) → y ≡ input_of x → copy ≡ x → inputs.act_of M y ≡ act_of M copy
-  same_act x copy y e same = ap (λ (z : Input M.Body M.Line). inputs.act_of M z) (e ∙ ap input_of (sym same)) ∙ act_same copy
+  pub same_act : (x copy : NodeInput M.Body M.Line) (y : Input (Message M.Body) M.Body M.Line) → y ≡ input_of x → copy ≡ x → inputs.act_of M y ≡ act_of M copy
+  same_act x copy y e same = ap (λ (z : Input (Message M.Body) M.Body M.Line). inputs.act_of M z) (e ∙ ap input_of (sym same)) ∙ act_same copy
 
   abbrev Answer : Type 0
   Answer = Result (Output M.Body M.Effect) NodeFault

@@ -20,8 +20,8 @@ use Rattle.raft_node.specs.Steps.{Act, Acts, Out, Turn, quiet, refused, applied_
 use Rattle.raft_node.specs.SteppingTogether.{out_of}
 use Rattle.raft_node.specs.Together.{outs, turned_all}
 use Rattle.raft_node.proofs.Unread.{sent_is_not_read}
-use Rattle.world_views.specs.declared.node_event.NodeInput.{NodeInput}
-use Rattle.world_views.specs.declared.node_event.NodeInput.TheVariants.{Timeout, Beat, Deliver, Ask, Opened, Closed, Heard, Claim, Apply}
+use Rattle.world_views.specs.Inputs.{NodeInput}
+use Rattle.raft_node.specs.declared.input.Input.TheVariants.{Timeout, Beat, Deliver, Ask, Opened, Closed, Heard, Claim, Apply}
 use Rattle.world_views.specs.Own.{act_of}
 use Rattle.node_cells.specs.Cells.{AreAnswered, after_input, after_inputs}
 use Rattle.node_cells.specs.Inputs.{Answer, OnlyAppend, input_of}

@@ -21,8 +21,10 @@ use Rattle.stable_store.specs.declared.stable.Stable as stable
 use Rattle.node_steps.specs.contracts.refusal.Refusal as Refusal
 use Rattle.raft_node.proofs.node.Node.TheSendSync as node
 use Rattle.recorder.proofs.node_line.NodeFields.TheSendSync as fields
-use Rattle.world_views.proofs.node_event.NodeInput.TheSendSync as input
-use Rattle.world_views.specs.contracts.node_event.NodeInput as NodeInput
+use Rattle.raft_node.proofs.input.Input.TheSendSync as input
+use Rattle.world_views.proofs.envelope.Envelope.TheSendSync as envelope
+use Rattle.raft_node.specs.contracts.input.Input as Input
+use Rattle.world_views.specs.contracts.envelope.Envelope as Envelope
 use Rattle.node_cells.specs.declared.upstream.Upstream as upstream
 use Rattle.node_cells.specs.contracts.phase.Phase as Phase
 use Rattle.node_cells.specs.contracts.told_input.ToldInput as ToldInput
@@ -37,15 +39,15 @@ module _ (C L T : RattleType) (g : wire.Ghosts C.Denot) where
   told_send : IsSend (ToldInput.the_row C L T g)
   told_send = search (sendable, crosses) depth 40
 
-  copy_send : IsSend (NodeInput.the_row C L g) → IsSend (Option.the_field (NodeInput.the_row C L g)).row
+  copy_send : IsSend (Input.the_row (Envelope.the_row C g) C L) → IsSend (Option.the_field (Input.the_row (Envelope.the_row C g) C L)).row
   copy_send one = search (sendable, crosses) depth 12
 
   -- each part of it by itself, since one search does not reach them all
-  phase_send : IsSend (NodeInput.the_row C L g) → IsSend (Phase.the_row C L T g)
+  phase_send : IsSend (Input.the_row (Envelope.the_row C g) C L) → IsSend (Phase.the_row C L T g)
   phase_send one =
       let phase = Phase.the_type C L T g in
       let all_told = Vec-send (ToldInput.the_row C L T g) told_send in
-      let copies = Vec-send (NodeInput.the_row C L g) one in
+      let copies = Vec-send (Input.the_row (Envelope.the_row C g) C L) one in
       let answers = Vec-send (Result.the_row builtin.unit Refusal.the_row) answer_send in
       recorded_send (enum.Enum (shape phase)) phase.D phase.to phase.to_one
       (enum_send (shape phase) (tt, ((told_send, (copy_send one, (search sendable, tt))), ((all_told, (copies, (answers, tt))), (tt, tt)))))
@@ -68,5 +70,5 @@ module _ (M S U A L T P Setup C E : RattleType) (marking-M : marking.Ghosts M.De
       view_send (inside.the_row M S U A L T P Setup C E marking-M g machine-M copied-Setup wire-C copied-C copied-E wire-A copied-A wire-L copied-L wire-T copied-T copied-P stable-S upstream-U) _ _ _ _
       (declared_send (inside.the_type M S U A L T P Setup C E marking-M g machine-M copied-Setup wire-C copied-C copied-E wire-A copied-A wire-L copied-L wire-T copied-T copied-P stable-S upstream-U) (
         std.send,
-        (book.the_send M A L T P Setup C E g machine-M copied-Setup wire-C copied-C copied-E wire-A copied-A wire-L copied-L wire-T copied-T copied-P l t p setup c e setup-sync c-sync, (node.the_send M S A L T P Setup C E g machine-M wire-C wire-A wire-L wire-T stable-S m s setup c c-sync, (as_row_send (row_field U) u, (phase_send C L T wire-C (input.the_send C L wire-C c l c-sync), (search sendable, (fields.the_send, (number_send, (maybe_send, tt)))))))),
+        (book.the_send M A L T P Setup C E g machine-M copied-Setup wire-C copied-C copied-E wire-A copied-A wire-L copied-L wire-T copied-T copied-P l t p setup c e setup-sync c-sync, (node.the_send M S A L T P Setup C E g machine-M wire-C wire-A wire-L wire-T stable-S m s setup c c-sync, (as_row_send (row_field U) u, (phase_send C L T wire-C (input.the_send (Envelope.the_row C wire-C) C L (envelope.the_send C wire-C c c-sync) c l), (search sendable, (fields.the_send, (number_send, (maybe_send, tt)))))))),
       ))

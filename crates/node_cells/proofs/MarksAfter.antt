@@ -13,7 +13,7 @@ use Rattle.raft_node.proofs.Keeps.{stays_sound}
 use Rattle.raft_node.specs.SteppingTogether.{out_of}
 use Rattle.world_views.specs.declared.envelope.Envelope.{Envelope}
 use Rattle.world_views.specs.declared.node_event.NodeEvent.TheVariants.{Does, Look, Restart, StopIn}
-use Rattle.world_views.specs.declared.node_event.NodeInput.{NodeInput}
+use Rattle.world_views.specs.Inputs.{NodeInput}
 use Rattle.world_views.specs.Own.{EventOf, TurnOf, ViewOf, act_of, own_of, own_state, own_out}
 use Rattle.ether.specs.Plays.{after_event, after_take}
 use Rattle.node_cells.specs.declared.phase.Phase.{Phase}

@@ -16,7 +16,7 @@ use Rattle.raft_node.specs.Steps.{turn}
 use Rattle.raft_node.specs.Steps as steps
 use Rattle.world_views.specs.declared.envelope.Envelope.{Envelope}
 use Rattle.world_views.specs.declared.node_event.NodeEvent.TheVariants.{Does, Look}
-use Rattle.world_views.specs.declared.node_event.NodeInput.{NodeInput}
+use Rattle.world_views.specs.Inputs.{NodeInput}
 use Rattle.world_views.specs.Own.{ViewOf, act_of, own_out}
 use Rattle.world_views.specs.Views.{View}
 use Rattle.ether.specs.Passes.{EtherParts, view_of}

@@ -7,8 +7,8 @@ use Rattle.raft_node.specs.SteppingTogether as together
 use Rattle.world_run.specs.Told.{out_of}
 use Rattle.world_views.specs.declared.envelope.Envelope.{Envelope}
 use Rattle.world_views.specs.declared.node_event.NodeEvent.TheVariants.{Does, StopIn}
-use Rattle.world_views.specs.declared.node_event.NodeInput.{NodeInput}
-use Rattle.world_views.specs.declared.node_event.NodeInput.TheVariants.{Timeout, Beat, Deliver, Ask, Opened, Closed, Heard, Claim, Apply}
+use Rattle.world_views.specs.Inputs.{NodeInput}
+use Rattle.raft_node.specs.declared.input.Input.TheVariants.{Timeout, Beat, Deliver, Ask, Opened, Closed, Heard, Claim, Apply}
 use Rattle.world_views.specs.Own.{EventOf, TurnOf, ViewOf, own_out}
 use Rattle.world_views.specs.Views.{View, carries}
 use Rattle.ether.specs.Passes.{IsHeard, view_of}

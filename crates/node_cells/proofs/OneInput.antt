@@ -5,7 +5,7 @@ use Rattle.raft_node.specs.Steps.{effects_of}
 use Rattle.world_run.specs.Told as told
 use Rattle.world_run.specs.World.{hands}
 use Rattle.world_views.specs.declared.node_event.NodeEvent.TheVariants.{Does}
-use Rattle.world_views.specs.declared.node_event.NodeInput.{NodeInput}
+use Rattle.world_views.specs.Inputs.{NodeInput}
 use Rattle.world_views.specs.Own.{EventOf}
 use Rattle.ether.specs.Plays.{after_event}
 use Rattle.node_cells.specs.Books.{NotedOf, recorded_by, turn_in}

@@ -14,7 +14,7 @@ use Rattle.raft_node.specs.Stepping.{turned}
 use Rattle.raft_node.specs.Steps.{stopped, turn}
 use Rattle.raft_node.specs.Steps as steps
 use Rattle.world_views.specs.declared.node_event.NodeEvent.TheVariants.{Does, Restart, StopIn}
-use Rattle.world_views.specs.declared.node_event.NodeInput.{NodeInput}
+use Rattle.world_views.specs.Inputs.{NodeInput}
 use Rattle.world_views.specs.Own.{EventOf, TurnOf, act_of, own_out, own_state, run}
 use Rattle.world_views.proofs.Runs.{run-append}
 use Rattle.node_cells.specs.declared.phase.Phase.{Phase}

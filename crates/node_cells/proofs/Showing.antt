@@ -17,7 +17,7 @@ use Rattle.raft_node.specs.Steps.{Act, Acts, Looks, Out, Turn, own, refused, tur
 use Rattle.raft_node.specs.Steps as steps
 use Rattle.raft_node.proofs.Unread.{sent_is_not_read}
 use Rattle.world_views.specs.declared.node_event.NodeEvent.TheVariants.{Does, Look}
-use Rattle.world_views.specs.declared.node_event.NodeInput.{NodeInput}
+use Rattle.world_views.specs.Inputs.{NodeInput}
 use Rattle.world_views.specs.Own.{EventOf, act_of, own_out, own_state}
 use Rattle.node_cells.specs.declared.phase.Phase.{Phase}
 use Rattle.node_cells.specs.declared.phase.Phase.TheVariants.{Up, DownInTurn}

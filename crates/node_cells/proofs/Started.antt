@@ -16,7 +16,7 @@ use Rattle.raft_node.specs.Starting.{Begins, BeganWith, MayBegin, MayHaveStood, 
 use Rattle.raft_node.specs.Stepping.{IsSameNode}
 use Rattle.world_views.specs.declared.node_event.NodeEvent.{NodeEvent}
 use Rattle.world_views.specs.declared.node_event.NodeEvent.TheVariants.{Restart, StopIn}
-use Rattle.world_views.specs.declared.node_event.NodeInput.{NodeInput}
+use Rattle.world_views.specs.Inputs.{NodeInput}
 use Rattle.world_views.specs.Own.{TurnOf, ViewOf, run}
 use Rattle.world_views.specs.Views.{View}
 use Rattle.ether.specs.Passes.{EtherParts, IsHeard, view_of}

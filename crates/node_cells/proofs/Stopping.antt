@@ -6,7 +6,7 @@ use Rattle.raft_node.specs.Machine.{Machine}
 use Rattle.raft_node.specs.Steps.{Quiet}
 use Rattle.world_run.specs.declared.outcome.Outcome.TheVariants as outcome
 use Rattle.world_views.specs.declared.node_event.NodeEvent.TheVariants.{Does, StopIn}
-use Rattle.world_views.specs.declared.node_event.NodeInput.{NodeInput}
+use Rattle.world_views.specs.Inputs.{NodeInput}
 use Rattle.world_views.specs.Own.{EventOf, own_out}
 use Rattle.ether.specs.Passes.{view_of}
 use Rattle.node_cells.specs.declared.record.Recording.{Recording}

@@ -18,7 +18,7 @@ use Rattle.raft_node.specs.Parts.{Holds, Keeper, saved_by, size_of}
 use Rattle.raft_node.specs.Stepping.{IsSameNode}
 use Rattle.raft_node.specs.SteppingTogether.{AreDone, AreDowned, HaveFailed, out_of}
 use Rattle.raft_node.specs.Together.{outs, turned_all}
-use Rattle.world_views.specs.declared.node_event.NodeInput.{NodeInput}
+use Rattle.world_views.specs.Inputs.{NodeInput}
 use Rattle.world_views.specs.Own.{EventOf, ViewOf, own_state, run}
 use Rattle.ether.specs.Passes.{EtherParts, view_of}
 use Rattle.node_cells.specs.declared.phase.Phase.{Phase}

@@ -18,7 +18,7 @@ use Rattle.raft_node.specs.Steps.{Out, effects_of}
 use Rattle.world_run.specs.Told.{out_of}
 use Rattle.world_run.specs.World.{hands}
 use Rattle.world_views.specs.declared.node_event.NodeEvent.TheVariants.{Does}
-use Rattle.world_views.specs.declared.node_event.NodeInput.{NodeInput}
+use Rattle.world_views.specs.Inputs.{NodeInput}
 use Rattle.world_views.specs.Own.{EventOf, ViewOf, act_of, own_out, own_state}
 use Rattle.world_views.specs.Views.{carries}
 use Rattle.ether.specs.Passes.{EtherParts, view_of}

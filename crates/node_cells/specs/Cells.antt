@@ -11,7 +11,7 @@ use Rattle.recorder.specs.NodeLines.{fields_of}
 use Rattle.stable_store.specs.declared.saved.Saved.{Saved}
 use Rattle.world_views.specs.declared.envelope.Envelope.{Envelope}
 use Rattle.world_views.specs.declared.node_event.NodeEvent.TheVariants.{Does}
-use Rattle.world_views.specs.declared.node_event.NodeInput.{NodeInput}
+use Rattle.world_views.specs.Inputs.{NodeInput}
 use Rattle.world_views.specs.Own.{own_out, own_state}
 use Rattle.world_views.specs.Views.{IsAt, View, carries}
 use Rattle.ether.specs.declared.pass.Pass.{Pass}

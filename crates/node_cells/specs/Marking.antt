@@ -5,7 +5,7 @@ use Rattle.node_steps.specs.declared.refusal.Refusal.TheVariants.{Behind}
 use Rattle.raft_node.specs.declared.node_fault.NodeFault.TheVariants.{Refused as Declined}
 use Rattle.raft_node.specs.declared.input.Looked.{Looked as PlayedAt}
 use Rattle.raft_node.specs.Machine.{Machine}
-use Rattle.world_views.specs.declared.node_event.NodeInput.TheVariants.{Ask}
+use Rattle.raft_node.specs.declared.input.Input.TheVariants.{Ask}
 use Rattle.node_cells.specs.declared.cell_fault.CellFault.{CellFault}
 use Rattle.node_cells.specs.declared.cell_fault.CellFault.TheVariants.{Memory, Spent, Node as OfNode}
 use Rattle.node_cells.specs.declared.record.TurnOutput.{TurnOutput}

@@ -7,8 +7,8 @@ use Rattle.raft_log.specs.Lists.{item}
 use Rattle.raft_node.specs.Sound.{IsSound}
 use Rattle.world_views.specs.declared.node_event.NodeEvent.{NodeEvent}
 use Rattle.world_views.specs.declared.node_event.NodeEvent.TheVariants.{Does, Look, Restart, StopIn}
-use Rattle.world_views.specs.declared.node_event.NodeInput.{NodeInput}
-use Rattle.world_views.specs.declared.node_event.NodeInput.TheVariants.{Timeout, Beat, Deliver, Ask, Opened, Closed, Heard, Claim, Apply}
+use Rattle.world_views.specs.Inputs.{NodeInput}
+use Rattle.raft_node.specs.declared.input.Input.TheVariants.{Timeout, Beat, Deliver, Ask, Opened, Closed, Heard, Claim, Apply}
 use Rattle.world_views.specs.Views.{Ticketed, View}
 
 -- the larger of two numbers

@@ -7,7 +7,7 @@ use Rattle.world_run.specs.declared.outcome.Outcome.{Outcome}
 use Rattle.world_run.specs.declared.outcome.Outcome.TheVariants.{Quiet, Refused}
 use Rattle.world_views.specs.declared.node_event.NodeEvent.{NodeEvent}
 use Rattle.world_views.specs.declared.node_event.NodeEvent.TheVariants.{Does, Restart, StopIn}
-use Rattle.world_views.specs.declared.node_event.NodeInput.{NodeInput}
+use Rattle.world_views.specs.Inputs.{NodeInput}
 use Rattle.world_views.specs.Own.{EventOf, TurnOf, ViewOf}
 use Rattle.world_views.specs.Views.{Ticketed}
 use Rattle.ether.specs.Plays.{after_event}

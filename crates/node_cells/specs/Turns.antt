@@ -12,8 +12,8 @@ use Rattle.world_run.specs.declared.outcome.Outcome.TheVariants.{Quiet, Left, Lo
 use Rattle.world_run.specs.Told.{out_of}
 use Rattle.world_run.specs.World.{hands}
 use Rattle.world_views.specs.declared.node_event.NodeEvent.TheVariants.{Does, Look}
-use Rattle.world_views.specs.declared.node_event.NodeInput.{NodeInput}
-use Rattle.world_views.specs.declared.node_event.NodeInput.TheVariants.{Deliver}
+use Rattle.world_views.specs.Inputs.{NodeInput}
+use Rattle.raft_node.specs.declared.input.Input.TheVariants.{Deliver}
 use Rattle.world_views.specs.Own.{EventOf, own_out}
 use Rattle.ether.specs.Plays.{after_event}
 use Rattle.node_cells.specs.declared.cell_fault.CellFault.{CellFault}

@@ -59,7 +59,7 @@ pub fn input_copy<B: Wire, L: Wire>(
 }
 
 /// The input as a node takes it.
-pub fn input_of<B: Wire, L>(input: NodeInput<B, L>) -> Input<B, L>
+pub fn input_of<B: Wire, L>(input: NodeInput<B, L>) -> Input<Message<B>, B, L>
     ensures { result ≡ input_of input }
 {
     match input {
@@ -108,7 +108,7 @@ pub fn input_copies<B: Wire, L: Wire>(
 pub fn inputs_of<B: Wire, L: Drop, T>(
     alloc: Global,
     inputs: Vec<NodeInput<B, L>>,
-) -> Result<(Vec<Input<B, L>>, Vec<ToldInput<B, L, T>>), AllocError>
+) -> Result<(Vec<Input<Message<B>, B, L>>, Vec<ToldInput<B, L, T>>), AllocError>
     ensures { IfOk result (λ r. (r.0.items ≡ map input_of inputs.items)
         × (r.1.items ≡ inputs.items)) }
 {

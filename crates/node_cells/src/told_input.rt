@@ -21,10 +21,11 @@ pub struct ToldInput<B: Wire, L, T> {
 
 impl<B: Wire, L, T> Model for ToldInput<B, L, T> {
     ghost use Rattle.std.specs.Prelude.{◌≡◌, true, false};
-    ghost use Rattle.world_views.specs.declared.node_event.NodeInput.{NodeInput};
+    ghost use Rattle.raft_node.specs.declared.input.Input.{Input};
+    ghost use Rattle.world_views.specs.declared.envelope.Envelope.{Envelope};
     ghost use Rattle.world_views.specs.declared.node_event.NodeEvent.TheVariants.{Does, StopIn};
 
-    ghost Value = { NodeInput B L };
+    ghost Value = { Input (Envelope B) B L };
 
     ghost view = { λ t. t.input.value };
 

@@ -5,8 +5,8 @@ use Rattle.raft_log.specs.declared.role.Role.TheVariants.{Follower, Candidate, L
 use Rattle.raft_log.specs.declared.node_state.NodeState.{NodeState}
 use Rattle.raft_log.specs.Positions.{role_of, live_of}
 use Rattle.raft_node.specs.declared.node_fault.Cause.{Cause}
-use Rattle.world_views.specs.declared.node_event.NodeInput.{NodeInput}
-use Rattle.world_views.specs.declared.node_event.NodeInput.TheVariants as input
+use Rattle.world_views.specs.Inputs.{NodeInput}
+use Rattle.raft_node.specs.declared.input.Input.TheVariants as input
 use Rattle.node_notes.specs.declared.note.Note.{Note}
 use Rattle.node_notes.specs.declared.note.Note.TheVariants.{Timeout, Beat, Ask, Opened, Closed, Heard, Claim, Wake, Restart, End}
 use Rattle.node_notes.specs.declared.status.Status.{Status}

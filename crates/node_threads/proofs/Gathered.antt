@@ -1,7 +1,7 @@
 -- That inputs were done together, where there are any.
 use Rattle.std.proofs.Common.{◌≤◌, List, [], ◌∷◌, length, Result, arith}
 use Rattle.raft_node.specs.Machine.{Machine}
-use Rattle.world_views.specs.declared.node_event.NodeInput.{NodeInput}
+use Rattle.world_views.specs.Inputs.{NodeInput}
 use Rattle.node_cells.specs.declared.cell_fault.CellFault.{CellFault}
 use Rattle.node_cells.specs.Inputs.{Answer}
 use Rattle.node_cells.specs.Turns.{CellOf}

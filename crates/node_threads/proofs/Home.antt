@@ -4,7 +4,7 @@ use Rattle.raft_node.specs.declared.input.Looked.{Looked as PlayedAt}
 use Rattle.raft_node.specs.declared.node_fault.NodeFault.TheVariants.{Down, Refused}
 use Rattle.raft_node.specs.Machine.{Machine}
 use Rattle.world_views.specs.declared.envelope.Envelope.{Envelope}
-use Rattle.world_views.specs.declared.node_event.NodeInput.{NodeInput}
+use Rattle.world_views.specs.Inputs.{NodeInput}
 use Rattle.world_views.specs.Own.{EventOf, TurnOf, ViewOf}
 use Rattle.world_views.specs.Views.{View}
 use Rattle.ether.specs.Passes.{view_of}

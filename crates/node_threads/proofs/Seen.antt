@@ -3,7 +3,7 @@ use Rattle.std.proofs.Common.{◌≡◌, inl, inr, ⊎_elim, ℕ, zero, suc, Boo
 use Rattle.raft_node.specs.Machine.{Machine}
 use Rattle.raft_log.specs.declared.position.Position.{Position}
 use Rattle.raft_log.specs.declared.position.Position.TheVariants.{Follower, Candidate, Leader}
-use Rattle.world_views.specs.declared.node_event.NodeInput.TheVariants as input
+use Rattle.raft_node.specs.declared.input.Input.TheVariants as input
 use Rattle.node_cells.specs.declared.phase.Phase.{Phase}
 use Rattle.node_cells.specs.declared.phase.Phase.TheVariants.{Up, DownInTurn, DownInTurns, DownInRestart}
 use Rattle.node_cells.specs.Cells.{CellParts}

@@ -4,8 +4,8 @@ use Rattle.std.proofs.lemmas.List.{length_push}
 use Rattle.wire_bytes.specs.declared.mark.Mark.{Mark}
 use Rattle.raft_node.specs.Machine.{Machine}
 use Rattle.raft_node.specs.Together.{OnlyAppends}
-use Rattle.world_views.specs.declared.node_event.NodeInput.{NodeInput}
-use Rattle.world_views.specs.declared.node_event.NodeInput.TheVariants as input
+use Rattle.world_views.specs.Inputs.{NodeInput}
+use Rattle.raft_node.specs.declared.input.Input.TheVariants as input
 use Rattle.world_views.specs.Views.{carries}
 use Rattle.node_cells.specs.Cells.{CellParts}
 use Rattle.node_cells.specs.Inputs.{OnlyAppend, input_of}

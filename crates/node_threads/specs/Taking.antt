@@ -2,7 +2,7 @@
 use Rattle.std.specs.Prelude.{◌≡◌, ◌⊎◌, Bool, true, false, List, [], ◌∷◌, ◌++◌, Option, Some, None}
 use Rattle.wire_bytes.specs.declared.mark.Mark.{Mark}
 use Rattle.raft_node.specs.Machine.{Machine}
-use Rattle.world_views.specs.declared.node_event.NodeInput.{NodeInput}
+use Rattle.world_views.specs.Inputs.{NodeInput}
 use Rattle.node_cells.specs.Turns.{CellOf}
 use Rattle.node_cells.specs.Upstreams.{Tally}
 use Rattle.node_threads.specs.declared.job.Job.{Job}

@@ -4,8 +4,8 @@ use Rattle.wire_bytes.specs.declared.mark.Mark.{Mark}
 use Rattle.raft_node.specs.declared.input.Looked.{Looked as PlayedAt}
 use Rattle.raft_node.specs.Machine.{Machine}
 use Rattle.world_views.specs.declared.envelope.Envelope.{Envelope}
-use Rattle.world_views.specs.declared.node_event.NodeInput.{NodeInput}
-use Rattle.world_views.specs.declared.node_event.NodeInput.TheVariants as input
+use Rattle.world_views.specs.Inputs.{NodeInput}
+use Rattle.raft_node.specs.declared.input.Input.TheVariants as input
 use Rattle.node_cells.specs.declared.mark_turn.MarkTurn.{MarkTurn}
 use Rattle.node_cells.specs.Marking.{HasLookedAfter, HasMarked}
 use Rattle.node_cells.specs.declared.cell_fault.CellFault.{CellFault}

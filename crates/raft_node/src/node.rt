@@ -150,7 +150,10 @@ impl<M: Hosted, S: Stable<M::Command>> Node<M, S> {
     }
 
     /// What it is about to do. Nothing changes.
-    fn plan(&self, input: Input<Message<M::Command>, M::Command, M::Line>) -> Result<Step<M::Command>, Unprepared>
+    fn plan(
+        &self,
+        input: Input<Message<M::Command>, M::Command, M::Line>,
+    ) -> Result<Step<M::Command>, Unprepared>
         requires up { self.now.down ≡ None }
         requires saves { is_apply input ≡ false }
         ensures planned { IsPrepared

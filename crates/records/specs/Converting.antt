@@ -12,8 +12,8 @@ use Rattle.world_events.specs.declared.event.Input.TheVariants as input
 use Rattle.world_run.specs.declared.outcome.Outcome.{Outcome}
 use Rattle.world_views.specs.declared.node_event.NodeEvent.{NodeEvent}
 use Rattle.world_views.specs.declared.node_event.NodeEvent.TheVariants.{Does, Look, Restart, StopIn}
-use Rattle.world_views.specs.declared.node_event.NodeInput.{NodeInput}
-use Rattle.world_views.specs.declared.node_event.NodeInput.TheVariants.{Timeout, Beat, Deliver, Ask, Opened, Closed, Heard, Claim, Apply}
+use Rattle.world_views.specs.Inputs.{NodeInput}
+use Rattle.raft_node.specs.declared.input.Input.TheVariants.{Timeout, Beat, Deliver, Ask, Opened, Closed, Heard, Claim, Apply}
 
 module _ {B L : Type 0} where
   -- a message came that no node sent

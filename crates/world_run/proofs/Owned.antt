@@ -65,14 +65,14 @@ module _ (M : Machine) {Setup Hosted Store : Type 0} where
         sent = sym (append-nil sent);
       }
 
-  pub step_done : (k : Keeper Store M.Body) (input : Input M.Body M.Line) (old new : Parts Setup Hosted Store M.Body) (sent after : List (Message M.Body)) (result : Result (Output M.Body M.Effect) NodeFault) (output : Output M.Body M.Effect) (out : Outcome M.Effect M.Played)
+  pub step_done : (k : Keeper Store M.Body) (input : Input (Message M.Body) M.Body M.Line) (old new : Parts Setup Hosted Store M.Body) (sent after : List (Message M.Body)) (result : Result (Output M.Body M.Effect) NodeFault) (output : Output M.Body M.Effect) (out : Outcome M.Effect M.Played)
       → IsStepped M k input old result new → result ≡ Ok output → after ≡ sent ++ output.messages.items → out_of M out ≡ given {M = M} output.place output.effects.items
       → HasOwned M (Acts (act_of M input)) (cell old sent) (cell new after) out
   step_done k input old new sent after result output out h e =
       let s : IsStepped M k input old (Ok output) new = subst (λ (r : Result (Output M.Body M.Effect) NodeFault). IsStepped M k input old r new) e h in
       done k (act_of M input) old new sent after output out s.0 s.1
 
-  pub step_declined : (k : Keeper Store M.Body) (input : Input M.Body M.Line) (old new : Parts Setup Hosted Store M.Body) (sent : List (Message M.Body)) (result : Result (Output M.Body M.Effect) NodeFault) (fault : NodeFault) (refusal : Refusal)
+  pub step_declined : (k : Keeper Store M.Body) (input : Input (Message M.Body) M.Body M.Line) (old new : Parts Setup Hosted Store M.Body) (sent : List (Message M.Body)) (result : Result (Output M.Body M.Effect) NodeFault) (fault : NodeFault) (refusal : Refusal)
       → IsStepped M k input old result new → result ≡ Err fault → fault ≡ Fault refusal
       → HasOwned M (Acts (act_of M input)) (cell old sent) (cell new sent) (Refused refusal)
   step_declined k input old new sent result fault refusal h e f =

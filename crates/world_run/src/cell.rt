@@ -90,7 +90,7 @@ impl<M: Hosted> Cell<M> {
     /// An input comes.
     fn step(
         &mut self,
-        input: Input<M::Command, M::Line>,
+        input: Input<Message<M::Command>, M::Command, M::Line>,
     ) -> Result<Outcome<M::Effect, M::Played>, AllocError>
         ensures { IfOk result (HasOwned (⟦<M as Described>⟧.machine self.old.node.setup)
             (Acts (act_of (⟦<M as Described>⟧.machine self.old.node.setup) input))

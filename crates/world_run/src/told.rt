@@ -1,11 +1,12 @@
 //! What happens by an event to which node.
+use raft_log::Message;
 use raft_node::Input;
 use wire_bytes::Wire;
 
 /// What a node does: an input, or a look from a place on.
 #[derive(Drop)]
 pub enum Act<B: Wire, L, T> {
-    Steps(Input<B, L>),
+    Steps(Input<Message<B>, B, L>),
     Looks(u64, T),
 }
 

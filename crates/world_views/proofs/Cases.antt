@@ -17,7 +17,7 @@ use Rattle.raft_node.specs.Raft.{newborn}
 use Rattle.world_run.specs.World as world
 use Rattle.world_views.specs.declared.envelope.Envelope.{Envelope}
 use Rattle.world_views.specs.declared.node_event.NodeEvent.TheVariants.{Does}
-use Rattle.world_views.specs.declared.node_event.NodeInput.TheVariants.{Timeout, Deliver}
+use Rattle.raft_node.specs.declared.input.Input.TheVariants.{Timeout, Deliver}
 use Rattle.world_views.specs.Views.{IsAt, Drew, RisesFrom, brings}
 use Rattle.world_views.specs.Own.{EventOf, ViewOf, own_state, run, state_at}
 use Rattle.world_views.specs.Rule.{IsRule, TicketsAreOnce, MessagesStand, Stands, IsRun, AreHonest}

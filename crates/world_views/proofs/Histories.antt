@@ -13,8 +13,8 @@ use Rattle.world_run.specs.World as world
 use Rattle.world_run.specs.World.{Event, run, outs, happens, out_of}
 use Rattle.world_views.specs.declared.envelope.Envelope.{Envelope}
 use Rattle.world_views.specs.declared.node_event.NodeEvent.TheVariants.{Does, Look, Restart, StopIn}
-use Rattle.world_views.specs.declared.node_event.NodeInput.{NodeInput}
-use Rattle.world_views.specs.declared.node_event.NodeInput.TheVariants.{Timeout, Beat, Deliver, Ask, Opened, Closed, Heard, Claim, Apply}
+use Rattle.world_views.specs.Inputs.{NodeInput}
+use Rattle.raft_node.specs.declared.input.Input.TheVariants.{Timeout, Beat, Deliver, Ask, Opened, Closed, Heard, Claim, Apply}
 use Rattle.world_views.specs.Views.{sender, carries, brings}
 use Rattle.world_views.specs.Own.{EventOf, act_of, own_of, own_state, own_out}
 use Rattle.world_views.specs.Merged.{PlacedOf, MayBring, Leads, still, on}

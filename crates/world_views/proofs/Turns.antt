@@ -13,7 +13,7 @@ use Rattle.agreement.specs.World as core
 use Rattle.world_run.specs.World.{Event, moment, outputs}
 use Rattle.world_run.proofs.Answers.{looks_are_faithful, apply_is_faithful}
 use Rattle.world_views.specs.declared.node_event.NodeEvent.TheVariants.{Does, Look}
-use Rattle.world_views.specs.declared.node_event.NodeInput.TheVariants.{Apply}
+use Rattle.raft_node.specs.declared.input.Input.TheVariants.{Apply}
 use Rattle.world_views.specs.Views.{RisesFrom, start}
 use Rattle.world_views.specs.Own.{TurnOf, ViewOf, runs}
 use Rattle.world_views.specs.Rule.{IsRule}

@@ -10,7 +10,7 @@ use Rattle.raft_node.specs.Steps.{Left, Looked, Out}
 use Rattle.agreement.specs.World.{Begins}
 use Rattle.world_run.specs.World.{Event, count, handed, left_of, outputs}
 use Rattle.world_views.specs.declared.node_event.NodeEvent.TheVariants.{Does, Look}
-use Rattle.world_views.specs.declared.node_event.NodeInput.TheVariants.{Apply}
+use Rattle.raft_node.specs.declared.input.Input.TheVariants.{Apply}
 use Rattle.world_views.specs.Views.{IsAt, IsOpened, start}
 use Rattle.world_views.specs.Own.{EventOf, TurnOf, ViewOf, own_out, own_state, runs, state_at}
 use Rattle.world_views.specs.Rule.{AreHonest, IsRule}

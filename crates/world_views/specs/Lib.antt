@@ -1,3 +1,4 @@
+pub mod Inputs
 pub mod Views
 pub mod Own
 pub mod Rule

@@ -10,8 +10,8 @@ use Rattle.agreement.specs.World.{start}
 use Rattle.world_run.specs.World as world
 use Rattle.world_run.specs.World.{Event, run}
 use Rattle.world_views.specs.declared.node_event.NodeEvent.TheVariants.{Does, Look, Restart, StopIn}
-use Rattle.world_views.specs.declared.node_event.NodeInput.{NodeInput}
-use Rattle.world_views.specs.declared.node_event.NodeInput.TheVariants.{Timeout, Beat, Deliver, Ask, Opened, Closed, Heard, Claim, Apply}
+use Rattle.world_views.specs.Inputs.{NodeInput}
+use Rattle.raft_node.specs.declared.input.Input.TheVariants.{Timeout, Beat, Deliver, Ask, Opened, Closed, Heard, Claim, Apply}
 use Rattle.world_views.specs.Views.{IsAt}
 use Rattle.world_views.specs.Own.{EventOf, ViewOf}
 use Rattle.world_views.specs.Merged.{PlacedOf}

@@ -6,8 +6,8 @@ use Rattle.raft_log.specs.Node.{Node}
 use Rattle.world_views.specs.declared.envelope.Envelope.{Envelope}
 use Rattle.world_views.specs.declared.node_event.NodeEvent.{NodeEvent}
 use Rattle.world_views.specs.declared.node_event.NodeEvent.TheVariants.{Does, Look, Restart, StopIn}
-use Rattle.world_views.specs.declared.node_event.NodeInput.{NodeInput}
-use Rattle.world_views.specs.declared.node_event.NodeInput.TheVariants.{Timeout, Beat, Deliver, Ask, Opened, Closed, Heard, Claim, Apply}
+use Rattle.world_views.specs.Inputs.{NodeInput}
+use Rattle.raft_node.specs.declared.input.Input.TheVariants.{Timeout, Beat, Deliver, Ask, Opened, Closed, Heard, Claim, Apply}
 
 -- this item stands at a place of a list, from 0 on
 abbrev pub IsAt : {A : Type 0} → List A → ℕ → A → Type 0

@@ -1,29 +1,10 @@
 //! What happens to one node, with the message that it brings.
 use crate::envelope::Envelope;
-use wire_bytes::{Moment, Wire};
+use raft_node::Input;
+use wire_bytes::Wire;
 
-/// An input of one node, over bodies and lines of the machine that it hosts.
-#[derive(Drop)]
-pub enum NodeInput<B: Wire, L> {
-    /// It waited too long for a leader.
-    Timeout,
-    /// A leader sends to all others.
-    Beat,
-    /// A message comes.
-    Deliver(Envelope<B>),
-    /// A client asks, or word comes that a node is gone.
-    Ask(B),
-    /// The upstream session is registered.
-    Opened,
-    /// The upstream session ended.
-    Closed,
-    /// A line came from upstream.
-    Heard(Moment, L),
-    /// The next line for upstream is claimed.
-    Claim,
-    /// One entry is applied.
-    Apply,
-}
+/// An input of one node, where a delivery holds the message with its number.
+pub type NodeInput<B, L> = Input<Envelope<B>, B, L>;
 
 /// What happens to one node, which is not named.
 #[derive(Drop)]

@@ -186,7 +186,7 @@ impl<M: Hosted, S: Stable<M::Command>> Seated<M, S> {
 /// The node does this. Gives what it sends.
 fn run<M: Hosted, S: Stable<M::Command>>(
     node: &mut Node<M, S>,
-    input: Input<M::Command, M::Line>,
+    input: Input<Message<M::Command>, M::Command, M::Line>,
 ) -> Result<Vec<Message<M::Command>>, Fail>
     ensures { IfOk result (λ ms. HasActed (⟦<M as Described>⟧.machine node.old.setup)
         (act_of (⟦<M as Described>⟧.machine node.old.setup) input) node.old node.new ms.items) }

@@ -6,7 +6,7 @@ ghost use Rattle.raft_node.specs.Together.{OnlyAppends};
 ghost use Rattle.world_lines.specs.OutputText.{named_in};
 ghost use Rattle.world_views.specs.Views.{carries};
 
-use raft_log::NodeId;
+use raft_log::{Message, NodeId};
 use raft_node::Input as NodeStep;
 use std::alloc::Global;
 use std::test::Fail;
@@ -54,7 +54,7 @@ pub fn own_input<B: Wire, L: Wire, T>(
 pub fn own_step<B: Wire, L: Wire, T>(
     alloc: Global,
     input: &Input<B, L, T>,
-) -> Result<NodeStep<B, L>, Fail> {
+) -> Result<NodeStep<Message<B>, B, L>, Fail> {
     Ok(match own_input(alloc, input)? {
         NodeInput::Timeout => NodeStep::Timeout,
         NodeInput::Beat => NodeStep::Beat,

@@ -52,7 +52,10 @@ impl<M: Hosted> Member<M> {
     }
 
     /// An input comes. A node that is refused memory is down, and is started again.
-    pub fn step(&mut self, input: Input<M::Command, M::Line>) -> Came<M::Effect> {
+    pub fn step(
+        &mut self,
+        input: Input<Message<M::Command>, M::Command, M::Line>,
+    ) -> Came<M::Effect> {
         let before = NodeFields::of(self.node.state());
         mark(self.alloc);
         let done = self.node.step(input);

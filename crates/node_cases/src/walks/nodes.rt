@@ -5,7 +5,7 @@ use buffer_commands::WireLine;
 use buffer_lines::Shown;
 use irc_line::Name;
 use machine_laws::{Hosted, Machine};
-use raft_log::{GroupSize, NodeId};
+use raft_log::{GroupSize, Message, NodeId};
 use raft_node::Input as NodeStep;
 use recorder::{Words, parse_events, push_number};
 use std::alloc::{AllocError, Global};
@@ -81,7 +81,7 @@ fn deliver<M: Hosted>(members: &mut [Member<M>], sender: u64, number: u64) -> Ca
 fn step<M: Hosted>(
     members: &mut [Member<M>],
     node: u64,
-    input: NodeStep<M::Command, M::Line>,
+    input: NodeStep<Message<M::Command>, M::Command, M::Line>,
 ) -> Came<M::Effect> {
     let node = place_of(node, members.len())?;
     members[node].step(input)

@@ -21,6 +21,7 @@ use crate::told_input::ToldInput;
 use crate::upstream::Upstream;
 use machine_laws::{Hosted, Machine, Marking};
 use node_steps::Refusal;
+use raft_log::Message;
 use raft_node::{Described, Input, NodeFault, Unsaved};
 use recorder::NodeFields;
 use stable_store::Stable;
@@ -71,7 +72,7 @@ impl<M: Marking, S: Stable<M::Command>, U: Upstream> NodeCell<M, S, U> {
         &mut self,
         told: Vec<ToldInput<M::Command, M::Line, M::Target>>,
         copies: Vec<NodeInput<M::Command, M::Line>>,
-        taken: Vec<Input<M::Command, M::Line>>,
+        taken: Vec<Input<Message<M::Command>, M::Command, M::Line>>,
         asked: Number,
     ) -> Result<Vec<Result<(), Refusal>>, CellFault>
         requires up { self.old.parts.phase ≡ Up }

@@ -33,7 +33,7 @@ const SAVED: [&str; 5] = [
 ];
 
 /// What node 1 says to node 2 in term 1.
-fn from_first(kind: Kind<u8>) -> Input<u8, u8> {
+fn from_first(kind: Kind<u8>) -> Input<Message<u8>, u8, u8> {
     Input::Deliver(Message {
         term: Number::new(1),
         from: 1,
@@ -43,7 +43,7 @@ fn from_first(kind: Kind<u8>) -> Input<u8, u8> {
 }
 
 /// It asks for a vote, with an empty log.
-fn request() -> Input<u8, u8> {
+fn request() -> Input<Message<u8>, u8, u8> {
     from_first(Kind::RequestVote {
         last_index: Number::new(0),
         last_term: Number::new(0),
@@ -58,7 +58,7 @@ fn entry(alloc: Global, body: u8) -> Result<Entry<u8>, AllocError> {
 }
 
 /// Its blank entry, and one of the body 7.
-fn entries(alloc: Global) -> Result<Input<u8, u8>, AllocError> {
+fn entries(alloc: Global) -> Result<Input<Message<u8>, u8, u8>, AllocError> {
     let mut entries = Vec::with_capacity(alloc, 2)?;
     entries.push(entry(alloc, 0)?)?;
     entries.push(entry(alloc, 7)?)?;

@@ -21,12 +21,15 @@ fn started<S: Stable<u8>>(alloc: Global, store: S) -> Result<Node<Toy, S>, NodeF
 }
 
 /// The fault of a step, if it is one.
-fn fault<S: Stable<u8>>(node: &mut Node<Toy, S>, input: Input<u8, u8>) -> Option<NodeFault> {
+fn fault<S: Stable<u8>>(
+    node: &mut Node<Toy, S>,
+    input: Input<Message<u8>, u8, u8>,
+) -> Option<NodeFault> {
     node.step(input).err()
 }
 
 /// What happens to a node, whatever comes out.
-fn go(node: &mut ToyNode, input: Input<u8, u8>) -> Result<(), Fail> {
+fn go(node: &mut ToyNode, input: Input<Message<u8>, u8, u8>) -> Result<(), Fail> {
     let _output = node.step(input)?;
     Ok(())
 }
@@ -36,7 +39,7 @@ fn first_run(alloc: Global) -> Result<ToyNode, NodeFault> {
 }
 
 /// What node 2 says to node 1 in term 1.
-fn from_second(kind: Kind<u8>) -> Input<u8, u8> {
+fn from_second(kind: Kind<u8>) -> Input<Message<u8>, u8, u8> {
     Input::Deliver(Message {
         term: Number::new(1),
         from: 2,
@@ -85,7 +88,7 @@ fn places(node: &ToyNode) -> (u64, u64) {
 }
 
 /// Whether the messages of a step go to nodes 2 and 3.
-fn asks_both(node: &mut ToyNode, input: Input<u8, u8>) -> Result<bool, NodeFault> {
+fn asks_both(node: &mut ToyNode, input: Input<Message<u8>, u8, u8>) -> Result<bool, NodeFault> {
     let output = node.step(input)?;
     Ok(match output.messages.as_slice() {
         [one, other] => one.to == 2 && other.to == 3,

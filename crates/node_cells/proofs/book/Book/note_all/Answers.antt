@@ -4,7 +4,7 @@ use Rattle.raft_node.specs.Hosts.{hosted}
 use Rattle.raft_node.specs.Machine.{Machine}
 use Rattle.world_run.specs.Told.{out_of}
 use Rattle.world_views.specs.declared.node_event.NodeEvent.TheVariants.{Does}
-use Rattle.world_views.specs.declared.node_event.NodeInput.{NodeInput}
+use Rattle.world_views.specs.Inputs.{NodeInput}
 use Rattle.world_views.specs.Own.{own_out}
 use Rattle.ether.specs.Passes.{EtherParts, view_of}
 use Rattle.node_cells.specs.declared.record.Recording.{Recording}

@@ -3,7 +3,7 @@ use Rattle.raft_node.specs.Hosts.{hosted}
 use Rattle.raft_node.specs.Machine.{Machine}
 use Rattle.world_run.specs.declared.outcome.Outcome.TheVariants.{Quiet}
 use Rattle.world_views.specs.declared.node_event.NodeEvent.TheVariants.{StopIn}
-use Rattle.world_views.specs.declared.node_event.NodeInput.{NodeInput}
+use Rattle.world_views.specs.Inputs.{NodeInput}
 use Rattle.ether.specs.Passes.{EtherParts, view_of}
 use Rattle.std.specs.Prelude.{option_to_list}
 use Rattle.node_cells.specs.declared.record.Recording.{Recording}

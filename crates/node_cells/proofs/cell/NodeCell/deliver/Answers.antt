@@ -1,7 +1,7 @@
 use Rattle.std.proofs.Common.{Some, subst}
 use Rattle.raft_node.specs.Hosts.{hosted}
 use Rattle.raft_node.specs.Machine.{Machine}
-use Rattle.world_views.specs.declared.node_event.NodeInput.TheVariants.{Deliver}
+use Rattle.raft_node.specs.declared.input.Input.TheVariants.{Deliver}
 use Rattle.ether.specs.Passes.{EtherParts}
 use Rattle.ether.proofs.Heard.{heard_last}
 use Rattle.node_cells.specs.Turns.{IsNoTurn, IsTurn}

@@ -2,7 +2,7 @@ use Rattle.std.proofs.Common.{rules, ◌≡◌, ◌+◌, suc, sym, ap, ◌∙◌
 use Rattle.raft_log.specs.Node.{Node}
 use Rattle.raft_node.specs.Hosts.{hosted}
 use Rattle.raft_node.specs.Machine.{Machine}
-use Rattle.world_views.specs.declared.node_event.NodeInput.TheVariants.{Ask}
+use Rattle.raft_node.specs.declared.input.Input.TheVariants.{Ask}
 use Rattle.node_cells.specs.Cells.{view_in}
 use Rattle.node_cells.specs.Turns.{IsTurn}
 use Rattle.node_cells.specs.Marking.{own_mark}

@@ -1,4 +1,5 @@
 use Rattle.std.proofs.Common.{rules, ℕ, Global, suc, Option, Some, Vec, arith, inl, true, ◌≡◌, List, [], length, Result, Ok, Err, refl, sym, ap, ◌∙◌, subst, map}
+use Rattle.raft_log.specs.declared.message.Message.{Message}
 use Rattle.raft_log.specs.Seen.{seen}
 use Rattle.raft_log.specs.declared.node_state.NodeState.{NodeState}
 use Rattle.recorder.specs.NodeLines.{fields_of}
@@ -13,7 +14,7 @@ use Rattle.raft_node.specs.Steps.{Act}
 use Rattle.world_run.specs.World.{hands}
 use Rattle.world_run.specs.declared.outcome.Outcome.TheVariants.{Refused}
 use Rattle.world_views.specs.declared.node_event.NodeEvent.TheVariants.{Does}
-use Rattle.world_views.specs.declared.node_event.NodeInput.{NodeInput}
+use Rattle.world_views.specs.Inputs.{NodeInput}
 use Rattle.world_run.specs.Told.{out_of}
 use Rattle.world_views.specs.Own.{ViewOf, act_of, own_out}
 use Rattle.world_views.specs.Views.{View, carries}
@@ -55,7 +56,7 @@ abbrev Inner : (g : given.Over) → Type 0
 Inner g = Parts g.row.M-Setup.Denot g.row.M.Denot g.row.S.Denot g.row.M-Command.Denot
 
 -- the step, as one of the copied input at the ether's setup
-acted : (g : given.Over) (s t : g.row.M-Setup.Denot) (x copy : NodeInput g.row.M-Command.Denot g.row.M-Line.Denot) (y : Input g.row.M-Command.Denot g.row.M-Line.Denot) (q q' : Inner g)
+acted : (g : given.Over) (s t : g.row.M-Setup.Denot) (x copy : NodeInput g.row.M-Command.Denot g.row.M-Line.Denot) (y : Input (Message g.row.M-Command.Denot) g.row.M-Command.Denot g.row.M-Line.Denot) (q q' : Inner g)
     (r : Result (Output g.row.M-Command.Denot g.row.M-Effect.Denot) NodeFault) → s ≡ t → y ≡ input_of x → copy ≡ x → IsStepped (machine g s) (kept g) y q r q'
     → IsActed (machine g t) (kept g) (act_of (machine g t) copy) q r q' × IsSameNode (kept g) q q'
 acted g s t x copy y q q' r e is same h =

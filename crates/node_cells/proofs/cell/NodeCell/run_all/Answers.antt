@@ -1,4 +1,5 @@
 use Rattle.std.proofs.Common.{rules, arith, ◌≡◌, ℕ, List, [], length, map, true, suc, inl, refl, sym, ap, ◌∙◌, subst}
+use Rattle.raft_log.specs.declared.message.Message.{Message}
 use Rattle.raft_log.specs.declared.node_state.NodeState.{NodeState}
 use Rattle.raft_log.specs.Node.{is_leader}
 use Rattle.raft_log.specs.Positions.{role_of}
@@ -10,7 +11,7 @@ use Rattle.raft_node.specs.Hosts.{hosted}
 use Rattle.raft_node.specs.Machine.{Machine}
 use Rattle.raft_node.specs.Parts.{IsBlamed, Keeper, Parts, keeper}
 use Rattle.raft_node.specs.SteppingTogether.{AreDone, HaveFailed}
-use Rattle.world_views.specs.declared.node_event.NodeInput.{NodeInput}
+use Rattle.world_views.specs.Inputs.{NodeInput}
 use Rattle.ether.specs.Passes.{EtherParts, view_of}
 use Rattle.node_cells.specs.declared.phase.Phase.TheVariants.{Up}
 use Rattle.node_cells.specs.Copies.{AreCopies}
@@ -37,7 +38,7 @@ abbrev RoomOf : given.Over → Type 0
 RoomOf g = CellRoom g.row.M-Setup.Denot g.row.M.Denot g.row.S.Denot g.row.M-Command.Denot g.row.M-Line.Denot g.row.M-Target.Denot g.row.M-Effect.Denot g.row.M-Played.Denot g.row.U.Denot
 
 abbrev TakenOf : given.Over → Type 0
-TakenOf g = Input g.row.M-Command.Denot g.row.M-Line.Denot
+TakenOf g = Input (Message g.row.M-Command.Denot) g.row.M-Command.Denot g.row.M-Line.Denot
 
 abbrev InputOf : given.Over → Type 0
 InputOf g = NodeInput g.row.M-Command.Denot g.row.M-Line.Denot

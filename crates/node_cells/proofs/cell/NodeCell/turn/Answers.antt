@@ -1,5 +1,5 @@
 use Rattle.std.proofs.Common.{◌∙◌, Some, sym, ap, subst}
-use Rattle.world_views.specs.declared.node_event.NodeInput.{NodeInput}
+use Rattle.world_views.specs.Inputs.{NodeInput}
 use Rattle.world_views.specs.Views.{carries}
 use Rattle.node_cells.specs.Cells.{CellParts, HasHeard, view_in}
 use Rattle.node_cells.proofs.cell.NodeCell.turn.Given as given

@@ -1,5 +1,5 @@
 use Rattle.std.proofs.Common.{◌≡◌, ◌+◌, true, false, not, suc, refl, sym, ap, ◌∙◌, subst, arith}
-use Rattle.world_views.specs.declared.node_event.NodeInput.TheVariants.{Apply}
+use Rattle.raft_node.specs.declared.input.Input.TheVariants.{Apply}
 use Rattle.node_threads.specs.Work.{HasHadTurn}
 use Rattle.node_threads.proofs.Going.{applies_next}
 use Rattle.node_threads.proofs.Home.{home_after_input, same_home, same_home_still}

@@ -1,7 +1,7 @@
 use Rattle.std.proofs.Common.{rules, ◌≡◌, Bool, true, false, ap, sym, ◌∙◌, subst}
 use Rattle.raft_node.specs.Hosts.{hosted}
 use Rattle.raft_node.specs.Machine.{Machine}
-use Rattle.world_views.specs.declared.node_event.NodeInput.TheVariants.{Ask}
+use Rattle.raft_node.specs.declared.input.Input.TheVariants.{Ask}
 use Rattle.node_threads.specs.Asking.{MayAsk}
 use Rattle.node_threads.specs.Work.{HasHadTurn}
 use Rattle.node_threads.proofs.Seen.{home_may, may_ask, may_not, none_waits}

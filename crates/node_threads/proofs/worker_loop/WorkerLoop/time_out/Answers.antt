@@ -2,7 +2,7 @@ use Rattle.std.proofs.Common.{None, rules, ◌≡◌, ◌&&◌, not, Bool, true,
 use Rattle.std.specs.Prelude.{nat_le}
 use Rattle.raft_node.specs.Hosts.{hosted}
 use Rattle.raft_node.specs.Machine.{Machine}
-use Rattle.world_views.specs.declared.node_event.NodeInput.TheVariants.{Timeout}
+use Rattle.raft_node.specs.declared.input.Input.TheVariants.{Timeout}
 use Rattle.node_threads.specs.Reports.{leads_in}
 use Rattle.node_threads.specs.Work.{Does, HasHadTurn, times_out}
 use Rattle.node_threads.proofs.Going.{home_after_taking}
