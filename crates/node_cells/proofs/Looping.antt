@@ -15,7 +15,7 @@ use Rattle.world_views.specs.Views.{View}
 use Rattle.ether.specs.Passes.{view_of}
 use Rattle.ether.specs.Plays.{IsOlder, after_event}
 use Rattle.node_cells.specs.declared.record.Recording.{Recording}
-use Rattle.node_cells.specs.Books.{HasNoted, HasPosted, IsBook, NotedOf, noted, recorded_by, room_for}
+use Rattle.node_cells.specs.Books.{HasNoted, HasPosted, NotedOf, noted, recorded_by, room_for}
 use Rattle.node_cells.specs.Posts.{GaveBack, MayGiveBack, posts_from}
 use Rattle.node_cells.specs.Remembering.{same_terms}
 use Rattle.node_cells.specs.Restarts.{AreRestarts, HasRestarts, after_turns, silent}
@@ -35,7 +35,6 @@ hands_on (x ∷ xs) ys a b c (inr h) k = inr (hands_on xs ys (failed a) b c h k)
 module _ (M : Machine) {Setup : Type 0} where
   -- between two posts: what is still to be posted
   pub record Posting (b0 b : Book M Setup) (all rest : List (Message M.Body)) : Type 0 where
-    pub book : IsBook M b
     pub within : AreWithin (suc b.pass.node) b.ether.size rest
     pub stand : (view_of b.pass).honest ≡ true → StandFrom (view_of b.pass).state.sent b.sent rest
     pub few : b.sent + length rest ≤ 7 * length (view_of b.pass).turns
@@ -47,22 +46,21 @@ module _ (M : Machine) {Setup : Type 0} where
     pub node : b.pass.node ≡ b0.pass.node
     pub room : b.room ≡ b0.room
 
-  pub posting_first : (b : Book M Setup) (all : List (Message M.Body)) → IsBook M b → AreWithin (suc b.pass.node) b.ether.size all
+  pub posting_first : (b : Book M Setup) (all : List (Message M.Body)) → AreWithin (suc b.pass.node) b.ether.size all
       → ((view_of b.pass).honest ≡ true → StandFrom (view_of b.pass).state.sent b.sent all) → b.sent + length all ≤ 7 * length (view_of b.pass).turns → Posting b b all all
-  posting_first b all book within stand few =
-      record { book = book; within = within; stand = stand; few = few; view = refl; sent = refl; recording = refl; turns = refl; ether = refl; node = refl; room = refl }
+  posting_first b all within stand few =
+      record { within = within; stand = stand; few = few; view = refl; sent = refl; recording = refl; turns = refl; ether = refl; node = refl; room = refl }
 
   pub posting_one : (b0 b : Book M Setup) (all : List (Message M.Body)) (m : Message M.Body) (rest : List (Message M.Body)) → Posting b0 b all (m ∷ rest)
       → AreWithin (suc b.pass.node) b.ether.size (m ∷ []) × ((view_of b.pass).honest ≡ true → StandFrom (view_of b.pass).state.sent b.sent (m ∷ [])) × (b.sent + 1 ≤ 7 * length (view_of b.pass).turns)
   posting_one b0 b all m rest h = let few = h.few in ((h.within.0, h.within.1, h.within.2, tt), λ honest. ((h.stand honest).0, tt), omega arith)
 
   pub posting_next : (b0 b d : Book M Setup) (all : List (Message M.Body)) (m : Message M.Body) (rest : List (Message M.Body)) → Posting b0 b all (m ∷ rest)
-      → IsBook M d → HasPosted M b 1 d → Posting b0 d all rest
-  posting_next b0 b d all m rest h book p =
+      → HasPosted M b 1 d → Posting b0 d all rest
+  posting_next b0 b d all m rest h p =
       let one : d.sent ≡ suc b.sent = p.sent ∙ omega arith in
       let state : (view_of d.pass).state ≡ (view_of b.pass).state = ap (λ (v : ViewOf M). v.state) p.view in
       record {
-        book = book;
         within = subst (λ (z : ℕ × ℕ). AreWithin (suc z.0) z.1 rest) (λ i. (sym p.node i, (sym p.ether i).size)) h.within.3;
         stand = λ honest. subst (λ (z : List (Message M.Body) × ℕ). StandFrom z.0 z.1 rest) (λ i. ((sym state i).sent, sym one i)) (h.stand (sym (ap (λ (v : ViewOf M). v.honest) p.view) ∙ honest)).1;
         few = let few = h.few in let long : length (view_of d.pass).turns ≡ length (view_of b.pass).turns = ap (λ (v : ViewOf M). length v.turns) p.view in omega (arith, few, long, one);
@@ -75,20 +73,18 @@ module _ (M : Machine) {Setup : Type 0} where
         room = p.room ∙ h.room;
       }
 
-  pub posting_done : (b0 b : Book M Setup) (all rest : List (Message M.Body)) → Posting b0 b all rest → rest ≡ [] → IsBook M b × HasPosted M b0 (length all) b
+  pub posting_done : (b0 b : Book M Setup) (all rest : List (Message M.Body)) → Posting b0 b all rest → rest ≡ [] → HasPosted M b0 (length all) b
   posting_done b0 b all rest h none =
-      let zero' : length rest ≡ 0 = ap length none in (
-        h.book,
-        record {
-          view = ap (λ (l : List (Message M.Body)). posts_from (view_of b.pass) b.sent (length l)) (sym none) ∙ h.view;
-          recording = h.recording;
-          turns = h.turns;
-          ether = h.ether;
-          node = h.node;
-          sent = let s = h.sent in omega (arith, s, zero');
-          room = h.room;
-        },
-      )
+      let zero' : length rest ≡ 0 = ap length none in
+      record {
+        view = ap (λ (l : List (Message M.Body)). posts_from (view_of b.pass) b.sent (length l)) (sym none) ∙ h.view;
+        recording = h.recording;
+        turns = h.turns;
+        ether = h.ether;
+        node = h.node;
+        sent = let s = h.sent in omega (arith, s, zero');
+        room = h.room;
+      }
 
 -- ---- what posts give back
 
@@ -173,14 +169,12 @@ module _ (M : Machine) where
 module _ (M : Machine) {Setup : Type 0} where
   -- between two restarts: so many are noted
   pub record Restarting (b0 b : Book M Setup) (done : ℕ) : Type 0 where
-    pub book : IsBook M b
     pub noted_all : HasRestarts M b0 done b
     pub room : b.room + room_for b0.recording done ≡ b0.room
 
-  pub restarting_first : (b : Book M Setup) → IsBook M b → Restarting b b 0
-  restarting_first b h =
+  pub restarting_first : (b : Book M Setup) → Restarting b b 0
+  restarting_first b =
       record {
-        book = h;
         noted_all = record { more = []; restarts = tt; long = refl; view = refl; recording = refl; turns = sym (ap (λ (l : List (NotedOf M)). b.turns ++ l) (recorded-nil b.recording) ∙ append-nil b.turns); ether = refl; node = refl; sent = refl };
         room = room-none b.recording b.room;
       }
@@ -194,13 +188,12 @@ module _ (M : Machine) {Setup : Type 0} where
         omega (arith, long, turns),
       )
 
-  pub restarting_next : (b0 b d : Book M Setup) (done : ℕ) → Restarting b0 b done → IsBook M d → HasNoted M b Restart outcome.Quiet d → Restarting b0 d (done + 1)
-  restarting_next b0 b d done h book n =
+  pub restarting_next : (b0 b d : Book M Setup) (done : ℕ) → Restarting b0 b done → HasNoted M b Restart outcome.Quiet d → Restarting b0 d (done + 1)
+  restarting_next b0 b d done h n =
       let a = h.noted_all in
       let one : List (TurnOf M) = (n.ticket, Restart) ∷ [] in
       let last : List (NotedOf M) = noted M n.ticket Restart outcome.Quiet ∷ [] in
       record {
-        book = book;
         noted_all = record {
           more = a.more ++ one;
           restarts = restarts_more M a.more n.ticket a.restarts;

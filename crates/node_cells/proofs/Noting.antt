@@ -14,7 +14,7 @@ use Rattle.world_views.specs.Views.{View, carries}
 use Rattle.ether.specs.Passes.{IsHeard, view_of}
 use Rattle.node_cells.specs.declared.record.Recording.{Recording}
 use Rattle.node_cells.specs.declared.record.Recording.TheVariants.{On, Off}
-use Rattle.node_cells.specs.Books.{HasNoted, IsBook, NotedOf, noted, recorded_by, room_for, turn_in}
+use Rattle.node_cells.specs.Books.{HasNoted, NotedOf, noted, recorded_by, room_for, turn_in}
 use Rattle.node_cells.specs.Cells.{AreAnswered}
 use Rattle.node_cells.specs.Inputs.{Answer, OnlyAppend}
 use Rattle.node_cells.specs.Restarts.{AreNoted, HasNotedAll, after_turns, outcome_by}
@@ -167,7 +167,6 @@ module _ (M : Machine) where
 
     -- Between two inputs: what is still to be noted, by the answers from the next one on.
     pub record Noting (b0 b : Book M Setup) (all rest : List (NodeInput M.Body M.Line)) (answers : List Answer) (done : ℕ) : Type 0 where
-      pub book : IsBook M b
       pub ether : b.ether ≡ b0.ether
       pub appends : OnlyAppend rest
       pub enough : done + length rest ≤ length answers
@@ -176,11 +175,11 @@ module _ (M : Machine) where
       pub answered : (view_of b.pass).honest ≡ true → AreAnswered M (view_of b.pass).size (suc (view_of b.pass).node) (view_of b.pass).state rest (drop done answers)
       pub leads : (d : Book M Setup) → HasNotedAll M b (all_done rest (drop done answers)) d → HasNotedAll M b0 (all_done all answers) d
 
-    pub noting_first : (b : Book M Setup) (all : List (NodeInput M.Body M.Line)) (answers : List Answer) → IsBook M b → OnlyAppend all → length all ≤ length answers → room_for b.recording (length all) ≤ b.room
+    pub noting_first : (b : Book M Setup) (all : List (NodeInput M.Body M.Line)) (answers : List Answer) → OnlyAppend all → length all ≤ length answers → room_for b.recording (length all) ≤ b.room
         → length (view_of b.pass).turns + length all ≤ 2 ^ 60
         → ((view_of b.pass).honest ≡ true → AreAnswered M (view_of b.pass).size (suc (view_of b.pass).node) (view_of b.pass).state all answers) → Noting b b all all answers 0
-    noting_first b all answers book appends enough room tickets answered =
-        record { book = book; ether = refl; appends = appends; enough = omega (arith, enough); room = room; tickets = tickets; answered = answered; leads = λ d h. h }
+    noting_first b all answers appends enough room tickets answered =
+        record { ether = refl; appends = appends; enough = omega (arith, enough); room = room; tickets = tickets; answered = answered; leads = λ d h. h }
 
     module _ (b0 b : Book M Setup) (all : List (NodeInput M.Body M.Line)) (x : NodeInput M.Body M.Line) (rest : List (NodeInput M.Body M.Line)) (answers : List Answer) (done : ℕ)
         (h : Noting b0 b all (x ∷ rest) answers done) where
@@ -206,10 +205,9 @@ module _ (M : Machine) where
           → out_of M (outcome_by a) ≡ own_out M (view_of b.pass).size (suc (view_of b.pass).node) (view_of b.pass).state (Does x)
       noting_out a e honest = out_by a ∙ sym (here a e honest).0
 
-      pub noting_next : (a : Answer) → get_or answers done a ≡ a → (d : Book M Setup) → IsBook M d → HasNoted M b (Does x) (outcome_by a) d → Noting b0 d all rest answers (done + 1)
-      noting_next a e d book n =
+      pub noting_next : (a : Answer) → get_or answers done a ≡ a → (d : Book M Setup) → HasNoted M b (Does x) (outcome_by a) d → Noting b0 d all rest answers (done + 1)
+      noting_next a e d n =
           record {
-            book = book;
             ether = n.ether ∙ h.ether;
             appends = h.appends.1;
             enough = let k = h.enough in omega (arith, k);
@@ -227,5 +225,5 @@ module _ (M : Machine) where
           }
 
     pub noting_done : (b0 b : Book M Setup) (all rest : List (NodeInput M.Body M.Line)) (answers : List Answer) (done : ℕ) → Noting b0 b all rest answers done → rest ≡ []
-        → IsBook M b × HasNotedAll M b0 (all_done all answers) b
-    noting_done b0 b all rest answers done h none = (h.book, h.leads b (subst (λ (l : List (NodeInput M.Body M.Line)). HasNotedAll M b (all_done l (drop done answers)) b) (sym none) (none_noted b)))
+        → HasNotedAll M b0 (all_done all answers) b
+    noting_done b0 b all rest answers done h none = h.leads b (subst (λ (l : List (NodeInput M.Body M.Line)). HasNotedAll M b (all_done l (drop done answers)) b) (sym none) (none_noted b))

@@ -1,5 +1,6 @@
--- A cell as it is opened, after a look into a mailbox, and as it is closed.
-use Rattle.std.proofs.Common.{◌≡◌, ℕ, suc, ◌≤◌, Bool, List, [], ◌∷◌, length, Option, Some, None, refl, sym, ap, ◌∙◌, subst, arith}
+-- A cell as it is opened, after a look into a mailbox, after it met another, with more room, and as it is closed.
+use Rattle.std.proofs.Common.{◌≡◌, ℕ, suc, ◌≤◌, Bool, List, [], ◌∷◌, length, Option, Some, None, Result, Ok, Err, refl, sym, ap, ◌∙◌, subst, arith}
+use Rattle.std.specs.Result.{MatchResult}
 use Rattle.atomic_table.proofs.Lists.{at_longer}
 use Rattle.raft_log.specs.Node.{Node}
 use Rattle.raft_log.specs.Seen.{seen}
@@ -14,12 +15,14 @@ use Rattle.world_views.specs.Views.{View}
 use Rattle.ether.specs.declared.pass.Pass.{Pass}
 use Rattle.ether.specs.Passes.{EtherParts, IsOpenPass, view_of}
 use Rattle.ether.specs.Plays.{after_opening, after_take}
+use Rattle.node_cells.specs.declared.cell_fault.CellFault.{CellFault}
+use Rattle.node_cells.specs.declared.cell_fault.CellFault.TheVariants.{Memory, Spent, Node as OfNode}
 use Rattle.node_cells.specs.declared.phase.Phase.{Phase}
 use Rattle.node_cells.specs.declared.phase.Phase.TheVariants.{Up}
 use Rattle.node_cells.specs.declared.record.NodeRecord.{NodeRecord}
 use Rattle.node_cells.specs.declared.record.Recording.{Recording}
 use Rattle.node_cells.specs.declared.record.Recording.TheVariants.{On, Off}
-use Rattle.node_cells.specs.Books.{HasSeen, HasTaken, IsBook, IsRecordBy, NotedOf}
+use Rattle.node_cells.specs.Books.{BookParts, HasNoRoom, HasRoom, HasSeen, HasTaken, IsBook, IsRecordBy, IsSameBook, IsSameBut, NotedOf}
 use Rattle.node_cells.specs.Cells.{HasCopies, HasHeard, IsCell, IsIn, Shows, brought, cell_of, view_in}
 use Rattle.node_cells.specs.Openings.{IsClosed, IsFresh}
 use Rattle.node_cells.specs.Sending.{KnowsOneOf}
@@ -27,7 +30,6 @@ use Rattle.node_cells.specs.Turns.{CellOf}
 use Rattle.node_cells.proofs.Recorded.{Book, Kept, book_of}
 use Rattle.node_cells.proofs.Sending.{none_known}
 use Rattle.node_cells.proofs.Showing.{Inner}
-use Rattle.node_cells.proofs.Turning.{with_room}
 
 module _ {B L T : Type 0} where
   -- what a look into a mailbox leaves of a view
@@ -42,6 +44,14 @@ module _ {B L T : Type 0} where
   took v None = record { size = refl; node = refl; honest = refl; state = refl; heard = λ o h. h }
   took v (Some e) =
       record { size = refl; node = refl; honest = refl; state = refl; heard = λ o h m is. let r = h m is in (r.0, at_longer v.heard (e ∷ []) r.0 m r.1) }
+
+module _ {Setup B L T E P : Type 0} where
+  -- whether there is room or not, the book is the same but for the room
+  pub same_but : (old new : BookParts Setup B L T E P) (count : ℕ) (r : Result (Unit {0}) CellFault) → MatchResult r (λ _. HasRoom old count new) (λ e. HasNoRoom old count e new) → IsSameBut old new
+  same_but old new count (Ok done) h = h.same
+  same_but old new count (Err Memory) h = h.0
+  same_but old new count (Err Spent) h = h.0
+  same_but old new count (Err (OfNode fault)) h = absurd h
 
 module _ (M : Machine) {Setup Hosted Store : Type 0} (k : Keeper Store M.Body) where
   -- ---- an opening
@@ -63,7 +73,7 @@ module _ (M : Machine) {Setup Hosted Store : Type 0} (k : Keeper Store M.Body) w
 
     pub fresh_book : b.sent ≡ 0 → b.ether.size ≤ 7 → IsBook M b
     fresh_book sent small =
-        book_of M b opened (subst (λ (z : ViewOf M × List (NotedOf M)). Kept M b.recording z.0 z.1) (λ d. (sym as_new d, sym none d)) kept) (omega (arith, sent)) small
+        book_of M b.ether b.recording b.pass b.turns b.sent opened (subst (λ (z : ViewOf M × List (NotedOf M)). Kept M b.recording z.0 z.1) (λ d. (sym as_new d, sym none d)) kept) (omega (arith, sent)) small
 
     state_is : (view_of b.pass).state ≡ seen n.state []
     state_is = ap (λ (v : ViewOf M). v.state) as_new
@@ -71,7 +81,7 @@ module _ (M : Machine) {Setup Hosted Store : Type 0} (k : Keeper Store M.Body) w
     pub fresh_cell : {U : Type 0} → b.sent ≡ 0 → b.ether.size ≤ 7 → (u : U) (line : NodeFields) → line ≡ fields_of (seen n.state []) → IsCell M k (cell_of b n u Up 0 line)
     fresh_cell sent small u line shown =
         record {
-          book = with_room M b 0 (fresh_book sent small);
+          book = fresh_book sent small;
           id = first.id_is ∙ ap suc (sym place);
           size = first.begins.3;
           setup = first.setup_is;
@@ -96,7 +106,7 @@ module _ (M : Machine) {Setup Hosted Store : Type 0} (k : Keeper Store M.Body) w
       → Took (view_of b0.pass) (view_of b1.pass) → b1.pass.node ≡ b0.pass.node → b1.ether ≡ b0.ether → b1.sent ≡ b0.sent → b1.recording ≡ b0.recording → IsBook M b1 → IsCell M k (cell_of b1 q u p r line)
   looked_cell b0 b1 q u p r line h tk node ether sent recording book =
       record {
-        book = with_room M b1 0 book;
+        book = book;
         id = h.id ∙ ap suc (sym node);
         size = h.size ∙ ap (λ (z : EtherParts Setup). z.size) (sym ether);
         setup = h.setup ∙ ap (λ (z : EtherParts Setup). z.setup) (sym ether);
@@ -121,6 +131,13 @@ module _ (M : Machine) {Setup Hosted Store : Type 0} (k : Keeper Store M.Body) w
   pub seen_cell : {U : Type 0} (b0 b1 : Book M Setup) (q : Inner M Setup Hosted Store) (u : U) (p : Phase M.Body M.Line M.Target) (r : ℕ) (line : NodeFields) (to : ℕ) (taken : Bool)
       → IsCell M k (cell_of b0 q u p r line) → HasSeen b0 to taken b1 → IsBook M b1 → IsCell M k (cell_of b1 q u p r line)
   seen_cell b0 b1 q u p r line to taken h t book =
+      let tk : Took (view_of b0.pass) (view_of b1.pass) = subst (λ (v : ViewOf M). Took (view_of b0.pass) v) (sym t.view) (took (view_of b0.pass) None) in
+      looked_cell b0 b1 q u p r line h tk t.node t.ether t.sent t.recording book
+
+  -- ---- a meeting
+  pub met_cell : {U : Type 0} (b0 b1 : Book M Setup) (q : Inner M Setup Hosted Store) (u : U) (p : Phase M.Body M.Line M.Target) (r : ℕ) (line : NodeFields)
+      → IsCell M k (cell_of b0 q u p r line) → IsSameBook b0 b1 → IsBook M b1 → IsCell M k (cell_of b1 q u p r line)
+  met_cell b0 b1 q u p r line h t book =
       let tk : Took (view_of b0.pass) (view_of b1.pass) = subst (λ (v : ViewOf M). Took (view_of b0.pass) v) (sym t.view) (took (view_of b0.pass) None) in
       looked_cell b0 b1 q u p r line h tk t.node t.ether t.sent t.recording book
 

@@ -1,5 +1,5 @@
 -- The record goes with the view.
-use Rattle.std.proofs.Common.{◌≡◌, ℕ, zero, suc, ◌+◌, ◌*◌, ◌<◌, ◌≤◌, true, List, [], ◌∷◌, ◌++◌, length, Option, Some, None, refl, sym, ap, ◌∙◌, subst, arith, append-nil, length-append}
+use Rattle.std.proofs.Common.{◌≡◌, ℕ, zero, suc, ◌+◌, ◌-◌, ◌*◌, ◌<◌, ◌≤◌, true, List, [], ◌∷◌, ◌++◌, length, Option, Some, None, refl, sym, ap, ◌∙◌, subst, arith, append-nil, length-append}
 use Rattle.std.proofs.lemmas.List.{map-append}
 use Rattle.raft_log.specs.Node.{Node}
 use Rattle.raft_node.specs.Machine.{Machine}
@@ -10,11 +10,12 @@ use Rattle.world_views.specs.Outputs.{outs_along, outs_of}
 use Rattle.world_views.specs.Own.{EventOf, TurnOf, ViewOf, own_out, own_state, run, runs}
 use Rattle.world_views.specs.Views.{IsOpened, View, start, start_from}
 use Rattle.world_views.proofs.Runs.{run-append}
+use Rattle.ether.specs.declared.pass.Pass.{Pass}
 use Rattle.ether.specs.Passes.{EtherParts, IsOpenPass, view_of}
 use Rattle.ether.specs.Plays.{after_event, after_post, after_take}
 use Rattle.node_cells.specs.declared.record.Recording.{Recording}
 use Rattle.node_cells.specs.declared.record.Recording.TheVariants.{On, Off}
-use Rattle.node_cells.specs.Books.{BookParts, IsBook, IsRecordBy, NotedOf, OutcomeOf, noted, out_in, recorded_by, room_for, turn_in}
+use Rattle.node_cells.specs.Books.{AreOfBook, BookParts, IsRecordBy, NotedOf, OutcomeOf, noted, out_in, recorded_by, room_for, turn_in}
 use Rattle.node_cells.specs.Posts.{posts_from}
 
 -- what is recorded of nothing, and of two lists, one behind the other
@@ -34,6 +35,14 @@ recorded_off Off xs ys off = sym (append-nil xs)
 pub room_off : (r : Recording) (room count : ℕ) → r ≡ Off → room + room_for r count ≡ room
 room_off On room count off = absurd (cc off)
 room_off Off room count off = omega arith
+
+-- a turn that was recorded took its room
+pub room_taken : {A : Type 0} (r : Recording) (xs ys : List A) (x : A) (few many capacity same : ℕ) → few ≡ length xs → many ≡ length ys → same ≡ capacity → ys ≡ xs ++ recorded_by r (x ∷ []) → room_for r 1 ≤ capacity - few
+    → (same - many) + room_for r 1 ≡ capacity - few
+room_taken {A} On xs ys x few many capacity same f m s is enough =
+    let long : length ys ≡ length xs + 1 = ap (λ (l : List A). length l) is ∙ length-append xs (x ∷ []) in omega (arith, f, m, s, long, enough)
+room_taken {A} Off xs ys x few many capacity same f m s is enough =
+    let long : length ys ≡ length xs = ap (λ (l : List A). length l) (is ∙ append-nil xs) in omega (arith, f, m, s, long)
 
 -- no turn wants no room
 pub room-none : (r : Recording) (room : ℕ) → room + room_for r 0 ≡ room
@@ -140,42 +149,42 @@ module _ {B L T : Type 0} where
 abbrev pub Book : Machine → Type 0 → Type 0
 Book M Setup = BookParts Setup M.Body M.Line M.Target M.Effect M.Played
 
-module _ (M : Machine) {Setup : Type 0} where
-  pub kept_of : (b : Book M Setup) → IsBook M b → Kept M b.recording (view_of b.pass) b.turns
-  kept_of b h = record { opened = h.opened.1.0; state = h.state; recorded = h.recorded }
+module _ (M : Machine) {Setup : Type 0} (ether : EtherParts Setup) (r : Recording) where
+  kept_of : (p : Pass M.Body M.Line M.Target) (turns : List (NotedOf M)) (sent : ℕ) → AreOfBook M ether p r turns sent → Kept M r (view_of p) turns
+  kept_of p turns sent h = record { opened = h.opened.1.0; state = h.state; recorded = h.recorded }
 
-  -- a book with this pass and this record
-  pub book_of : (b : Book M Setup) → IsOpenPass b.ether b.pass → Kept M b.recording (view_of b.pass) b.turns → b.sent ≤ 7 * length (view_of b.pass).turns → b.ether.size ≤ 7 → IsBook M b
-  book_of b opened kept few small = record { opened = opened; state = kept.state; recorded = kept.recorded; few = few; small = small }
+  -- the book of this pass, with this record
+  pub book_of : (p : Pass M.Body M.Line M.Target) (turns : List (NotedOf M)) (sent : ℕ) → IsOpenPass ether p → Kept M r (view_of p) turns → sent ≤ 7 * length (view_of p).turns → ether.size ≤ 7 → AreOfBook M ether p r turns sent
+  book_of p turns sent opened kept few small =
+      record { opened = opened; state = kept.state; recorded = kept.recorded; few = few; small = small }
 
   -- after an event
-  pub noted_book : (b d : Book M Setup) (t : ℕ) (e : EventOf M) (o : OutcomeOf M) → IsBook M b → IsOpenPass d.ether d.pass → d.ether ≡ b.ether → view_of d.pass ≡ after_event M (view_of b.pass) t e
-      → d.recording ≡ b.recording → d.turns ≡ b.turns ++ recorded_by b.recording (noted M t e o ∷ []) → d.sent ≡ b.sent → ((view_of b.pass).honest ≡ true → out_of M o ≡ own_out M (view_of b.pass).size (suc (view_of b.pass).node) (view_of b.pass).state e) → IsBook M d
-  noted_book b d t e o h opened ether view recording turns sent out =
-      book_of d opened
-      (subst (λ (z : (Recording × ViewOf M) × List (NotedOf M)). Kept M z.0.0 z.0.1 z.1) (λ i. ((sym recording i, sym view i), sym turns i)) (kept_event M b.recording (view_of b.pass) b.turns t e o (kept_of b h) out))
+  pub noted_book : (p q : Pass M.Body M.Line M.Target) (turns more : List (NotedOf M)) (sent t : ℕ) (e : EventOf M) (o : OutcomeOf M) → AreOfBook M ether p r turns sent → IsOpenPass ether q → view_of q ≡ after_event M (view_of p) t e
+      → more ≡ turns ++ recorded_by r (noted M t e o ∷ []) → ((view_of p).honest ≡ true → out_of M o ≡ own_out M (view_of p).size (suc (view_of p).node) (view_of p).state e) → AreOfBook M ether q r more sent
+  noted_book p q turns more sent t e o h opened view is out =
+      book_of q more sent opened
+      (subst (λ (z : ViewOf M × List (NotedOf M)). Kept M r z.0 z.1) (λ i. (sym view i, sym is i)) (kept_event M r (view_of p) turns t e o (kept_of p turns sent h) out))
       (let few = h.few in
-      let more : length (view_of d.pass).turns ≡ length (view_of b.pass).turns + 1 = ap (λ (v : ViewOf M). length v.turns) view ∙ length-append (view_of b.pass).turns ((t, e) ∷ []) in
-      omega (arith, few, more, sent))
-      (subst (λ (x : EtherParts Setup). x.size ≤ 7) (sym ether) h.small)
+      let long : length (view_of q).turns ≡ length (view_of p).turns + 1 = ap (λ (v : ViewOf M). length v.turns) view ∙ length-append (view_of p).turns ((t, e) ∷ []) in
+      omega (arith, few, long))
+      h.small
 
-  -- after posts
-  pub posted_book : (b d : Book M Setup) (n k : ℕ) → IsBook M b → IsOpenPass d.ether d.pass → d.ether ≡ b.ether → view_of d.pass ≡ posts_from (view_of b.pass) n k → d.recording ≡ b.recording → d.turns ≡ b.turns
-      → d.sent ≤ 7 * length (view_of b.pass).turns → IsBook M d
-  posted_book b d n k h opened ether view recording turns few =
-      let is : view_of d.pass ≡ record (view_of b.pass) { posted = (posts_from (view_of b.pass) n k).posted } = view ∙ posts_are (view_of b.pass) n k in
-      book_of d opened
-      (subst (λ (z : (Recording × ViewOf M) × List (NotedOf M)). Kept M z.0.0 z.0.1 z.1) (λ i. ((sym recording i, sym is i), sym turns i)) (kept_posts M b.recording (view_of b.pass) (posts_from (view_of b.pass) n k).posted b.turns (kept_of b h)))
-      (subst (λ (v : ViewOf M). d.sent ≤ 7 * length v.turns) (sym is) few)
-      (subst (λ (x : EtherParts Setup). x.size ≤ 7) (sym ether) h.small)
+  -- after a post
+  pub posted_book : (p q : Pass M.Body M.Line M.Target) (turns : List (NotedOf M)) (sent more n : ℕ) → AreOfBook M ether p r turns sent → IsOpenPass ether q → view_of q ≡ after_post (view_of p) n → more ≤ 7 * length (view_of p).turns
+      → AreOfBook M ether q r turns more
+  posted_book p q turns sent more n h opened view few =
+      book_of q turns more opened
+      (subst (λ (v : ViewOf M). Kept M r v turns) (sym view) (kept_posts M r (view_of p) (after_post (view_of p) n).posted turns (kept_of p turns sent h)))
+      (subst (λ (v : ViewOf M). more ≤ 7 * length v.turns) (sym view) few)
+      h.small
 
   -- after a look into a mailbox
-  pub taken_book : (b d : Book M Setup) (came : Option (Envelope M.Body)) → IsBook M b → IsOpenPass d.ether d.pass → d.ether ≡ b.ether → view_of d.pass ≡ after_take (view_of b.pass) came → d.recording ≡ b.recording → d.turns ≡ b.turns
-      → d.sent ≡ b.sent → IsBook M d
-  taken_book b d came h opened ether view recording turns sent =
-      book_of d opened
-      (subst (λ (z : (Recording × ViewOf M) × List (NotedOf M)). Kept M z.0.0 z.0.1 z.1) (λ i. ((sym recording i, sym view i), sym turns i)) (kept_take M b.recording (view_of b.pass) came b.turns (kept_of b h)))
+  pub taken_book : (p q : Pass M.Body M.Line M.Target) (turns : List (NotedOf M)) (sent : ℕ) (came : Option (Envelope M.Body)) → AreOfBook M ether p r turns sent → IsOpenPass ether q → view_of q ≡ after_take (view_of p) came
+      → AreOfBook M ether q r turns sent
+  taken_book p q turns sent came h opened view =
+      book_of q turns sent opened
+      (subst (λ (v : ViewOf M). Kept M r v turns) (sym view) (kept_take M r (view_of p) came turns (kept_of p turns sent h)))
       (let few = h.few in
-      let long : length (view_of d.pass).turns ≡ length (view_of b.pass).turns = ap (λ (v : ViewOf M). length v.turns) view ∙ ap length (take_leaves (view_of b.pass) came) in
-      omega (arith, few, long, sent))
-      (subst (λ (x : EtherParts Setup). x.size ≤ 7) (sym ether) h.small)
+      let long : length (view_of q).turns ≡ length (view_of p).turns = ap (λ (v : ViewOf M). length v.turns) view ∙ ap length (take_leaves (view_of p) came) in
+      omega (arith, few, long))
+      h.small

@@ -36,7 +36,6 @@ use Rattle.node_cells.proofs.Recorded.{Book, recorded-append}
 use Rattle.node_cells.proofs.Restarting.{restart_shows, same_item}
 use Rattle.node_cells.proofs.Sending.{none_known}
 use Rattle.node_cells.proofs.Showing.{Inner}
-use Rattle.node_cells.proofs.Turning.{with_room}
 
 module _ {B L T : Type 0} where
   -- where it did not go down as inputs were saved together, it went down alone, if at all
@@ -235,7 +234,7 @@ module _ (M : Machine) {Setup Hosted Store U : Type 0} (k : Keeper Store M.Body)
       pub started_cell : IsBook M b2 → (line' : NodeFields) → line' ≡ fields_of (seen q'.state []) → IsCell M k (cell_of b2 q' u Up 0 line')
       started_cell book line' shown =
           record {
-            book = with_room M b2 0 book;
+            book = book;
             id = same.id ∙ h.id ∙ ap suc (sym (rest.node ∙ first.node));
             size = same.size ∙ h.size ∙ ap (λ (z : EtherParts Setup). z.size) (sym ether_2);
             setup = same.setup ∙ h.setup ∙ ap (λ (z : EtherParts Setup). z.setup) (sym ether_2);

@@ -37,7 +37,7 @@ use Rattle.node_cells.proofs.Recorded.{Book}
 use Rattle.node_cells.proofs.Restarting.{up_stands}
 use Rattle.node_cells.proofs.Showing.{Inner, id_is, is_up, size_is}
 use Rattle.node_cells.proofs.Started.{Ran, ran}
-use Rattle.node_cells.proofs.Turning.{up_brings_none, up_is_copied, up_is_together, with_room}
+use Rattle.node_cells.proofs.Turning.{up_brings_none, up_is_copied, up_is_together}
 
 module _ (M : Machine) where
   -- the turns of these inputs come to what the inputs come to
@@ -117,7 +117,7 @@ module _ (M : Machine) {Setup Hosted Store U : Type 0} (k : Keeper Store M.Body)
           pub done_together : IsBook M b1 → line' ≡ fields_of (seen q'.state []) → IsCell M k d
           done_together book shown =
               record {
-                book = with_room M b1 0 book;
+                book = book;
                 id = same.id ∙ h.id ∙ ap suc (sym noted.node);
                 size = same.size ∙ h.size ∙ ap (λ (z : EtherParts Setup). z.size) (sym noted.ether);
                 setup = same.setup ∙ h.setup ∙ ap (λ (z : EtherParts Setup). z.setup) (sym noted.ether);

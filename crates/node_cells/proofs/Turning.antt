@@ -52,11 +52,6 @@ module _ {B L T : Type 0} where
   pub up_is_copied : (recording : Recording) (p : Phase B L T) → p ≡ Up → HasCopies recording p
   up_is_copied recording p up = subst (λ (z : Phase B L T). HasCopies recording z) (sym up) tt
 
-module _ (M : Machine) {Setup : Type 0} where
-  -- a book is one whatever room it has
-  pub with_room : (b : Book M Setup) (room : ℕ) → IsBook M b → IsBook M (record b { room = room })
-  with_room b room h = record { opened = h.opened; state = h.state; recorded = h.recorded; few = h.few; small = h.small }
-
 module _ (M : Machine) {Setup Hosted Store U : Type 0} (k : Keeper Store M.Body) (tally : U → Tally) where
   module _ (b0 : Book M Setup) (q : Inner M Setup Hosted Store) (u : U) (p : Phase M.Body M.Line M.Target) (r : ℕ) (line : NodeFields) (h : IsCell M k (cell_of b0 q u p r line)) (up : p ≡ Up) where
     abbrev c : CellOf M Setup Hosted Store U
@@ -140,7 +135,7 @@ module _ (M : Machine) {Setup Hosted Store U : Type 0} (k : Keeper Store M.Body)
             pub turned_cell : IsCell M k e
             turned_cell =
                 record {
-                  book = with_room M b2 0 book;
+                  book = book;
                   id = same.id ∙ h.id ∙ ap suc (sym place_2);
                   size = same.size ∙ h.size ∙ ap (λ (z : EtherParts Setup). z.size) (sym ether_2);
                   setup = same.setup ∙ h.setup ∙ ap (λ (z : EtherParts Setup). z.setup) (sym ether_2);
@@ -272,7 +267,7 @@ module _ (M : Machine) {Setup Hosted Store U : Type 0} (k : Keeper Store M.Body)
       pub still_cell : IsBook M b1 → IsCell M k (cell_of b1 q u p r line)
       still_cell book =
           record {
-            book = with_room M b1 0 book;
+            book = book;
             id = h.id ∙ ap suc (sym noted.node);
             size = h.size ∙ ap (λ (z : EtherParts Setup). z.size) (sym noted.ether);
             setup = h.setup ∙ ap (λ (z : EtherParts Setup). z.setup) (sym noted.ether);

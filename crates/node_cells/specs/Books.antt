@@ -73,13 +73,17 @@ module _ (M : Machine) where
   IsRecordBy Off v turns = turns ≡ []
 
   module _ {Setup : Type 0} where
-    -- The book of an opened pass: its view's state is what its turns lead to, and what is recorded is the view's.
-    pub record IsBook (b : BookParts Setup M.Body M.Line M.Target M.Effect M.Played) : Type 0 where
-      pub opened : IsOpenPass b.ether b.pass
-      pub state : (view_of b.pass).state ≡ runs M (view_of b.pass) (start (view_of b.pass)) (view_of b.pass).turns
-      pub recorded : IsRecordBy b.recording (view_of b.pass) b.turns
-      pub few : b.sent ≤ 7 * length (view_of b.pass).turns
-      pub small : b.ether.size ≤ 7
+    -- The parts of the book of an opened pass: its view's state is what its turns lead to, and what is recorded is the view's.
+    pub record AreOfBook (ether : EtherParts Setup) (pass : Pass M.Body M.Line M.Target) (recording : Recording) (turns : List NotedOf) (sent : ℕ) : Type 0 where
+      pub opened : IsOpenPass ether pass
+      pub state : (view_of pass).state ≡ runs M (view_of pass) (start (view_of pass)) (view_of pass).turns
+      pub recorded : IsRecordBy recording (view_of pass) turns
+      pub few : sent ≤ 7 * length (view_of pass).turns
+      pub small : ether.size ≤ 7
+
+    -- a book of such parts, whatever room it has
+    abbrev pub IsBook : BookParts Setup M.Body M.Line M.Target M.Effect M.Played → Type 0
+    IsBook b = AreOfBook b.ether b.pass b.recording b.turns b.sent
 
     -- An event was ticked, and recorded with what came out of it where turns are recorded.
     pub record HasNoted (old : BookParts Setup M.Body M.Line M.Target M.Effect M.Played) (e : EventOf M) (o : OutcomeOf) (new : BookParts Setup M.Body M.Line M.Target M.Effect M.Played) : Type 0 where
@@ -101,6 +105,12 @@ module _ (M : Machine) where
       pub node : new.pass.node ≡ old.pass.node
       pub sent : new.sent ≡ old.sent + count
       pub room : new.room ≡ old.room
+
+module _ {B L T E P : Type 0} where
+  -- Where turns are recorded, the turn of this ticket was put behind these, with the event and what came out of it of which these are copies.
+  abbrev pub KeepsTurn : Recording → List (NodeTurn B L T E P) → ℕ → Option (NodeEvent B L T) → Option (Outcome E P) → List (NodeTurn B L T E P) → Type 0
+  KeepsTurn recording turns ticket event outcome new =
+      (e : NodeEvent B L T) (o : Outcome E P) → IsCopy recording e event → IsCopy recording o outcome → new ≡ turns ++ recorded_by recording (record { ticket = ticket; event = e; outcome = o } ∷ [])
 
 module _ {Setup B L T E P : Type 0} where
   -- the same book, with more or less room
@@ -129,20 +139,6 @@ module _ {Setup B L T E P : Type 0} where
   HasNoRoom old count Memory new = IsSameBut old new × (old.recording ≡ On)
   HasNoRoom old count Spent new = IsSameBut old new × (2 ^ 60 < length (view_of old.pass).turns + count)
   HasNoRoom old count (OfNode fault) new = ⊥
-
-  -- a turn was recorded where turns are recorded; all else is as it was
-  pub record HasKept (old : BookParts Setup B L T E P) (turn : NodeTurn B L T E P) (new : BookParts Setup B L T E P) : Type 0 where
-    pub ether : new.ether ≡ old.ether
-    pub pass : new.pass ≡ old.pass
-    pub recording : new.recording ≡ old.recording
-    pub turns : new.turns ≡ old.turns ++ recorded_by old.recording (turn ∷ [])
-    pub sent : new.sent ≡ old.sent
-    pub room : new.room + room_for old.recording 1 ≡ old.room
-
-  -- Where turns are recorded, the turn of this ticket was, with the event and what came out of it of which these are copies.
-  abbrev pub KeepsTurn : BookParts Setup B L T E P → ℕ → Option (NodeEvent B L T) → Option (Outcome E P) → BookParts Setup B L T E P → Type 0
-  KeepsTurn old ticket event outcome new =
-      (e : NodeEvent B L T) (o : Outcome E P) → IsCopy old.recording e event → IsCopy old.recording o outcome → HasKept old (record { ticket = ticket; event = e; outcome = o }) new
 
   -- what lay in the mailbox was heard, and the look is kept
   pub record HasTaken (old : BookParts Setup B L T E P) (from : ℕ) (came : Option (Envelope B)) (new : BookParts Setup B L T E P) : Type 0 where

@@ -22,7 +22,7 @@ use Rattle.node_cells.specs.declared.phase.Phase.{Phase}
 use Rattle.node_cells.specs.declared.phase.Phase.TheVariants.{Up, DownInTurn, DownInTurns, DownInRestart}
 use Rattle.node_cells.specs.declared.record.NodeTurn.{NodeTurn}
 use Rattle.node_cells.specs.declared.record.Recording.{Recording}
-use Rattle.node_cells.specs.Books.{BookParts, IsBook, room_for}
+use Rattle.node_cells.specs.Books.{AreOfBook, BookParts, room_for}
 use Rattle.node_cells.specs.Copies.{AreCopies, IsCopy}
 use Rattle.node_cells.specs.Inputs.{Answer, OnlyAppend}
 use Rattle.node_cells.specs.Sending.{KnowsOneOf}
@@ -73,10 +73,6 @@ module _ {Setup Hosted Store B L T E P U : Type 0} where
   HasMadeRoom count c (Err Memory) d = d.parts ≡ c.parts
   HasMadeRoom count c (Err Spent) d = (d.parts ≡ c.parts) × (2 ^ 60 < length (view_of c.parts.pass).turns + count)
   HasMadeRoom count c (Err (OfNode fault)) d = ⊥
-
-  -- the cell's book, with room for so many more turns
-  abbrev pub book_in : ℕ → CellParts Setup Hosted Store B L T E P U → BookParts Setup B L T E P
-  book_in room c = record { ether = c.ether; pass = c.pass; recording = c.recording; turns = c.turns; sent = c.sent; room = room }
 
 module _ {B : Type 0} where
   -- the same was saved, but that up to r runs were begun since
@@ -161,7 +157,7 @@ module _ (M : Machine) {Setup Hosted Store : Type 0} (k : Keeper Store M.Body) w
   -- A cell: its book is kept, and its node is that of its pass, with the ether's setup. Over an honest store the node shows the view's state, as
   -- many messages were posted as the view's node sent, and the line is that of the view's state.
   pub record IsCell {U : Type 0} (c : CellParts Setup Hosted Store M.Body M.Line M.Target M.Effect M.Played U) : Type 0 where
-    pub book : IsBook M (book_in 0 c)
+    pub book : AreOfBook M c.ether c.pass c.recording c.turns c.sent
     pub id : c.node.id ≡ suc c.pass.node
     pub size : size_of c.node.state ≡ c.ether.size
     pub setup : c.node.setup ≡ c.ether.setup

@@ -1,5 +1,5 @@
 //! What a cell keeps beside its node.
-ghost use Rattle.std.specs.Prelude.{◌≡◌, ◌≤◌, ◌<◌, ◌+◌, ◌*◌, ◌^◌, ◌↔◌, IsTrue, OnOk, OnErr, suc, true, [], ◌∷◌, length, map, MatchResult, vec_capacity, vec_len};
+ghost use Rattle.std.specs.Prelude.{◌≡◌, ◌≤◌, ◌<◌, ◌+◌, ◌-◌, ◌*◌, ◌^◌, ◌↔◌, IsTrue, OnOk, OnErr, suc, true, [], ◌∷◌, length, map, MatchResult, vec_capacity, vec_len};
 ghost use Rattle.ether.specs.Passes.{IsHeard, view_of};
 ghost use Rattle.ether.specs.Plays.{IsFrom};
 ghost use Rattle.node_cells.specs.Books.{HasNoRoom, HasNoted, HasPosted, HasRoom, HasTaken, IsBook, IsSameBook, HasSeen, KeepsTurn, room_for};
@@ -21,6 +21,7 @@ use raft_node::Described;
 use std::alloc::Global;
 use std::marker::Model;
 use std::sync::Arc;
+use wire_bytes::Wire;
 use world_run::Outcome;
 use world_views::{Envelope, NodeEvent};
 
@@ -40,7 +41,8 @@ pub struct Book<M: Hosted> {
 impl<M: Hosted> Model for Book<M> {
     ghost use Rattle.std.specs.Prelude.{◌-◌, vec_capacity, vec_len};
     ghost use Rattle.std.specs.Arc.{arc_value};
-    ghost use Rattle.node_cells.specs.Books.{BookParts};
+    ghost use Rattle.raft_node.specs.Hosts.{hosted};
+    ghost use Rattle.node_cells.specs.Books.{AreOfBook, BookParts};
 
     ghost Value = { BookParts M.Setup M.Command M.Line M.Target M.Effect M.Played };
 
@@ -52,12 +54,16 @@ impl<M: Hosted> Model for Book<M> {
       sent = b.sent;
       room = vec_capacity b.turns - vec_len b.turns;
     } };
+
+    ghost invariant = { λ b. AreOfBook (hosted M.blank M.opened M.shut M.heard M.claim M.source
+        (M.effects b.ether.value.setup) (M.next_claim b.ether.value.setup)
+        (M.playback b.ether.value.setup) M.class) b.ether.value b.pass b.recording b.turns.items
+        b.sent };
 }
 
 impl<M: Hosted> Book<M> {
     /// Tickets for so many turns and one more, and room in the record for them, where turns are recorded.
     pub fn reserve(&mut self, count: u64) -> Result<(), CellFault>
-        requires { self.old.pass.ticks ≡ length (view_of self.old.pass).turns }
         ensures { MatchResult result (λ _. HasRoom self.old (suc count) self.new)
             (λ e. HasNoRoom self.old (suc count) e self.new) }
     {
@@ -81,7 +87,6 @@ impl<M: Hosted> Book<M> {
         event: ForRecord<NodeEvent<M::Command, M::Line, M::Target>>,
         outcome: ForRecord<Outcome<M::Effect, M::Played>>,
     )
-        requires book { IsBook (⟦<M as Described>⟧.machine self.old.ether.setup) self.old }
         requires heard { IsHeard (view_of self.old.pass) event.told.value }
         requires kept { IsKept self.old.recording event × IsKept self.old.recording outcome }
         requires room { (room_for self.old.recording 1 ≤ self.old.room)
@@ -90,48 +95,21 @@ impl<M: Hosted> Book<M> {
             out_of (⟦<M as Described>⟧.machine self.old.ether.setup) outcome.told.value
             ≡ own_out (⟦<M as Described>⟧.machine self.old.ether.setup) (view_of self.old.pass).size
             (suc (view_of self.old.pass).node) (view_of self.old.pass).state event.told.value }
-        ensures book { IsBook (⟦<M as Described>⟧.machine self.old.ether.setup) self.new }
-        ensures noted { HasNoted (⟦<M as Described>⟧.machine self.old.ether.setup) self.old
+        ensures { HasNoted (⟦<M as Described>⟧.machine self.old.ether.setup) self.old
             event.told.value outcome.told.value self.new }
     {
         let ForRecord { told, kept } = event;
         let Ok(ticket) = self.ether.tick(&mut self.pass, told) else {
             unreachable!()
         };
-        self.keep(ticket, kept, outcome.kept);
-    }
-
-    /// Keeps a turn with this ticket, where turns are recorded.
-    fn keep(
-        &mut self,
-        ticket: u64,
-        event: Option<NodeEvent<M::Command, M::Line, M::Target>>,
-        outcome: Option<Outcome<M::Effect, M::Played>>,
-    )
-        requires { room_for self.old.recording 1 ≤ self.old.room }
-        ensures { KeepsTurn self.old ticket event outcome self.new }
-    {
-        match self.recording {
-            Recording::On => {
-                let Some(event) = event else { return };
-                let Some(outcome) = outcome else { return };
-                self.turns.push_reserved(NodeTurn {
-                    ticket,
-                    event,
-                    outcome,
-                });
-            }
-            Recording::Off => {}
-        }
+        keep(self.recording, &mut self.turns, ticket, kept, outcome.kept);
     }
 
     /// So many restarts, ticked, and recorded where turns are recorded.
     pub fn note_restarts(&mut self, count: u64)
-        requires book { IsBook (⟦<M as Described>⟧.machine self.old.ether.setup) self.old }
-        requires room { (room_for self.old.recording count ≤ self.old.room)
+        requires { (room_for self.old.recording count ≤ self.old.room)
             × (length (view_of self.old.pass).turns + count ≤ 2 ^ 60) }
-        ensures book { IsBook (⟦<M as Described>⟧.machine self.old.ether.setup) self.new }
-        ensures noted { HasRestarts (⟦<M as Described>⟧.machine self.old.ether.setup) self.old count
+        ensures { HasRestarts (⟦<M as Described>⟧.machine self.old.ether.setup) self.old count
             self.new }
     {
         for done in 0..count {
@@ -148,7 +126,6 @@ impl<M: Hosted> Book<M> {
         messages: Vec<Message<M::Command>>,
         replaced: &mut Vec<Envelope<M::Command>>,
     )
-        requires book { IsBook (⟦<M as Described>⟧.machine self.old.ether.setup) self.old }
         requires within { AreWithin (suc self.old.pass.node) self.old.ether.size messages.items }
         requires stand { (view_of self.old.pass).honest ≡ true
             → StandFrom (view_of self.old.pass).state.sent self.old.sent messages.items }
@@ -156,7 +133,6 @@ impl<M: Hosted> Book<M> {
             ≤ 7 * length (view_of self.old.pass).turns }
         requires vacant { replaced.old.items ≡ [] }
         requires room { vec_len replaced.old + length messages.items ≤ vec_capacity replaced.old }
-        ensures book { IsBook (⟦<M as Described>⟧.machine self.old.ether.setup) self.new }
         ensures posted { HasPosted (⟦<M as Described>⟧.machine self.old.ether.setup) self.old
             (length messages.items) self.new }
         ensures replaced { GaveBack (view_of self.old.pass) (map to_of messages.items)
@@ -172,12 +148,10 @@ impl<M: Hosted> Book<M> {
     /// Posts a message that the node sent, with the next number. The older message that lay there comes
     /// back.
     fn post(&mut self, message: Message<M::Command>) -> Option<Envelope<M::Command>>
-        requires book { IsBook (⟦<M as Described>⟧.machine self.old.ether.setup) self.old }
         requires within { AreWithin (suc self.old.pass.node) self.old.ether.size (message ∷ []) }
         requires stand { (view_of self.old.pass).honest ≡ true
             → StandFrom (view_of self.old.pass).state.sent self.old.sent (message ∷ []) }
         requires few { self.old.sent + 1 ≤ 7 * length (view_of self.old.pass).turns }
-        ensures book { IsBook (⟦<M as Described>⟧.machine self.old.ether.setup) self.new }
         ensures posted { HasPosted (⟦<M as Described>⟧.machine self.old.ether.setup) self.old 1
             self.new }
         ensures older { MayGiveBack (view_of self.old.pass) message.to result }
@@ -190,19 +164,15 @@ impl<M: Hosted> Book<M> {
 
     /// Whether nothing lies in the mailbox to the node at this place, from 0 on. It looks once.
     pub fn is_taken(&mut self, to: u64) -> bool
-        requires book { IsBook (⟦<M as Described>⟧.machine self.old.ether.setup) self.old }
-        requires to { to < self.old.ether.size }
-        ensures book { IsBook (⟦<M as Described>⟧.machine self.old.ether.setup) self.new }
-        ensures seen { HasSeen self.old to result self.new }
+        requires { to < self.old.ether.size }
+        ensures { HasSeen self.old to result self.new }
     {
         self.ether.is_taken(&mut self.pass, to)
     }
 
     /// Takes what lies in the mailbox from the node at this place, from 0 on. It looks once.
     pub fn take(&mut self, from: u64) -> Option<Envelope<M::Command>>
-        requires book { IsBook (⟦<M as Described>⟧.machine self.old.ether.setup) self.old }
-        requires from { from < self.old.ether.size }
-        ensures book { IsBook (⟦<M as Described>⟧.machine self.old.ether.setup) self.new }
+        requires { from < self.old.ether.size }
         ensures taken { HasTaken self.old from result self.new }
         ensures from { IsFrom from result }
     {
@@ -211,13 +181,9 @@ impl<M: Hosted> Book<M> {
 
     /// Two passes in one hand, of one ether: what their nodes did is of one moment.
     pub fn meet(&mut self, other: &mut Book<M>)
-        requires one { IsBook (⟦<M as Described>⟧.machine self.old.ether.setup) self.old }
-        requires other { IsBook (⟦<M as Described>⟧.machine self.old.ether.setup) other.old }
-        requires ether { self.old.ether ≡ other.old.ether }
-        ensures one { IsBook (⟦<M as Described>⟧.machine self.old.ether.setup) self.new
-            × IsSameBook self.old self.new }
-        ensures other { IsBook (⟦<M as Described>⟧.machine self.old.ether.setup) other.new
-            × IsSameBook other.old other.new }
+        requires { self.old.ether ≡ other.old.ether }
+        ensures one { IsSameBook self.old self.new }
+        ensures other { IsSameBook other.old other.new }
         ensures meet { AreOfOneGroup (⟦<M as Described>⟧.machine self.old.ether.setup)
             (view_of self.old.pass) (view_of other.old.pass) }
     {
@@ -236,10 +202,43 @@ impl<M: Hosted> Book<M> {
         (self.pass, self.turns)
     }
 
+    /// Does nothing. A book is of an opened pass, and what is recorded is its view's.
+    pub fn is_whole(&self)
+        ensures { IsBook (⟦<M as Described>⟧.machine self.now.ether.setup) self.now }
+    {
+        let _ = &self.sent;
+    }
+
     /// How many nodes the ether is for.
     pub fn size(&self) -> GroupSize
         ensures { result ≡ self.now.ether.size }
     {
         self.ether.size()
+    }
+}
+
+/// Keeps a turn with this ticket, where turns are recorded.
+fn keep<B: Wire, L: Drop, T: Drop, E: Drop, P: Drop>(
+    recording: Recording,
+    turns: &mut Vec<NodeTurn<B, L, T, E, P>>,
+    ticket: u64,
+    event: Option<NodeEvent<B, L, T>>,
+    outcome: Option<Outcome<E, P>>,
+)
+    requires { room_for recording 1 ≤ vec_capacity turns.old - vec_len turns.old }
+    ensures kept { KeepsTurn recording turns.old.items ticket event outcome turns.new.items }
+    ensures room { vec_capacity turns.new ≡ vec_capacity turns.old }
+{
+    match recording {
+        Recording::On => {
+            let Some(event) = event else { return };
+            let Some(outcome) = outcome else { return };
+            turns.push_reserved(NodeTurn {
+                ticket,
+                event,
+                outcome,
+            });
+        }
+        Recording::Off => {}
     }
 }

@@ -165,6 +165,7 @@ impl<M: Marking, S: Stable<M::Command>, U: Upstream> NodeCell<M, S, U> {
                 };
                 self.book.note(told.done(copy), outcome);
                 self.book.post_all(messages, &mut replaced);
+                self.book.is_whole();
                 hand_all::<M, U>(&mut self.upstream, &effects);
                 self.shown = NodeFields::of(self.node.state());
                 self.asked = larger(self.asked, number);
@@ -181,6 +182,7 @@ impl<M: Marking, S: Stable<M::Command>, U: Upstream> NodeCell<M, S, U> {
                 if let NodeFault::Refused(refusal) = &fault {
                     let outcome = ForRecord::of(Outcome::Refused(*refusal));
                     self.book.note(told.done(copy), outcome);
+                    self.book.is_whole();
                     self.asked = larger(self.asked, number);
                     return Err(CellFault::Node(fault));
                 }
@@ -197,7 +199,9 @@ impl<M: Marking, S: Stable<M::Command>, U: Upstream> NodeCell<M, S, U> {
         ensures taken { HasTakenIn self.old.parts from result self.new.parts }
         ensures from { IsFrom from result }
     {
-        self.book.take(from)
+        let came = self.book.take(from);
+        self.book.is_whole();
+        came
     }
 
     /// Whether what this node posted last to the node at this place, from 0 on, was taken: nothing lies
@@ -206,7 +210,9 @@ impl<M: Marking, S: Stable<M::Command>, U: Upstream> NodeCell<M, S, U> {
         requires { to < self.old.parts.ether.size }
         ensures { HasSeenTo self.old.parts to result self.new.parts }
     {
-        self.book.is_taken(to)
+        let taken = self.book.is_taken(to);
+        self.book.is_whole();
+        taken
     }
 
     /// Takes what lies in the mailbox from the node at this place, from 0 on, and turns its delivery.
@@ -238,6 +244,8 @@ impl<M: Marking, S: Stable<M::Command>, U: Upstream> NodeCell<M, S, U> {
             (view_in self.old.parts) (view_in other.old.parts) }
     {
         self.book.meet(&mut other.book);
+        self.book.is_whole();
+        other.book.is_whole();
     }
 }
 

@@ -1,7 +1,7 @@
 //! How a book takes in several events, one after the other.
 ghost use Rattle.std.specs.Prelude.{◌≡◌, ◌≤◌, ◌+◌, ◌^◌, length, suc, true};
 ghost use Rattle.ether.specs.Passes.{view_of};
-ghost use Rattle.node_cells.specs.Books.{IsBook, room_for};
+ghost use Rattle.node_cells.specs.Books.{room_for};
 ghost use Rattle.node_cells.specs.Cells.{AreAnswered, AreTogether, HasCopies, HasHeard, brought};
 ghost use Rattle.node_cells.specs.Copies.{AreCopies};
 ghost use Rattle.node_cells.specs.Inputs.{OnlyAppend};
@@ -27,7 +27,6 @@ impl<M: Hosted> Book<M> {
         copies: Vec<NodeInput<M::Command, M::Line>>,
         answers: &[Result<(), Refusal>],
     )
-        requires book { IsBook (⟦<M as Described>⟧.machine self.old.ether.setup) self.old }
         requires appends { OnlyAppend inputs.items }
         requires copied { AreCopies self.old.recording inputs.items copies.items }
         requires enough { length inputs.items ≤ length answers.now }
@@ -37,8 +36,7 @@ impl<M: Hosted> Book<M> {
             AreAnswered (⟦<M as Described>⟧.machine self.old.ether.setup)
             (view_of self.old.pass).size (suc (view_of self.old.pass).node)
             (view_of self.old.pass).state inputs.items answers.now }
-        ensures book { IsBook (⟦<M as Described>⟧.machine self.old.ether.setup) self.new }
-        ensures noted { HasNotedAll (⟦<M as Described>⟧.machine self.old.ether.setup) self.old
+        ensures { HasNotedAll (⟦<M as Described>⟧.machine self.old.ether.setup) self.old
             (all_done inputs.items answers.now) self.new }
     {
         let mut done = 0;
@@ -55,7 +53,6 @@ impl<M: Hosted> Book<M> {
 
     /// The events of a restart that the store shows.
     pub fn note_first(&mut self, phase: Phase<M::Command, M::Line, M::Target>, same: bool)
-        requires book { IsBook (⟦<M as Described>⟧.machine self.old.ether.setup) self.old }
         requires heard { HasHeard (view_of self.old.pass) (brought phase) }
         requires together { AreTogether phase }
         requires copied { HasCopies self.old.recording phase }
@@ -65,8 +62,7 @@ impl<M: Hosted> Book<M> {
             TellsAnswers (⟦<M as Described>⟧.machine self.old.ether.setup)
             (view_of self.old.pass).size (suc (view_of self.old.pass).node)
             (view_of self.old.pass).state phase }
-        ensures book { IsBook (⟦<M as Described>⟧.machine self.old.ether.setup) self.new }
-        ensures noted { HasNotedAll (⟦<M as Described>⟧.machine self.old.ether.setup) self.old
+        ensures { HasNotedAll (⟦<M as Described>⟧.machine self.old.ether.setup) self.old
             (firsts_of phase same) self.new }
     {
         match phase {
@@ -89,7 +85,6 @@ impl<M: Hosted> Book<M> {
         answers: &[Result<(), Refusal>],
         same: bool,
     )
-        requires book { IsBook (⟦<M as Described>⟧.machine self.old.ether.setup) self.old }
         requires appends { OnlyAppend inputs.items }
         requires copied { AreCopies self.old.recording inputs.items copies.items }
         requires some { 1 ≤ length inputs.items }
@@ -100,8 +95,7 @@ impl<M: Hosted> Book<M> {
             AreAnswered (⟦<M as Described>⟧.machine self.old.ether.setup)
             (view_of self.old.pass).size (suc (view_of self.old.pass).node)
             (view_of self.old.pass).state inputs.items answers.now }
-        ensures book { IsBook (⟦<M as Described>⟧.machine self.old.ether.setup) self.new }
-        ensures noted { HasNotedAll (⟦<M as Described>⟧.machine self.old.ether.setup) self.old
+        ensures { HasNotedAll (⟦<M as Described>⟧.machine self.old.ether.setup) self.old
             (stops_in same inputs.items answers.now) self.new }
     {
         if same {

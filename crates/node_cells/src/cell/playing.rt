@@ -60,6 +60,7 @@ impl<M: Marking, S: Stable<M::Command>, U: Upstream> NodeCell<M, S, U> {
                 };
                 let event = ForRecord::of(NodeEvent::Look(from_place, target));
                 self.book.note(event, outcome);
+                self.book.is_whole();
                 Ok(Looked { place, lines })
             }
             Err(fault) => {
@@ -67,6 +68,7 @@ impl<M: Marking, S: Stable<M::Command>, U: Upstream> NodeCell<M, S, U> {
                     let event = ForRecord::of(NodeEvent::Look(from_place, target));
                     self.book
                         .note(event, ForRecord::of(Outcome::Refused(*refusal)));
+                    self.book.is_whole();
                     return Err(CellFault::Node(fault));
                 }
                 Err(CellFault::Node(fault))

@@ -61,6 +61,7 @@ impl<M: Marking, S: Stable<M::Command>, U: Upstream> NodeCell<M, S, U> {
         let phase = replace(&mut self.phase, Phase::Up);
         self.book.note_first(phase, same);
         self.book.note_restarts(more);
+        self.book.is_whole();
         self.refused = 0;
         self.shown = NodeFields::of(self.node.state());
         self.asked = Number::new(0);

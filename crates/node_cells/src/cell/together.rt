@@ -99,6 +99,7 @@ impl<M: Marking, S: Stable<M::Command>, U: Upstream> NodeCell<M, S, U> {
         match self.node.step_all(taken) {
             Ok(answers) => {
                 self.book.note_all(told, copies, &answers);
+                self.book.is_whole();
                 self.shown = NodeFields::of(self.node.state());
                 self.asked = asked;
                 Ok(answers)

@@ -11,7 +11,7 @@ use Rattle.node_cells.specs.declared.record.Recording.{Recording}
 use Rattle.node_cells.specs.Copies.{AreCopies}
 use Rattle.node_cells.proofs.Copies.{next_copy, none_left}
 use Rattle.node_cells.proofs.Told.{heard_as, noted_as, out_as, whole_kept}
-use Rattle.node_cells.specs.Books.{HasNoted, IsBook, OutcomeOf}
+use Rattle.node_cells.specs.Books.{HasNoted, OutcomeOf}
 use Rattle.node_cells.proofs.Noting.{Noting, noting_done, noting_first, noting_heard, noting_next, noting_out, noting_room}
 use Rattle.node_cells.proofs.book.Book.note_all.Given as given
 use Rattle.node_cells.proofs.book.Book.note_all.Goals as goal
@@ -49,7 +49,7 @@ loop-input-init g c =
     let M = machine g now.ether.setup in (
       λ on. c.into_iter-copies.ensures.rest ∙ c.requires.copied on ∙ sym all,
       subst (λ (l : List (NodeInput g.row.M-Command.Denot g.row.M-Line.Denot)). Noting M now now c.args.inputs.items l c.args.answers.now 0) (sym all)
-          (noting_first M now c.args.inputs.items c.args.answers.now c.requires.book c.requires.appends c.requires.enough c.requires.room.0 c.requires.room.1 c.requires.answered),
+          (noting_first M now c.args.inputs.items c.args.answers.now c.requires.appends c.requires.enough c.requires.room.0 c.requires.room.1 c.requires.answered),
     )
 
 pub note-requires-clause-heard : goal.note-requires-clause-heard
@@ -87,17 +87,17 @@ loop-input-preserved g c =
     let M = machine g old.ether.setup in
     let rest : c.loop-input.input-iterator.rest.items ≡ x ∷ left = search rules in
     let noting = subst (λ (l : List (NodeInput g.row.M-Command.Denot g.row.M-Line.Denot)). Noting M old now c.args.inputs.items l c.args.answers.now c.loop-input.done) rest c.loop-input.invariant.1 in
-    let this = noted_as (machine g now.ether.setup) now c.note.new.self c.done-event.result.told.value (Does x) c.of-came.result.told.value c.outcome_by-outcome.result c.done-event.ensures.told c.of-came.ensures.0 c.note.ensures.noted in
-    let one : IsBook M c.note.new.self × HasNoted M now (Does x) c.outcome_by-outcome.result c.note.new.self =
-    subst (λ (e : EtherParts g.row.M-Setup.Denot). IsBook (machine g e.setup) c.note.new.self × HasNoted (machine g e.setup) now (Does x) c.outcome_by-outcome.result c.note.new.self) noting.ether (c.note.ensures.book, this) in (
+    let this = noted_as (machine g now.ether.setup) now c.note.new.self c.done-event.result.told.value (Does x) c.of-came.result.told.value c.outcome_by-outcome.result c.done-event.ensures.told c.of-came.ensures.0 c.note.ensures in
+    let one : HasNoted M now (Does x) c.outcome_by-outcome.result c.note.new.self =
+    subst (λ (e : EtherParts g.row.M-Setup.Denot). HasNoted (machine g e.setup) now (Does x) c.outcome_by-outcome.result c.note.new.self) noting.ether this in (
       subst (λ (r : Recording). AreCopies r left c.next-copy.new.self.rest.items) (sym this.recording) (next_copy now.recording x left c.loop-input.copies.rest.items c.next-copy.new.self.rest.items c.next-copy.result
           (subst (λ (l : List (NodeInput g.row.M-Command.Denot g.row.M-Line.Denot)). AreCopies now.recording l c.loop-input.copies.rest.items) rest c.loop-input.invariant.0) c.next-copy.ensures.items (λ e. sym c.loop-input.copies.rest.ok.0 ∙ none_left _ c.next-copy.result _ _ c.next-copy.ensures.cases e)).1,
-      noting_next M old now c.args.inputs.items x left c.args.answers.now c.loop-input.done noting c.index-answers-done.result (sym c.index-answers-done.is) c.note.new.self one.0
-          (subst (λ (o : OutcomeOf M). HasNoted M now (Does x) o c.note.new.self) c.outcome_by-outcome.ensures one.1),
+      noting_next M old now c.args.inputs.items x left c.args.answers.now c.loop-input.done noting c.index-answers-done.result (sym c.index-answers-done.is) c.note.new.self
+          (subst (λ (o : OutcomeOf M). HasNoted M now (Does x) o c.note.new.self) c.outcome_by-outcome.ensures one),
     )
 
-pub returns-clause-noted : goal.returns-clause-noted
-returns-clause-noted g c =
+pub returns : goal.returns
+returns g c =
     let left = c.loop-input.input-iterator.rest.items in
     let none : left ≡ [] = nil_from_length left (sym c.loop-input.input-iterator.rest.ok.0 ∙ c.in-None.ensures.steps.0) in
-    (noting_done (machine g c.args.self.now.ether.setup) c.args.self.now c.loop-input.self c.args.inputs.items left c.args.answers.now c.loop-input.done c.loop-input.invariant.1 none).1
+    noting_done (machine g c.args.self.now.ether.setup) c.args.self.now c.loop-input.self c.args.inputs.items left c.args.answers.now c.loop-input.done c.loop-input.invariant.1 none

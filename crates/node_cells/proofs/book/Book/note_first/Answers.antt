@@ -41,9 +41,9 @@ note-requires-clause-room g c =
     let tickets = c.requires.room.1 in
     (subst (λ (n : ℕ). room_for c.args.self.now.recording n ≤ c.args.self.now.room) one c.requires.room.0, omega (arith, one, tickets))
 
-pub returns-in_default-clause-noted : goal.returns-in_default-clause-noted
-returns-in_default-clause-noted g c =
+pub returns-in_default : goal.returns-in_default
+returns-in_default g c =
     let M = machine g c.args.self.now.ether.setup in
     subst (λ (es : List (EventOf M × Answer)). HasNotedAll M c.args.self.now es c.note.new.self) (sym c.first_event-event.ensures.told)
     (one_noted M c.args.self.now c.note.new.self c.first_event-event.result.told.value (Ok tt)
-    (noted_as M c.args.self.now c.note.new.self c.first_event-event.result.told.value c.first_event-event.result.told.value c.of-outcome.result.told.value Quiet refl c.of-outcome.ensures.0 c.note.ensures.noted))
+    (noted_as M c.args.self.now c.note.new.self c.first_event-event.result.told.value c.first_event-event.result.told.value c.of-outcome.result.told.value Quiet refl c.of-outcome.ensures.0 c.note.ensures))

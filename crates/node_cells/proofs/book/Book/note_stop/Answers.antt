@@ -48,12 +48,12 @@ note-requires-clause-out g c =
     out_as M v c.stopped-event.result.told.value (StopIn c.remove-first.result false) c.of-outcome.result.told.value Quiet c.stopped-event.ensures.told c.of-outcome.ensures.0
     (λ honest. stop_out M v.size (suc v.node) v.state c.remove-first.result false)
 
-pub returns-then-same-clause-noted : goal.returns-then-same-clause-noted
-returns-then-same-clause-noted g c =
+pub returns-then-same : goal.returns-then-same
+returns-then-same g c =
     let M = machine g c.args.self.now.ether.setup in
     subst (λ (b : Bool). HasNotedAll M c.args.self.now (stops_in b c.args.inputs.items c.args.answers.now) c.note.new.self) (sym c.if-same.true)
     (first_noted M c.args.self.now c.note.new.self c.args.inputs.items c.remove-first.result c.requires.some c.remove-first.ensures.value
-    (noted_as M c.args.self.now c.note.new.self c.stopped-event.result.told.value (StopIn c.remove-first.result false) c.of-outcome.result.told.value Quiet c.stopped-event.ensures.told c.of-outcome.ensures.0 c.note.ensures.noted))
+    (noted_as M c.args.self.now c.note.new.self c.stopped-event.result.told.value (StopIn c.remove-first.result false) c.of-outcome.result.told.value Quiet c.stopped-event.ensures.told c.of-outcome.ensures.0 c.note.ensures))
 
 pub note_all-requires-clause-appends : goal.note_all-requires-clause-appends
 note_all-requires-clause-appends g c =
@@ -99,7 +99,7 @@ note-requires-2-clause-kept g c =
     let is : c.args.inputs.items ≡ c.pop.new.self.items ++ c.in-Some.last ∷ [] = search rules in
     let copy = (split g c.args.self.now.recording c.args.inputs.items c.pop.new.self.items c.in-Some.last c.args.copies c.pop-copy.new.self c.pop-copy.result is c.requires.copied c.pop-copy.ensures.items
     (λ e. sym c.args.copies.ok.0 ∙ none_left _ c.pop-copy.result _ _ c.pop-copy.ensures.cases e)).0 in
-    let same = c.note_all.ensures.noted.recording in (
+    let same = c.note_all.ensures.recording in (
       subst (λ (r : Recording). IsKept r c.stopped-stop.result) (sym same) (c.stopped-stop.ensures.kept c.args.self.now.recording copy),
       whole_kept _ c.of-came.result Quiet c.of-came.ensures,
     )
@@ -109,7 +109,7 @@ note-requires-2-clause-room g c =
     let M = machine g c.args.self.now.ether.setup in
     let is : c.args.inputs.items ≡ c.pop.new.self.items ++ c.in-Some.last ∷ [] = search rules in
     let long : length c.args.inputs.items ≡ length (c.pop.new.self.items ++ c.in-Some.last ∷ []) = ap (λ (l : List (InputOf g)). length l) is in
-    last_room M c.args.self.now c.note_all.new.self c.pop.new.self.items c.in-Some.last c.args.answers.now (c.requires.many ∙ long) c.note_all.ensures.noted
+    last_room M c.args.self.now c.note_all.new.self c.pop.new.self.items c.in-Some.last c.args.answers.now (c.requires.many ∙ long) c.note_all.ensures
     (subst (λ (l : List (InputOf g)). room_for c.args.self.now.recording (length l) ≤ c.args.self.now.room) is c.requires.room.0)
     (let tickets = c.requires.room.1 in omega (arith, long, tickets))
 
@@ -120,14 +120,14 @@ note-requires-2-clause-out g c =
     out_as M v c.stopped-stop.result.told.value (StopIn c.in-Some.last true) c.of-came.result.told.value Quiet c.stopped-stop.ensures.told c.of-came.ensures.0
     (λ honest. stop_out M v.size (suc v.node) v.state c.in-Some.last true)
 
-pub returns-clause-noted : goal.returns-clause-noted
-returns-clause-noted g c =
+pub returns : goal.returns
+returns g c =
     let M = machine g c.args.self.now.ether.setup in
     let is : c.args.inputs.items ≡ c.pop.new.self.items ++ c.in-Some.last ∷ [] = search rules in
     let long : length c.args.inputs.items ≡ length (c.pop.new.self.items ++ c.in-Some.last ∷ []) = ap (λ (l : List (InputOf g)). length l) is in
-    let all = c.note_all.ensures.noted in
+    let all = c.note_all.ensures in
     let one : HasNoted M c.note_all.new.self (StopIn c.in-Some.last true) Quiet c.note-2.new.self =
     subst (λ (e : EtherParts g.row.M-Setup.Denot). HasNoted (machine g e.setup) c.note_all.new.self (StopIn c.in-Some.last true) Quiet c.note-2.new.self) all.ether
-    (noted_as (machine g c.note_all.new.self.ether.setup) c.note_all.new.self c.note-2.new.self c.stopped-stop.result.told.value (StopIn c.in-Some.last true) c.of-came.result.told.value Quiet c.stopped-stop.ensures.told c.of-came.ensures.0 c.note-2.ensures.noted) in
+    (noted_as (machine g c.note_all.new.self.ether.setup) c.note_all.new.self c.note-2.new.self c.stopped-stop.result.told.value (StopIn c.in-Some.last true) c.of-came.result.told.value Quiet c.stopped-stop.ensures.told c.of-came.ensures.0 c.note-2.ensures) in
     subst (λ (z : Bool × List (InputOf g)). HasNotedAll M c.args.self.now (stops_in z.0 z.1 c.args.answers.now) c.note-2.new.self) (λ d. (sym c.if-same.false d, sym is d))
     (last_noted M c.args.self.now c.note_all.new.self c.pop.new.self.items c.in-Some.last c.args.answers.now (c.requires.many ∙ long) all c.note-2.new.self one)

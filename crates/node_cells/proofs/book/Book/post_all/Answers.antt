@@ -28,7 +28,7 @@ loop-message-preserved-in-Some-post g c =
     let room = c.loop-message.invariant.2 in
     let len = c.push_reserved.ensures.len in
     let cap = c.push_reserved.ensures.capacity in (
-      posting_next M old now c.post.new.self c.args.messages.items m left posting (search rules) (search rules),
+      posting_next M old now c.post.new.self c.args.messages.items m left posting (search rules),
       giving_next (view_of old.pass) c.args.messages.items m left c.loop-message.replaced.items (Some c.in-Some-post.older) c.push_reserved.new.self.items giving may c.push_reserved.ensures.items,
       omega (arith, long, room, len, cap),
     )
@@ -45,7 +45,7 @@ loop-message-preserved g c =
     let giving = subst (λ (l : List (Message g.row.M-Command.Denot)). Giving (view_of old.pass) c.args.messages.items l c.loop-message.replaced.items) rest c.loop-message.invariant.1 in
     let long : length c.loop-message.message-iterator.rest.items ≡ suc (length left) = ap length rest in
     let room = c.loop-message.invariant.2 in (
-      posting_next M old now c.post.new.self c.args.messages.items m left posting (search rules) (search rules),
+      posting_next M old now c.post.new.self c.args.messages.items m left posting (search rules),
       giving_next (view_of old.pass) c.args.messages.items m left c.loop-message.replaced.items None c.loop-message.replaced.items giving tt (sym (append-nil c.loop-message.replaced.items)),
       omega (arith, long, room),
     )

@@ -3,6 +3,7 @@ use Rattle.raft_node.specs.Hosts.{hosted}
 use Rattle.raft_node.specs.Machine.{Machine}
 use Rattle.raft_node.specs.Parts.{Keeper, keeper}
 use Rattle.ether.specs.Passes.{EtherParts, view_of}
+use Rattle.node_cells.specs.Books.{IsBook}
 use Rattle.node_cells.specs.Cells.{IsCell, cell_of}
 use Rattle.node_cells.proofs.MarksKept.{same_keeps}
 use Rattle.node_cells.proofs.Opening.{seen_cell}
@@ -20,7 +21,8 @@ kept g = keeper g.S.Stable.saved g.S.Stable.may_stand g.S.Stable.condition
 pub invariant_of-self : goal.invariant_of-self
 invariant_of-self g c =
     let i = c.self.inside in (
-      subst (λ (e : EtherParts g.row.M-Setup.Denot). IsCell (machine g e.setup) (kept g) (cell_of c.is_taken.new.self i.node i.upstream i.phase i.refused i.shown)) (sym c.is_taken.ensures.seen.ether)
-          (seen_cell (machine g i.book.ether.setup) (kept g) i.book c.is_taken.new.self i.node i.upstream i.phase i.refused i.shown c.args.to c.is_taken.result c.self.invariant.0 c.is_taken.ensures.seen c.is_taken.ensures.book),
-      same_keeps (machine g i.book.ether.setup) g.M.Marking.marked (view_of i.book.pass) (view_of c.is_taken.new.self.pass) i.asked i.reached c.self.invariant.1 c.is_taken.ensures.seen.view,
+      subst (λ (e : EtherParts g.row.M-Setup.Denot). IsCell (machine g e.setup) (kept g) (cell_of c.is_taken-taken.new.self i.node i.upstream i.phase i.refused i.shown)) (sym c.is_taken-taken.ensures.ether)
+          (seen_cell (machine g i.book.ether.setup) (kept g) i.book c.is_taken-taken.new.self i.node i.upstream i.phase i.refused i.shown c.args.to c.is_taken-taken.result c.self.invariant.0 c.is_taken-taken.ensures
+          (subst (λ (e : EtherParts g.row.M-Setup.Denot). IsBook (machine g e.setup) c.is_taken-taken.new.self) c.is_taken-taken.ensures.ether c.is_whole.ensures)),
+      same_keeps (machine g i.book.ether.setup) g.M.Marking.marked (view_of i.book.pass) (view_of c.is_taken-taken.new.self.pass) i.asked i.reached c.self.invariant.1 c.is_taken-taken.ensures.view,
     )

@@ -12,7 +12,7 @@ use Rattle.node_cells.specs.Books.{BookParts}
 use Rattle.node_cells.specs.Cells.{cell_of}
 use Rattle.node_cells.specs.Marks.{KnowsMarks}
 use Rattle.node_cells.proofs.MarksKept.{fresh_keeps}
-use Rattle.node_cells.proofs.Opening.{fresh, fresh_cell}
+use Rattle.node_cells.proofs.Opening.{fresh, fresh_book, fresh_cell}
 use Rattle.node_cells.proofs.cell.NodeCell.open.Given as given
 use Rattle.node_cells.proofs.cell.NodeCell.open.Goals as goal
 
@@ -33,6 +33,17 @@ opening-requires-clause-node g c =
 
 pub invariant_of-result : goal.invariant_of-result
 invariant_of-result g c =
+    let id : c.new-id.result ≡ suc c.args.pass.node = search rules in
+    let size : c.size-size.result ≡ c.args.ether.value.size = search rules in
+    let setup : c.setup.result.now ≡ c.args.ether.value.setup = search rules in
+    let small : c.size-size.result ≤ 7 = search rules in
+    let first = subst (λ (z : (ℕ × ℕ) × g.row.M-Setup.Denot). IsFirst (kept g) z.0.0 z.0.1 z.1 c.args.store c.in-Ok.node) (λ d. ((id d, size d), setup d)) c.in-Ok.ensures in
+    let b : BookParts g.row.M-Setup.Denot g.row.M-Command.Denot g.row.M-Line.Denot g.row.M-Target.Denot g.row.M-Effect.Denot g.row.M-Played.Denot = record { ether = c.args.ether.value; pass = c.opening.new.pass; recording = c.args.recording; turns = c.new.result.items; sent = 0; room = 0 } in
+    let opened = subst (λ (e : EtherParts g.row.M-Setup.Denot). IsOpenPass e c.opening.new.pass) c.deref-3.ensures c.opening.ensures.open.0 in
+    fresh_book (machine g c.args.ether.value.setup) (kept g) b c.args.pass c.in-Ok.node c.opening.result c.args.store first c.new.ensures.items opened c.opening.ensures.open.1 c.opening.ensures.view c.requires.pass.2 refl (subst (λ (m : ℕ). m ≤ 7) size small)
+
+pub invariant_of-result-2 : goal.invariant_of-result-2
+invariant_of-result-2 g c =
     let id : c.new-id.result ≡ suc c.args.pass.node = search rules in
     let size : c.size-size.result ≡ c.args.ether.value.size = search rules in
     let setup : c.setup.result.now ≡ c.args.ether.value.setup = search rules in

@@ -20,7 +20,7 @@ use Rattle.world_views.specs.declared.node_event.NodeEvent.{NodeEvent}
 use Rattle.world_views.specs.Own.{own_out}
 use Rattle.node_cells.specs.declared.for_record.ForRecord.{ForRecord}
 use Rattle.node_cells.specs.declared.record.Recording.{Recording}
-use Rattle.node_cells.specs.Books.{BookParts, HasNoted}
+use Rattle.node_cells.specs.Books.{BookParts, HasNoted, IsBook}
 use Rattle.node_cells.specs.Copies.{IsKept}
 use Rattle.node_cells.specs.declared.cell_fault.CellFault.TheVariants.{Node as OfNode}
 use Rattle.node_cells.specs.declared.phase.Phase.TheVariants.{Up}
@@ -118,10 +118,11 @@ invariant_of-self g c =
     let up : i.phase ≡ Up = ap (λ (z : RoomOf g). z.parts.phase) c.self.view_is ∙ c.requires.up in
     let o = c.in-Ok-played_of.outcome.told.value in
     let comes = played g _ _ i.node c.args.from_place c.args.target c.in-Ok.looked o c.self.invariant.0.setup c.in-Ok-played_of.ensures.played c.in-Ok.ensures in
-    let noted = noted_look g i.book.ether.setup i.book c.note.new.self c.of-event.result.told.value (Look c.args.from_place c.args.target) o c.of-event.ensures.0 c.note.ensures.noted in (
-      subst (λ (e : EtherParts g.row.M-Setup.Denot). IsCell (machine g e.setup) (kept g) (cell_of c.note.new.self i.node i.upstream i.phase i.refused i.shown)) (sym c.note.ensures.noted.ether)
+    let noted = noted_look g i.book.ether.setup i.book c.note.new.self c.of-event.result.told.value (Look c.args.from_place c.args.target) o c.of-event.ensures.0 c.note.ensures in (
+      subst (λ (e : EtherParts g.row.M-Setup.Denot). IsCell (machine g e.setup) (kept g) (cell_of c.note.new.self i.node i.upstream i.phase i.refused i.shown)) (sym c.note.ensures.ether)
           (still_cell (machine g i.book.ether.setup) (kept g) g.U.Upstream.tally i.book i.node i.upstream i.phase i.refused i.shown c.self.invariant.0 up (Look c.args.from_place c.args.target) o c.note.new.self
-          (looked_still (machine g i.book.ether.setup) (kept g) _ c.self.invariant.0 up c.args.from_place c.args.target _ comes) noted c.note.ensures.book),
+          (looked_still (machine g i.book.ether.setup) (kept g) _ c.self.invariant.0 up c.args.from_place c.args.target _ comes) noted
+          (subst (λ (e : EtherParts g.row.M-Setup.Denot). IsBook (machine g e.setup) c.note.new.self) c.note.ensures.ether c.is_whole.ensures)),
       look_keeps (machine g i.book.ether.setup) g.M.Marking.marked (view_of i.book.pass) (view_of c.note.new.self.pass) i.asked i.reached c.self.invariant.1 noted.ticket c.args.from_place c.args.target noted.view,
     )
 
@@ -136,7 +137,7 @@ returns-in-Ok-played_of-clause-look g c =
     (subst (λ (z : CellRoom g.row.M-Setup.Denot g.row.M.Denot g.row.S.Denot g.row.M-Command.Denot g.row.M-Line.Denot g.row.M-Target.Denot g.row.M-Effect.Denot g.row.M-Played.Denot g.row.U.Denot).
     IsLookedAt (machine g z.parts.ether.setup) g.U.Upstream.tally z.parts c.args.from_place c.args.target c.in-Ok.looked (cell_of c.note.new.self i.node i.upstream i.phase i.refused i.shown)) c.self.view_is
     (look_is (machine g i.book.ether.setup) (kept g) g.U.Upstream.tally i.book c.note.new.self i.node i.upstream i.phase i.refused i.shown c.self.invariant.0 up c.args.from_place c.args.target c.in-Ok.looked o
-    (played_out g i.book.ether.setup c.in-Ok.looked o c.in-Ok-played_of.ensures.played) comes (noted_look g i.book.ether.setup i.book c.note.new.self c.of-event.result.told.value (Look c.args.from_place c.args.target) o c.of-event.ensures.0 c.note.ensures.noted)))
+    (played_out g i.book.ether.setup c.in-Ok.looked o c.in-Ok-played_of.ensures.played) comes (noted_look g i.book.ether.setup i.book c.note.new.self c.of-event.result.told.value (Look c.args.from_place c.args.target) o c.of-event.ensures.0 c.note.ensures)))
 
 pub note-requires-in-Refused-clause-out : goal.note-requires-in-Refused-clause-out
 note-requires-in-Refused-clause-out g c =
@@ -153,10 +154,11 @@ invariant_of-self-in-Refused g c =
     let i = c.self.inside in
     let up : i.phase ≡ Up = ap (λ (z : RoomOf g). z.parts.phase) c.self.view_is ∙ c.requires.up in
     let comes = behind g _ _ i.node c.args.from_place c.args.target c.in-Err.fault c.in-Refused.refusal c.self.invariant.0.setup c.in-Refused.is c.in-Err.ensures in
-    let noted = noted_refused g i.book.ether.setup i.book c.note-in-Refused.new.self c.of-event-in-Refused.result.told.value (Look c.args.from_place c.args.target) c.of.result.told.value (Refused c.in-Refused.refusal) c.of-event-in-Refused.ensures.0 c.of.ensures.0 c.note-in-Refused.ensures.noted in (
-      subst (λ (e : EtherParts g.row.M-Setup.Denot). IsCell (machine g e.setup) (kept g) (cell_of c.note-in-Refused.new.self i.node i.upstream i.phase i.refused i.shown)) (sym c.note-in-Refused.ensures.noted.ether)
+    let noted = noted_refused g i.book.ether.setup i.book c.note-in-Refused.new.self c.of-event-in-Refused.result.told.value (Look c.args.from_place c.args.target) c.of.result.told.value (Refused c.in-Refused.refusal) c.of-event-in-Refused.ensures.0 c.of.ensures.0 c.note-in-Refused.ensures in (
+      subst (λ (e : EtherParts g.row.M-Setup.Denot). IsCell (machine g e.setup) (kept g) (cell_of c.note-in-Refused.new.self i.node i.upstream i.phase i.refused i.shown)) (sym c.note-in-Refused.ensures.ether)
           (still_cell (machine g i.book.ether.setup) (kept g) g.U.Upstream.tally i.book i.node i.upstream i.phase i.refused i.shown c.self.invariant.0 up (Look c.args.from_place c.args.target) (Refused c.in-Refused.refusal) c.note-in-Refused.new.self
-          (looked_still (machine g i.book.ether.setup) (kept g) _ c.self.invariant.0 up c.args.from_place c.args.target _ comes) noted c.note-in-Refused.ensures.book),
+          (looked_still (machine g i.book.ether.setup) (kept g) _ c.self.invariant.0 up c.args.from_place c.args.target _ comes) noted
+          (subst (λ (e : EtherParts g.row.M-Setup.Denot). IsBook (machine g e.setup) c.note-in-Refused.new.self) c.note-in-Refused.ensures.ether c.is_whole-in-Refused.ensures)),
       look_keeps (machine g i.book.ether.setup) g.M.Marking.marked (view_of i.book.pass) (view_of c.note-in-Refused.new.self.pass) i.asked i.reached c.self.invariant.1 noted.ticket c.args.from_place c.args.target noted.view,
     )
 
@@ -170,4 +172,4 @@ returns-in-Refused-clause-look g c =
     (subst (λ (z : CellRoom g.row.M-Setup.Denot g.row.M.Denot g.row.S.Denot g.row.M-Command.Denot g.row.M-Line.Denot g.row.M-Target.Denot g.row.M-Effect.Denot g.row.M-Played.Denot g.row.U.Denot).
     IsEvent (machine g z.parts.ether.setup) g.U.Upstream.tally z.parts (Look c.args.from_place c.args.target) (Refused c.in-Refused.refusal) now) c.self.view_is
     (still_event (machine g i.book.ether.setup) (kept g) g.U.Upstream.tally i.book i.node i.upstream i.phase i.refused i.shown c.self.invariant.0 up (Look c.args.from_place c.args.target) (Refused c.in-Refused.refusal) c.note-in-Refused.new.self
-    (looked_still (machine g i.book.ether.setup) (kept g) _ c.self.invariant.0 up c.args.from_place c.args.target _ comes) (noted_refused g i.book.ether.setup i.book c.note-in-Refused.new.self c.of-event-in-Refused.result.told.value (Look c.args.from_place c.args.target) c.of.result.told.value (Refused c.in-Refused.refusal) c.of-event-in-Refused.ensures.0 c.of.ensures.0 c.note-in-Refused.ensures.noted) refl))
+    (looked_still (machine g i.book.ether.setup) (kept g) _ c.self.invariant.0 up c.args.from_place c.args.target _ comes) (noted_refused g i.book.ether.setup i.book c.note-in-Refused.new.self c.of-event-in-Refused.result.told.value (Look c.args.from_place c.args.target) c.of.result.told.value (Refused c.in-Refused.refusal) c.of-event-in-Refused.ensures.0 c.of.ensures.0 c.note-in-Refused.ensures) refl))

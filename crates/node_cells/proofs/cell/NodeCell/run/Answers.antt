@@ -149,7 +149,7 @@ post_all-requires-clause-within g c =
     let up : i.phase ≡ Up = ap (λ (z : RoomOf g). z.parts.phase) c.self.view_is ∙ c.requires.up in
     let a = acted g _ _ c.args.input c.args.told c.input_of.result i.node c.step.new.self (Ok c.in-Ok.output) c.self.invariant.0.setup c.input_of.ensures c.requires.told c.in-Ok.ensures in
     goes_within (machine g i.book.ether.setup) (kept g) g.U.Upstream.tally i.book i.node i.upstream i.phase i.refused i.shown c.self.invariant.0 up c.args.told c.in-Ok.output c.step.new.self a.0 a.1
-    c.in-Ok-outputs.outcome.told.value c.note.new.self (noted_does g i.book.ether.setup i.book c.note.new.self c.done.result.told.value c.args.told c.in-Ok-outputs.outcome.told.value c.done.ensures.told c.note.ensures.noted)
+    c.in-Ok-outputs.outcome.told.value c.note.new.self (noted_does g i.book.ether.setup i.book c.note.new.self c.done.result.told.value c.args.told c.in-Ok-outputs.outcome.told.value c.done.ensures.told c.note.ensures)
 
 pub post_all-requires-clause-stand : goal.post_all-requires-clause-stand
 post_all-requires-clause-stand g c =
@@ -157,7 +157,7 @@ post_all-requires-clause-stand g c =
     let up : i.phase ≡ Up = ap (λ (z : RoomOf g). z.parts.phase) c.self.view_is ∙ c.requires.up in
     let a = acted g _ _ c.args.input c.args.told c.input_of.result i.node c.step.new.self (Ok c.in-Ok.output) c.self.invariant.0.setup c.input_of.ensures c.requires.told c.in-Ok.ensures in
     may_post (machine g i.book.ether.setup) (kept g) g.U.Upstream.tally i.book i.node i.upstream i.phase i.refused i.shown c.self.invariant.0 up c.args.told c.in-Ok.output c.step.new.self a.0 a.1
-    c.in-Ok-outputs.outcome.told.value c.note.new.self (noted_does g i.book.ether.setup i.book c.note.new.self c.done.result.told.value c.args.told c.in-Ok-outputs.outcome.told.value c.done.ensures.told c.note.ensures.noted)
+    c.in-Ok-outputs.outcome.told.value c.note.new.self (noted_does g i.book.ether.setup i.book c.note.new.self c.done.result.told.value c.args.told c.in-Ok-outputs.outcome.told.value c.done.ensures.told c.note.ensures)
 
 pub post_all-requires-clause-few : goal.post_all-requires-clause-few
 post_all-requires-clause-few g c =
@@ -165,7 +165,7 @@ post_all-requires-clause-few g c =
     let up : i.phase ≡ Up = ap (λ (z : RoomOf g). z.parts.phase) c.self.view_is ∙ c.requires.up in
     let a = acted g _ _ c.args.input c.args.told c.input_of.result i.node c.step.new.self (Ok c.in-Ok.output) c.self.invariant.0.setup c.input_of.ensures c.requires.told c.in-Ok.ensures in
     few_posts (machine g i.book.ether.setup) (kept g) g.U.Upstream.tally i.book i.node i.upstream i.phase i.refused i.shown c.self.invariant.0 up c.args.told c.in-Ok.output c.step.new.self a.0 a.1
-    c.in-Ok-outputs.outcome.told.value c.note.new.self (noted_does g i.book.ether.setup i.book c.note.new.self c.done.result.told.value c.args.told c.in-Ok-outputs.outcome.told.value c.done.ensures.told c.note.ensures.noted)
+    c.in-Ok-outputs.outcome.told.value c.note.new.self (noted_does g i.book.ether.setup i.book c.note.new.self c.done.result.told.value c.args.told c.in-Ok-outputs.outcome.told.value c.done.ensures.told c.note.ensures)
 
 pub post_all-requires-clause-room : goal.post_all-requires-clause-room
 post_all-requires-clause-room g c =
@@ -173,7 +173,7 @@ post_all-requires-clause-room g c =
     let up : i.phase ≡ Up = ap (λ (z : RoomOf g). z.parts.phase) c.self.view_is ∙ c.requires.up in
     let a = acted g _ _ c.args.input c.args.told c.input_of.result i.node c.step.new.self (Ok c.in-Ok.output) c.self.invariant.0.setup c.input_of.ensures c.requires.told c.in-Ok.ensures in
     let few = few_sent (machine g i.book.ether.setup) (kept g) g.U.Upstream.tally i.book i.node i.upstream i.phase i.refused i.shown c.self.invariant.0 up c.args.told c.in-Ok.output c.step.new.self a.0 a.1
-    c.in-Ok-outputs.outcome.told.value c.note.new.self (noted_does g i.book.ether.setup i.book c.note.new.self c.done.result.told.value c.args.told c.in-Ok-outputs.outcome.told.value c.done.ensures.told c.note.ensures.noted) in
+    c.in-Ok-outputs.outcome.told.value c.note.new.self (noted_does g i.book.ether.setup i.book c.note.new.self c.done.result.told.value c.args.told c.in-Ok-outputs.outcome.told.value c.done.ensures.told c.note.ensures) in
     let room = c.requires.replaced.1 in
     omega (arith, few, room)
 
@@ -182,20 +182,21 @@ invariant_of-self-in-Ok g c =
     let i = c.self.inside in
     let up : i.phase ≡ Up = ap (λ (z : RoomOf g). z.parts.phase) c.self.view_is ∙ c.requires.up in
     let a = acted g _ _ c.args.input c.args.told c.input_of.result i.node c.step.new.self (Ok c.in-Ok.output) c.self.invariant.0.setup c.input_of.ensures c.requires.told c.in-Ok.ensures in
-    let noted = noted_does g i.book.ether.setup i.book c.note.new.self c.done.result.told.value c.args.told c.in-Ok-outputs.outcome.told.value c.done.ensures.told c.note.ensures.noted in
+    let noted = noted_does g i.book.ether.setup i.book c.note.new.self c.done.result.told.value c.args.told c.in-Ok-outputs.outcome.told.value c.done.ensures.told c.note.ensures in
     let b2 = c.post_all.new.self in
-    let moved : IsBook (machine g i.book.ether.setup) b2 × HasPosted (machine g i.book.ether.setup) c.note.new.self (length c.in-Ok.output.messages.items) b2 =
-    subst (λ (e : EtherParts g.row.M-Setup.Denot). IsBook (machine g e.setup) b2 × HasPosted (machine g e.setup) c.note.new.self (length c.in-Ok.output.messages.items) b2) noted.ether (c.post_all.ensures.book, c.post_all.ensures.posted) in
+    let moved : HasPosted (machine g i.book.ether.setup) c.note.new.self (length c.in-Ok.output.messages.items) b2 =
+    subst (λ (e : EtherParts g.row.M-Setup.Denot). HasPosted (machine g e.setup) c.note.new.self (length c.in-Ok.output.messages.items) b2) noted.ether c.post_all.ensures.posted in
+    let whole : IsBook (machine g i.book.ether.setup) b2 = subst (λ (e : EtherParts g.row.M-Setup.Denot). IsBook (machine g e.setup) b2) (moved.ether ∙ noted.ether) c.is_whole.ensures in
     let m = machine g i.book.ether.setup in
     let d = cell_of b2 c.step.new.self c.hand_all.new.upstream i.phase i.refused c.of-self-inside.result in
     let cell : IsCell m (kept g) d =
     turned_cell m (kept g) g.U.Upstream.tally i.book i.node i.upstream i.phase i.refused i.shown c.self.invariant.0 up c.args.told c.in-Ok.output c.step.new.self a.0 a.1
-    c.in-Ok-outputs.outcome.told.value c.note.new.self noted b2 moved.1 c.hand_all.new.upstream c.of-self-inside.result moved.0
+    c.in-Ok-outputs.outcome.told.value c.note.new.self noted b2 moved c.hand_all.new.upstream c.of-self-inside.result whole
     (c.of-self-inside.ensures ∙ ap (λ (s : NodeState g.row.M-Command.Denot). fields_of (seen s [])) c.state-in-Ok.ensures) in (
-      subst (λ (e : EtherParts g.row.M-Setup.Denot). IsCell (machine g e.setup) (kept g) d) (sym (moved.1.ether ∙ noted.ether)) cell,
+      subst (λ (e : EtherParts g.row.M-Setup.Denot). IsCell (machine g e.setup) (kept g) d) (sym (moved.ether ∙ noted.ether)) cell,
       subst (λ (r : Option ℕ). KnowsMarks g.M.Marking.marked (view_of b2.pass) c.larger-self-inside.result r) (sym c.reached_after-self-inside.ensures)
           (turn_keeps m g.M.Marking.marked (view_of i.book.pass) (view_of b2.pass) i.asked i.reached c.self.invariant.1 noted.ticket c.note.new.self.sent (length c.in-Ok.output.messages.items) c.args.told
-          (moved.1.view ∙ ap (λ (v : ViewOf m). posts_from v c.note.new.self.sent (length c.in-Ok.output.messages.items)) noted.view)
+          (moved.view ∙ ap (λ (v : ViewOf m). posts_from v c.note.new.self.sent (length c.in-Ok.output.messages.items)) noted.view)
           c.state.result.now c.state-state.result.now c.id-node.result c.larger-self-inside.result
           (λ honest. subst (λ (s : NodeState g.row.M-Command.Denot). IsIn s (view_of i.book.pass).state) (sym c.state.ensures)
           (is_up m (kept g) (cell_of i.book i.node i.upstream i.phase i.refused i.shown) c.self.invariant.0 up honest))
@@ -208,10 +209,11 @@ returns-in-Ok-outputs-clause-turn g c =
     let i = c.self.inside in
     let up : i.phase ≡ Up = ap (λ (z : RoomOf g). z.parts.phase) c.self.view_is ∙ c.requires.up in
     let a = acted g _ _ c.args.input c.args.told c.input_of.result i.node c.step.new.self (Ok c.in-Ok.output) c.self.invariant.0.setup c.input_of.ensures c.requires.told c.in-Ok.ensures in
-    let noted = noted_does g i.book.ether.setup i.book c.note.new.self c.done.result.told.value c.args.told c.in-Ok-outputs.outcome.told.value c.done.ensures.told c.note.ensures.noted in
+    let noted = noted_does g i.book.ether.setup i.book c.note.new.self c.done.result.told.value c.args.told c.in-Ok-outputs.outcome.told.value c.done.ensures.told c.note.ensures in
     let b2 = c.post_all.new.self in
-    let moved : IsBook (machine g i.book.ether.setup) b2 × HasPosted (machine g i.book.ether.setup) c.note.new.self (length c.in-Ok.output.messages.items) b2 =
-    subst (λ (e : EtherParts g.row.M-Setup.Denot). IsBook (machine g e.setup) b2 × HasPosted (machine g e.setup) c.note.new.self (length c.in-Ok.output.messages.items) b2) noted.ether (c.post_all.ensures.book, c.post_all.ensures.posted) in
+    let moved : HasPosted (machine g i.book.ether.setup) c.note.new.self (length c.in-Ok.output.messages.items) b2 =
+    subst (λ (e : EtherParts g.row.M-Setup.Denot). HasPosted (machine g e.setup) c.note.new.self (length c.in-Ok.output.messages.items) b2) noted.ether c.post_all.ensures.posted in
+    let whole : IsBook (machine g i.book.ether.setup) b2 = subst (λ (e : EtherParts g.row.M-Setup.Denot). IsBook (machine g e.setup) b2) (moved.ether ∙ noted.ether) c.is_whole.ensures in
     let given : IsGiven c.in-Ok.output.place c.in-Ok.output.effects.items c.in-Ok-outputs.outcome.told.value =
     c.in-Ok-outputs.ensures.given in
     let handed : HandsOut (hands (machine g i.book.ether.setup) c.in-Ok.output.effects.items) (g.U.Upstream.tally i.upstream) (g.U.Upstream.tally c.hand_all.new.upstream) =
@@ -221,7 +223,7 @@ returns-in-Ok-outputs-clause-turn g c =
     subst (λ (z : CellRoom g.row.M-Setup.Denot g.row.M.Denot g.row.S.Denot g.row.M-Command.Denot g.row.M-Line.Denot g.row.M-Target.Denot g.row.M-Effect.Denot g.row.M-Played.Denot g.row.U.Denot × NodeInput g.row.M-Command.Denot g.row.M-Line.Denot).
     IsTurn (machine g z.0.parts.ether.setup) g.U.Upstream.tally z.0.parts z.1 out now) (λ d. (c.self.view_is d, c.requires.told d))
     (turn_is (machine g i.book.ether.setup) (kept g) g.U.Upstream.tally i.book i.node i.upstream i.phase i.refused i.shown c.self.invariant.0 up c.args.told c.in-Ok.output c.step.new.self a.0 a.1
-    c.in-Ok-outputs.outcome.told.value c.note.new.self noted b2 moved.1 c.hand_all.new.upstream c.of-self-inside.result moved.0
+    c.in-Ok-outputs.outcome.told.value c.note.new.self noted b2 moved c.hand_all.new.upstream c.of-self-inside.result whole
     (c.of-self-inside.ensures ∙ ap (λ (s : NodeState g.row.M-Command.Denot). fields_of (seen s [])) c.state-in-Ok.ensures)
     given handed out refl c.in-Ok-outputs.ensures.effects (c.in-Ok-outputs.ensures.posted ∙ ap (map to_of) c.deref.ensures.value) c.post_all.ensures.replaced)
 
@@ -242,12 +244,13 @@ invariant_of-self-in-Refused g c =
     let up : i.phase ≡ Up = ap (λ (z : RoomOf g). z.parts.phase) c.self.view_is ∙ c.requires.up in
     let a = acted g _ _ c.args.input c.args.told c.input_of.result i.node c.step.new.self (Err c.in-Err.fault) c.self.invariant.0.setup c.input_of.ensures c.requires.told c.in-Err.ensures in
     let d = refused_case (machine g i.book.ether.setup) (kept g) _ i.node c.step.new.self c.in-Err.fault c.in-Refused.refusal c.in-Refused.is a.0 in
-    let noted = noted_refused g i.book.ether.setup i.book c.note-in-Refused.new.self c.done-in-Refused.result.told.value c.args.told c.of-outcome.result.told.value c.in-Refused.refusal c.done-in-Refused.ensures.told c.of-outcome.ensures.0 c.note-in-Refused.ensures.noted in
+    let noted = noted_refused g i.book.ether.setup i.book c.note-in-Refused.new.self c.done-in-Refused.result.told.value c.args.told c.of-outcome.result.told.value c.in-Refused.refusal c.done-in-Refused.ensures.told c.of-outcome.ensures.0 c.note-in-Refused.ensures in
     let b1 = c.note-in-Refused.new.self in
     let m = machine g i.book.ether.setup in
     let still = declined m (kept g) (cell_of i.book i.node i.upstream i.phase i.refused i.shown) c.self.invariant.0 up c.args.told c.in-Refused.refusal c.step.new.self d in (
       subst (λ (z : EtherParts g.row.M-Setup.Denot × Inner g). IsCell (machine g z.0.setup) (kept g) (cell_of b1 z.1 i.upstream i.phase i.refused i.shown)) (λ t. (sym noted.ether t, sym d.same t))
-          (still_cell m (kept g) g.U.Upstream.tally i.book i.node i.upstream i.phase i.refused i.shown c.self.invariant.0 up (Does c.args.told) (Refused c.in-Refused.refusal) b1 still noted c.note-in-Refused.ensures.book),
+          (still_cell m (kept g) g.U.Upstream.tally i.book i.node i.upstream i.phase i.refused i.shown c.self.invariant.0 up (Does c.args.told) (Refused c.in-Refused.refusal) b1 still noted
+          (subst (λ (e : EtherParts g.row.M-Setup.Denot). IsBook (machine g e.setup) b1) noted.ether c.is_whole-in-Refused.ensures)),
       refusal_keeps m g.M.Marking.marked (view_of i.book.pass) (view_of b1.pass) i.asked i.reached c.self.invariant.1 noted.ticket c.args.told c.in-Refused.refusal noted.view still.out c.larger-self-inside-in-Refused.result
           (search rules),
     )
@@ -258,7 +261,7 @@ returns-in-Refused-clause-turn g c =
     let up : i.phase ≡ Up = ap (λ (z : RoomOf g). z.parts.phase) c.self.view_is ∙ c.requires.up in
     let a = acted g _ _ c.args.input c.args.told c.input_of.result i.node c.step.new.self (Err c.in-Err.fault) c.self.invariant.0.setup c.input_of.ensures c.requires.told c.in-Err.ensures in
     let d = refused_case (machine g i.book.ether.setup) (kept g) _ i.node c.step.new.self c.in-Err.fault c.in-Refused.refusal c.in-Refused.is a.0 in
-    let noted = noted_refused g i.book.ether.setup i.book c.note-in-Refused.new.self c.done-in-Refused.result.told.value c.args.told c.of-outcome.result.told.value c.in-Refused.refusal c.done-in-Refused.ensures.told c.of-outcome.ensures.0 c.note-in-Refused.ensures.noted in
+    let noted = noted_refused g i.book.ether.setup i.book c.note-in-Refused.new.self c.done-in-Refused.result.told.value c.args.told c.of-outcome.result.told.value c.in-Refused.refusal c.done-in-Refused.ensures.told c.of-outcome.ensures.0 c.note-in-Refused.ensures in
     let b1 = c.note-in-Refused.new.self in
     let event = still_event (machine g i.book.ether.setup) (kept g) g.U.Upstream.tally i.book i.node i.upstream i.phase i.refused i.shown c.self.invariant.0 up (Does c.args.told) (Refused c.in-Refused.refusal) b1
     (declined (machine g i.book.ether.setup) (kept g) _ c.self.invariant.0 up c.args.told c.in-Refused.refusal c.step.new.self d) noted refl in

@@ -14,6 +14,7 @@ use Rattle.raft_node.specs.SteppingTogether.{AreDone, HaveFailed}
 use Rattle.world_views.specs.Inputs.{NodeInput}
 use Rattle.ether.specs.Passes.{EtherParts, view_of}
 use Rattle.node_cells.specs.declared.phase.Phase.TheVariants.{Up}
+use Rattle.node_cells.specs.Books.{IsBook}
 use Rattle.node_cells.specs.Copies.{AreCopies}
 use Rattle.node_cells.specs.Cells.{AreAnswered, CellRoom, HasCopies, IsCell, cell_of}
 use Rattle.node_cells.specs.Inputs.{Answer, input_of}
@@ -88,14 +89,14 @@ invariant_of-self g c =
     let done = are_done g _ i.book.ether.setup c.args.taken.items c.args.told.items i.node c.step_all.new.self c.in-Ok.answers.items c.self.invariant.0.setup c.requires.taken c.in-Ok.ensures.done in
     let b1 = c.note_all.new.self in
     let noted : HasNotedAll m i.book (all_done c.args.told.items c.in-Ok.answers.items) b1 =
-    subst (λ (l : List Answer). HasNotedAll m i.book (all_done c.args.told.items l) b1) c.deref.ensures.value c.note_all.ensures.noted in
+    subst (λ (l : List Answer). HasNotedAll m i.book (all_done c.args.told.items l) b1) c.deref.ensures.value c.note_all.ensures in
     let d = cell_of b1 c.step_all.new.self i.upstream i.phase i.refused c.of-self-inside.result in
     let asked : c.args.asked ≡ asked_by_all g.M.Marking.marked i.asked c.args.told.items =
     c.requires.asked ∙ (λ t. asked_by_all g.M.Marking.marked (asked_in g.M.Marking.marked (view_of (sym c.self.view_is t).parts.pass)) c.args.told.items)
     ∙ ap (λ (n : ℕ). asked_by_all g.M.Marking.marked n c.args.told.items) (sym c.self.invariant.1.asked_is) in (
       subst (λ (e : EtherParts g.row.M-Setup.Denot). IsCell (machine g e.setup) (kept g) d) (sym noted.ether)
           (done_together m (kept g) i.book i.node i.upstream i.phase i.refused i.shown c.self.invariant.0 up c.args.told.items c.requires.appends leads c.step_all.new.self c.in-Ok.ensures.same c.in-Ok.answers.items done
-          b1 noted c.of-self-inside.result c.note_all.ensures.book
+          b1 noted c.of-self-inside.result (subst (λ (e : EtherParts g.row.M-Setup.Denot). IsBook (machine g e.setup) b1) noted.ether c.is_whole-in-Ok.ensures)
           (c.of-self-inside.ensures ∙ ap (λ (s : NodeState g.row.M-Command.Denot). fields_of (seen s [])) c.state.ensures)),
       subst (λ (a : ℕ). KnowsMarks g.M.Marking.marked (view_of b1.pass) a i.reached) (sym asked)
           (turns_keep m g.M.Marking.marked (cell_of i.book i.node i.upstream i.phase i.refused i.shown) d i.asked i.reached c.self.invariant.1 c.args.told.items c.in-Ok.answers.items
@@ -112,7 +113,7 @@ returns-in-Ok-clause-done g c =
     let done = are_done g _ i.book.ether.setup c.args.taken.items c.args.told.items i.node c.step_all.new.self c.in-Ok.answers.items c.self.invariant.0.setup c.requires.taken c.in-Ok.ensures.done in
     let b1 = c.note_all.new.self in
     let noted : HasNotedAll m i.book (all_done c.args.told.items c.in-Ok.answers.items) b1 =
-    subst (λ (l : List Answer). HasNotedAll m i.book (all_done c.args.told.items l) b1) c.deref.ensures.value c.note_all.ensures.noted in
+    subst (λ (l : List Answer). HasNotedAll m i.book (all_done c.args.told.items l) b1) c.deref.ensures.value c.note_all.ensures in
     subst (λ (z : RoomOf g). AreTurned (machine g z.parts.ether.setup) z.parts c.args.told.items c.in-Ok.answers.items (cell_of b1 c.step_all.new.self i.upstream i.phase i.refused c.of-self-inside.result)) c.self.view_is
     (turned_together m (kept g) i.book i.node i.upstream i.phase i.refused i.shown c.self.invariant.0 up c.args.told.items c.requires.appends leads c.step_all.new.self c.in-Ok.ensures.same c.in-Ok.answers.items done
     b1 noted c.of-self-inside.result)
