@@ -15,8 +15,8 @@ use std::snapshot::Snapshot;
 use std::sync::Wait;
 use wire_bytes::Copied;
 
-/// Tells the loop the lines that a node hands out. The report of the same turn has each of them too, among
-/// its effects, where the driver passes it over: a line counts as handed by what the loop is told here.
+/// Tells the loop the lines that a node hands out. The report of the same turn leaves them out, so that the
+/// loop is told each line once: it counts as handed by what the loop is told here.
 #[derive(Drop)]
 pub struct Hands<R: Wait + Drop> {
     rt: R,

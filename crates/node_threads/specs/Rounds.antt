@@ -1,5 +1,7 @@
 -- What a round of a worker gathers.
-use Rattle.std.specs.Prelude.{◌≡◌, ℕ, Bool, true, false, nat_le, nat_lt, not, ◌&&◌, ◌||◌, List, [], ◌∷◌, ◌++◌, Option, Some, None, Result, Ok, Err}
+use Rattle.std.specs.Prelude.{◌≡◌, ℕ, Bool, true, false, nat_le, nat_lt, not, ◌&&◌, ◌||◌, List, [], ◌∷◌, ◌++◌, filter, Option, Some, None, Result, Ok, Err}
+use Rattle.machine_laws.specs.declared.class.Class.{Class}
+use Rattle.machine_laws.specs.declared.class.Class.TheVariants.{To, Hand, Rejoin, Nowhere}
 use Rattle.raft_log.specs.declared.message.Kind.{Kind}
 use Rattle.raft_log.specs.declared.message.Kind.TheVariants.{RequestVote, Vote, Append, AppendReply, Forward}
 use Rattle.raft_log.specs.declared.message.Message.{Message}
@@ -14,7 +16,18 @@ use Rattle.node_threads.specs.declared.worker_loop.round.Round.{Round}
 use Rattle.node_threads.specs.Forwarding.{forwarded_after}
 use Rattle.node_threads.specs.Reports.{told_fault}
 
--- all that leaves and was not told yet, in order
+-- whether an effect of this class is handed out upstream
+abbrev pub is_handed : {L : Type 0} → Class L → Bool
+is_handed (To origin) = false
+is_handed (Hand id number line) = true
+is_handed (Rejoin id line) = false
+is_handed Nowhere = false
+
+-- what a report tells of what leaves in a turn, in order: all but what is handed out upstream, since its upstream had that
+abbrev pub reported : {E L : Type 0} → (E → Class L) → List E → List E
+reported class effects = filter (λ e. not (is_handed (class e))) effects
+
+-- all that is still to be told of what left, in order
 abbrev pub leaving : {E : Type 0} → Round E → List E
 leaving r = r.effects.items ++ r.further.items
 
@@ -44,10 +57,10 @@ module _ {E : Type 0} where
   GathersAnswers (Ok answers) old new = new ≡ with_refusals answers old
   GathersAnswers (Err fault) old new = new ≡ with_fault (told_fault fault) old
 
-module _ {B E : Type 0} where
-  -- What a turn gave is gathered: what leaves, who is to look into its mailboxes, and whether a request was posted last, which the turn was or not.
+module _ {B E L : Type 0} (class : E → Class L) where
+  -- What a turn gave is gathered: what is told of what leaves, who is to look into its mailboxes, and whether a request was posted last, which the turn was or not.
   pub record Gathers (is_request : Bool) (output : TurnOutput B E) (old : Round E) (forwarded : Option ℕ) (new : Round E) (now_forwarded : Option ℕ) : Type 0 where
-    pub leaves : old.further.items ≡ [] → leaving new ≡ leaving old ++ output.effects.items
+    pub leaves : old.further.items ≡ [] → leaving new ≡ leaving old ++ reported class output.effects.items
     pub wakes : new.woken ≡ woken_by old.woken output.posted_to.items
     pub posts : now_forwarded ≡ forwarded_after is_request output.posted_to.items forwarded
     pub fault : new.fault ≡ old.fault

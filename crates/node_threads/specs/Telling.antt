@@ -28,8 +28,8 @@ module _ {M G O A L T P S C E : Type 0} where
     pub leaving_is : leaving new.round ≡ leaving old.round
     pub fault_is : new.round.fault ≡ old.round.fault
 
-  -- The outlet took a report of this node, of how it stands, of all that left but what is told next, and of the first fault. So that was told
-  -- last, and no beat is untold.
+  -- The outlet took a report of this node, of how it stands, of all that was to be told of what left, but for what is told next, and of the first
+  -- fault. So that was told last, and no beat is untold.
   pub record HasTold (has_taken : O → Report E → O → Type 0) (stands_so : Told → Type 0) (node : ℕ) (old new : WorkerLoop M G O A L T P S C E) : Type 0 where
     pub now : Told
     pub report : Report E

@@ -86,7 +86,7 @@ module _ (M : Machine) {Setup Hosted Store U : Type 0} where
         (d : CellOf M Setup Hosted Store U) (new : Round M.Effect) (now_forwarded : Option ℕ) : Type 0 where
       pub answer : Result (TurnOutput M.Body M.Effect) CellFault
       pub turned : HasTurned M tally c x answer d
-      pub gathers : GathersTurn (is_request x) answer old forwarded new now_forwarded
+      pub gathers : GathersTurn M.class (is_request x) answer old forwarded new now_forwarded
 
     -- a turn of this input, if there is one
     abbrev pub HasTurnedIn : Option (NodeInput M.Body M.Line) → CellOf M Setup Hosted Store U → CellOf M Setup Hosted Store U → Type 0
@@ -222,7 +222,7 @@ module _ (M : Machine) {Setup Hosted Store U : Type 0} where
           (new : Round M.Effect) (now_forwarded : Option ℕ) : Type 0 where
         pub answer : Result (MarkTurn M.Body M.Effect) CellFault
         pub asked : HasMarked M tally marked mark c answer d
-        pub gathers : GathersMark answer old forwarded new now_forwarded
+        pub gathers : GathersMark M.class answer old forwarded new now_forwarded
 
     module _ (marked : M.Body → Option Mark) (mark : Mark → M.Body) {Action : Type 0} where
       -- what a job comes to by itself

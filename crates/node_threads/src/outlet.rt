@@ -4,8 +4,9 @@ ghost use Rattle.std.specs.Prelude.{◌≡◌, IfErr, OnOk};
 use node_notes::Report;
 use std::sync::Wait;
 
-/// Takes what leaves a node, told with how the node stands then. What is proved of those who tell is proved
-/// over any outlet: then nothing but `report` says that a report was taken.
+/// Takes what leaves a node, told with how the node stands then. A line that is handed out upstream is not
+/// among it: its upstream has that. What is proved of those who tell is proved over any outlet: then nothing
+/// but `report` says that a report was taken.
 pub trait Outlet<E>: Drop {
     ghost use Rattle.node_notes.specs.declared.report.Report.{Report};
 

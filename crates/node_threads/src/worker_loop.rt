@@ -27,6 +27,7 @@ mod forwarding;
 mod gathering;
 mod jobs;
 mod messages;
+mod reported;
 mod reporting;
 pub mod requests;
 pub mod round;

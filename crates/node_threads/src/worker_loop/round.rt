@@ -13,9 +13,9 @@ use std::mem::replace;
 /// What a round of a worker gathers, for its end.
 #[derive(Drop)]
 pub struct Round<E> {
-    /// What leaves, in order.
+    /// What is to be told of what leaves, in order.
     pub effects: Vec<E>,
-    /// What leaves after those, where there was no memory to put it behind them: it is told next.
+    /// What is to be told after those, where there was no memory to put it behind them: it is told next.
     pub further: Vec<E>,
     /// Why a turn did nothing: the first such fault.
     pub fault: Option<NodeFault>,
@@ -36,7 +36,7 @@ impl<E: Drop> Round<E> {
         }
     }
 
-    /// What left in a turn comes behind what left before.
+    /// What is told of a turn comes behind what is told of those before.
     pub fn leave(&mut self, effects: Vec<E>)
         ensures leaving { self.old.further.items ≡ []
             → leaving self.new ≡ leaving self.old ++ effects.items }

@@ -9,6 +9,7 @@ use crate::gate::{Gate, pass_gate};
 use crate::outlet::Outlet;
 use crate::worker_loop::WorkerLoop;
 use crate::worker_loop::forwarding::{forwarded_after, is_request};
+use crate::worker_loop::reported::reported;
 use crate::worker_loop::telling::status;
 use machine_laws::{Hosted, Machine, Marking};
 use node_cells::{CellFault, MarkTurn, NodeCell, TurnOutput, Upstream};
@@ -82,14 +83,15 @@ impl<M: Marking, G: Gate + Drop, O: Outlet<M::Effect>> WorkerLoop<M, G, O> {
         }
     }
 
-    /// What came of a turn, which was a request or not, is kept for the end of the round.
+    /// What came of a turn, which was a request or not, is kept for the end of the round: of what leaves, what
+    /// a report tells.
     fn gather<S: Stable<M::Command>, U: Upstream>(
         &mut self,
         cell: &NodeCell<M, S, U>,
         output: TurnOutput<M::Command, M::Effect>,
         is_request: bool,
     )
-        ensures gathered { Gathers is_request output self.old.round self.old.forwarded
+        ensures gathered { Gathers M.class is_request output self.old.round self.old.forwarded
             self.new.round self.new.forwarded }
         ensures contacts { self.new.contacts ≡ self.old.contacts }
         ensures beat { self.new.has_untold_beat ≡ self.old.has_untold_beat }
@@ -105,7 +107,7 @@ impl<M: Marking, G: Gate + Drop, O: Outlet<M::Effect>> WorkerLoop<M, G, O> {
         for envelope in replaced {
             self.take_back(cell, &envelope);
         }
-        self.round.leave(effects);
+        self.round.leave(reported::<M>(effects));
     }
 
     /// A request that lay on its way to the leader of this term comes first again.

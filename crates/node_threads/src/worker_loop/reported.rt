@@ -1,0 +1,21 @@
+//! What a report tells of a turn.
+ghost use Rattle.std.specs.Prelude.{◌≡◌};
+ghost use Rattle.node_threads.specs.Rounds.{is_handed, reported};
+
+use machine_laws::{Class, Hosted};
+
+/// What a report tells of what leaves in a turn, in order: all but what was handed out upstream, since its
+/// upstream had that. Takes no memory.
+pub fn reported<M: Hosted>(mut effects: Vec<M::Effect>) -> Vec<M::Effect>
+    ensures { result.items ≡ reported M.class effects.items }
+{
+    effects.retain(|effect| !is_handed::<M>(effect));
+    effects
+}
+
+/// Whether an effect is handed out upstream.
+fn is_handed<M: Hosted>(effect: &M::Effect) -> bool
+    ensures { result ≡ is_handed (M.class effect.now) }
+{
+    matches!(M::class(effect), Class::Hand(_, _, _))
+}
