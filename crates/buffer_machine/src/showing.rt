@@ -70,6 +70,7 @@ pub fn show_lines(
 ) -> Result<(), AllocError>
     ensures { OnOk result (effects.new.items ≡ effects.old.items ++ copies lines.items origin) }
 {
+    effects.reserve(lines.len())?;
     for line in lines {
         effects.push(Effect::Show(origin, line))?;
     }

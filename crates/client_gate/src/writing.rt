@@ -49,7 +49,9 @@ pub fn push_status(out: &mut Vec<u8>, nick: &Name, text: &[u8]) -> Result<(), Al
 pub fn push_shown(out: &mut Vec<u8>, shown: &Shown) -> Result<(), AllocError>
     ensures { OnOk result (out.new.items ≡ out.old.items ++ shown_cut shown.now) }
 {
-    out.extend_from_slice(at_most(shown.spelling(), MOST_SHOWN))?;
+    let text = at_most(shown.spelling(), MOST_SHOWN);
+    out.reserve(text.len() + 2)?;
+    out.extend_from_slice(text)?;
     out.extend_from_slice(b"\r\n")
 }
 
