@@ -8,6 +8,7 @@ pub mod Counting
 pub mod Crowds
 pub mod Monitors
 pub mod Downtime
+pub mod Deeds
 pub mod Driving
 pub mod Filling
 pub mod Retiring

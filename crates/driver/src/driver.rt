@@ -3,6 +3,7 @@ ghost use Rattle.std.specs.Prelude.{◌≡◌, IfOk, IfSome, None, OnErr, OnOk};
 ghost use Rattle.driver.specs.Arriving.{Arrives, ArrivesIf, IsNewDriver, boot_at, monitors_behind};
 ghost use Rattle.driver.specs.Arriving.{last_number, new_monitors, next_number, turned_away_at};
 ghost use Rattle.driver.specs.Coming.{Comes};
+ghost use Rattle.driver.specs.Deeds.{deeds};
 ghost use Rattle.driver.specs.Driving.{changed_at, orders_at};
 ghost use Rattle.driver.specs.Retiring.{with_seen};
 ghost use Rattle.driver.specs.Hearing.{turned_away, turned_away_news};
@@ -85,9 +86,10 @@ impl Driver {
         }
     }
 
-    /// What is to be done, in this order. None of it is given again.
+    /// What is to be done, in this order. None of it is given again. What goes to one client by writes that
+    /// follow each other is one write.
     pub fn orders(&mut self) -> Vec<Order>
-        ensures given { result.items ≡ self.old.orders.items }
+        ensures given { deeds result.items ≡ deeds self.old.orders.items }
         ensures left { self.new ≡ record self.old { orders = emptied self.old.orders } }
     {
         self.orders.take()

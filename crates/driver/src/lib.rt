@@ -16,10 +16,12 @@ mod link;
 mod news;
 mod node_monitor;
 mod order;
+mod order_list;
 mod orders;
 mod pace;
 mod retirement;
 mod retirements;
+mod said;
 mod settings;
 mod timer;
 

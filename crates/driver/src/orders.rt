@@ -1,24 +1,31 @@
 //! What is ordered, and how many notes each node was told.
-ghost use Rattle.std.specs.Prelude.{◌≡◌, ◌∷◌, [], IfOk, OnErr, OnOk, zero};
+ghost use Rattle.std.specs.Prelude.{◌≡◌, ◌++◌, ◌∷◌, [], IfOk, OnErr, OnOk, zero};
 ghost use Rattle.std.specs.Global.{Vec};
 ghost use Rattle.driver.specs.declared.order.Order.TheVariants.{Close, Connect, Disconnect, Send, Submit, Log, Write};
-ghost use Rattle.driver.specs.Telling.{emptied, next_note, none_told, ordered, told_to};
+ghost use Rattle.driver.specs.Deeds.{deeds, said_in};
+ghost use Rattle.driver.specs.Telling.{counts, emptied, next_note, none_told, ordered, told_to};
 
 use crate::news::News;
 use crate::node_monitor::MOST_NODES;
 use crate::order::{Order, TowerNote};
+use crate::order_list::OrderList;
+use crate::said::Said;
 use raft_log::NodeId;
 use std::alloc::{AllocError, Global};
 use std::marker::Model;
+use std::mem::replace;
+use std::snapshot::Snapshot;
 
 /// What is ordered, and how many notes each node was told.
 ///
-/// A clause sees the orders, and how many notes each node was told before them: what it was told in all
-/// are these and what the orders tell it.
+/// A clause sees the orders, each write by itself, and how many notes each node was told before them: what
+/// it was told in all are these and what the orders tell it.
 #[derive(Drop)]
 pub struct Orders {
     alloc: Global,
-    list: Vec<Order>,
+    list: OrderList,
+    /// The same, each write by itself.
+    said: Snapshot<Said>,
     /// How many notes each node was told before these orders; node 1's first.
     before: [u64; MOST_NODES],
     /// How many it was told in all.
@@ -27,13 +34,15 @@ pub struct Orders {
 
 impl Model for Orders {
     ghost use Rattle.std.specs.Prelude.{◌≡◌};
+    ghost use Rattle.driver.specs.Deeds.{deeds, said_in};
     ghost use Rattle.driver.specs.Telling.{Ordered, counts};
 
     ghost Value = { Ordered };
 
-    ghost view = { λ o. record { before = o.before; items = o.list.items } };
+    ghost view = { λ o. record { before = o.before; items = said_in o.said.value } };
 
-    ghost invariant = { λ o. o.told ≡ counts o.before o.list.items };
+    ghost invariant = { λ o. (o.told ≡ counts o.before (said_in o.said.value))
+        × (deeds o.list ≡ deeds (said_in o.said.value)) };
 }
 
 impl Orders {
@@ -44,7 +53,8 @@ impl Orders {
     {
         Orders {
             alloc,
-            list: Vec::new(alloc),
+            list: OrderList::new(alloc),
+            said: Said::nothing(),
             before: [0; MOST_NODES],
             told: [0; MOST_NODES],
         }
@@ -66,14 +76,14 @@ impl Orders {
     }
 
     /// A node is told this. The number of the note.
-    #[tactic(auto, unfolding(crate::specs::Telling::told_to))]
     pub fn submit(&mut self, node: NodeId, note: TowerNote) -> Result<u64, AllocError>
         ensures told { OnOk result (self.new ≡ ordered self.old (Submit node note ∷ [])) }
         ensures number { IfOk result (λ number. number ≡ next_note self.old node) }
     {
         let number = self.next(node);
-        self.list.push(Order::Submit(node, note))?;
-        self.told[node.value() as usize - 1] = number;
+        let mut told = self.told;
+        told[node.value() as usize - 1] = number;
+        self.add(Order::Submit(node, note), told)?;
         Ok(number)
     }
 
@@ -82,7 +92,10 @@ impl Orders {
     pub fn write(&mut self, client: u64, bytes: Vec<u8>) -> Result<(), AllocError>
         ensures { OnOk result (self.new ≡ ordered self.old (Write client bytes ∷ [])) }
     {
-        self.list.push(Order::Write(client, bytes))?;
+        let written = Snapshot::of(&bytes);
+        self.list.write(client, bytes)?;
+        let past = replace(&mut self.said, Said::nothing());
+        self.said = Said::written(past, client, written);
         Ok(())
     }
 
@@ -91,8 +104,7 @@ impl Orders {
     pub fn close(&mut self, client: u64) -> Result<(), AllocError>
         ensures { OnOk result (self.new ≡ ordered self.old (Close client ∷ [])) }
     {
-        self.list.push(Order::Close(client))?;
-        Ok(())
+        self.add(Order::Close(client), self.told)
     }
 
     /// The server is connected to.
@@ -100,8 +112,7 @@ impl Orders {
     pub fn connect(&mut self) -> Result<(), AllocError>
         ensures { OnOk result (self.new ≡ ordered self.old (Connect ∷ [])) }
     {
-        self.list.push(Order::Connect)?;
-        Ok(())
+        self.add(Order::Connect, self.told)
     }
 
     /// Bytes go to the server.
@@ -109,8 +120,7 @@ impl Orders {
     pub fn send(&mut self, bytes: Vec<u8>) -> Result<(), AllocError>
         ensures { OnOk result (self.new ≡ ordered self.old (Send bytes ∷ [])) }
     {
-        self.list.push(Order::Send(bytes))?;
-        Ok(())
+        self.add(Order::Send(bytes), self.told)
     }
 
     /// The connection to the server is closed.
@@ -118,8 +128,7 @@ impl Orders {
     pub fn disconnect(&mut self) -> Result<(), AllocError>
         ensures { OnOk result (self.new ≡ ordered self.old (Disconnect ∷ [])) }
     {
-        self.list.push(Order::Disconnect)?;
-        Ok(())
+        self.add(Order::Disconnect, self.told)
     }
 
     /// An operator is told.
@@ -127,17 +136,31 @@ impl Orders {
     pub fn log(&mut self, news: News) -> Result<(), AllocError>
         ensures { OnOk result (self.new ≡ ordered self.old (Log news ∷ [])) }
     {
-        self.list.push(Order::Log(news))?;
+        self.add(Order::Log(news), self.told)
+    }
+
+    /// This is ordered, too, by which the nodes were told so many notes.
+    fn add(&mut self, order: Order, told: [u64; MOST_NODES]) -> Result<(), AllocError>
+        requires { told ≡ counts self.old.before (self.old.items ++ order ∷ []) }
+        ensures { OnOk result (self.new ≡ ordered self.old (order ∷ [])) }
+    {
+        let ordered = Snapshot::of(&order);
+        self.list.push(order)?;
+        let past = replace(&mut self.said, Said::nothing());
+        self.said = Said::other(past, ordered);
+        self.told = told;
         Ok(())
     }
 
-    /// What was ordered; it is not given again, and stays counted.
+    /// What was ordered; it is not given again, and stays counted. What is written to one client by orders
+    /// that follow each other is one order.
     #[tactic(auto, unfolding(crate::specs::Telling::counts))]
     pub fn take(&mut self) -> Vec<Order>
-        ensures given { result.items ≡ self.old.items }
+        ensures given { deeds result.items ≡ deeds self.old.items }
         ensures left { self.new ≡ emptied self.old }
     {
         self.before = self.told;
-        std::mem::replace(&mut self.list, Vec::new(self.alloc))
+        self.said = Said::nothing();
+        self.list.take(self.alloc)
     }
 }

@@ -1,0 +1,110 @@
+//! Orders, of which those that write to one client, one behind the other, are one.
+ghost use Rattle.std.specs.Prelude.{◌≡◌, ◌≤◌, ◌+◌, ◌++◌, ◌∷◌, [], IfSome, None, OnErr, OnOk, map};
+ghost use Rattle.std.specs.Vec.{vec_capacity, vec_len};
+ghost use Rattle.driver.specs.Deeds.{Byte, deeds, write_of};
+
+use crate::order::Order;
+use std::alloc::{AllocError, Global};
+use std::marker::Model;
+use std::mem::replace;
+
+/// What goes to the client of this number by one order.
+#[derive(Drop)]
+pub struct Writing {
+    client: u64,
+    bytes: Vec<u8>,
+}
+
+/// Orders, in turn.
+///
+/// A clause sees them as a list.
+#[derive(Drop)]
+pub struct OrderList {
+    /// All, but the last where that is a write.
+    list: Vec<Order>,
+    /// The last, where that is a write: the list has room for it.
+    last: Option<Writing>,
+}
+
+impl Model for OrderList {
+    ghost use Rattle.std.specs.Prelude.{◌≤◌, ◌+◌, ◌++◌, List, IfSome};
+    ghost use Rattle.driver.specs.declared.order.Order.{Order};
+    ghost use Rattle.driver.specs.Deeds.{write_of};
+
+    ghost Value = { List Order };
+
+    ghost view = { λ o. o.list.items ++ write_of o.last };
+
+    ghost invariant = { λ o. IfSome o.last (λ writing. o.list.len + 1 ≤ o.list.cap) };
+}
+
+impl OrderList {
+    /// There is none.
+    pub fn new(alloc: Global) -> OrderList
+        ensures { result ≡ [] }
+    {
+        OrderList {
+            list: Vec::new(alloc),
+            last: None,
+        }
+    }
+
+    /// One more.
+    pub fn push(&mut self, order: Order) -> Result<(), AllocError>
+        ensures ok { OnOk result (self.new ≡ self.old ++ order ∷ []) }
+        ensures err { OnErr result (self.new ≡ self.old) }
+    {
+        settle(&mut self.list, &mut self.last);
+        self.list.push(order)?;
+        Ok(())
+    }
+
+    /// Bytes go to a client, behind what the last order writes to it, where that is a write to it.
+    pub fn write(&mut self, client: u64, bytes: Vec<u8>) -> Result<(), AllocError>
+        ensures ok { OnOk result
+            (deeds self.new ≡ deeds self.old ++ map (Byte client) bytes.items) }
+        ensures err { OnErr result (deeds self.new ≡ deeds self.old) }
+    {
+        match &mut self.last {
+            Some(writing) => {
+                if writing.client == client {
+                    return writing.bytes.extend_from_slice(bytes.as_slice());
+                }
+            }
+            None => {}
+        }
+        self.begin_writing(client, bytes)
+    }
+
+    /// Bytes go to a client, by an order of its own.
+    fn begin_writing(&mut self, client: u64, bytes: Vec<u8>) -> Result<(), AllocError>
+        ensures ok { OnOk result
+            (deeds self.new ≡ deeds self.old ++ map (Byte client) bytes.items) }
+        ensures err { OnErr result (self.new ≡ self.old) }
+    {
+        settle(&mut self.list, &mut self.last);
+        self.list.reserve(1)?;
+        self.last = Some(Writing { client, bytes });
+        Ok(())
+    }
+
+    /// All of them. None is left.
+    pub fn take(&mut self, alloc: Global) -> Vec<Order>
+        ensures given { result.items ≡ self.old }
+        ensures left { self.new ≡ [] }
+    {
+        settle(&mut self.list, &mut self.last);
+        replace(&mut self.list, Vec::new(alloc))
+    }
+}
+
+/// The last order stands behind the others, where it is a write.
+fn settle(list: &mut Vec<Order>, last: &mut Option<Writing>)
+    requires room { IfSome last.old (λ writing. vec_len list.old + 1 ≤ vec_capacity list.old) }
+    ensures settled { list.new.items ≡ list.old.items ++ write_of last.old }
+    ensures none { last.new ≡ None }
+{
+    if let Some(Writing { client, bytes }) = replace(last, None) {
+        list.push_reserved(Order::Write(client, bytes));
+    }
+}
