@@ -1,4 +1,4 @@
-//! An input, read whole.
+//! An input, read whole, or piece by piece.
 ghost use Rattle.whole_input.specs.Reads.{IsReadJudged, IsTooLong, ReadGives, most_bytes};
 ghost use Rattle.std.specs.Prelude.{◌≡◌, ℕ, OnOk, ◌+◌, ◌<◌, ◌≤◌, List, [], ◌∷◌, ◌++◌, length, Some, IfOk, IfErr, IfSome};
 
@@ -11,7 +11,7 @@ use std::io::{ErrorKind, Read};
 const MOST_BYTES: usize = 67_108_864;
 
 /// The most reads that are tried, those that were interrupted too.
-const MOST_READS: u64 = 100_000_000;
+pub const MOST_READS: u64 = 100_000_000;
 
 /// How many bytes are read at once.
 const CHUNK: usize = 65_536;
@@ -23,33 +23,33 @@ pub fn read_whole<R: Read>(alloc: Global, reader: &mut R) -> Result<Vec<u8>, Rea
     ensures too_long { IfErr result (λ e. e ≡ ReadFault.InputTooLong →
         IsTooLong (R.remaining reader.old)) }
 {
-    let mut chunk = zeros(alloc, CHUNK)?;
+    let mut room = room_for_a_piece(alloc)?;
     let mut input = Vec::new(alloc);
     for _ in 0..MOST_READS {
-        match read_chunk(reader, chunk.as_mut_slice())? {
+        match read_piece(reader, room.as_mut_slice())? {
             None => {}
             Some(0) => return Ok(input),
-            Some(count) => push_within(&mut input, &chunk[..count])?,
+            Some(count) => push_within(&mut input, &room[..count])?,
         }
     }
     Err(ReadFault::Read)
 }
 
-/// So many bytes of zero.
-fn zeros(alloc: Global, count: usize) -> Result<Vec<u8>, ReadFault>
-    ensures zeros { IfOk result (λ v. length v.items ≡ count) }
+/// The room into which the pieces of an input are read, one after the other.
+pub fn room_for_a_piece(alloc: Global) -> Result<Vec<u8>, ReadFault>
+    ensures room { IfOk result (λ v. 0 < length v.items) }
     ensures fault { IfErr result (λ e. e ≡ ReadFault.Memory) }
 {
-    vec![in alloc; 0; count].map_err(|_| ReadFault::Memory)
+    vec![in alloc; 0; CHUNK].map_err(|_| ReadFault::Memory)
 }
 
 /// One read: how many bytes came, or none where it was interrupted.
-fn read_chunk<R: Read>(reader: &mut R, chunk: &mut [u8]) -> Result<Option<usize>, ReadFault>
+pub fn read_piece<R: Read>(reader: &mut R, room: &mut [u8]) -> Result<Option<usize>, ReadFault>
     ensures gives { IfOk result (λ count.
-        ReadGives (R.remaining reader.old) (R.remaining reader.new) count chunk.new) }
+        ReadGives (R.remaining reader.old) (R.remaining reader.new) count room.new) }
     ensures fault { IfErr result (λ e. e ≡ ReadFault.Read) }
 {
-    judged(reader.read(chunk))
+    judged(reader.read(room))
 }
 
 /// What becomes of one read: of its errors only an interruption is none.
@@ -74,8 +74,20 @@ fn push_within(input: &mut Vec<u8>, read: &[u8]) -> Result<(), ReadFault>
     ensures too_long { IfErr result (λ e. e ≡ ReadFault.InputTooLong →
         most_bytes < length input.old.items + length read.now) }
 {
-    if read.len() > MOST_BYTES - input.len() {
+    count_within(input.len(), read.len())?;
+    input.extend_from_slice(read).map_err(|_| ReadFault::Memory)
+}
+
+/// How many bytes an input has, where more came to so many, if it may have as many.
+pub fn count_within(bytes: usize, more: usize) -> Result<usize, ReadFault>
+    requires { bytes ≤ most_bytes }
+    ensures sum { IfOk result (λ all. all ≡ bytes + more) }
+    ensures bounded { IfOk result (λ all. all ≤ most_bytes) }
+    ensures too_long { IfErr result (λ e. (e ≡ ReadFault.InputTooLong)
+        × (most_bytes < bytes + more)) }
+{
+    if more > MOST_BYTES - bytes {
         return Err(ReadFault::InputTooLong);
     }
-    input.extend_from_slice(read).map_err(|_| ReadFault::Memory)
+    Ok(bytes + more)
 }

@@ -4,4 +4,4 @@ use Rattle.whole_input.proofs.input.read_whole.Given as goal
 
 abbrev pub invariant-loop : goal.invariant-loop
 invariant-loop g l =
-    (length l.input.items ≤ 67108864) × (0 < length l.chunk.items) × Consumes (g.R.Read.remaining l.initial.reader) (g.R.Read.remaining l.reader) l.input.items
+    (length l.input.items ≤ 67108864) × (0 < length l.room.items) × Consumes (g.R.Read.remaining l.initial.reader) (g.R.Read.remaining l.reader) l.input.items
