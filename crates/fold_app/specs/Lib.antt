@@ -1,4 +1,5 @@
 pub mod Faults
 pub mod Lines
 pub mod Fold
+pub mod Fed
 pub mod Digits

@@ -1,29 +1,27 @@
 //! Folding an input of bodies into the text of their answers.
-ghost use Rattle.std.specs.Prelude.{◌≡◌, ◌≢◌, ℕ, ◌+◌, ◌^◌, ◌<◌, ◌≤◌, List, [], ◌∷◌, ◌++◌, ◌⊎◌, length, option_map, IfOk, IfErr, OnOk, OnErr, IfSome, MatchOption, IsErr, IsTrue, Some, None, Ok, Err, false};
+ghost use Rattle.std.specs.Prelude.{◌≡◌, ◌≢◌, List, [], ◌⊎◌, ℕ, IfOk, IfErr, OnOk, IfSome, Ok, Err, false};
 ghost use Rattle.machine_laws.specs.Runs.{History};
-ghost use Rattle.fold_app.specs.Lines.{lines_of, hex_bytes};
-ghost use Rattle.fold_app.specs.Fold.{Request, body_of, fold_text, judged_line, plain_answers, printed};
+ghost use Rattle.fold_app.specs.Fold.{Request, fold_text, plain_answers};
 ghost use Rattle.fold_app.specs.Faults.{IsOfALine};
 ghost use Rattle.whole_input.specs.Reads.{IsTooLong, IsWithin};
-ghost use Rattle.std.specs.Io.KnownBytes.{Appends};
+ghost use Rattle.std.specs.Io.KnownBytes.{Appends, IsAtEnd};
 
 use crate::fault::FoldFault;
-use crate::lines::{decode_line, split_line};
+use crate::feeding::Folding;
 use buffer_commands::{Action, Command, Effect, Setup};
 use buffer_machine::BufferMachine;
 use machine_laws::Machine;
-use recorder::push_answers;
 use request_once::{Answer, Body, Once};
-use std::alloc::{AllocError, Global};
+use std::alloc::Global;
 use std::io::{Read, Write};
-use whole_input::read_whole;
-use wire_bytes::{Wire, WireFault};
+use whole_input::{MOST_READS, count_within, read_piece, room_for_a_piece};
 
-/// Reads an input whole, folds its bodies through buffers that are set up plainly, each request
-/// taking effect once, and writes the text of their answers.
+/// Folds the bodies of an input, as it is read, through buffers that are set up plainly, each
+/// request taking effect once, and writes the text of their answers.
 ///
-/// Nothing is written before the last line is folded. When `Read`, `Write` and `Memory` come is no
-/// contract's matter: no clause says when a reader, a writer or an allocation fails.
+/// Nothing is written before the last line is folded, and behind a bad line the rest is still
+/// read. When `Read`, `Write` and `Memory` come is no contract's matter: no clause says when a
+/// reader, a writer or an allocation fails.
 pub fn fold<R: Read, W: Write>(
     alloc: Global,
     input: &mut R,
@@ -40,103 +38,63 @@ pub fn fold<R: Read, W: Write>(
     ensures unwritten { IfErr result (λ e. e ≢ FoldFault.Write → output.new ≡ output.old) }
 {
     // All is folded before the first byte is written, so that a refusal writes nothing.
-    let bytes = read_whole(alloc, input)?;
-    let text = plain_text(alloc, &bytes)?;
+    let text = plain_text(alloc, input)?;
     output.write_all(&text).map_err(|_| FoldFault::Write)?;
     output.flush().map_err(|_| FoldFault::Write)
 }
 
 /// The text of the answers to all bodies of an input, from a new machine.
 #[tactic(auto, unfolding(crate::specs::Fold::plain_answers))]
-fn plain_text(alloc: Global, input: &[u8]) -> Result<Vec<u8>, FoldFault>
-    ensures ok { IfOk result (λ text. fold_text plain_answers input.now ≡ Ok text.items) }
-    ensures err { IfErr result (λ e. e ≢ FoldFault.Memory →
-        fold_text plain_answers input.now ≡ Err e) }
-    ensures fault { IfErr result (λ e. (e ≡ FoldFault.Memory) ⊎ IsOfALine e) }
+fn plain_text<R: Read>(alloc: Global, input: &mut R) -> Result<Vec<u8>, FoldFault>
+    ensures ok { IfOk result (λ text. IfSome (R.remaining input.old) (λ bytes.
+        fold_text plain_answers bytes ≡ Ok text.items)) }
+    ensures line { IfErr result (λ e. IsOfALine e → IfSome (R.remaining input.old) (λ bytes.
+        fold_text plain_answers bytes ≡ Err e)) }
+    ensures bounded { OnOk result (IsWithin (R.remaining input.old)) }
+    ensures too_long { IfErr result (λ e. e ≡ FoldFault.InputTooLong →
+        IsTooLong (R.remaining input.old)) }
+    ensures fault { IfErr result (λ e. e ≢ FoldFault.Write) }
 {
     let setup = Setup::plain(alloc)?;
     let mut machine: Once<BufferMachine> = Once::start(alloc, &setup)?;
-    fold_input(alloc, &mut machine, input)
+    fold_reads(alloc, &mut machine, input)
 }
 
-/// The body that bytes spell, nothing before or behind it.
-#[tactic(auto, unfolding(crate::specs::Fold::body_of))]
-fn read_body(alloc: Global, bytes: &[u8]) -> Result<Option<Body<Command, Action>>, AllocError>
-    ensures { IfOk result (λ body. body ≡ body_of bytes.now) }
-{
-    match Body::<Command, Action>::take(alloc, bytes) {
-        Ok((body, len)) => Ok(if len == bytes.len() { Some(body) } else { None }),
-        Err(WireFault::Memory) => Err(AllocError),
-        Err(WireFault::Short) => Ok(None),
-        Err(WireFault::Bad(_)) => Ok(None),
-    }
-}
-
-/// The body of a line, which has this number. Its bytes take the place of these.
-#[tactic(auto, unfolding(crate::specs::Fold::judged_line))]
-fn read_line(
-    bytes: &mut Vec<u8>,
-    number: u64,
-    line: &[u8],
-) -> Result<Body<Command, Action>, FoldFault>
-    ensures ok { IfOk result (λ body. judged_line number line.now ≡ Ok body) }
-    ensures err { IfErr result (λ e. e ≢ FoldFault.Memory → judged_line number line.now ≡ Err e) }
-    ensures fault { IfErr result (λ e. (e ≡ FoldFault.Memory) ⊎ IsOfALine e) }
-{
-    if !decode_line(bytes, line)? {
-        return Err(FoldFault::BadHex(number));
-    }
-    match read_body(*bytes.allocator(), bytes)? {
-        Some(body) => Ok(body),
-        None => Err(FoldFault::BadBody(number)),
-    }
-}
-
-/// Applies a body at a place, and appends the text of its answers.
-fn fold_body<M>(
+/// The text of the answers of a machine to all bodies of an input, which is folded as it is read.
+/// A bad line is told only once the input was read to its end.
+fn fold_reads<M, R: Read>(
+    alloc: Global,
     machine: &mut M,
-    output: &mut Vec<u8>,
-    place: u64,
-    body: &Body<Command, Action>,
-) -> Result<(), FoldFault>
+    input: &mut R,
+) -> Result<Vec<u8>, FoldFault>
 where
     M: Machine<Command = Body<Command, Action>, Effect = Answer<Effect>>,
     requires { M.spoilt machine.old ≡ false }
-    ensures applied { OnOk result ((s : M.Setup) (earlier : History Request)
-        → M.stands machine.old s earlier → output.old.items ≡ printed (M.effects s) earlier
-        → M.stands machine.new s ((place, body.now) ∷ earlier)
-        × (output.new.items ≡ printed (M.effects s) ((place, body.now) ∷ earlier))) }
-    ensures fault { IfErr result (λ e. e ≡ FoldFault.Memory) }
-    ensures whole { OnOk result (M.spoilt machine.new ≡ false) }
+    ensures ok { IfOk result (λ text. IfSome (R.remaining input.old) (λ bytes. (s : M.Setup)
+        → M.stands machine.old s [] → fold_text (M.effects s) bytes ≡ Ok text.items)) }
+    ensures line { IfErr result (λ e. IsOfALine e → IfSome (R.remaining input.old) (λ bytes.
+        (s : M.Setup) → fold_text (M.effects s) bytes ≡ Err e)) }
+    ensures bounded { OnOk result (IsWithin (R.remaining input.old)) }
+    ensures too_long { IfErr result (λ e. e ≡ FoldFault.InputTooLong →
+        IsTooLong (R.remaining input.old)) }
+    ensures read { IfErr result (λ e. IsOfALine e →
+        IsWithin (R.remaining input.old) × IsAtEnd (R.remaining input.new)) }
+    ensures fault { IfErr result (λ e. e ≢ FoldFault.Write) }
 {
-    let answers = machine.apply(place, body).map_err(|_| FoldFault::Memory)?;
-    push_answers(output, place, &answers)?;
-    Ok(())
-}
-
-/// Applies the body of a line at a place, and appends the text of its answers. The line's bytes take the place of these.
-fn fold_line<M>(
-    machine: &mut M,
-    output: &mut Vec<u8>,
-    bytes: &mut Vec<u8>,
-    place: u64,
-    line: &[u8],
-) -> Result<(), FoldFault>
-where
-    M: Machine<Command = Body<Command, Action>, Effect = Answer<Effect>>,
-    requires { M.spoilt machine.old ≡ false }
-    ensures applied { OnOk result ((body : Request) × (judged_line place line.now ≡ Ok body)
-        × ((s : M.Setup) (earlier : History Request)
-        → M.stands machine.old s earlier → output.old.items ≡ printed (M.effects s) earlier
-        → M.stands machine.new s ((place, body) ∷ earlier)
-        × (output.new.items ≡ printed (M.effects s) ((place, body) ∷ earlier)))) }
-    ensures err { IfErr result (λ e. e ≢ FoldFault.Memory → judged_line place line.now ≡ Err e) }
-    ensures fault { IfErr result (λ e. (e ≡ FoldFault.Memory) ⊎ IsOfALine e) }
-    ensures whole { OnOk result (M.spoilt machine.new ≡ false) }
-{
-    let body = read_line(bytes, place, line)?;
-    fold_body(machine, output, place, &body)?;
-    Ok(())
+    let mut room = room_for_a_piece(alloc)?;
+    let mut folding = Folding::new(alloc);
+    let mut bytes = 0usize;
+    for _ in 0..MOST_READS {
+        match read_piece(input, room.as_mut_slice())? {
+            None => {}
+            Some(0) => return folding.finish(machine),
+            Some(count) => {
+                bytes = count_within(bytes, count)?;
+                folding.feed(machine, &room[..count])?;
+            }
+        }
+    }
+    Err(FoldFault::Read)
 }
 
 /// The text of the answers of a machine to all bodies of an input, or the fault of its first
@@ -151,16 +109,7 @@ where
         fold_text (M.effects s) input.now ≡ Err e) }
     ensures fault { IfErr result (λ e. (e ≡ FoldFault.Memory) ⊎ IsOfALine e) }
 {
-    let mut output = Vec::new(alloc);
-    // one room for the bytes of each line
-    let mut bytes = Vec::new(alloc);
-    let mut place = 0u64;
-    let mut rest = input;
-    while !rest.is_empty() {
-        let (line, after) = split_line(rest);
-        place += 1;
-        fold_line(machine, &mut output, &mut bytes, place, line)?;
-        rest = after;
-    }
-    Ok(output)
+    let mut folding = Folding::new(alloc);
+    folding.feed(machine, input)?;
+    folding.finish(machine)
 }

@@ -4,7 +4,9 @@
 //! refusal names the first bad line, and nothing was written.
 #![tactic(auto)]
 
+mod bodies;
 mod fault;
+mod feeding;
 mod folds;
 mod lines;
 

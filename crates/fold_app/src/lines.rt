@@ -1,31 +1,30 @@
 //! The lines of an input, and the bytes that they spell in hex.
-ghost use Rattle.std.specs.Prelude.{◌≡◌, ◌<◌, ◌*◌, ◌%◌, ◌==◌, length, ◌∷◌, if◌then◌else◌, Some, None, IfOk, OnOk, IsTrue, position};
+ghost use Rattle.std.specs.Prelude.{◌≡◌, ◌<◌, ◌*◌, ◌%◌, length, if◌then◌else◌, Some, None, IfOk, OnOk, IsTrue, position, MatchOption};
 ghost use Rattle.std.specs.List.{list_all};
-ghost use Rattle.fold_app.specs.Lines.{lines_of, hex_bytes};
+ghost use Rattle.irc_line.specs.Splitting.{is_line_feed, HasNoLineFeed, IsCutAtLineFeed};
+ghost use Rattle.fold_app.specs.Lines.{hex_bytes};
 ghost use Rattle.fold_app.specs.Digits.{bytes_of, digit_value, is_digit};
 
 use memchr::memchr;
 use std::alloc::AllocError;
 
-/// The first line of what is left of an input, without its LF, and what follows it.
-#[tactic(auto, using(crate::proofs::Splitting::first_ended, crate::proofs::Splitting::first_open))]
-pub fn split_line(rest: &[u8]) -> (&[u8], &[u8])
-    requires { 0 < length rest.now }
-    ensures first { lines_of rest.now ≡ result.0.now ∷ lines_of result.1.now }
-    ensures shorter { length result.1.now < length rest.now }
+/// What stands before the first LF, and what follows it.
+pub fn at_line_feed(bytes: &[u8]) -> Option<(&[u8], &[u8])>
+    ensures { MatchOption result (HasNoLineFeed bytes.now)
+        (λ t. IsCutAtLineFeed bytes.now t.0.now t.1.now) }
 {
-    match line_end(rest) {
-        Some(end) => (&rest[..end], &rest[end + 1..]),
-        None => (rest, &[]),
+    match line_feed_place(bytes) {
+        None => None,
+        Some(place) => Some((&bytes[..place], &bytes[place + 1..])),
     }
 }
 
 /// Where the first LF stands.
 #[tactic(auto, using(crate::proofs::Searching::first_end))]
-fn line_end(rest: &[u8]) -> Option<usize>
-    ensures { result ≡ position (λ b. b == 10) rest.now }
+fn line_feed_place(bytes: &[u8]) -> Option<usize>
+    ensures { result ≡ position is_line_feed bytes.now }
 {
-    memchr(b'\n', rest)
+    memchr(b'\n', bytes)
 }
 
 /// Puts the bytes that a line spells in lower-case hex digits in place of these, and tells whether it spells any.

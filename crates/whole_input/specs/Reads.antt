@@ -6,7 +6,7 @@ use Rattle.std.specs.declared.io.ErrorKind.{ErrorKind}
 use Rattle.std.specs.declared.io.ErrorKind.TheVariants.{Interrupted}
 use Rattle.std.specs.Io.KnownBytes.{Keeps, Consumes, IsAtEnd}
 use Rattle.whole_input.specs.declared.read_fault.ReadFault.{ReadFault}
-use Rattle.whole_input.specs.declared.read_fault.ReadFault.TheVariants.{InputTooLong, Read, Memory}
+use Rattle.whole_input.specs.declared.read_fault.ReadFault.TheVariants.{Read}
 
 -- the most bytes that an input may have
 abbrev pub most_bytes : ℕ

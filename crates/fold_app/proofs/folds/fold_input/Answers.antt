@@ -1,20 +1,19 @@
-use Rattle.std.proofs.Common.{◌+◌, [], ◌∷◌, arith}
-use Rattle.fold_app.proofs.Folding.{all_is_rest, rest_is_rest}
+use Rattle.std.proofs.lemmas.Result.{IfOk-weaker, IfErr-weaker}
+use Rattle.std.proofs.Common.{[]}
+use Rattle.fold_app.proofs.Carrying.{stands_at_first}
 use Rattle.fold_app.proofs.folds.fold_input.Goals as goal
 
-pub loop-rest-init : goal.loop-rest-init
-loop-rest-init g c = (omega arith, c.requires, ([], all_is_rest c.args.input.now, λ s h. (h, c.new-output.ensures.items)))
+pub returns-clause-ok : goal.returns-clause-ok
+returns-clause-ok g c = λ s b.
+    let fed = c.in_ok-feed.ensures.fed.carries c.args.machine.now [] (stands_at_first g.M.Machine.stands g.M.Machine.effects c.args.machine.now c.new-folding.result c.new-folding.ensures.fault c.new-folding.ensures.place c.new-folding.ensures.begun c.new-folding.ensures.output) in
+    IfOk-weaker c.finish.result _ _ (λ text h. h.gives c.args.machine.now c.args.input.now fed s b) c.finish.ensures.ok
 
-pub loop-rest-preserved : goal.loop-rest-preserved
-loop-rest-preserved g c =
-    let inv = c.loop-rest.invariant in
-    let earlier = inv.2.0 in
-    let applied = c.in_ok-fold_line.ensures.applied in (
-      omega (arith, inv.0, c.split_line.ensures.shorter),
-      c.in_ok-fold_line.ensures.whole,
-      (
-        (c.loop-rest.place + 1, applied.0) ∷ earlier,
-        rest_is_rest c.args.input.now c.loop-rest.place earlier c.loop-rest.rest.now c.split_line.result.0.now c.split_line.result.1.now applied.0 inv.2.1 c.split_line.ensures.first applied.1,
-        λ s h. let was = inv.2.2 s h in applied.2 s earlier was.0 was.1,
-      ),
-    )
+pub returns-clause-err : goal.returns-clause-err
+returns-clause-err g c = λ s.
+    let fed = c.in_ok-feed.ensures.fed.carries c.args.machine.now [] (stands_at_first g.M.Machine.stands g.M.Machine.effects c.args.machine.now c.new-folding.result c.new-folding.ensures.fault c.new-folding.ensures.place c.new-folding.ensures.begun c.new-folding.ensures.output) in
+    IfErr-weaker c.finish.result _ _ (λ e h other. (h.gives c.args.machine.now c.args.input.now fed).1 other (g.M.Machine.effects s)) c.finish.ensures.err
+
+pub returns-clause-fault : goal.returns-clause-fault
+returns-clause-fault g c =
+    let fed = c.in_ok-feed.ensures.fed.carries c.args.machine.now [] (stands_at_first g.M.Machine.stands g.M.Machine.effects c.args.machine.now c.new-folding.result c.new-folding.ensures.fault c.new-folding.ensures.place c.new-folding.ensures.begun c.new-folding.ensures.output) in
+    IfErr-weaker c.finish.result _ _ (λ e h. (h.gives c.args.machine.now c.args.input.now fed).0) c.finish.ensures.err
