@@ -1,5 +1,6 @@
 -- A log that is saved block by block.
 use Rattle.std.proofs.Common.{◌≡◌, ℕ, ◌+◌, ◌*◌, ◌≤◌, List, ◌++◌, length, take, drop, Some, ap, sym, subst, ◌∙◌, arith}
+use Rattle.raft_log.specs.Batches.{batch_limit}
 use Rattle.raft_log.specs.Logs.{entry_limit}
 use Rattle.raft_log.specs.declared.entry.Entry.{Entry}
 use Rattle.stable_store.specs.Changes.{change}
@@ -35,24 +36,24 @@ within n m xs h = omega (arith, h, length-take m (drop n xs), length-drop n xs)
 
 module _ {B : Type 0} where
   -- the next block may follow those that are saved
-  pub follows : (boot term block kept : ℕ) (log es : List (Entry B)) (s : Saved B) → kept ≡ block * 256 → kept ≤ length log → length log ≤ entry_limit
-      → s ≡ begun_anew boot term (take (block * 256) log) → es ≡ take 256 (drop kept log) → MayFollow s (change boot term (Some 1) kept es)
+  pub follows : (boot term block kept : ℕ) (log es : List (Entry B)) (s : Saved B) → kept ≡ block * batch_limit → kept ≤ length log → length log ≤ entry_limit
+      → s ≡ begun_anew boot term (take (block * batch_limit) log) → es ≡ take batch_limit (drop kept log) → MayFollow s (change boot term (Some 1) kept es)
   follows boot term block kept log es s at there limit is entries =
       subst (λ (t : Saved B). MayFollow t (change boot term (Some 1) kept es)) (sym is) (record {
-        kept = omega (arith, at, there, length-take (block * 256) log);
-        room = subst (λ (xs : List (Entry B)). kept + length xs ≤ entry_limit) (sym entries) (omega (arith, limit, within kept 256 log there));
+        kept = omega (arith, at, there, length-take (block * batch_limit) log);
+        room = subst (λ (xs : List (Entry B)). kept + length xs ≤ entry_limit) (sym entries) (omega (arith, limit, within kept batch_limit log there));
         boot = self_le boot;
         term = self_le term;
         vote = (self_le 1, one_of_seven);
       })
 
   -- and then one block more is saved
-  pub next_saved : (boot term block kept : ℕ) (log es : List (Entry B)) (s new : Saved B) → kept ≡ block * 256 → s ≡ begun_anew boot term (take (block * 256) log)
-      → es ≡ take 256 (drop kept log) → new ≡ begun_anew boot term (take kept s.log ++ es) → new ≡ begun_anew boot term (take ((block + 1) * 256) log)
+  pub next_saved : (boot term block kept : ℕ) (log es : List (Entry B)) (s new : Saved B) → kept ≡ block * batch_limit → s ≡ begun_anew boot term (take (block * batch_limit) log)
+      → es ≡ take batch_limit (drop kept log) → new ≡ begun_anew boot term (take kept s.log ++ es) → new ≡ begun_anew boot term (take ((block + 1) * batch_limit) log)
   next_saved boot term block kept log es s new at is entries saved =
-      let behind : kept + 256 ≡ (block + 1) * 256 = omega (arith, at) in
+      let behind : kept + batch_limit ≡ (block + 1) * batch_limit = omega (arith, at) in
       saved ∙ ap (λ (xs : List (Entry B)). begun_anew boot term xs)
       (ap (λ (t : Saved B). take kept t.log ++ es) is
       ∙ (ap (λ (n : ℕ). take kept (take n log) ++ es) (sym at)
       ∙ (ap (λ (xs : List (Entry B)). take kept (take kept log) ++ xs) entries
-      ∙ (one_block kept 256 log ∙ ap (λ (n : ℕ). take n log) behind))))
+      ∙ (one_block kept batch_limit log ∙ ap (λ (n : ℕ). take n log) behind))))

@@ -1,17 +1,15 @@
 //! A log saved in a new store.
 ghost use Rattle.std.specs.Prelude.{◌≡◌, ◌≢◌, ◌≤◌, ◌<◌, ◌++◌, false, IsTrue, IfErr, OnOk, Some, length, map, take};
 ghost use Rattle.std.specs.List.{All};
+ghost use Rattle.raft_log.specs.Batches.{batch_limit};
 ghost use Rattle.stable_store.specs.Changes.{change};
 ghost use Rattle.stable_store.specs.Stores.{IsHonest, MayFollow, Serves, nothing_saved};
 ghost use Rattle.journal_folder.specs.Saving.{all_begun_anew, begun_anew};
 
-use raft_log::{Entry, Log};
+use raft_log::{BATCH_LIMIT, Entry, Log};
 use stable_store::{Change, Saved, Stable, StoreFault};
 use std::alloc::Global;
 use wire_bytes::{Number, Wire};
-
-/// A change has at most so many entries.
-const MOST_ENTRIES: u64 = 256;
 
 /// The node that all nodes of a group voted for in the term of a renewal.
 const LEADER: u8 = 1;
@@ -65,9 +63,9 @@ pub fn save_log<B: Wire, S: Stable<B>>(
     }
     let none = Number::new(0);
     save_more(store, boot, term, none, Vec::new(alloc))?;
-    for block in 0..log.len().value() / MOST_ENTRIES + 1 {
-        let kept = Number::new(block * MOST_ENTRIES);
-        let entries = log.copied_behind(kept, MOST_ENTRIES as usize)?;
+    for block in 0..log.len().value() / BATCH_LIMIT as u64 + 1 {
+        let kept = Number::new(block * BATCH_LIMIT as u64);
+        let entries = log.copied_behind(kept, BATCH_LIMIT)?;
         save_more(store, boot, term, kept, entries)?;
     }
     Ok(())
@@ -81,7 +79,7 @@ fn save_more<B: Wire, S: Stable<B>>(
     kept: Number,
     entries: Vec<Entry<B>>,
 ) -> Result<(), StoreFault>
-    requires few { length entries.items ≤ 256 }
+    requires few { length entries.items ≤ batch_limit }
     requires follows { Serves (S.condition store.old)
         → MayFollow (S.saved store.old) (change boot term (Some 1) kept entries.items) }
     ensures honest { (S.condition store.new).honest ≡ (S.condition store.old).honest }

@@ -1,5 +1,6 @@
 -- What an Append brings.
 use Rattle.std.specs.Prelude.{ℕ, ◌+◌, ◌≤◌, List, length}
+use Rattle.raft_log.specs.declared.batch.TheConstants.{BATCH_LIMIT}
 use Rattle.raft_log.specs.declared.entry.Entry.{Entry}
 use Rattle.raft_log.specs.Logs.{entry_limit}
 
@@ -10,9 +11,9 @@ pub record BatchParts (B : Type 0) : Type 0 where
   pub entries : List (Entry B)
   pub commit : ℕ
 
--- how many entries are sent at once
+-- how many entries are sent or saved at once, and how many inputs are done together
 abbrev pub batch_limit : ℕ
-batch_limit = 256
+batch_limit = BATCH_LIMIT
 
 module _ {B : Type 0} where
   -- the parts of a batch, in their order

@@ -22,7 +22,7 @@ mod sharing;
 mod step;
 mod tail;
 
-pub use batch::Batch;
+pub use batch::{BATCH_LIMIT, Batch};
 pub use body::LoggedBody;
 pub use entry::Entry;
 pub use group_size::GroupSize;

@@ -15,7 +15,7 @@ pub struct Step<B: Wire> {
     pub standing: Standing,
     /// How many entries of the log stay.
     pub keep: Number,
-    /// The entries that follow them, at most 256.
+    /// The entries that follow them, at most [`BATCH_LIMIT`](crate::BATCH_LIMIT).
     pub entries: Vec<Entry<B>>,
     /// What is sent, in this order.
     pub messages: Vec<Message<B>>,

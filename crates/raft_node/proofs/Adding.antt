@@ -12,6 +12,7 @@ use Rattle.raft_log.specs.declared.position.Position.TheVariants as position
 use Rattle.raft_log.specs.declared.role.Role.{Role}
 use Rattle.raft_log.specs.declared.role.Role.TheVariants.{Leader}
 use Rattle.raft_log.specs.declared.step.Step.{Step}
+use Rattle.raft_log.specs.Batches.{batch_limit}
 use Rattle.raft_log.specs.Logs.{entry_limit}
 use Rattle.raft_log.specs.Node.{Node, is_leader}
 use Rattle.raft_log.specs.Positions.{leader_of, live_of, role_of}
@@ -79,7 +80,7 @@ pub record IsUnderWay {A B : Type 0} (plan : A → Node B → Plan B) (fits : A 
   pub sound : IsSound size (led state t [])
   pub counts : CountsLines t.live (length (state.log ++ t.entries.items))
   pub room : length state.log + length t.entries.items ≤ entry_limit
-  pub few : length t.entries.items + length left ≤ 256
+  pub few : length t.entries.items + length left ≤ batch_limit
   pub appends : AllByRecursion fits left
 
 module _ {B : Type 0} (state : NodeState B) where
@@ -105,7 +106,7 @@ module _ {B L : Type 0} (b : Bodies B L) (next : Option ℕ) (i : ℕ) (state : 
   UnderWay = IsUnderWay plan OnlyAppends (size_of state) state inputs
 
   begins : (t : Together B) → is_leader (role_of state.standing.position) ≡ true → IsSound (size_of state) (seen state [])
-      → CountsLines (live_of state.standing.position) (length state.log) → AllByRecursion OnlyAppends inputs → length inputs ≤ 256 → length state.log ≤ entry_limit
+      → CountsLines (live_of state.standing.position) (length state.log) → AllByRecursion OnlyAppends inputs → length inputs ≤ batch_limit → length state.log ≤ entry_limit
       → t.live ≡ live_of state.standing.position → t.attempts ≡ state.standing.attempts → t.entries.items ≡ [] → t.answers.items ≡ [] → UnderWay inputs t
   begins t h sound counts appends few limit el ea ee eg =
       let is : (sent : List (Message B)) → led state t sent ≡ seen state sent = led_starts state t h el ea ee in
@@ -124,7 +125,7 @@ module _ {B L : Type 0} (b : Bodies B L) (next : Option ℕ) (i : ℕ) (state : 
 
   -- so it begins
   pub sets_out : (left : List (Input (Message B) B L)) (t : Together B) → left ≡ inputs → is_leader (role_of state.standing.position) ≡ true → IsSound (size_of state) (seen state [])
-      → CountsLines (live_of state.standing.position) (length state.log) → AllByRecursion OnlyAppends inputs → length inputs ≤ 256 → length state.log ≤ entry_limit
+      → CountsLines (live_of state.standing.position) (length state.log) → AllByRecursion OnlyAppends inputs → length inputs ≤ batch_limit → length state.log ≤ entry_limit
       → t.live ≡ live_of state.standing.position → t.attempts ≡ state.standing.attempts → t.entries.items ≡ [] → t.answers.items ≡ [] → UnderWay left t
   sets_out left t all h sound counts appends few limit el ea ee eg =
       subst (λ (l : List (Input (Message B) B L)). UnderWay l t) (sym all) (begins t h sound counts appends few limit el ea ee eg)

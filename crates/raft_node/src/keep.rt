@@ -1,5 +1,6 @@
 //! How a change is saved, and how a step stands once it is.
 ghost use Rattle.std.specs.Prelude.{◌≡◌, ◌≤◌, ◌↔◌, length, IfOk, IsTrue};
+ghost use Rattle.raft_log.specs.Batches.{batch_limit};
 ghost use Rattle.raft_log.specs.Lists.{IsNode};
 ghost use Rattle.raft_log.specs.Steps.{IsSavable, after};
 ghost use Rattle.stable_store.specs.Changes.{change};
@@ -66,7 +67,7 @@ pub fn save<B: Wire, S: Stable<B>>(
     keep: Number,
     entries: Vec<Entry<B>>,
 ) -> Result<Vec<Entry<B>>, Cause>
-    requires few { length entries.items ≤ 256 }
+    requires few { length entries.items ≤ batch_limit }
     requires may { NamesNode standing.now.vote
         → MayTake (keeper S.saved S.may_stand S.condition) store.old
         (change standing.now.boot standing.now.term standing.now.vote keep entries.items) }

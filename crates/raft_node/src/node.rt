@@ -28,8 +28,7 @@ mod stepping;
 /// A node of a group, with the machine that it hosts and the store that it keeps.
 ///
 /// While it is up its store holds its boot, term, vote and log, and its machine stands after the
-/// first bodies of its log, as many as it applied. Once it is down it shows the state from before
-/// what took it down, and answers that until it is started again.
+/// bodies that it applied. Once it is down it shows the state from before, until it is restarted.
 #[derive(Drop)]
 pub struct Node<M: Hosted, S: Stable<M::Command>> {
     alloc: Global,
@@ -297,6 +296,5 @@ impl<M: Hosted, S: Stable<M::Command>> Node<M, S> {
 fn has_size<B: Wire>(step: &Step<B>)
     ensures { length step.now.standing.peers.voters ≡ step.now.standing.peers.size }
 {
-    let peers = step.standing.peers;
-    peers.has_size();
+    step.standing.peers.has_size();
 }

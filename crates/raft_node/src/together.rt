@@ -1,6 +1,7 @@
 //! What a leader is about to do by several inputs that only append.
 ghost use Rattle.std.specs.Prelude.{◌≡◌, ◌≤◌, ◌+◌, IfOk, OnOk, [], length, true};
 ghost use Rattle.std.specs.List.{AllByRecursion};
+ghost use Rattle.raft_log.specs.Batches.{batch_limit};
 ghost use Rattle.raft_log.specs.Logs.{entry_limit};
 ghost use Rattle.raft_log.specs.Node.{is_leader};
 ghost use Rattle.raft_log.specs.Positions.{live_of, role_of};
@@ -46,7 +47,7 @@ pub fn plan_together<M: Hosted>(
     requires sound { IsSound (size_of state.now) (seen state.now []) }
     requires counts { CountsLines (live_of state.now.standing.position) (length state.now.log) }
     requires appends { AllByRecursion OnlyAppends inputs.items }
-    requires few { length inputs.items ≤ 256 }
+    requires few { length inputs.items ≤ batch_limit }
     ensures planned { IfOk result (λ r. ArePlanned
         (input_plan (bodies M.blank M.opened M.shut M.heard M.claim M.source) next
         (size_of state.now) id) state.now inputs.items r.0 r.1.items) }

@@ -9,6 +9,7 @@ use Rattle.raft_log.specs.declared.position.Position.{Position}
 use Rattle.raft_log.specs.declared.position.Position.TheVariants.{Follower, Candidate, Leader}
 use Rattle.raft_log.specs.declared.role.Role.TheVariants.{Follower as FollowerRole}
 use Rattle.raft_log.specs.declared.step.Step.{Step}
+use Rattle.raft_log.specs.Batches.{batch_limit}
 use Rattle.raft_log.specs.Logs.{agrees_at, conflicts_within, repair}
 use Rattle.raft_log.specs.Node.{Node, is_leader}
 use Rattle.raft_log.specs.Positions.{role_of, live_of}
@@ -111,7 +112,7 @@ pub appends : {B : Type 0} (i from prev commit : ℕ) (es : List (Entry B)) (s :
     → step.standing ≡ record s { commit = commit' } → step.messages.items ≡ reply s.term i from true reached ∷ []
     → reached ≡ prev + length es → commit' ≡ max s.commit (min commit reached)
     → log_after log step ≡ repair log prev es → step.keep ≤ length log → length step.entries.items ≤ length es → step.keep + length step.entries.items ≤ 1000000
-    → length es ≤ 256 → prev ≤ length log → is_leader (role_of s.position) ≡ false → conflicts_within (drop prev log) es (s.commit - prev) ≡ false
+    → length es ≤ batch_limit → prev ≤ length log → is_leader (role_of s.position) ≡ false → conflicts_within (drop prev log) es (s.commit - prev) ≡ false
     → IsStep (λ n. appended i n from prev es commit) s log step
 appends {B} i from prev commit es s log step commit' reached new sends at rises repaired kept few room short within role none =
     let c : step.standing.commit ≡ commit' = ap (λ (n : Standing). n.commit) new in

@@ -6,14 +6,11 @@ ghost use Rattle.raft_log.specs.Seen.{node_of};
 ghost use Rattle.raft_log.specs.Steps.{IsStep, IsNextWithin, IsWithinLog};
 ghost use Rattle.replication.specs.Replication.{append_for, beat};
 
-use raft_log::{Batch, Kind, Log, Message, NodeId, Position, Standing, Step};
+use raft_log::{BATCH_LIMIT, Batch, Kind, Log, Message, NodeId, Position, Standing, Step};
 use std::alloc::{AllocError, Global};
 use wire_bytes::{Number, Wire};
 
-/// How many entries are sent at once.
-const BATCH_LIMIT: usize = 256;
-
-/// A leader sends entries to each other node, by rising number, from its next place on, at most 256: the
+/// A leader sends entries to each other node, by rising number, from its next place on, at most `BATCH_LIMIT`: the
 /// AppendEntries of section 5.3 of the Raft paper, and its heartbeat (section 5.2). Others do nothing.
 pub fn beat<B: Wire>(
     alloc: Global,

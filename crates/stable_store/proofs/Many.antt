@@ -7,6 +7,7 @@ use Rattle.wire_bytes.specs.Fields.{Reading, behind, both, goes_on, number_to, �
 use Rattle.wire_bytes.specs.Codecs.{behind-done, behind-ok}
 use Rattle.wire_bytes.specs.Wants.{Wants}
 use Rattle.wire_bytes.proofs.Steps.{through-read, through-stops, both-read, both-stops, both-stops_behind}
+use Rattle.raft_log.specs.Batches.{batch_limit}
 use Rattle.stable_store.specs.Lists.{joined_pair, many, counted, wants_many, wants_by, wants_counted}
 
 module _ {X : Type 0} where
@@ -52,11 +53,11 @@ module _ {X : Type 0} (reading : Reading X) (input : List ℕ) where
   abbrev goes : Result (ℕ × ℕ) WireFault → Result (List X × ℕ) WireFault
   goes r = goes_on r (λ n k. behind k (many n reading) input)
 
-  pub counted-short : (e : WireFault) → number_to w16 256 input ≡ Err e → counted reading input ≡ Err e
+  pub counted-short : (e : WireFault) → number_to w16 batch_limit input ≡ Err e → counted reading input ≡ Err e
   unfolding counted ◌>>=◌
   counted-short e h = ap goes h
 
-  pub counted-goes : (n k : ℕ) → number_to w16 256 input ≡ Ok (n, k) → counted reading input ≡ behind k (many n reading) input
+  pub counted-goes : (n k : ℕ) → number_to w16 batch_limit input ≡ Ok (n, k) → counted reading input ≡ behind k (many n reading) input
   unfolding counted ◌>>=◌
   counted-goes n k h = ap goes h
 
@@ -103,5 +104,5 @@ module _ {X : Type 0} (wants : Wants) (reading : Reading X) (input : List ℕ) w
   many_want_room place count pos h = wants_of-one wants reading (drop place input) count pos (or_right (wants (drop place input)) (is_ok (reading (drop place input))) h)
 
   -- the same, behind their number
-  pub counted_wants : (n k : ℕ) → number_to w16 256 input ≡ Ok (n, k) → IsTrue (wants_many n wants reading (drop k input)) → IsTrue (wants_counted wants reading input)
+  pub counted_wants : (n k : ℕ) → number_to w16 batch_limit input ≡ Ok (n, k) → IsTrue (wants_many n wants reading (drop k input)) → IsTrue (wants_counted wants reading input)
   counted_wants n k e h = subst (λ (r : Result (ℕ × ℕ) WireFault). IsTrue (wants_by r wants reading input)) (sym e) h

@@ -4,6 +4,7 @@ use Rattle.std.specs.Int.{w16, to_be_bytes}
 use Rattle.wire_bytes.specs.Fields.{Reading, number_to, both}
 use Rattle.wire_bytes.specs.Codecs.{IsCodec, done-codec, through-codec, both-codec, then-codec}
 use Rattle.wire_bytes.specs.FieldCodecs.{number-codec, wide16}
+use Rattle.raft_log.specs.Batches.{batch_limit}
 use Rattle.stable_store.specs.Lists.{AllFit, spelled_all, joined_pair, many, counted, spelled_counted, FitsCounted}
 
 -- The same codec, its limits in other words.
@@ -15,8 +16,8 @@ refit spelled fits other taken codec to from = record {
   no_memory = λ input bytes e. codec.no_memory input bytes e;
 }
 
-pub count_codec : IsCodec (to_be_bytes w16) (λ n. n ≤ 256) (number_to w16 256)
-count_codec = number-codec w16 (2 ^ 16) 256 wide16 (omega arith)
+pub count_codec : IsCodec (to_be_bytes w16) (λ n. n ≤ batch_limit) (number_to w16 batch_limit)
+count_codec = number-codec w16 (2 ^ 16) batch_limit wide16 (omega arith)
 
 module _ {X : Type 0} (spelled : X → List ℕ) (fits : X → Type 0) (taken : Reading X) (codec : IsCodec spelled fits taken) where
   nothing : (xs : List X) → AllFit fits xs × (length xs ≡ 0) → [] ≡ xs
@@ -37,7 +38,7 @@ module _ {X : Type 0} (spelled : X → List ℕ) (fits : X → Type 0) (taken : 
   pub counted-codec : IsCodec (spelled_counted spelled) (FitsCounted fits) (counted taken)
   unfolding counted spelled_counted
   counted-codec =
-      then-codec (spelled_counted spelled) (spelled_all spelled) (FitsCounted fits) (to_be_bytes w16) (λ n. n ≤ 256) (number_to w16 256) (λ n. many n taken) (λ n xs. length xs ≡ n)
+      then-codec (spelled_counted spelled) (spelled_all spelled) (FitsCounted fits) (to_be_bytes w16) (λ n. n ≤ batch_limit) (number_to w16 batch_limit) (λ n. many n taken) (λ n xs. length xs ≡ n)
       count_codec
       (λ xs h. (length xs, h.0, refl))
       (λ n xs e. ap (λ (k : ℕ). to_be_bytes w16 k ++ spelled_all spelled xs) e)

@@ -4,6 +4,7 @@ use Rattle.std.specs.Int.{w16, to_be_bytes}
 use Rattle.wire_bytes.specs.declared.wire_fault.WireFault.{WireFault}
 use Rattle.wire_bytes.specs.Fields.{Reading, done, both, through, number_to, ◌>>=◌}
 use Rattle.wire_bytes.specs.Wants.{Wants}
+use Rattle.raft_log.specs.Batches.{batch_limit}
 
 module _ {X : Type 0} where
   -- each fits
@@ -25,17 +26,17 @@ module _ {X : Type 0} where
   many zero reading = done []
   many (suc n) reading = through joined_pair (both reading (many n reading))
 
-  -- their number, at most 256, and each in turn
+  -- their number, at most batch_limit, and each in turn
   unfoldable pub counted : Reading X → Reading (List X)
-  counted reading = number_to w16 256 >>= λ n. many n reading
+  counted reading = number_to w16 batch_limit >>= λ n. many n reading
 
   -- their number in two bytes, and each in turn
   unfoldable pub spelled_counted : (X → List ℕ) → List X → List ℕ
   spelled_counted spelled xs = to_be_bytes w16 (length xs) ++ spelled_all spelled xs
 
-  -- at most 256, and each fits
+  -- at most batch_limit, and each fits
   abbrev pub FitsCounted : (X → Type 0) → List X → Type 0
-  FitsCounted fits xs = (length xs ≤ 256) × AllFit fits xs
+  FitsCounted fits xs = (length xs ≤ batch_limit) × AllFit fits xs
 
   -- of one item or more: the first one wants memory, or it was read, and is kept apart from the input
   abbrev pub wants_many : ℕ → Wants → Reading X → Wants
@@ -48,4 +49,4 @@ module _ {X : Type 0} where
 
   -- the same, behind their number
   abbrev pub wants_counted : Wants → Reading X → Wants
-  wants_counted wants reading input = wants_by (number_to w16 256 input) wants reading input
+  wants_counted wants reading input = wants_by (number_to w16 batch_limit input) wants reading input

@@ -1,4 +1,5 @@
 ghost use Rattle.std.specs.Prelude.{◌≡◌, ◌≢◌, ◌≤◌, ◌<◌, length, Some};
+ghost use Rattle.raft_log.specs.Batches.{batch_limit};
 ghost use Rattle.stable_store.specs.Changes.{change, vote_byte, vote_of, FitsChange};
 
 use crate::entries::{Entries, all_fit};
@@ -8,7 +9,7 @@ use std::marker::Model;
 use wire_bytes::{Copied, Number, Wire, WireFault, undo};
 
 /// What is saved at once: boot, term and vote, how many entries are kept, and those that follow
-/// them, at most 256.
+/// them, at most [`raft_log::BATCH_LIMIT`].
 ///
 /// A vote is for a node from 1 on, past 7 too, since that is what a change's bytes may say; only
 /// one for a node of a group may follow what stands in a store.
@@ -40,7 +41,7 @@ impl<B: Wire> Change<B> {
         entries: Vec<Entry<B>>,
     ) -> Self
         requires vote { vote ≢ Some 0 }
-        requires few { length entries.items ≤ 256 }
+        requires few { length entries.items ≤ batch_limit }
         ensures { result ≡ change boot term vote keep entries.items }
     {
         Change {
@@ -90,7 +91,7 @@ impl<B: Wire> Change<B> {
     /// The entries that follow those that are kept.
     pub fn entries(&self) -> &[Entry<B>]
         ensures value { result.now ≡ self.now.entries }
-        ensures few { length self.now.entries ≤ 256 }
+        ensures few { length self.now.entries ≤ batch_limit }
     {
         self.entries.as_slice()
     }

@@ -1,16 +1,17 @@
 ghost use Rattle.std.specs.Prelude.{◌≡◌, ◌+◌, ◌<◌, ◌≤◌, length, vec_capacity, vec_len};
 ghost use Rattle.std.specs.Prelude.{IfOk, IfErr, OnErr, Ok};
 ghost use Rattle.wire_bytes.specs.Fields.{appended};
+ghost use Rattle.raft_log.specs.Batches.{batch_limit};
 ghost use Rattle.raft_log.specs.Entries.{FitsEntry};
 ghost use Rattle.stable_store.specs.Lists.{AllFit};
 ghost use Rattle.stable_store.specs.EntryLists.{entries_at, spelled_entries, IsRefusal};
 
-use raft_log::Entry;
+use raft_log::{BATCH_LIMIT, Entry};
 use std::alloc::{AllocError, Global};
 use std::marker::Model;
 use wire_bytes::{Copied, Wire, WireFault, copied_all, take_behind, take_u16, undo};
 
-/// At most 256 entries.
+/// At most [`BATCH_LIMIT`] entries.
 #[derive(Drop)]
 pub struct Entries<B: Wire> {
     entries: Vec<Entry<B>>,
@@ -18,18 +19,19 @@ pub struct Entries<B: Wire> {
 
 impl<B: Wire> Model for Entries<B> {
     ghost use Rattle.std.specs.Prelude.{◌≤◌, List, length};
+    ghost use Rattle.raft_log.specs.Batches.{batch_limit};
     ghost use Rattle.raft_log.specs.declared.entry.Entry.{Entry};
 
     ghost Value = { List (Entry B) };
 
     ghost view = { λ e. e.entries.items };
 
-    ghost invariant = { λ e. length e.entries.items ≤ 256 };
+    ghost invariant = { λ e. length e.entries.items ≤ batch_limit };
 }
 
 impl<B: Wire> Entries<B> {
     pub fn new(entries: Vec<Entry<B>>) -> Self
-        requires { length entries.items ≤ 256 }
+        requires { length entries.items ≤ batch_limit }
         ensures { result ≡ entries.items }
     {
         Entries { entries }
@@ -37,7 +39,7 @@ impl<B: Wire> Entries<B> {
 
     pub fn as_slice(&self) -> &[Entry<B>]
         ensures value { result.now ≡ self.now }
-        ensures few { length self.now ≤ 256 }
+        ensures few { length self.now ≤ batch_limit }
     {
         self.entries.as_slice()
     }
@@ -80,7 +82,7 @@ impl<B: Wire> Wire for Entries<B> {
     }
 
     fn take(alloc: Global, input: &[u8]) -> Result<(Self, usize), WireFault> {
-        let (count, place) = take_u16(input, 256)?;
+        let (count, place) = take_u16(input, BATCH_LIMIT as u16)?;
         let (entries, end) = take_many(alloc, input, place, count)?;
         Ok((Entries { entries }, end))
     }

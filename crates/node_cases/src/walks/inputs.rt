@@ -2,11 +2,12 @@
 ghost use Rattle.std.specs.Prelude.{◌≡◌, ◌⊎◌, ◌≤◌, ◌<◌, None, IfOk, IfErr, length, map, suc, take};
 ghost use Rattle.node_cases.specs.Events.{done_by, input_at};
 ghost use Rattle.node_cells.specs.Inputs.{OnlyAppend, input_of};
+ghost use Rattle.raft_log.specs.Batches.{batch_limit};
 ghost use Rattle.raft_node.specs.Together.{OnlyAppends};
 ghost use Rattle.world_lines.specs.OutputText.{named_in};
 ghost use Rattle.world_views.specs.Views.{carries};
 
-use raft_log::{Message, NodeId};
+use raft_log::{BATCH_LIMIT, Message, NodeId};
 use raft_node::Input as NodeStep;
 use std::alloc::Global;
 use std::test::Fail;
@@ -14,9 +15,6 @@ use wire_bytes::{Copied, Wire};
 use world_events::{Event, Input};
 use world_lines::named_by;
 use world_views::NodeInput;
-
-// a cell takes no more inputs at once
-const MOST_TOGETHER: usize = 256;
 
 /// The place of the node of this number, from 1, among so many.
 pub fn place_of(node: u64, count: usize) -> Result<usize, Fail>
@@ -76,11 +74,11 @@ pub fn first_inputs<B: Wire, L: Wire, T>(
     count: usize,
 ) -> Result<Vec<NodeInput<B, L>>, Fail>
     ensures those { IfOk result (λ v. map (done_by node) v.items
-        ≡ take count (take MOST_TOGETHER events.now)) }
+        ≡ take count (take batch_limit events.now)) }
     ensures appends { IfOk result (λ v. OnlyAppend v.items) }
-    ensures few { IfOk result (λ v. length v.items ≤ MOST_TOGETHER) }
+    ensures few { IfOk result (λ v. length v.items ≤ batch_limit) }
 {
-    let most = &events[..MOST_TOGETHER.min(events.len())];
+    let most = &events[..BATCH_LIMIT.min(events.len())];
     let mut inputs = Vec::new(alloc);
     for event in &most[..count.min(most.len())] {
         if named_by(event).value() != node.value() {

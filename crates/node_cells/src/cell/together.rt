@@ -1,5 +1,6 @@
 //! How a cell's node that leads does several inputs by one save.
 ghost use Rattle.std.specs.Prelude.{◌≡◌, ◌≤◌, ◌+◌, ◌^◌, IfErr, IfOk, length, map, true};
+ghost use Rattle.raft_log.specs.Batches.{batch_limit};
 ghost use Rattle.raft_log.specs.Node.{is_leader};
 ghost use Rattle.raft_log.specs.Positions.{role_of};
 ghost use Rattle.raft_node.specs.Parts.{keeper};
@@ -42,7 +43,7 @@ impl<M: Marking, S: Stable<M::Command>, U: Upstream> NodeCell<M, S, U> {
             → is_leader (role_of self.old.parts.node.state.standing.position) ≡ true }
         requires appends { OnlyAppend inputs.items }
         requires some { 1 ≤ length inputs.items }
-        requires few { length inputs.items ≤ 256 }
+        requires few { length inputs.items ≤ batch_limit }
         ensures done { IfOk result (λ answers. AreTurned
             (⟦<M as Described>⟧.machine self.old.parts.ether.setup) self.old.parts inputs.items
             answers.items self.new.parts) }
@@ -79,7 +80,7 @@ impl<M: Marking, S: Stable<M::Command>, U: Upstream> NodeCell<M, S, U> {
         requires leads { is_leader (role_of self.old.parts.node.state.standing.position) ≡ true }
         requires appends { OnlyAppend told.items }
         requires some { 1 ≤ length told.items }
-        requires few { length told.items ≤ 256 }
+        requires few { length told.items ≤ batch_limit }
         requires room { (room_for self.old.parts.recording (length told.items) ≤ self.old.room)
             × (length (view_in self.old.parts).turns + length told.items ≤ 2 ^ 60) }
         requires taken { taken.items ≡ map input_of told.items }

@@ -1,6 +1,7 @@
 //! How a node that leads does several inputs by one save.
 ghost use Rattle.std.specs.Prelude.{◌≡◌, ◌≤◌, IfErr, IfOk, OnOk, None, length, true};
 ghost use Rattle.std.specs.List.{AllByRecursion};
+ghost use Rattle.raft_log.specs.Batches.{batch_limit};
 ghost use Rattle.raft_log.specs.Node.{is_leader};
 ghost use Rattle.raft_log.specs.Positions.{role_of};
 ghost use Rattle.raft_node.specs.Kept.{MayStand};
@@ -33,7 +34,7 @@ impl<M: Hosted, S: Stable<M::Command>> Node<M, S> {
         requires leads { self.old.down ≡ None
             → is_leader (role_of self.old.state.standing.position) ≡ true }
         requires appends { AllByRecursion OnlyAppends inputs.items }
-        requires few { length inputs.items ≤ 256 }
+        requires few { length inputs.items ≤ batch_limit }
         ensures done { IfOk result (λ answers. AreDone (⟦<M as Described>⟧.machine self.old.setup)
             (keeper S.saved S.may_stand S.condition) inputs.items self.old answers.items self.new) }
         ensures failed { IfErr result (λ unsaved. HaveFailed
@@ -72,7 +73,7 @@ impl<M: Hosted, S: Stable<M::Command>> Node<M, S> {
         requires up { self.now.down ≡ None }
         requires leads { is_leader (role_of self.now.state.standing.position) ≡ true }
         requires appends { AllByRecursion OnlyAppends inputs.items }
-        requires few { length inputs.items ≤ 256 }
+        requires few { length inputs.items ≤ batch_limit }
         ensures planned { IfOk result (λ r. ComeTo (⟦<M as Described>⟧.machine self.now.setup)
             inputs.items self.now r.0 r.1.items) }
         ensures may { IfOk result (λ r. MayStand self.now.state r.0) }

@@ -1,17 +1,18 @@
 use Rattle.std.proofs.Common.{◌≡◌, ◌≤◌, ◌*◌, Bool, IsTrue, List, length, sym, subst, ◌∙◌, arith}
 use Rattle.raft_log.specs.declared.entry.Entry.{Entry}
+use Rattle.raft_log.specs.Batches.{batch_limit}
 use Rattle.journal_folder.proofs.Blocks.{few, follows, next_saved}
 use Rattle.journal_folder.proofs.saving.save_log.Goals as goal
 
 pub save_more-requires-in-loop-block-clause-few : goal.save_more-requires-in-loop-block-clause-few
 save_more-requires-in-loop-block-clause-few g c =
-    subst (λ (es : List (Entry g.row.B.Denot)). length es ≤ 256) (sym c.in_ok-entries.ensures) (few 256 c.new-kept.result c.args.log.now)
+    subst (λ (es : List (Entry g.row.B.Denot)). length es ≤ batch_limit) (sym c.in_ok-entries.ensures) (few batch_limit c.new-kept.result c.args.log.now)
 
 pub save_more-requires-in-loop-block-clause-follows :
     goal.save_more-requires-in-loop-block-clause-follows
 save_more-requires-in-loop-block-clause-follows g c serves =
     let honest = subst (λ (b : Bool). IsTrue b) c.loop-block.invariant.honest serves.0 in
-    let at : c.new-kept.result ≡ c.loop-block.block * 256 = c.new-kept.ensures in
+    let at : c.new-kept.result ≡ c.loop-block.block * batch_limit = c.new-kept.ensures in
     let within : c.new-kept.result ≤ length c.args.log.now = omega (arith, c.loop-block-test.true, c.value.ensures.value, c.len.ensures.value, at) in
     follows c.args.boot c.args.term c.loop-block.block c.new-kept.result c.args.log.now c.in_ok-entries.entries.items (g.S.Stable.saved c.loop-block.store)
     at within c.len.ensures.limit (c.loop-block.invariant.saved honest).1 c.in_ok-entries.ensures
