@@ -5,12 +5,17 @@ use Rattle.std.specs.declared.io.Error.{Error}
 use Rattle.std.specs.declared.io.ErrorKind.{ErrorKind}
 use Rattle.std.specs.declared.io.ErrorKind.TheVariants.{Interrupted}
 use Rattle.std.specs.Io.KnownBytes.{Keeps, Consumes, IsAtEnd}
+use Rattle.whole_input.specs.declared.input.TheConstants.{MOST_BYTES, PIECE_LENGTH}
 use Rattle.whole_input.specs.declared.read_fault.ReadFault.{ReadFault}
 use Rattle.whole_input.specs.declared.read_fault.ReadFault.TheVariants.{Read}
 
 -- the most bytes that an input may have
 abbrev pub most_bytes : ℕ
-most_bytes = 67108864
+most_bytes = MOST_BYTES
+
+-- how many bytes are read at once
+abbrev pub piece_length : ℕ
+piece_length = PIECE_LENGTH
 
 -- an input of more bytes, as far as its bytes are known
 abbrev pub IsTooLong : Option (List ℕ) → Type 0

@@ -1,5 +1,5 @@
 //! An input, read whole, or piece by piece.
-ghost use Rattle.whole_input.specs.Reads.{IsReadJudged, IsTooLong, ReadGives, most_bytes};
+ghost use Rattle.whole_input.specs.Reads.{IsReadJudged, IsTooLong, ReadGives, most_bytes, piece_length};
 ghost use Rattle.std.specs.Prelude.{◌≡◌, ℕ, OnOk, ◌+◌, ◌<◌, ◌≤◌, List, [], ◌∷◌, ◌++◌, length, Some, IfOk, IfErr, IfSome};
 
 use crate::read_fault::ReadFault;
@@ -14,7 +14,8 @@ const MOST_BYTES: usize = 67_108_864;
 pub const MOST_READS: u64 = 100_000_000;
 
 /// How many bytes are read at once.
-const CHUNK: usize = 65_536;
+// A pipe holds as many, and more at once is not faster.
+pub const PIECE_LENGTH: usize = 65_536;
 
 /// All bytes of a reader. An input that is too long is known by its first byte past the limit.
 pub fn read_whole<R: Read>(alloc: Global, reader: &mut R) -> Result<Vec<u8>, ReadFault>
@@ -37,10 +38,10 @@ pub fn read_whole<R: Read>(alloc: Global, reader: &mut R) -> Result<Vec<u8>, Rea
 
 /// The room into which the pieces of an input are read, one after the other.
 pub fn room_for_a_piece(alloc: Global) -> Result<Vec<u8>, ReadFault>
-    ensures room { IfOk result (λ v. 0 < length v.items) }
+    ensures room { IfOk result (λ v. length v.items ≡ piece_length) }
     ensures fault { IfErr result (λ e. e ≡ ReadFault.Memory) }
 {
-    vec![in alloc; 0; CHUNK].map_err(|_| ReadFault::Memory)
+    vec![in alloc; 0; PIECE_LENGTH].map_err(|_| ReadFault::Memory)
 }
 
 /// One read: how many bytes came, or none where it was interrupted.

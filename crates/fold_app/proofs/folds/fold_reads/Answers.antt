@@ -6,7 +6,7 @@ use Rattle.fold_app.proofs.folds.fold_reads.Goals as goal
 pub loop-init : goal.loop-init
 loop-init g c = (
   omega arith,
-  c.in_ok-room.ensures.room,
+  omega (arith, c.in_ok-room.ensures.room),
   omega (arith, c.new-folding.ensures.place),
   λ _. c.requires,
   (
