@@ -9,7 +9,7 @@ use raft_node::NodeFault;
 pub struct Report<E> {
     pub node: NodeId,
     pub status: Status,
-    /// What leaves, in order.
+    /// What leaves, in order, but for the lines that are handed out upstream: their upstream has them.
     pub effects: Vec<E>,
     pub progress: Progress,
     /// Why a turn of the round did nothing, where one did nothing: the first such fault.
