@@ -50,7 +50,7 @@ fn answer_all<M: HasSession>(
         (lines_of M.sends effects.items)) }
     ensures count { unclaimed.new.count ≡ unclaimed.old.count }
 {
-    let mut answers = Vec::new(alloc);
+    let mut answers = Vec::with_capacity(alloc, effects.len())?;
     for effect in effects {
         answer_one::<M>(unclaimed, &mut answers, effect)?;
     }
