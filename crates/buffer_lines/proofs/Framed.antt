@@ -1,10 +1,11 @@
 -- What a playback of some lines shows.
-use Rattle.std.proofs.Common.{◌≡◌, ℕ, zero, suc, ◌-◌, ◌≢◌, List, [], ◌∷◌, ◌++◌, map, length, refl, ap, arith, take, length-drop}
-use Rattle.std.proofs.Math.Seq.{take-length}
+use Rattle.std.proofs.Common.{◌≡◌, ℕ, zero, suc, ◌-◌, ◌≢◌, List, [], ◌∷◌, ◌++◌, map, length, refl, ap, arith, take, length-drop, ◌+◌, ◌<◌, sym, ◌∙◌}
+use Rattle.std.proofs.Math.ListN.{get_or}
+use Rattle.std.proofs.Math.Seq.{take-length, take-suc}
 use Rattle.std.proofs.lemmas.List.{append_assoc, map-append}
 use Rattle.std.specs.Prelude.{codes, drop, min}
 use Rattle.irc_line.specs.Lines.{Parts, spelling}
-use Rattle.buffer_lines.specs.Stamps.{timed, frame, framed}
+use Rattle.buffer_lines.specs.Stamps.{timed, frame, framed, shown_timed}
 
 map_shown : (offset : ℕ) (last : Parts) (ks : List (ℕ × Parts)) → map spelling (map (timed offset) ks ++ last ∷ []) ≡ map (λ k. spelling (timed offset k)) ks ++ spelling last ∷ []
 map_shown offset last [] = refl
@@ -39,3 +40,11 @@ shown_behind offset older cut before xs ys all e f =
 -- all that is left behind so many
 pub rest_of : {A : Type 0} (n : ℕ) (xs : List A) → take (length xs - n) (drop n xs) ≡ drop n xs
 rest_of n xs = rw (← length-drop n xs) (take-length (drop n xs))
+
+-- what is shown of one line more
+pub shown_next : (offset : ℕ) (ks : List (ℕ × Parts)) (i : ℕ) (k : ℕ × Parts) → i < length ks → k ≡ get_or ks i k → shown_timed offset (take (i + 1) ks) ≡ shown_timed offset (take i ks) ++ spelling (timed offset k) ∷ []
+shown_next offset ks i k h is =
+    let next : i + 1 ≡ suc i = omega arith in
+    ap (λ (n : ℕ). shown_timed offset (take n ks)) next ∙ ap (shown_timed offset) (take-suc ks i k h)
+    ∙ map-append (λ x. spelling (timed offset x)) (take i ks) (get_or ks i k ∷ [])
+    ∙ ap (λ x. shown_timed offset (take i ks) ++ spelling (timed offset x) ∷ []) (sym is)

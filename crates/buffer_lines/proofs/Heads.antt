@@ -42,3 +42,8 @@ unfolding timed
 spelling_timed offset k =
     spelling_colon (k.1.prefix) (k.1.command) (parameter 0 (k.1)) (stamped offset k.0 (parameter 1 (k.1)))
     (colon_space (k.1.command) (stamped offset k.0 (parameter 1 (k.1))) (stamped_space_by offset k.0 (parameter 1 (k.1)) (begins_with (parameter 1 (k.1)) action_mark) refl))
+
+-- a line with its time behind other bytes
+pub played_behind : (offset : ℕ) (k : ℕ × Parts) (out : List ℕ) → out ++ spelling (timed offset k) ≡ (out ++ head (k.1.prefix) (k.1.command) (parameter 0 (k.1))) ++ stamped offset k.0 (parameter 1 (k.1))
+played_behind offset k out =
+    rw (spelling_timed offset k) (rw (append_assoc out (head (k.1.prefix) (k.1.command) (parameter 0 (k.1))) (stamped offset k.0 (parameter 1 (k.1)))) refl)

@@ -1,3 +1,4 @@
 pub mod Heads
 pub mod Keeping
+pub mod Parts
 pub mod Stamps

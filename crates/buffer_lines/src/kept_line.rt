@@ -1,13 +1,12 @@
-ghost use Rattle.std.specs.Prelude.{◌≡◌, IfOk};
+ghost use Rattle.std.specs.Prelude.{◌≡◌, ◌++◌, OnOk};
 ghost use Rattle.irc_line.specs.Lines.{spelling};
 ghost use Rattle.buffer_lines.specs.Stamps.{timed};
 
 use crate::head::push_head;
 use crate::offset::Offset;
-use crate::shown::Shown;
 use crate::stamp::{STAMP_LEN, push_stamped};
 use irc_line::Line;
-use std::alloc::{AllocError, Global};
+use std::alloc::AllocError;
 use std::marker::Model;
 use wire_bytes::Moment;
 
@@ -51,18 +50,21 @@ impl KeptLine {
         &self.line
     }
 
-    /// What is shown of the line when it is played: its text has the time before it.
-    #[tactic(auto, using(crate::proofs::Heads::spelling_timed))]
-    pub(crate) fn played(&self, alloc: Global, offset: Offset) -> Result<Shown, AllocError>
-        ensures { IfOk result (λ s. s ≡ spelling (timed offset self.now)) }
+    /// Appends what is shown of the line when it is played: its text has the time before it.
+    /// After an error a part of it may have been appended.
+    #[tactic(auto, using(crate::proofs::Heads::played_behind))]
+    pub(crate) fn play(&self, out: &mut Vec<u8>, offset: Offset) -> Result<(), AllocError>
+        ensures { OnOk result (out.new.items ≡ out.old.items ++ spelling (timed offset self.now)) }
     {
         let line = &self.line;
-        let text = line.parameter(1);
-        // The played line is longer by the time, and by a colon where its text had none.
-        let len = line.spelling().len().saturating_add(STAMP_LEN + 1);
-        let mut out = Vec::with_capacity(alloc, len)?;
-        push_head(&mut out, line.prefix(), line.command(), line.parameter(0))?;
-        push_stamped(&mut out, offset, self.at, text)?;
-        Shown::of_bytes(out)
+        push_head(out, line.prefix(), line.command(), line.parameter(0))?;
+        push_stamped(out, offset, self.at, line.parameter(1))?;
+        Ok(())
+    }
+
+    /// How many bytes the line has at most when it is played.
+    pub(crate) fn played_room(&self) -> usize {
+        // it is longer by the time, and by a colon where its text had none
+        self.line.spelling().len().saturating_add(STAMP_LEN + 1)
     }
 }

@@ -1,11 +1,14 @@
-ghost use Rattle.std.specs.Prelude.{◌≡◌, ◌≤◌, ◌<◌, ◌^◌, [], ◌++◌, codes, drop, length, option_map, slice_get, IfOk, IsOk, OnOk, OnErr};
+ghost use Rattle.std.specs.Prelude.{◌≡◌, ◌≤◌, ◌<◌, ◌^◌, [], ◌++◌, codes, drop, length, map, option_map, slice_get, IfOk, IsOk, OnOk, OnErr};
+ghost use Rattle.std.specs.List.{concat};
 ghost use Rattle.irc_line.specs.Lines.{spelling};
+ghost use Rattle.buffer_lines.specs.Parts.{parts, total};
 ghost use Rattle.buffer_lines.specs.Stamps.{frame, of_size, ring, shown_framed, shown_timed, with_line};
 
 use crate::kept_line::KeptLine;
 use crate::offset::Offset;
 use crate::shown::Shown;
 use circular_buffer::HeapCircularBuffer;
+use irc_line::SharedBytes;
 use std::alloc::{AllocError, Global};
 use std::marker::Model;
 
@@ -164,13 +167,57 @@ fn push_behind(
     Ok(())
 }
 
-/// Appends what is shown of kept lines.
+/// Appends what is shown of kept lines, which share one text.
+#[tactic(auto, using(crate::proofs::Parts::parts_of, crate::proofs::Parts::total_of))]
 fn push_played(all: &mut Vec<Shown>, offset: Offset, lines: &[KeptLine]) -> Result<(), AllocError>
     ensures { OnOk result (all.new.items ≡ all.old.items ++ shown_timed offset lines.now) }
 {
     let alloc = *all.allocator();
+    let (text, lengths) = played_text(alloc, offset, lines)?;
+    push_parts(all, &text, &lengths)
+}
+
+/// What is shown of kept lines, one behind the other, and how long each is.
+#[tactic(auto, using(crate::proofs::Parts::concat_push, crate::proofs::Parts::lengths_push))]
+fn played_text(
+    alloc: Global,
+    offset: Offset,
+    lines: &[KeptLine],
+) -> Result<(SharedBytes, Vec<usize>), AllocError>
+    ensures text { IfOk result (λ r. r.0 ≡ concat (shown_timed offset lines.now)) }
+    ensures lengths { IfOk result (λ r. r.1.items ≡ map length (shown_timed offset lines.now)) }
+{
+    let mut text = Vec::with_capacity(alloc, played_room(lines))?;
+    let mut lengths = Vec::with_capacity(alloc, lines.len())?;
     for line in lines {
-        all.push(line.played(alloc, offset)?)?;
+        let from = text.len();
+        line.play(&mut text, offset)?;
+        lengths.push(text.len() - from)?;
+    }
+    Ok((SharedBytes::from_vec(text)?, lengths))
+}
+
+/// How many bytes kept lines have at most when they are played.
+fn played_room(lines: &[KeptLine]) -> usize {
+    let mut room = 0usize;
+    for line in lines {
+        room = room.saturating_add(line.played_room());
+    }
+    room
+}
+
+/// Appends what the parts of a text show, one behind the other, which are so long.
+fn push_parts(all: &mut Vec<Shown>, text: &SharedBytes, lengths: &[usize]) -> Result<(), AllocError>
+    requires within { total lengths.now ≤ length text.now }
+    ensures parts { OnOk result (all.new.items ≡ all.old.items ++ parts text.now lengths.now) }
+{
+    // a text is no longer than a usize counts
+    text.as_slice().len();
+    let mut from = 0usize;
+    for length in lengths {
+        let to = from + *length;
+        all.push(Shown::part(text, from, to)?)?;
+        from = to;
     }
     Ok(())
 }

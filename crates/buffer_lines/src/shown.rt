@@ -1,4 +1,4 @@
-ghost use Rattle.std.specs.Prelude.{◌≡◌, map, IfOk};
+ghost use Rattle.std.specs.Prelude.{◌≡◌, ◌≤◌, ◌-◌, drop, length, map, take, IfOk};
 ghost use Rattle.irc_line.specs.Lines.{spelled_parts, spelling};
 
 use irc_line::{Line, SharedBytes, write_parts};
@@ -10,18 +10,24 @@ use wire_bytes::Copied;
 const SHORT_LINE: usize = 128;
 
 /// The canonical spelling of a line that is shown, of any length and without its CR LF. All that are
-/// shown it share one text.
+/// shown it share one text, in which other lines may stand too.
 #[derive(Drop)]
 pub struct Shown {
     text: SharedBytes,
+    /// Where the line begins in the text.
+    from: usize,
+    /// Where it ends.
+    to: usize,
 }
 
 impl Model for Shown {
-    ghost use Rattle.std.specs.Prelude.{ℕ, List};
+    ghost use Rattle.std.specs.Prelude.{◌≤◌, ◌-◌, ℕ, List, drop, length, take};
 
     ghost Value = { List ℕ };
 
-    ghost view = { λ s. s.text };
+    ghost view = { λ s. take (s.to - s.from) (drop s.from s.text) };
+
+    ghost invariant = { λ s. (s.from ≤ s.to) × (s.to ≤ length s.text) };
 }
 
 impl Shown {
@@ -29,9 +35,7 @@ impl Shown {
     pub fn of_line(line: &Line) -> Result<Shown, AllocError>
         ensures { IfOk result (λ s. s ≡ spelling line.now) }
     {
-        Ok(Shown {
-            text: line.text().share()?,
-        })
+        Ok(Shown::whole(line.text().share()?))
     }
 
     /// What is shown of these parts, which need be no line's.
@@ -46,15 +50,26 @@ impl Shown {
     {
         let mut bytes = Vec::with_capacity(alloc, SHORT_LINE)?;
         write_parts(&mut bytes, prefix, command, parameters)?;
-        Shown::of_bytes(bytes)
+        Ok(Shown::whole(SharedBytes::from_vec(bytes)?))
     }
 
-    /// What these bytes show, which are the spelling of a line.
-    pub(crate) fn of_bytes(bytes: Vec<u8>) -> Result<Shown, AllocError>
-        ensures { IfOk result (λ s. s ≡ bytes.items) }
+    /// What a text shows, which is the spelling of a line.
+    fn whole(text: SharedBytes) -> Shown
+        ensures { result ≡ text }
+    {
+        let to = text.as_slice().len();
+        Shown { text, from: 0, to }
+    }
+
+    /// What a part of a text shows, which is the spelling of a line. No memory is taken.
+    pub(crate) fn part(text: &SharedBytes, from: usize, to: usize) -> Result<Shown, AllocError>
+        requires within { (from ≤ to) × (to ≤ length text.now) }
+        ensures part { IfOk result (λ s. s ≡ take (to - from) (drop from text.now)) }
     {
         Ok(Shown {
-            text: SharedBytes::from_vec(bytes)?,
+            text: text.share()?,
+            from,
+            to,
         })
     }
 
@@ -62,7 +77,7 @@ impl Shown {
     pub fn spelling(&self) -> &[u8]
         ensures { result.now ≡ self.now }
     {
-        self.text.as_slice()
+        &self.text.as_slice()[self.from..self.to]
     }
 }
 
@@ -71,8 +86,6 @@ impl Copied for Shown {
     fn copy(&self, _alloc: Global) -> Result<Shown, AllocError>
         ensures { IfOk result (λ s. s ≡ self.now) }
     {
-        Ok(Shown {
-            text: self.text.share()?,
-        })
+        Shown::part(&self.text, self.from, self.to)
     }
 }
