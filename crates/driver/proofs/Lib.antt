@@ -22,6 +22,7 @@ mod Nicks
 mod OneClaim
 mod Owning
 mod Paced
+mod Parting
 mod Passing
 mod Quiet
 mod Reaching

@@ -10,28 +10,37 @@ use request_once::Answer;
 use session_fence::FenceEffect;
 use upstream_claim::ClaimsEffect;
 
-/// The channel that an effect opens at its client: it shows that someone joins it.
-pub fn opened_by(effect: &TowerEffect) -> Option<&[u8]>
-    ensures { option_map (λ name. name.now) result ≡ opened_by effect.now }
+/// The channel that an effect opens at its client, and the channel that it closes there. It opens one where it
+/// shows that someone joins it; it closes one where it shows that the client, who has this nick, parts from it, or
+/// is kicked.
+pub fn moved_by<'a>(effect: &'a TowerEffect, nick: &[u8]) -> (Option<&'a [u8]>, Option<&'a [u8]>)
+    ensures opened { option_map (λ name. name.now) result.0 ≡ opened_by effect.now }
+    ensures closed { option_map (λ name. name.now) result.1 ≡ closed_by nick.now effect.now }
 {
     match effect {
         Answer::Effect(ClaimsEffect::Inner(FenceEffect::Inner(Effect::Show(_, shown)))) => {
-            channel_joined(shown.spelling())
+            moved_in(shown.spelling(), nick)
         }
-        _ => None,
+        _ => (None, None),
     }
 }
 
-/// The channel that an effect closes at its client, who has this nick: it shows that the client parts from
-/// it, or is kicked.
-pub fn closed_by<'a>(effect: &'a TowerEffect, nick: &[u8]) -> Option<&'a [u8]>
-    ensures { option_map (λ name. name.now) result ≡ closed_by nick.now effect.now }
+/// The channels that a line opens and closes so, by its spelling. That nearly all lines do neither is known by
+/// what stands behind their first space.
+fn moved_in<'a>(shown: &'a [u8], nick: &[u8]) -> (Option<&'a [u8]>, Option<&'a [u8]>)
+    ensures opened { option_map (λ name. name.now) result.0 ≡ channel_joined shown.now }
+    ensures closed { option_map (λ name. name.now) result.1 ≡ channel_left nick.now shown.now }
 {
-    match effect {
-        Answer::Effect(ClaimsEffect::Inner(FenceEffect::Inner(Effect::Show(_, shown)))) => {
-            channel_left(shown.spelling(), nick)
-        }
-        _ => None,
+    let [b':', line @ ..] = shown else {
+        return (None, None);
+    };
+    let rest = behind_space(line);
+    if let [b'J', ..] = rest {
+        return (channel_joined(shown), None);
+    }
+    match rest {
+        [b'P', b'A', ..] | [b'K', ..] => (None, channel_left(shown, nick)),
+        _ => (None, None),
     }
 }
 
@@ -152,14 +161,12 @@ fn is_join(shown: &[u8]) -> bool
 fn behind_space(bytes: &[u8]) -> &[u8]
     ensures { result.now ≡ behind_space bytes.now }
 {
-    match bytes {
-        [] => bytes,
-        [byte, more @ ..] => {
-            if *byte == b' ' {
-                more
-            } else {
-                behind_space(more)
-            }
+    let mut rest = bytes;
+    while let [byte, more @ ..] = rest {
+        if *byte == b' ' {
+            return more;
         }
+        rest = more;
     }
+    rest
 }

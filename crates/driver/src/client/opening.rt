@@ -3,7 +3,7 @@ ghost use Rattle.std.specs.Prelude.{◌≡◌, OnOk};
 ghost use Rattle.driver.specs.Opening.{closed, has_open, open_behind};
 
 use crate::client::Client;
-use crate::client::joining::{closed_by, opened_by};
+use crate::client::joining::moved_by;
 use bouncer_tower::TowerEffect;
 use std::alloc::AllocError;
 
@@ -13,10 +13,11 @@ impl Client {
         ensures { OnOk result (self.new
             ≡ record self.old { channels = open_behind nick.now effect.now self.old.channels }) }
     {
-        if let Some(channel) = opened_by(effect) {
+        let (opens, closes) = moved_by(effect, nick);
+        if let Some(channel) = opens {
             self.channels.add(channel)?;
         }
-        if let Some(channel) = closed_by(effect, nick) {
+        if let Some(channel) = closes {
             self.channels.close(channel);
         }
         Ok(())
