@@ -105,7 +105,9 @@ impl Clients {
             return Ok(());
         };
         client.hear(now, nick, effect, orders)?;
-        self.forget_if_over(origin.client());
+        if client.is_over() {
+            self.all.remove(&origin.client());
+        }
         Ok(())
     }
 
