@@ -8,6 +8,7 @@ use Rattle.node_notes.specs.declared.progress.Progress.{Progress}
 use Rattle.node_notes.specs.declared.status.Status.{Status}
 use Rattle.node_notes.specs.Notes.{leads}
 use Rattle.machine_laws.specs.Sessions.{same_session}
+use Rattle.raft_log.specs.Batches.{batch_limit}
 use Rattle.driver.specs.declared.timer.Timer.{Timer}
 use Rattle.driver.specs.declared.pace.Pace.{Pace}
 use Rattle.driver.specs.Pacing.{doubled, free_after, may_go}
@@ -18,7 +19,7 @@ use Rattle.driver.specs.declared.order.Order.{Order}
 use Rattle.driver.specs.declared.order.Order.TheVariants.{Submit}
 use Rattle.driver.specs.declared.settings.Settings.{Settings}
 use Rattle.driver.specs.Telling.{Ordered, next_note}
-use Rattle.driver.specs.declared.node_monitor.TheConstants.{LONGEST, MOST_WAITING}
+use Rattle.driver.specs.declared.node_monitor.TheConstants.{LONGEST}
 use Rattle.driver.specs.declared.node_monitor.clock.TheConstants.{APART}
 
 -- so many milliseconds have passed since then; before that moment none have
@@ -52,9 +53,9 @@ note_for monitor settings now (Some status) None = note_up monitor settings now 
 abbrev pub note_at : NodeMonitor → Settings → ℕ → Option (Note TowerBody WireLine)
 note_at monitor settings now = note_for monitor settings now monitor.status monitor.down
 
--- as many notes of a node wait as may: 256 of those that it was told are not done, or are requests that wait for a leader
+-- as many notes of a node wait as may: so many of those that it was told are not done, or are requests that wait for a leader
 abbrev pub is_full : ℕ → Progress → Bool
-is_full told progress = nat_le MOST_WAITING ((told - progress.done) + progress.waiting)
+is_full told progress = nat_le batch_limit ((told - progress.done) + progress.waiting)
 
 -- a note as orders to the node
 abbrev pub told : ℕ → Option (Note TowerBody WireLine) → List Order

@@ -21,7 +21,7 @@ use crate::settings::Settings;
 use crate::timer::Timer;
 pub use hearing::Heard;
 use node_notes::{Note, Progress, Status};
-use raft_log::NodeId;
+use raft_log::{BATCH_LIMIT, NodeId};
 pub use reading::reads_for;
 use standing::{Claimed, Following, LastBeat, Outage, Presence, Visitors};
 use std::alloc::AllocError;
@@ -39,7 +39,7 @@ const DEAD: u64 = 10;
 /// While so many notes of a node are not done, nothing more is read for it: else its beats would wait
 /// behind all that was read, and the other nodes would choose another leader. A leader saves as many
 /// by one save, which may take some milliseconds, where a disk is slow.
-const MOST_WAITING: u64 = 256;
+const MOST_WAITING: u64 = BATCH_LIMIT as u64;
 
 /// The largest boot.
 const MOST_BOOT: u64 = 1 << 60;
