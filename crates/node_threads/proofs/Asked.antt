@@ -1,6 +1,7 @@
 -- The requests that a leader is asked together are the first of those that wait.
 use Rattle.std.proofs.Common.{◌≡◌, ◌≤◌, inl, ⊎_elim, true, ℕ, zero, suc, List, [], ◌∷◌, ◌++◌, length, take, drop, min, refl, sym, ap, ◌∙◌, subst, append_assoc, append-nil, arith}
 use Rattle.std.proofs.lemmas.List.{drop_min, take_min}
+use Rattle.raft_log.specs.Batches.{batch_limit}
 use Rattle.world_views.specs.Inputs.{NodeInput}
 use Rattle.raft_node.specs.declared.input.Input.TheVariants.{Ask}
 use Rattle.node_threads.specs.declared.worker_loop.requests.Request.{Request}
@@ -41,36 +42,36 @@ module _ {B L : Type 0} where
   none_taken (suc n) w is = (λ i. asks_of (take (suc n) (is i)), is ∙ sym (ap (drop (suc n)) is))
 
   -- all are, since so many were or none waits any more
-  pub all_taken : (old new : List (Request B)) (inputs : List (NodeInput B L)) (n m : ℕ) → m ≡ min 256 (length old) → inputs ++ asks_of (take n new) ≡ asks_of (take m old) → drop n new ≡ drop m old
+  pub all_taken : (old new : List (Request B)) (inputs : List (NodeInput B L)) (n m : ℕ) → m ≡ min batch_limit (length old) → inputs ++ asks_of (take n new) ≡ asks_of (take m old) → drop n new ≡ drop m old
       → asks_of {B = B} {L = L} (take n new) ≡ [] → new ≡ drop n new → TakesFront old inputs new
   all_taken old new inputs n m many taken left none same =
       inl (
-        sym (append-nil inputs) ∙ sym (ap (λ (l : List (NodeInput B L)). inputs ++ l) none) ∙ taken ∙ (λ i. asks_of (take (many i) old)) ∙ ap asks_of (take_min 256 old),
-        same ∙ left ∙ (λ i. drop (many i) old) ∙ drop_min 256 old,
+        sym (append-nil inputs) ∙ sym (ap (λ (l : List (NodeInput B L)). inputs ++ l) none) ∙ taken ∙ (λ i. asks_of (take (many i) old)) ∙ ap asks_of (take_min batch_limit old),
+        same ∙ left ∙ (λ i. drop (many i) old) ∙ drop_min batch_limit old,
       )
 
-  pub none_waits_more : (old new : List (Request B)) (inputs : List (NodeInput B L)) (n m : ℕ) → m ≡ min 256 (length old) → inputs ++ asks_of (take n new) ≡ asks_of (take m old) → drop n new ≡ drop m old
+  pub none_waits_more : (old new : List (Request B)) (inputs : List (NodeInput B L)) (n m : ℕ) → m ≡ min batch_limit (length old) → inputs ++ asks_of (take n new) ≡ asks_of (take m old) → drop n new ≡ drop m old
       → new ≡ [] → TakesFront old inputs new
   none_waits_more old new inputs n m many taken left none = let end = none_taken n new none in all_taken old new inputs n m many taken left end.0 end.1
 
-  pub so_many : (old new : List (Request B)) (inputs : List (NodeInput B L)) (n m : ℕ) → m ≡ min 256 (length old) → inputs ++ asks_of (take n new) ≡ asks_of (take m old) → drop n new ≡ drop m old
+  pub so_many : (old new : List (Request B)) (inputs : List (NodeInput B L)) (n m : ℕ) → m ≡ min batch_limit (length old) → inputs ++ asks_of (take n new) ≡ asks_of (take m old) → drop n new ≡ drop m old
       → n ≡ 0 → TakesFront old inputs new
   so_many old new inputs n m many taken left end = all_taken old new inputs n m many taken left (λ i. asks_of (take (end i) new)) (sym (λ i. drop (end i) new))
 
   -- ---- a leader may be asked them
 
   module _ {Setup Hosted Store T E P U : Type 0} where
-    front_ready : (w : List (Request B)) (c : CellParts Setup Hosted Store B L T E P U) → leads_in c ≡ true → AreReady (asks_of (take 256 w)) c
+    front_ready : (w : List (Request B)) (c : CellParts Setup Hosted Store B L T E P U) → leads_in c ≡ true → AreReady (asks_of (take batch_limit w)) c
     front_ready w c leads =
-        let many = asks_many L (take 256 w) in
-        let few = few_taken 256 w in
-        record { append = asks_append L (take 256 w); leads = λ some. leads; few = omega (arith, many, few) }
+        let many = asks_many L (take batch_limit w) in
+        let few = few_taken batch_limit w in
+        record { append = asks_append L (take batch_limit w); leads = λ some. leads; few = omega (arith, many, few) }
 
     pub asks_ready : (old new : List (Request B)) (inputs : List (NodeInput B L)) (c : CellParts Setup Hosted Store B L T E P U) → TakesFront old inputs new → leads_in c ≡ true → AreReady inputs c
     asks_ready old new inputs c h leads =
-        ⊎_elim (λ (s : (inputs ≡ asks_of (take 256 old)) × (new ≡ drop 256 old)). subst (λ (l : List (NodeInput B L)). AreReady l c) (sym s.0) (front_ready old c leads))
+        ⊎_elim (λ (s : (inputs ≡ asks_of (take batch_limit old)) × (new ≡ drop batch_limit old)). subst (λ (l : List (NodeInput B L)). AreReady l c) (sym s.0) (front_ready old c leads))
         (λ (s : (inputs ≡ []) × (new ≡ old)). none_ready inputs c s.0) h
 
-  pub front_asked : (old new : List (Request B)) (inputs : List (NodeInput B L)) → TakesFront old inputs new → (inputs ≡ [] → ⊥) → inputs ≡ asks_of (take 256 old)
+  pub front_asked : (old new : List (Request B)) (inputs : List (NodeInput B L)) → TakesFront old inputs new → (inputs ≡ [] → ⊥) → inputs ≡ asks_of (take batch_limit old)
   front_asked old new inputs h some =
-      ⊎_elim (λ (s : (inputs ≡ asks_of (take 256 old)) × (new ≡ drop 256 old)). s.0) (λ (s : (inputs ≡ []) × (new ≡ old)). absurd (some s.0)) h
+      ⊎_elim (λ (s : (inputs ≡ asks_of (take batch_limit old)) × (new ≡ drop batch_limit old)). s.0) (λ (s : (inputs ≡ []) × (new ≡ old)). absurd (some s.0)) h

@@ -2,6 +2,7 @@
 use denote.RattleType.{RattleType}
 use denote.Param.Send.{IsSend, IsSync}
 use denote.Param.SendFields.{declared_send}
+use Rattle.std.proofs.Crossing as heap
 use Rattle.wire_bytes.specs.declared.copied.Copied as copied
 use Rattle.wire_bytes.specs.declared.wire.Wire as wire
 use Rattle.machine_laws.specs.declared.hosted.Hosted as hosted
@@ -10,7 +11,10 @@ use Rattle.machine_laws.specs.declared.marking.Marking as marking
 use Rattle.stable_store.specs.declared.stable.Stable as stable
 use Rattle.node_cells.specs.declared.upstream.Upstream as upstream
 use Rattle.node_cells.proofs.Crossing.{cell_send}
+use Rattle.node_threads.specs.contracts.job.Job as waiting
 use Rattle.node_threads.specs.contracts.worker.Worker as worker
+use Rattle.crossbeam_channel.proofs.channel.Receiver.TheSendSync as receiver
+use Rattle.node_threads.proofs.job.Job.TheSendSync as job
 use Rattle.node_threads.proofs.worker_loop.WorkerLoop.TheSendSync as loop
 
 module _ (M S U G O A L T P Setup C E : RattleType) (marking-M : marking.Ghosts M.Denot A.Denot L.Denot T.Denot P.Denot Setup.Denot C.Denot E.Denot)
@@ -23,4 +27,5 @@ module _ (M S U G O A L T P Setup C E : RattleType) (marking-M : marking.Ghosts 
       → IsSend (worker.the_row M S U G O A L T P Setup C E marking-M g machine-M copied-Setup wire-C copied-C copied-E wire-A copied-A wire-L copied-L wire-T copied-T copied-P stable-S upstream-U)
   worker_send m s u gate outlet l t p setup c e gate-sync setup-sync c-sync =
       let cell = cell_send M S U A L T P Setup C E marking-M g machine-M copied-Setup wire-C copied-C copied-E wire-A copied-A wire-L copied-L wire-T copied-T copied-P stable-S upstream-U m s u l t p setup c e setup-sync c-sync in
-      declared_send (worker.the_type M S U G O A L T P Setup C E marking-M g machine-M copied-Setup wire-C copied-C copied-E wire-A copied-A wire-L copied-L wire-T copied-T copied-P stable-S upstream-U) (cell, (loop.the_send M G O A L T P Setup C E gate outlet l t p c e gate-sync, tt))
+      let inbox = receiver.the_send (waiting.the_row M A L T P Setup C E) _ _ (job.the_send M A L T P Setup C E l t p c) heap.send heap.sync heap.frees in
+      declared_send (worker.the_type M S U G O A L T P Setup C E marking-M g machine-M copied-Setup wire-C copied-C copied-E wire-A copied-A wire-L copied-L wire-T copied-T copied-P stable-S upstream-U) (cell, (inbox, (loop.the_send M G O A L T P Setup C E gate outlet l t p c e gate-sync, tt)))

@@ -4,7 +4,10 @@ pub mod Opened
 mod HomeMarked
 pub mod Started
 mod Going
+mod Inflows
+mod Covered
 mod Taken
+mod GivenDone
 mod Asked
 mod Gathered
 mod Seen

@@ -1,5 +1,6 @@
 -- That looks whether a message was taken, and requests that are asked, leave a cell its node's.
 use Rattle.std.proofs.Common.{◌≡◌, inl, inr, ⊎_elim, ℕ, zero, suc, Bool, true, false, List, [], ◌∷◌, take, Option, None, Some, refl, sym, subst}
+use Rattle.raft_log.specs.Batches.{batch_limit}
 use Rattle.raft_node.specs.Machine.{Machine}
 use Rattle.raft_log.specs.declared.position.Position.{Position}
 use Rattle.raft_log.specs.declared.position.Position.TheVariants.{Follower, Candidate, Leader}
@@ -61,7 +62,7 @@ module _ (M : Machine) {Setup Hosted Store U : Type 0} (tally : U → Tally) whe
 
   pub home_asked : (waiting : List (Request M.Body)) (c d : CellOf M Setup Hosted Store U) → HasAskedOn M tally waiting c d → IsSameHome c d
   home_asked waiting c d h =
-      ⊎_elim (λ (t : HasAskedTogether M tally waiting c d). home_after_all M (asks_of (take 256 waiting)) c d t.turned) (λ (e : HasAskedEach M tally c d). home_some e.0 c d e.1) h
+      ⊎_elim (λ (t : HasAskedTogether M tally waiting c d). home_after_all M (asks_of (take batch_limit waiting)) c d t.turned) (λ (e : HasAskedEach M tally c d). home_some e.0 c d e.1) h
 
   pub home_before : (asks : Bool) (waiting : List (Request M.Body)) (c d : CellOf M Setup Hosted Store U) → AsksBefore M tally asks waiting c d → IsSameHome c d
   home_before true waiting c d h = home_first_of waiting h.0 c d h.1

@@ -2,6 +2,7 @@ pub mod Asking
 pub mod Faults
 pub mod Forwarding
 pub mod Homes
+pub mod Inflows
 pub mod Jobs
 pub mod Joins
 pub mod Reports

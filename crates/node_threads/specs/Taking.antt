@@ -1,27 +1,60 @@
 -- What comes of the jobs that a worker takes up.
-use Rattle.std.specs.Prelude.{◌≡◌, ◌⊎◌, Bool, true, false, List, [], ◌∷◌, ◌++◌, Option, Some, None}
+use Rattle.std.specs.Prelude.{◌≡◌, ◌⊎◌, ◌≤◌, ◌&&◌, ℕ, length, not, Bool, true, false, List, [], ◌∷◌, ◌++◌, filter, map, Option, Some, None}
+use Rattle.std.specs.List.{list_any}
 use Rattle.wire_bytes.specs.declared.mark.Mark.{Mark}
+use Rattle.raft_log.specs.Batches.{batch_limit}
 use Rattle.raft_node.specs.Machine.{Machine}
 use Rattle.world_views.specs.Inputs.{NodeInput}
 use Rattle.node_cells.specs.Turns.{CellOf}
 use Rattle.node_cells.specs.Upstreams.{Tally}
+use Rattle.node_threads.specs.declared.inflow.Next.{Next}
+use Rattle.node_threads.specs.declared.inflow.Next.TheVariants as next
 use Rattle.node_threads.specs.declared.job.Job.{Job}
-use Rattle.node_threads.specs.Reports.{leads_in}
+use Rattle.node_threads.specs.declared.worker_loop.requests.Request.{Request}
+use Rattle.node_threads.specs.Inflows.{Given, jobs_in}
+use Rattle.node_threads.specs.Reports.{is_end, leads_in}
 use Rattle.node_threads.specs.Together.{HasTurnedAll, HasTurnedTogether, appended, is_idle}
-use Rattle.node_threads.specs.Work.{HasDone, HasHadTurn}
+use Rattle.node_threads.specs.Work.{HasDone, HasGoneRound, HasHadTurn}
 
--- a part of what a worker does with the jobs of its inbox
+-- a piece of what a worker does with the jobs of its inbox
 pub data Piece (J I : Type 0) : Type 0 where
   -- a job by itself
   Alone : J → Piece J I
   -- the inputs of several, together
   Together : List I → Piece J I
 
+-- the piece that is gathered, if anything is
+abbrev pub gathered_piece : {J I : Type 0} → List I → List (Piece J I)
+gathered_piece [] = []
+gathered_piece (x ∷ inputs) = Together (x ∷ inputs) ∷ []
+
+module _ {H A L T P S C E : Type 0} where
+  -- Whether a job does something with the node, or asks something of it. The end ends the worker, a request waits, and a wake is for the worker.
+  abbrev pub is_for_node : Job H A L T P S C E → Bool
+  is_for_node j = not (is_end j) && not (is_idle j)
+
+  -- whether a worker is over by this: it is told to end, or nothing will come any more
+  abbrev pub is_over : Next (Job H A L T P S C E) → Bool
+  is_over (next.Job j) = is_end j
+  is_over next.Nothing = false
+  is_over next.Over = true
+
+  -- A piece holds these jobs and no others: the one that is alone, or those whose inputs are together, in order, of which there is one at least.
+  abbrev pub Holds : Piece (Job H A L T P S C E) (NodeInput C L) → List (Job H A L T P S C E) → Type 0
+  Holds (Alone j) jobs = jobs ≡ j ∷ []
+  Holds (Together []) jobs = ⊥
+  Holds (Together (x ∷ inputs)) jobs = map appended jobs ≡ map Some (x ∷ inputs)
+
+  -- these pieces hold these jobs and no others, in order, each job in exactly one
+  abbrev pub Covers : List (Piece (Job H A L T P S C E) (NodeInput C L)) → List (Job H A L T P S C E) → Type 0
+  Covers [] jobs = jobs ≡ []
+  Covers (p ∷ ps) jobs = (front : List (Job H A L T P S C E)) × (rest : List (Job H A L T P S C E)) × (jobs ≡ front ++ rest) × Holds p front × Covers ps rest
+
 -- a job of a worker whose node hosts this machine
 abbrev pub JobOf : Machine → Type 0 → Type 0 → Type 0 → Type 0
 JobOf M Setup Hosted Action = Job Hosted Action M.Line M.Target M.Played Setup M.Body M.Effect
 
--- a part of what it does with its jobs
+-- a piece of what it does with its jobs
 abbrev pub PieceOf : Machine → Type 0 → Type 0 → Type 0 → Type 0
 PieceOf M Setup Hosted Action = Piece (JobOf M Setup Hosted Action) (NodeInput M.Body M.Line)
 
@@ -52,17 +85,40 @@ module _ (M : Machine) {Setup Hosted Store U : Type 0} (tally : U → Tally) whe
     abbrev pub HasTakenUp : JobOf M Setup Hosted Action → List (NodeInput M.Body M.Line) → CellOf M Setup Hosted Store U → List (NodeInput M.Body M.Line) → CellOf M Setup Hosted Store U → Type 0
     HasTakenUp j before c after d = HasTakenWhere (leads_in c) j before c after d
 
-    -- a part was done
+    -- a piece was done
     abbrev pub HasDonePiece : PieceOf M Setup Hosted Action → CellOf M Setup Hosted Store U → CellOf M Setup Hosted Store U → Type 0
     HasDonePiece (Alone j) c d = HasDone M tally marked mark j c d
     HasDonePiece (Together inputs) c d = HasTurnedTogether M c inputs d
 
-    -- these parts were done, in order, each once, and nothing else
+    -- these pieces were done, in order, each once, and nothing else
     abbrev pub HasDoneAll : List (PieceOf M Setup Hosted Action) → CellOf M Setup Hosted Store U → CellOf M Setup Hosted Store U → Type 0
     HasDoneAll [] c d = d ≡ c
     HasDoneAll (p ∷ ps) c d = (b : CellOf M Setup Hosted Store U) × HasDonePiece p c b × HasDoneAll ps b d
 
-  module _ (marked : M.Body → Option Mark) (mark : Mark → M.Body) (Action : Type 0) where
-    -- some jobs were done: each by itself, or together with those beside it
-    abbrev pub HasDoneSome : CellOf M Setup Hosted Store U → CellOf M Setup Hosted Store U → Type 0
-    HasDoneSome c d = (ps : List (PieceOf M Setup Hosted Action)) × HasDoneAll marked mark ps c d
+  module _ (marked : M.Body → Option Mark) (mark : Mark → M.Body) {Action I : Type 0} (gives : I → Next (JobOf M Setup Hosted Action) → I → Type 0) where
+    -- An inbox gave this, and each job among it that is for the node was done, once and in order, and nothing else was; but for those that came last,
+    -- which are left in these pieces.
+    pub record HasDoneThese (came : List (Next (JobOf M Setup Hosted Action))) (left : List (PieceOf M Setup Hosted Action)) (i : I) (c : CellOf M Setup Hosted Store U)
+        (k : I) (d : CellOf M Setup Hosted Store U) : Type 0 where
+      pub pieces : List (PieceOf M Setup Hosted Action)
+      pub given : Given gives i came k
+      pub covers : Covers (pieces ++ left) (filter is_for_node (jobs_in came))
+      pub done : HasDoneAll marked mark pieces c d
+
+    -- So with what came in a round: one thing at least, and not too many. The worker is over where it was told to end, or nothing will come any more.
+    pub record HasDoneGiven (left : List (PieceOf M Setup Hosted Action)) (i : I) (c : CellOf M Setup Hosted Store U) (over : Bool) (k : I) (d : CellOf M Setup Hosted Store U) : Type 0 where
+      pub came : List (Next (JobOf M Setup Hosted Action))
+      pub some : 1 ≤ length came
+      pub few : length came ≤ batch_limit
+      pub over_is : over ≡ list_any is_over came
+      pub these : HasDoneThese came left i c k d
+
+    -- What came was done, then what a round does behind its jobs; and another round comes, unless the worker is over.
+    pub record HasDoneRound (i : I) (c : CellOf M Setup Hosted Store U) (goes_on : Bool) (k : I) (d : CellOf M Setup Hosted Store U) : Type 0 where
+      pub between : CellOf M Setup Hosted Store U
+      pub over : Bool
+      pub forwarded : Option ℕ
+      pub waiting : List (Request M.Body)
+      pub jobs : HasDoneGiven [] i c over k between
+      pub rest : HasGoneRound M tally forwarded waiting between d
+      pub goes_on_is : goes_on ≡ not over

@@ -1,5 +1,6 @@
 -- Inputs that a worker gathers, for its node to do together.
 use Rattle.std.specs.Prelude.{◌≡◌, ◌⊎◌, ◌≤◌, Bool, true, false, List, [], ◌∷◌, length, take, drop, Option, Some, None, Result, Ok, Err}
+use Rattle.raft_log.specs.Batches.{batch_limit}
 use Rattle.raft_node.specs.Machine.{Machine}
 use Rattle.world_views.specs.Inputs.{NodeInput}
 use Rattle.raft_node.specs.declared.input.Input.TheVariants as input
@@ -49,9 +50,9 @@ module _ {B L : Type 0} where
   asks_of [] = []
   asks_of (r ∷ waiting) = input.Ask r.body ∷ asks_of waiting
 
-  -- The first 256 of the requests that wait become inputs, and the rest waits; or where there is no memory for that, all wait on.
+  -- The first batch_limit of the requests that wait become inputs, and the rest waits; or where there is no memory for that, all wait on.
   abbrev pub TakesFront : List (Request B) → List (NodeInput B L) → List (Request B) → Type 0
-  TakesFront old inputs new = ((inputs ≡ asks_of (take 256 old)) × (new ≡ drop 256 old)) ⊎ ((inputs ≡ []) × (new ≡ old))
+  TakesFront old inputs new = ((inputs ≡ asks_of (take batch_limit old)) × (new ≡ drop batch_limit old)) ⊎ ((inputs ≡ []) × (new ≡ old))
 
 module _ {M A L T P S C E : Type 0} where
   -- the input that a job is for, where a leader only appends by it
@@ -77,7 +78,7 @@ module _ {Setup Hosted Store B L T E P U : Type 0} where
   pub record AreReady (inputs : List (NodeInput B L)) (c : CellParts Setup Hosted Store B L T E P U) : Type 0 where
     pub append : OnlyAppend inputs
     pub leads : 1 ≤ length inputs → leads_in c ≡ true
-    pub few : length inputs ≤ 256
+    pub few : length inputs ≤ batch_limit
 
 module _ (M : Machine) {Setup Hosted Store U : Type 0} where
   -- by what inputs that are done together answer

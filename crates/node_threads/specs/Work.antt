@@ -1,6 +1,7 @@
 -- What a worker does with its node's cell.
 use Rattle.std.specs.Prelude.{◌≡◌, ◌⊎◌, ◌++◌, ◌&&◌, not, ℕ, zero, suc, Bool, true, false, List, [], ◌∷◌, take, Option, None, Some, Result, Ok, Err, option_map}
 use Rattle.wire_bytes.specs.declared.mark.Mark.{Mark}
+use Rattle.raft_log.specs.Batches.{batch_limit}
 use Rattle.raft_node.specs.declared.input.Looked.{Looked as PlayedAt}
 use Rattle.raft_node.specs.Machine.{Machine}
 use Rattle.world_views.specs.declared.envelope.Envelope.{Envelope}
@@ -141,10 +142,10 @@ module _ (M : Machine) {Setup Hosted Store U : Type 0} where
     abbrev pub HasAskedEach : CellOf M Setup Hosted Store U → CellOf M Setup Hosted Store U → Type 0
     HasAskedEach c d = (n : ℕ) × HasAskedSome n c d
 
-    -- a node that leads was asked the first 256 of the requests that wait, together
+    -- a node that leads was asked the first batch_limit of the requests that wait, together
     pub record HasAskedTogether (waiting : List (Request M.Body)) (c d : CellOf M Setup Hosted Store U) : Type 0 where
       pub leads : leads_in c ≡ true
-      pub turned : HasTurnedAll M (asks_of (take 256 waiting)) c d
+      pub turned : HasTurnedAll M (asks_of (take batch_limit waiting)) c d
 
     -- so, or nothing was done
     abbrev pub HasTriedTogether : List (Request M.Body) → Bool → CellOf M Setup Hosted Store U → CellOf M Setup Hosted Store U → Type 0

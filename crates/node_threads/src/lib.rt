@@ -9,6 +9,7 @@ mod cluster;
 mod cluster_fault;
 mod gate;
 mod inbox;
+mod inflow;
 mod inlet;
 mod job;
 mod leaver;

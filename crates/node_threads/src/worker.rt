@@ -2,9 +2,11 @@
 ghost use Rattle.node_threads.specs.Homes.{IsSameHome};
 
 use crate::gate::Gate;
+use crate::job::Job;
 use crate::outlet::Outlet;
 use crate::task::Task;
 use crate::worker_loop::WorkerLoop;
+use crossbeam_channel::Receiver;
 use machine_laws::{Hosted, Machine, Marking};
 use node_cells::{NodeCell, Upstream};
 use stable_store::Stable;
@@ -12,10 +14,11 @@ use std::snapshot::Snapshot;
 use std::sync::Wait;
 use std::thread::{Promise, PromisedHandle};
 
-/// The worker of a node, which alone has its cell.
+/// The worker of a node, which alone has its cell, and takes from its inbox.
 #[derive(Drop)]
 pub struct Worker<M: Marking, S: Stable<M::Command>, U: Upstream, G: Drop, O: Outlet<M::Effect>> {
     pub cell: NodeCell<M, S, U>,
+    pub inbox: Receiver<Job<M>>,
     pub worker_loop: WorkerLoop<M, G, O>,
 }
 
@@ -41,10 +44,15 @@ where
     ghost leaves = { λ worker cell. IsSameHome worker.cell.parts cell.parts };
 
     fn run<R: Wait>(self, rt: &R) -> NodeCell<M, S, U> {
-        let Worker { cell, worker_loop } = self;
+        let Worker {
+            cell,
+            inbox,
+            worker_loop,
+        } = self;
         let mut cell = cell;
         let mut worker_loop = worker_loop;
-        worker_loop.work(rt, &mut cell);
+        let mut inbox = inbox;
+        worker_loop.work(rt, &mut cell, &mut inbox);
         cell
     }
 }

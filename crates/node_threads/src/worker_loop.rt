@@ -1,17 +1,19 @@
-//! What a worker has beside its node's cell, and what it does with it, in rounds.
+//! What a worker has beside its node's cell and its inbox, and what it does with it, in rounds.
 ghost use Rattle.std.specs.Prelude.{◌≡◌, ◌&&◌, false, length, true};
 ghost use Rattle.node_threads.specs.Homes.{IsSameHome};
 ghost use Rattle.node_threads.specs.Reports.{has_grown, is_news};
+ghost use Rattle.node_threads.specs.Taking.{HasDoneRound};
 ghost use Rattle.node_threads.specs.Work.{HasBeaten, HasGoneRound};
 
 use crate::beats::Beats;
 use crate::gate::Gate;
+use crate::inflow::Inflow;
 use crate::job::Job;
 use crate::outlet::Outlet;
 use crate::worker_loop::requests::Requests;
 use crate::worker_loop::round::Round;
 use crate::worker_loop::telling::{Told, leads, wake};
-use crossbeam_channel::{Receiver, Sender};
+use crossbeam_channel::Sender;
 use machine_laws::{Hosted, Machine, Marking};
 use node_cells::{NodeCell, Upstream};
 use raft_log::NodeId;
@@ -37,12 +39,11 @@ mod turning;
 /// The most nodes that there may be.
 const MOST_NODES: u8 = 7;
 
-/// What a worker has beside its node's cell.
+/// What a worker has beside its node's cell and its inbox.
 #[derive(Drop)]
 pub struct WorkerLoop<M: Marking, G: Drop, O: Outlet<M::Effect>> {
     pub alloc: Global,
     pub id: NodeId,
-    pub inbox: Receiver<Job<M>>,
     /// The inboxes of all workers, node 1's first.
     pub others: Vec<Sender<Job<M>>>,
     pub gate: Arc<G>,
@@ -80,30 +81,34 @@ pub struct Beaten {
 
 impl<M: Marking, G: Gate + Drop, O: Outlet<M::Effect>> WorkerLoop<M, G, O> {
     /// Works in rounds, until it is told to end.
-    pub fn work<R: Wait, S: Stable<M::Command>, U: Upstream>(
+    pub fn work<R: Wait, S: Stable<M::Command>, U: Upstream, I: Inflow<Job<M>>>(
         &mut self,
         rt: &R,
         cell: &mut NodeCell<M, S, U>,
+        inbox: &mut I,
     )
         ensures { IsSameHome cell.old.parts cell.new.parts }
     {
         for _ in rt.forever() {
-            if !self.do_round(rt, cell) {
+            if !self.do_round(rt, cell, inbox) {
                 break;
             }
         }
     }
 
     /// A round. False where it is told to end, or nobody tells it anything any more.
-    fn do_round<R: Wait, S: Stable<M::Command>, U: Upstream>(
+    fn do_round<R: Wait, S: Stable<M::Command>, U: Upstream, I: Inflow<Job<M>>>(
         &mut self,
         rt: &R,
         cell: &mut NodeCell<M, S, U>,
+        inbox: &mut I,
     ) -> bool
-        ensures { IsSameHome cell.old.parts cell.new.parts }
+        ensures home { IsSameHome cell.old.parts cell.new.parts }
+        ensures round { HasDoneRound (⟦<M as Described>⟧.machine cell.old.parts.ether.setup) U.tally
+            M.marked M.mark I.gives inbox.old cell.old.parts result inbox.new cell.new.parts }
     {
         let may_wait = self.may_wait;
-        let is_over = self.do_jobs(rt, cell, may_wait);
+        let is_over = self.do_jobs(rt, cell, inbox, may_wait);
         let all_done = self.go_round(rt, cell);
         self.may_wait = all_done;
         !is_over

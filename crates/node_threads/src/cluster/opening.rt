@@ -110,11 +110,28 @@ fn open_worker<M: Marking, S: Stable<M::Command>, U: Upstream, G: Drop, O: Outle
         return Err(ClusterFault::Memory);
     };
     let cell = NodeCell::open(alloc, ether, pass, store, upstream, recording)?;
+    let inbox = outbox_of(ends, cell.id())?;
     let worker_loop = worker_loop(alloc, cell.id(), gate, outlet, ends)?;
-    Ok(Worker { cell, worker_loop })
+    Ok(Worker {
+        cell,
+        inbox,
+        worker_loop,
+    })
 }
 
-/// What the worker of this node has beside its cell.
+/// The end of this node's inbox from which its worker takes.
+fn outbox_of<J: Drop>(ends: &Inboxes<J>, id: NodeId) -> Result<Receiver<J>, ClusterFault>
+    requires { id ≤ length ends.now.outboxes.items }
+    ensures { IfErr result (λ e. e ≡ Memory) }
+{
+    let outbox = &ends.outboxes[id.value() as usize - 1];
+    match outbox.clone() {
+        Ok(outbox) => Ok(outbox),
+        Err(_) => Err(ClusterFault::Memory),
+    }
+}
+
+/// What the worker of this node has beside its cell and its inbox.
 fn worker_loop<M: Marking, G: Drop, O: Outlet<M::Effect>>(
     alloc: Global,
     id: NodeId,
@@ -122,21 +139,15 @@ fn worker_loop<M: Marking, G: Drop, O: Outlet<M::Effect>>(
     outlet: O,
     ends: &Inboxes<Job<M>>,
 ) -> Result<WorkerLoop<M, G, O>, ClusterFault>
-    requires { id ≤ length ends.now.outboxes.items }
     ensures { IfErr result (λ e. e ≡ Memory) }
 {
     let others = clones(&ends.inboxes)?;
-    let inbox = &ends.outboxes[id.value() as usize - 1];
-    let Ok(inbox) = inbox.clone() else {
-        return Err(ClusterFault::Memory);
-    };
     let Ok(gate) = Arc::try_clone(gate) else {
         return Err(ClusterFault::Memory);
     };
     Ok(WorkerLoop {
         alloc,
         id,
-        inbox,
         others,
         gate,
         outlet,

@@ -14,7 +14,7 @@ use crate::worker_loop::gathering::has_some;
 use crate::worker_loop::telling::leads;
 use machine_laws::{Hosted, Machine, Marking};
 use node_cells::{NodeCell, Upstream};
-use raft_log::Position;
+use raft_log::{BATCH_LIMIT, Position};
 use raft_node::Described;
 use stable_store::Stable;
 use std::sync::Wait;
@@ -23,9 +23,6 @@ use world_views::NodeInput;
 /// The most requests that a round asks one by one: each may be saved on its own, and the others wait for
 /// what a leader sends behind.
 const MOST_ASKED: u64 = 16;
-
-/// The most requests that a leader is asked at once.
-const MOST_TOGETHER: usize = 256;
 
 impl<M: Marking, G: Gate + Drop, O: Outlet<M::Effect>> WorkerLoop<M, G, O> {
     /// A node that knows a leader asks the first request that waits, before it answers its leader: of a
@@ -46,8 +43,8 @@ impl<M: Marking, G: Gate + Drop, O: Outlet<M::Effect>> WorkerLoop<M, G, O> {
         }
     }
 
-    /// Asks the requests that wait as long as the node may: a node that leads 256 at most together, and any
-    /// other one by one. False where it may ask more.
+    /// Asks the requests that wait as long as the node may: a node that leads `BATCH_LIMIT` at most together,
+    /// and any other one by one. False where it may ask more.
     pub fn ask_all<R: Wait, S: Stable<M::Command>, U: Upstream>(
         &mut self,
         rt: &R,
@@ -62,7 +59,8 @@ impl<M: Marking, G: Gate + Drop, O: Outlet<M::Effect>> WorkerLoop<M, G, O> {
         self.ask_each(rt, cell)
     }
 
-    /// A node that leads is asked the first 256 of the requests that wait, together. Whether any was.
+    /// A node that leads is asked the first `BATCH_LIMIT` of the requests that wait, together. Whether any
+    /// was.
     fn ask_together<R: Wait, S: Stable<M::Command>, U: Upstream>(
         &mut self,
         rt: &R,
@@ -82,8 +80,8 @@ impl<M: Marking, G: Gate + Drop, O: Outlet<M::Effect>> WorkerLoop<M, G, O> {
         true
     }
 
-    /// The first 256 of the requests that wait, which are asked in the node's term. None where there is no
-    /// memory for them, and then all wait on.
+    /// The first `BATCH_LIMIT` of the requests that wait, which are asked in the node's term. None where there
+    /// is no memory for them, and then all wait on.
     fn next_asks<S: Stable<M::Command>, U: Upstream>(
         &mut self,
         cell: &NodeCell<M, S, U>,
@@ -93,7 +91,7 @@ impl<M: Marking, G: Gate + Drop, O: Outlet<M::Effect>> WorkerLoop<M, G, O> {
         ensures ready { leads_in cell.now.parts ≡ true → AreReady result.items cell.now.parts }
     {
         let term = cell.state().standing.term;
-        let count = MOST_TOGETHER.min(self.requests.waiting.len());
+        let count = BATCH_LIMIT.min(self.requests.waiting.len());
         let Ok(mut inputs) = Vec::with_capacity(self.alloc, count) else {
             return Vec::new(self.alloc);
         };

@@ -2,75 +2,69 @@
 ghost use Rattle.std.specs.Prelude.{◌≡◌, ◌+◌, ◌-◌, ◌^◌, ◌&&◌, [], min, nat_le, not, true, if◌then◌else◌};
 ghost use Rattle.node_notes.specs.declared.note.Note.TheVariants.{Beat};
 ghost use Rattle.node_threads.specs.Reports.{is_told, leads_in};
-ghost use Rattle.node_threads.specs.Taking.{HasDoneSome};
+ghost use Rattle.node_threads.specs.Taking.{HasDoneGiven, gathered_piece};
 ghost use Rattle.node_threads.specs.Together.{AreReady};
 ghost use Rattle.node_threads.specs.Work.{HasDone, HasDoneNote, HasTimedOut};
 
 use crate::gate::Gate;
+use crate::inflow::{Inflow, Next};
 use crate::job::{Job, put};
 use crate::outlet::Outlet;
 use crate::worker_loop::WorkerLoop;
 use crate::worker_loop::telling::{leads, status};
-use crossbeam_channel::TryRecvError;
 use machine_laws::{Hosted, Machine, Marking};
 use node_cells::{NodeCell, Upstream};
 use node_notes::Note;
+use raft_log::BATCH_LIMIT;
 use raft_node::Described;
 use stable_store::Stable;
 use std::sync::Wait;
 use world_views::NodeInput;
 
-/// The most jobs that a round takes. What a leader only appends of them is saved at once, so that a slow
-/// disk is waited for once, and the more jobs a round takes, the more come out of that wait.
-const MOST_JOBS: u64 = 256;
-
 /// The most jobs that a round does each by itself: each may be saved on its own, and the others wait for
 /// what a leader sends behind.
 const MOST_ALONE: u64 = 16;
 
-/// What comes to an inbox.
-enum Next<J> {
-    Job(J),
-    /// Nothing is there now.
-    Nothing,
-    /// Nothing will come any more.
-    Over,
-}
-
 impl<M: Marking, G: Gate + Drop, O: Outlet<M::Effect>> WorkerLoop<M, G, O> {
     /// Does the jobs that are in the inbox, in order, and waits for the first one where it may. True where
     /// it is told to end, or nobody tells it anything any more.
-    pub fn do_jobs<R: Wait, S: Stable<M::Command>, U: Upstream>(
+    pub fn do_jobs<R: Wait, S: Stable<M::Command>, U: Upstream, I: Inflow<Job<M>>>(
         &mut self,
         rt: &R,
         cell: &mut NodeCell<M, S, U>,
+        inbox: &mut I,
         may_wait: bool,
     ) -> bool
-        ensures { HasDoneSome (⟦<M as Described>⟧.machine cell.old.parts.ether.setup) U.tally
-            M.marked M.mark M.Action cell.old.parts cell.new.parts }
+        ensures { HasDoneGiven (⟦<M as Described>⟧.machine cell.old.parts.ether.setup) U.tally
+            M.marked M.mark I.gives [] inbox.old cell.old.parts result
+            inbox.new cell.new.parts }
     {
         let mut gathered = Vec::new(self.alloc);
-        let is_over = self.take_jobs(rt, cell, may_wait, &mut gathered);
+        let is_over = self.take_jobs(rt, cell, inbox, may_wait, &mut gathered);
         self.turn_all(rt, cell, gathered);
         is_over
     }
 
     /// Takes up the jobs that are in the inbox. What is gathered of them is still to be done.
-    fn take_jobs<R: Wait, S: Stable<M::Command>, U: Upstream>(
+    fn take_jobs<R: Wait, S: Stable<M::Command>, U: Upstream, I: Inflow<Job<M>>>(
         &mut self,
         rt: &R,
         cell: &mut NodeCell<M, S, U>,
+        inbox: &mut I,
         may_wait: bool,
         gathered: &mut Vec<NodeInput<M::Command, M::Line>>,
     ) -> bool
         requires { gathered.old.items ≡ [] }
-        ensures done { HasDoneSome (⟦<M as Described>⟧.machine cell.old.parts.ether.setup) U.tally
-            M.marked M.mark M.Action cell.old.parts cell.new.parts }
+        ensures done { HasDoneGiven (⟦<M as Described>⟧.machine cell.old.parts.ether.setup) U.tally
+            M.marked M.mark I.gives (gathered_piece gathered.new.items) inbox.old cell.old.parts
+            result inbox.new cell.new.parts }
         ensures ready { AreReady gathered.new.items cell.new.parts }
     {
         let mut alone = 0u64;
-        for place in 0..MOST_JOBS {
-            match self.next_job(rt, may_wait && place == 0) {
+        // What a leader only appends of them is saved at once, so that a slow disk is waited for once: a
+        // round takes as many as can be saved together.
+        for place in 0..BATCH_LIMIT {
+            match inbox.next(rt, may_wait && place == 0) {
                 Next::Job(job) => {
                     if job.is_end() {
                         return true;
@@ -87,21 +81,6 @@ impl<M: Marking, G: Gate + Drop, O: Outlet<M::Effect>> WorkerLoop<M, G, O> {
             }
         }
         false
-    }
-
-    /// The next job of the inbox.
-    fn next_job<R: Wait>(&self, rt: &R, may_wait: bool) -> Next<Job<M>> {
-        if may_wait {
-            return match self.inbox.recv(rt) {
-                Ok(job) => Next::Job(job),
-                Err(_) => Next::Over,
-            };
-        }
-        match self.inbox.try_recv(rt) {
-            Ok(job) => Next::Job(job),
-            Err(TryRecvError::Empty) => Next::Nothing,
-            Err(TryRecvError::Disconnected) => Next::Over,
-        }
     }
 
     /// Does what a job says.

@@ -1,8 +1,9 @@
 use Rattle.std.proofs.Common.{ap, subst}
 use Rattle.raft_node.specs.Hosts.{hosted}
 use Rattle.raft_node.specs.Machine.{Machine}
+use Rattle.node_threads.specs.Taking.{gathered_piece}
 use Rattle.node_threads.specs.Together.{HasTurnedAll}
-use Rattle.node_threads.proofs.Taken.{all_end, home_after_some}
+use Rattle.node_threads.proofs.GivenDone.{given_all, home_after_given}
 use Rattle.node_threads.proofs.worker_loop.WorkerLoop.do_jobs.Given as given
 use Rattle.node_threads.proofs.worker_loop.WorkerLoop.do_jobs.Goals as goal
 
@@ -16,7 +17,16 @@ returns g c =
     let first = c.args.cell.now.parts in
     let between = c.take_jobs-is_over.new.cell.parts in
     let new = c.turn_all.new.cell.parts in
+    let old_inbox = c.args.inbox.now in
+    let inbox = c.take_jobs-is_over.new.inbox in
+    let over = c.take_jobs-is_over.result in
+    let gathered = c.take_jobs-is_over.new.gathered.items in
+    let tally = g.U.Upstream.tally in
+    let marked = g.M.Marking.marked in
+    let mark = g.M.Hosted.mark in
+    let gives = g.I.Inflow.gives in
     let M = machine g first.ether.setup in
-    let home = home_after_some M g.U.Upstream.tally g.M.Marking.marked g.M.Hosted.mark first between c.take_jobs-is_over.ensures.done in
-    let turned = subst (λ (s : g.row.M-Setup.Denot). HasTurnedAll (machine g s) c.take_jobs-is_over.new.gathered.items between new) (ap (λ e. e.setup) home.ether) c.turn_all.ensures.turned in
-    all_end M g.U.Upstream.tally g.M.Marking.marked g.M.Hosted.mark c.take_jobs-is_over.new.gathered.items first between new c.take_jobs-is_over.ensures.done turned
+    let taken = c.take_jobs-is_over.ensures.done in
+    let home = home_after_given M tally marked mark gives (gathered_piece gathered) old_inbox first over inbox between taken in
+    let turned = subst (λ (s : g.row.M-Setup.Denot). HasTurnedAll (machine g s) gathered between new) (ap (λ e. e.setup) home.ether) c.turn_all.ensures.turned in
+    given_all M tally marked mark gives gathered old_inbox first over inbox between new taken turned

@@ -1,8 +1,10 @@
+use Rattle.std.proofs.Common.{[], refl, ap, subst}
 use Rattle.raft_node.specs.Hosts.{hosted}
 use Rattle.raft_node.specs.Machine.{Machine}
+use Rattle.node_threads.specs.Work.{HasGoneRound}
+use Rattle.node_threads.proofs.GivenDone.{home_after_given}
 use Rattle.node_threads.proofs.Going.{home_after_round}
 use Rattle.node_threads.proofs.Home.{same_home_still}
-use Rattle.node_threads.proofs.Taken.{home_after_some}
 use Rattle.node_threads.proofs.worker_loop.WorkerLoop.do_round.Given as given
 use Rattle.node_threads.proofs.worker_loop.WorkerLoop.do_round.Goals as goal
 
@@ -11,11 +13,33 @@ machine g s =
     hosted g.M.Hosted.blank g.M.Hosted.opened g.M.Hosted.shut g.M.Hosted.heard g.M.Hosted.claim g.M.Hosted.source (g.M.Machine.effects s)
     (g.M.Hosted.next_claim s) (g.M.Hosted.playback s) g.M.Hosted.class
 
-pub returns : goal.returns
-returns g c =
+pub returns-clause-home : goal.returns-clause-home
+returns-clause-home g c =
     let old = c.args.cell.now.parts in
-    let between = c.do_jobs-is_over.new.cell.parts in
+    let jobs = c.do_jobs-is_over in
+    let between = jobs.new.cell.parts in
     let new = c.go_round-all_done.new.cell.parts in
-    let one = home_after_some (machine g old.ether.setup) g.U.Upstream.tally g.M.Marking.marked g.M.Hosted.mark old between c.do_jobs-is_over.ensures in
-    let two = home_after_round (machine g between.ether.setup) g.U.Upstream.tally c.do_jobs-is_over.new.self.forwarded c.do_jobs-is_over.new.self.requests.waiting.items between new c.go_round-all_done.ensures in
+    let tally = g.U.Upstream.tally in
+    let one = home_after_given (machine g old.ether.setup) tally g.M.Marking.marked g.M.Hosted.mark g.I.Inflow.gives [] c.args.inbox.now old jobs.result jobs.new.inbox between jobs.ensures in
+    let two = home_after_round (machine g between.ether.setup) tally jobs.new.self.forwarded jobs.new.self.requests.waiting.items between new c.go_round-all_done.ensures in
     same_home_still old between new one two
+
+pub returns-clause-round : goal.returns-clause-round
+returns-clause-round g c =
+    let old = c.args.cell.now.parts in
+    let jobs = c.do_jobs-is_over in
+    let between = jobs.new.cell.parts in
+    let new = c.go_round-all_done.new.cell.parts in
+    let tally = g.U.Upstream.tally in
+    let forwarded = jobs.new.self.forwarded in
+    let waiting = jobs.new.self.requests.waiting.items in
+    let home = home_after_given (machine g old.ether.setup) tally g.M.Marking.marked g.M.Hosted.mark g.I.Inflow.gives [] c.args.inbox.now old jobs.result jobs.new.inbox between jobs.ensures in
+    record {
+      between = between;
+      over = jobs.result;
+      forwarded = forwarded;
+      waiting = waiting;
+      jobs = jobs.ensures;
+      rest = subst (λ (s : g.row.M-Setup.Denot). HasGoneRound (machine g s) tally forwarded waiting between new) (ap (λ e. e.setup) home.ether) c.go_round-all_done.ensures;
+      goes_on_is = refl;
+    }

@@ -1,4 +1,5 @@
 use Rattle.std.proofs.Common.{rules, ◌≡◌, ◌+◌, ◌-◌, ◌++◌, suc, [], length, min, take, drop, ap, ◌∙◌, subst, arith}
+use Rattle.raft_log.specs.Batches.{batch_limit}
 use Rattle.node_threads.specs.Together.{TakesFront, asks_of}
 use Rattle.node_threads.proofs.Taken.{none_ready}
 use Rattle.node_threads.proofs.Asked.{asks_ready, next_left, next_taken, none_waits_more, so_many}
@@ -41,7 +42,7 @@ returns-in_default-ask-clause-front g c =
     let first = c.args.self.now.requests.waiting.items in
     let old = c.loop.self.requests.waiting.items in
     let new = c.ask.new.self.waiting.items in
-    let many : c.min-count.result ≡ min 256 (length first) = search rules in
+    let many : c.min-count.result ≡ min batch_limit (length first) = search rules in
     let same : old ≡ new = search rules in
     let none : old ≡ [] = c.in_default-ask.ensures.0 in
     subst (λ w. TakesFront first c.loop.inputs.items w) same
@@ -51,7 +52,7 @@ pub returns-clause-front : goal.returns-clause-front
 returns-clause-front g c =
     let first = c.args.self.now.requests.waiting.items in
     let now = c.loop.self.requests.waiting.items in
-    let many : c.min-count.result ≡ min 256 (length first) = search rules in
+    let many : c.min-count.result ≡ min batch_limit (length first) = search rules in
     let least = c.loop-test.false in
     let end : c.min-count.result - c.loop.counter ≡ 0 = omega (arith, least) in
     so_many first now c.loop.inputs.items (c.min-count.result - c.loop.counter) c.min-count.result many c.loop.invariant.taken c.loop.invariant.left end
@@ -61,7 +62,7 @@ returns-in_default-ask-clause-ready g c =
     let first = c.args.self.now.requests.waiting.items in
     let old = c.loop.self.requests.waiting.items in
     let new = c.ask.new.self.waiting.items in
-    let many : c.min-count.result ≡ min 256 (length first) = search rules in
+    let many : c.min-count.result ≡ min batch_limit (length first) = search rules in
     let same : old ≡ new = search rules in
     let none : old ≡ [] = c.in_default-ask.ensures.0 in
     let front : TakesFront first c.loop.inputs.items new =
@@ -73,7 +74,7 @@ pub returns-clause-ready : goal.returns-clause-ready
 returns-clause-ready g c =
     let first = c.args.self.now.requests.waiting.items in
     let now = c.loop.self.requests.waiting.items in
-    let many : c.min-count.result ≡ min 256 (length first) = search rules in
+    let many : c.min-count.result ≡ min batch_limit (length first) = search rules in
     let least = c.loop-test.false in
     let end : c.min-count.result - c.loop.counter ≡ 0 = omega (arith, least) in
     let front : TakesFront first c.loop.inputs.items now =

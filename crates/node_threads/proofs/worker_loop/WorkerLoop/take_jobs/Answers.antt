@@ -1,83 +1,122 @@
-use Rattle.std.proofs.Common.{◌≡◌, refl, ap, length, subst, arith}
+use Rattle.std.proofs.Common.{◌≡◌, ◌+◌, true, false, refl, sym, ap, ◌∙◌, subst, arith}
+use Rattle.node_threads.specs.declared.inflow.Next.TheVariants as next
+use Rattle.node_threads.specs.Reports.{is_end}
 use Rattle.node_threads.specs.Taking.{HasTakenUp}
-use Rattle.node_threads.proofs.Home.{same_home, same_home_still}
-use Rattle.node_threads.proofs.Taken.{none_ready, some_none, taken_goes}
+use Rattle.node_threads.proofs.GivenDone.{home_after_taking, taking_end, taking_next, taking_none, taking_stop}
+use Rattle.node_threads.proofs.Taken.{for_node_end, none_ready, over_end}
 use Rattle.node_threads.proofs.worker_loop.WorkerLoop.take_jobs.Goals as goal
 use Rattle.node_threads.proofs.worker_loop.WorkerLoop.take_jobs.Invariants.{machine}
 
 pub loop-place-init : goal.loop-place-init
 loop-place-init g c =
     let first = c.args.cell.now.parts in
-    let none : length c.args.gathered.now.items ≡ 0 = ap length c.requires in
-    record { home = same_home first _ refl; goes = λ e h. h; ready = none_ready c.args.gathered.now.items first c.requires; few = omega (arith, none) }
+    record {
+      taking = taking_none (machine g first.ether.setup) g.U.Upstream.tally g.M.Marking.marked g.M.Hosted.mark g.I.Inflow.gives c.args.gathered.now.items c.args.inbox.now first c.requires;
+      ready = none_ready c.args.gathered.now.items first c.requires;
+    }
 
 pub loop-place-preserved : goal.loop-place-preserved
 loop-place-preserved g c =
     let first = c.args.cell.now.parts in
-    let old = c.loop-place.cell.parts in
+    let l = c.loop-place in
+    let room = c.loop-place-test.true in
+    let old = l.cell.parts in
     let new = c.take_up.new.cell.parts in
-    let before = c.loop-place.gathered.items in
+    let before = l.gathered.items in
     let after = c.take_up.new.gathered.items in
+    let tally = g.U.Upstream.tally in
+    let marked = g.M.Marking.marked in
+    let mark = g.M.Hosted.mark in
+    let gives = g.I.Inflow.gives in
     let M = machine g first.ether.setup in
-    let h = c.loop-place.invariant in
-    let some = c.loop-place-test.true in
-    let few = h.few in
-    let taken = subst (λ (s : g.row.M-Setup.Denot). HasTakenUp (machine g s) g.U.Upstream.tally g.M.Marking.marked g.M.Hosted.mark c.in-Job.job before old after new) (ap (λ e. e.setup) h.home.ether) c.take_up.ensures in
-    let next = taken_goes M g.U.Upstream.tally g.M.Marking.marked g.M.Hosted.mark c.in-Job.job before old after new (omega (arith, some, few)) h.ready taken in
-    let more = next.few in
-    record {
-      home = same_home_still first old new h.home next.home;
-      goes = λ e rest. h.goes e (next.goes e rest);
-      ready = next.ready;
-      few = omega (arith, few, more);
-    }
+    let job = c.in-Job.job in
+    let home = home_after_taking M tally marked mark gives l.place before c.args.inbox.now first l.inbox old l.invariant.taking in
+    let taken = subst (λ (s : g.row.M-Setup.Denot). HasTakenUp (machine g s) tally marked mark job before old after new) (ap (λ e. e.setup) home.ether) c.take_up.ensures in
+    let gave = c.in-Job.ensures in
+    let more = taking_next M tally marked mark gives l.place (l.place + 1) c.args.inbox.now first l.inbox job before old c.next.new.self after new
+    refl (omega (arith, room)) l.invariant.taking gave (sym c.is_end.ensures ∙ c.if-is_end.false) taken in
+    record { taking = more; ready = more.ready }
 
 pub returns-then-is_end-clause-done : goal.returns-then-is_end-clause-done
 returns-then-is_end-clause-done g c =
-    let old = c.loop-place.cell.parts in
-    c.loop-place.invariant.goes old (some_none (machine g c.args.cell.now.parts.ether.setup) g.U.Upstream.tally g.M.Marking.marked g.M.Hosted.mark g.row.M-Action.Denot old)
+    let ends : is_end c.in-Job.job ≡ true = sym c.is_end.ensures ∙ c.if-is_end.true in
+    let first = c.args.cell.now.parts in
+    let l = c.loop-place in
+    let room = c.loop-place-test.true in
+    let gives = g.I.Inflow.gives in
+    let gave = c.in-Job.ensures in
+    taking_end (machine g first.ether.setup) g.U.Upstream.tally g.M.Marking.marked g.M.Hosted.mark gives l.place l.gathered.items c.args.inbox.now first l.inbox l.cell.parts
+    (next.Job c.in-Job.job) c.next.new.self true l.invariant.taking (omega (arith, room)) gave (over_end c.in-Job.job true ends) (for_node_end c.in-Job.job ends)
 
 pub returns-in-Nothing-clause-done : goal.returns-in-Nothing-clause-done
 returns-in-Nothing-clause-done g c =
-    let old = c.loop-place.cell.parts in
-    c.loop-place.invariant.goes old (some_none (machine g c.args.cell.now.parts.ether.setup) g.U.Upstream.tally g.M.Marking.marked g.M.Hosted.mark g.row.M-Action.Denot old)
+    let first = c.args.cell.now.parts in
+    let l = c.loop-place in
+    let room = c.loop-place-test.true in
+    let gives = g.I.Inflow.gives in
+    let gave = c.in-Nothing.ensures in
+    taking_end (machine g first.ether.setup) g.U.Upstream.tally g.M.Marking.marked g.M.Hosted.mark gives l.place l.gathered.items c.args.inbox.now first l.inbox l.cell.parts
+    next.Nothing c.next.new.self false l.invariant.taking (omega (arith, room)) gave refl refl
 
 pub returns-in-Over-clause-done : goal.returns-in-Over-clause-done
 returns-in-Over-clause-done g c =
-    let old = c.loop-place.cell.parts in
-    c.loop-place.invariant.goes old (some_none (machine g c.args.cell.now.parts.ether.setup) g.U.Upstream.tally g.M.Marking.marked g.M.Hosted.mark g.row.M-Action.Denot old)
+    let first = c.args.cell.now.parts in
+    let l = c.loop-place in
+    let room = c.loop-place-test.true in
+    let gives = g.I.Inflow.gives in
+    let gave = c.in-Over.ensures in
+    taking_end (machine g first.ether.setup) g.U.Upstream.tally g.M.Marking.marked g.M.Hosted.mark gives l.place l.gathered.items c.args.inbox.now first l.inbox l.cell.parts
+    next.Over c.next.new.self true l.invariant.taking (omega (arith, room)) gave refl refl
 
 pub returns-clause-done : goal.returns-clause-done
 returns-clause-done g c =
-    let old = c.loop-place.cell.parts in
-    c.loop-place.invariant.goes old (some_none (machine g c.args.cell.now.parts.ether.setup) g.U.Upstream.tally g.M.Marking.marked g.M.Hosted.mark g.row.M-Action.Denot old)
+    let first = c.args.cell.now.parts in
+    let l = c.loop-place in
+    let least = c.loop-place-test.false in
+    let most = l.auto.place-end in
+    taking_stop (machine g first.ether.setup) g.U.Upstream.tally g.M.Marking.marked g.M.Hosted.mark g.I.Inflow.gives l.place l.gathered.items c.args.inbox.now first l.inbox l.cell.parts
+    l.invariant.taking (omega (arith, least)) (omega (arith, most))
 
 pub returns-then-alone-ge-MOST_ALONE-clause-done : goal.returns-then-alone-ge-MOST_ALONE-clause-done
 returns-then-alone-ge-MOST_ALONE-clause-done g c =
     let first = c.args.cell.now.parts in
-    let old = c.loop-place.cell.parts in
+    let l = c.loop-place in
+    let room = c.loop-place-test.true in
+    let old = l.cell.parts in
     let new = c.take_up.new.cell.parts in
-    let before = c.loop-place.gathered.items in
+    let before = l.gathered.items in
     let after = c.take_up.new.gathered.items in
+    let tally = g.U.Upstream.tally in
+    let marked = g.M.Marking.marked in
+    let mark = g.M.Hosted.mark in
+    let gives = g.I.Inflow.gives in
     let M = machine g first.ether.setup in
-    let h = c.loop-place.invariant in
-    let some = c.loop-place-test.true in
-    let few = h.few in
-    let taken = subst (λ (s : g.row.M-Setup.Denot). HasTakenUp (machine g s) g.U.Upstream.tally g.M.Marking.marked g.M.Hosted.mark c.in-Job.job before old after new) (ap (λ e. e.setup) h.home.ether) c.take_up.ensures in
-    let next = taken_goes M g.U.Upstream.tally g.M.Marking.marked g.M.Hosted.mark c.in-Job.job before old after new (omega (arith, some, few)) h.ready taken in
-    h.goes new (next.goes new (some_none M g.U.Upstream.tally g.M.Marking.marked g.M.Hosted.mark g.row.M-Action.Denot new))
+    let job = c.in-Job.job in
+    let home = home_after_taking M tally marked mark gives l.place before c.args.inbox.now first l.inbox old l.invariant.taking in
+    let taken = subst (λ (s : g.row.M-Setup.Denot). HasTakenUp (machine g s) tally marked mark job before old after new) (ap (λ e. e.setup) home.ether) c.take_up.ensures in
+    let gave = c.in-Job.ensures in
+    let more = taking_next M tally marked mark gives l.place (l.place + 1) c.args.inbox.now first l.inbox job before old c.next.new.self after new
+    refl (omega (arith, room)) l.invariant.taking gave (sym c.is_end.ensures ∙ c.if-is_end.false) taken in
+    taking_stop M tally marked mark gives (l.place + 1) after c.args.inbox.now first c.next.new.self new more (omega arith) (omega (arith, room))
 
 pub returns-then-alone-ge-MOST_ALONE-clause-ready : goal.returns-then-alone-ge-MOST_ALONE-clause-ready
 returns-then-alone-ge-MOST_ALONE-clause-ready g c =
     let first = c.args.cell.now.parts in
-    let old = c.loop-place.cell.parts in
+    let l = c.loop-place in
+    let room = c.loop-place-test.true in
+    let old = l.cell.parts in
     let new = c.take_up.new.cell.parts in
-    let before = c.loop-place.gathered.items in
+    let before = l.gathered.items in
     let after = c.take_up.new.gathered.items in
+    let tally = g.U.Upstream.tally in
+    let marked = g.M.Marking.marked in
+    let mark = g.M.Hosted.mark in
+    let gives = g.I.Inflow.gives in
     let M = machine g first.ether.setup in
-    let h = c.loop-place.invariant in
-    let some = c.loop-place-test.true in
-    let few = h.few in
-    let taken = subst (λ (s : g.row.M-Setup.Denot). HasTakenUp (machine g s) g.U.Upstream.tally g.M.Marking.marked g.M.Hosted.mark c.in-Job.job before old after new) (ap (λ e. e.setup) h.home.ether) c.take_up.ensures in
-    let next = taken_goes M g.U.Upstream.tally g.M.Marking.marked g.M.Hosted.mark c.in-Job.job before old after new (omega (arith, some, few)) h.ready taken in
-    next.ready
+    let job = c.in-Job.job in
+    let home = home_after_taking M tally marked mark gives l.place before c.args.inbox.now first l.inbox old l.invariant.taking in
+    let taken = subst (λ (s : g.row.M-Setup.Denot). HasTakenUp (machine g s) tally marked mark job before old after new) (ap (λ e. e.setup) home.ether) c.take_up.ensures in
+    let gave = c.in-Job.ensures in
+    let more = taking_next M tally marked mark gives l.place (l.place + 1) c.args.inbox.now first l.inbox job before old c.next.new.self after new
+    refl (omega (arith, room)) l.invariant.taking gave (sym c.is_end.ensures ∙ c.if-is_end.false) taken in
+    more.ready

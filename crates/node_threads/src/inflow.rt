@@ -1,0 +1,46 @@
+//! Where a worker takes what it has to do.
+
+use crossbeam_channel::{Receiver, TryRecvError};
+use std::sync::Wait;
+
+/// What comes next.
+#[derive(Drop)]
+pub enum Next<J> {
+    Job(J),
+    /// Nothing is there now.
+    Nothing,
+    /// Nothing will come any more.
+    Over,
+}
+
+/// Gives jobs, one after the other. What is proved of those who take them is proved over any inflow: then
+/// nothing but `next` says that a job came.
+pub trait Inflow<J> {
+    ghost use Rattle.node_threads.specs.declared.inflow.Next.{Next};
+
+    /// That it gave this next, and is as it is since.
+    ghost gives: { Self → Next J → Self → Type 0 };
+
+    /// Waits for a job where it may.
+    fn next<R: Wait>(&mut self, rt: &R, may_wait: bool) -> Next<J>
+        ensures { gives self.old result self.new };
+}
+
+impl<J: Drop> Inflow<J> for Receiver<J> {
+    // what comes out of a channel, no clause says
+    ghost gives = { λ _ _ _. Unit {0} };
+
+    fn next<R: Wait>(&mut self, rt: &R, may_wait: bool) -> Next<J> {
+        if may_wait {
+            return match self.recv(rt) {
+                Ok(job) => Next::Job(job),
+                Err(_) => Next::Over,
+            };
+        }
+        match self.try_recv(rt) {
+            Ok(job) => Next::Job(job),
+            Err(TryRecvError::Empty) => Next::Nothing,
+            Err(TryRecvError::Disconnected) => Next::Over,
+        }
+    }
+}
