@@ -1,5 +1,6 @@
 -- What is read of a connection, and what waits to be written to it.
 use Rattle.std.specs.Prelude.{ℕ, ◌+◌, ◌-◌, nat_le, Bool, true, false, List, length, ◌++◌}
+use Rattle.bouncer_run.specs.declared.connection.TheConstants.{LONGEST_END, MOST_UNSENT}
 use Rattle.bouncer_run.specs.declared.connection.Got.{Got}
 use Rattle.bouncer_run.specs.declared.connection.Got.TheVariants.{Bytes, Nothing, End, Later}
 use Rattle.bouncer_run.specs.declared.connection.Phase.{Phase}
@@ -22,12 +23,12 @@ abbrev pub gathered : Phase → List ℕ → List ℕ → List ℕ
 gathered Open waiting bytes = waiting ++ bytes
 gathered (Ending since) waiting bytes = waiting
 
--- at most 4 MiB wait then
+-- at most MOST_UNSENT bytes wait then
 abbrev pub may_wait : Phase → List ℕ → List ℕ → Bool
-may_wait Open waiting bytes = nat_le (length waiting + length bytes) 4194304
+may_wait Open waiting bytes = nat_le (length waiting + length bytes) MOST_UNSENT
 may_wait (Ending since) waiting bytes = true
 
--- a connection is to be closed, and took no byte for a minute
+-- a connection is to be closed, and took no byte for so long
 abbrev pub is_late : Phase → ℕ → Bool
 is_late Open now = false
-is_late (Ending since) now = nat_le 60000 (now - since)
+is_late (Ending since) now = nat_le LONGEST_END (now - since)

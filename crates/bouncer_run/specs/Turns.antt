@@ -7,16 +7,17 @@ use Rattle.driver.specs.declared.driver.Driver.{Driver}
 use Rattle.driver.specs.Links.{node_of}
 use Rattle.driver.specs.Rosters.{IsReadOf, client_at, is_attached_in, is_read_for}
 use Rattle.driver.specs.Telling.{Ordered}
+use Rattle.bouncer_run.specs.declared.sockets.TheConstants.{CLIENTS}
 
 -- a client is read as the driver says, but in any case before it registered
 pub record IsReadNow (reads : Bool) (orders : Ordered) (monitors : List NodeMonitor) (client : Option Client) : Type 0 where
   pub registered : is_attached_in client ≡ true → IsReadOf reads orders monitors client
   pub arriving : is_attached_in client ≡ false → reads ≡ true
 
--- whether the connection of this token may be read at this moment: the server's, or that of the client whose number is 1000 less
+-- whether the connection of this token may be read at this moment: the server's, or that of the client whose number is CLIENTS less
 pub record MayBeRead (driver : Driver) (token : ℕ) (reads : Bool) : Type 0 where
-  pub server : token < 1000 → reads ≡ is_read_for driver.orders driver.monitors (node_of driver.link.stage)
-  pub client : 1000 ≤ token → IsReadNow reads driver.orders driver.monitors (client_at driver.clients (token - 1000))
+  pub server : token < CLIENTS → reads ≡ is_read_for driver.orders driver.monitors (node_of driver.link.stage)
+  pub client : CLIENTS ≤ token → IsReadNow reads driver.orders driver.monitors (client_at driver.clients (token - CLIENTS))
 
 -- one that waits already keeps its place, and a new one waits behind all
 abbrev pub joined : ℕ → List ℕ → List ℕ

@@ -10,7 +10,7 @@ use std::io::{ErrorKind, Read, Write};
 
 /// The most bytes that may wait to be written to one connection: who leaves so much unread is not
 /// there to read it, and what waits is held in memory.
-const MOST_UNSENT: usize = 4 << 20;
+const MOST_UNSENT: usize = 4_194_304;
 
 /// How long a connection that is to be closed may take no byte, in milliseconds: one that takes
 /// none for so long is not read, and would keep its place for good.
