@@ -1,14 +1,12 @@
 //! What time it is.
 ghost use Rattle.std.specs.Prelude.{◌≡◌, ◌+◌, ◌-◌, min, nat_le, IsTrue};
+ghost use Rattle.wire_bytes.specs.Limits.{second_limit};
 
 use driver::Now;
 use std::io;
 use std::rt::Clock;
 use std::time::{Instant, SystemTime, UNIX_EPOCH};
-use wire_bytes::Moment;
-
-/// The last moment that there is.
-const LAST: u64 = 250_000_000_000;
+use wire_bytes::{LAST_SECOND, Moment};
 
 /// A clock that begins with the program.
 #[derive(Clone, Copy)]
@@ -55,9 +53,9 @@ fn seconds_of_day(rt: &impl Clock) -> u64 {
 
 /// The moment so many seconds after 1970, or the last that there is.
 fn moment_of(seconds: u64) -> Moment
-    ensures { result ≡ min seconds 250000000000 }
+    ensures { result ≡ min seconds second_limit }
 {
-    Moment::new(seconds.min(LAST))
+    Moment::new(seconds.min(LAST_SECOND))
 }
 
 /// What is done again and again, at most so often.

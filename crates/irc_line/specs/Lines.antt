@@ -6,6 +6,7 @@ use Rattle.std.specs.Option.{option_map}
 use Rattle.std.specs.Borrow.{Bor}
 use Rattle.std.specs.Coded.{Coded, code_by, coded×, coded_list, coded_option, coded_ℕ}
 use Rattle.irc_line.specs.Names.{first_is, is_content_byte, same_bytes}
+use Rattle.irc_line.specs.Limits.{content_limit, parameter_limit}
 
 -- what a line says
 pub record Parts : Type 0 where
@@ -77,7 +78,7 @@ are_parameters (x ∷ y ∷ rest) = is_middle x && are_parameters (y ∷ rest)
 
 -- the parts of a line, of any length
 unfoldable pub is_line : Parts → Bool
-is_line p = is_prefix p.prefix && is_upper_command p.command && nat_le (length p.parameters) 15 && are_parameters p.parameters
+is_line p = is_prefix p.prefix && is_upper_command p.command && nat_le (length p.parameters) parameter_limit && are_parameters p.parameters
 
 -- The canonical spelling
 
@@ -122,4 +123,4 @@ LacksRoom out n = vec_capacity out < vec_len out + n
 
 -- what a line is cut to where it leaves: the first 510 bytes of its spelling, with CR LF
 abbrev pub cut_spelling : Parts → List ℕ
-cut_spelling p = take 510 (spelling p) ++ 13 ∷ 10 ∷ []
+cut_spelling p = take content_limit (spelling p) ++ 13 ∷ 10 ∷ []

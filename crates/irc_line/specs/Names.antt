@@ -1,6 +1,7 @@
 -- Names, how they are folded (RFC 2812, 2.2 and 2.3.1), and texts.
 use Rattle.std.specs.Prelude.{◌≡◌, IsTrue, codes, take, ℕ, ◌+◌, Bool, true, false, not, ◌&&◌, ◌||◌, if◌then◌else◌, ◌==◌, nat_le, List, [], ◌∷◌, map, length}
 use Rattle.std.specs.List.{list_all}
+use Rattle.irc_line.specs.Limits.{content_limit, name_limit}
 
 -- A to Z become a to z, [ \ ] become { | }, and ~ becomes ^
 abbrev pub fold_byte : ℕ → ℕ
@@ -40,7 +41,7 @@ begins_with bytes front = same_bytes (take (length front) bytes) front
 
 -- 1 to 64 bytes, the first not a colon
 unfoldable pub is_name : List ℕ → Bool
-is_name name = nat_le 1 (length name) && nat_le (length name) 64 && list_all is_name_byte name && not (first_is 58 name)
+is_name name = nat_le 1 (length name) && nat_le (length name) name_limit && list_all is_name_byte name && not (first_is 58 name)
 
 -- the first byte is #, &, + or !
 abbrev pub has_channel_mark : List ℕ → Bool
@@ -52,7 +53,7 @@ is_channel name = is_name name && has_channel_mark name
 
 -- at most 510 bytes, none of them NUL, CR or LF
 unfoldable pub is_text : List ℕ → Bool
-is_text text = nat_le (length text) 510 && list_all is_content_byte text
+is_text text = nat_le (length text) content_limit && list_all is_content_byte text
 
 -- what an ACTION begins with: the byte 1, and its word with a space
 abbrev pub action_mark : List ℕ

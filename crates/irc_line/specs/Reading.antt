@@ -5,6 +5,7 @@ use Rattle.irc_line.specs.Lines.{Parts, spelling}
 use Rattle.irc_line.specs.Grammar.{AreContent, IsLine, is_space, is_command, upper}
 use Rattle.irc_line.specs.declared.fault.LineFault.{LineFault}
 use Rattle.irc_line.specs.declared.fault.LineFault.TheVariants.{TooLong, NoCommand, BadByte, TooManyParameters}
+use Rattle.irc_line.specs.Limits.{line_limit, parameter_limit}
 
 -- the bytes behind the first spaces
 abbrev pub skip_spaces : List ℕ → List ℕ
@@ -61,7 +62,7 @@ read content = read_prefix (skip_spaces content)
 abbrev pub judged_parts : Option Parts → Result Parts LineFault
 judged_parts None = Err NoCommand
 judged_parts (Some p) =
-    if nat_lt 15 (length p.parameters) then Err TooManyParameters else if nat_lt 511 (length (spelling p)) then Err TooLong else Ok p
+    if nat_lt parameter_limit (length p.parameters) then Err TooManyParameters else if nat_lt line_limit (length (spelling p)) then Err TooLong else Ok p
 
 -- the first argument is the place of the first byte that no content may hold
 abbrev pub judged_bytes : Option ℕ → List ℕ → Result Parts LineFault
@@ -70,7 +71,7 @@ judged_bytes (Some place) content = Err (BadByte place)
 
 -- the parts of a content, or its first fault
 unfoldable pub judged : List ℕ → Result Parts LineFault
-judged content = if nat_lt 511 (length content) then Err TooLong else judged_bytes (position (λ b. not (is_content_byte b)) content) content
+judged content = if nat_lt line_limit (length content) then Err TooLong else judged_bytes (position (λ b. not (is_content_byte b)) content) content
 
 -- what was read of these bytes, where they are its canonical spelling
 abbrev pub canonical : List ℕ → Result Parts LineFault → Option Parts
@@ -87,7 +88,7 @@ HasLine content p = judged content ≡ Ok p
 
 -- at most 511 bytes, none of them NUL, CR or LF
 abbrev pub IsClean : List ℕ → Type 0
-IsClean content = (length content ≤ 511) × AreContent content
+IsClean content = (length content ≤ line_limit) × AreContent content
 
 -- a clean content that the grammar reads as these parts
 abbrev pub Says : List ℕ → Parts → Type 0
@@ -99,8 +100,8 @@ SaysNothing content = (p : Parts) → ¬ IsLine content p
 
 -- a line's 15 parameters at most
 abbrev pub HasFew : Parts → Type 0
-HasFew p = length p.parameters ≤ 15
+HasFew p = length p.parameters ≤ parameter_limit
 
 -- a canonical spelling of at most 511 bytes
 abbrev pub IsShort : Parts → Type 0
-IsShort p = length (spelling p) ≤ 511
+IsShort p = length (spelling p) ≤ line_limit

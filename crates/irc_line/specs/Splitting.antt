@@ -7,6 +7,7 @@ use Rattle.irc_line.specs.declared.fault.LineFault.{LineFault}
 use Rattle.irc_line.specs.declared.fault.LineFault.TheVariants.{TooLong}
 use Rattle.irc_line.specs.declared.item.Item.{Item}
 use Rattle.irc_line.specs.declared.item.Item.TheVariants.{Got, Refused}
+use Rattle.irc_line.specs.Limits.{content_limit, held_limit}
 
 -- What stands between the LFs
 
@@ -51,7 +52,7 @@ judged_item (Err e) = Refused e
 
 -- a content's line or first fault, where more than 510 bytes are too long
 unfoldable pub content_item : List ℕ → Item
-content_item content = if nat_lt 510 (length content) then Refused TooLong else judged_item (judged content)
+content_item content = if nat_lt content_limit (length content) then Refused TooLong else judged_item (judged content)
 
 -- an empty content is skipped
 abbrev pub content_items : List ℕ → List Item
@@ -76,7 +77,7 @@ unended bytes = unended_from [] bytes
 
 -- what a splitter holds once it was fed these bytes: what follows the last LF, up to its 512th byte (a content's 510 and CR, and one more)
 unfoldable pub Stands : List ℕ → List ℕ → Type 0
-Stands held fed = held ≡ take 512 (unended fed)
+Stands held fed = held ≡ take held_limit (unended fed)
 
 -- a splitter that held the first comes to hold the last by these bytes, whatever it was fed before
 abbrev pub StandsBehind : List ℕ → List ℕ → List ℕ → Type 0
@@ -88,11 +89,11 @@ BringsItems held bytes got = (fed : List ℕ) → Stands held fed → items fed 
 
 -- some bytes with no LF, of which some are still to be held
 abbrev pub HoldsMore : List ℕ → List ℕ → Type 0
-HoldsMore held bytes = HasNoLineFeed bytes → (length held < 512) × (0 < length bytes)
+HoldsMore held bytes = HasNoLineFeed bytes → (length held < held_limit) × (0 < length bytes)
 
 -- the items of a LF, of what is held and stands before it, and of what follows
 abbrev pub items_at : List ℕ → List ℕ → List ℕ → List Item
-items_at held ended rest = ended_items (take 512 (held ++ ended)) ++ items_from [] rest
+items_at held ended rest = ended_items (take held_limit (held ++ ended)) ++ items_from [] rest
 
 -- these bytes stand before the first LF and behind it
 abbrev pub IsCutAtLineFeed : List ℕ → List ℕ → List ℕ → Type 0

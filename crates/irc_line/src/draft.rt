@@ -6,6 +6,7 @@ ghost use Rattle.irc_line.specs.Grammar.{upper};
 ghost use Rattle.irc_line.specs.Reading.{judged_parts};
 
 use crate::comparing::{behind_prefix, behind_upper};
+use crate::limits::{LINE_LIMIT, PARAMETER_LIMIT};
 use crate::spelling::prefix_len;
 use crate::tail::{are_spelled, lent_parameters, tail_size};
 use crate::word::upper_byte;
@@ -42,11 +43,11 @@ impl<'a> Draft<'a> {
         ensures err { IfErr result (λ e. judged_parts (Some self.now) ≡ Err e) }
     {
         let size = tail_size(self.command, self.tail);
-        if size.parameters > 15 {
+        if size.parameters > PARAMETER_LIMIT {
             return Err(LineFault::TooManyParameters);
         }
         let front = prefix_len(self.prefix).saturating_add(self.command.len());
-        if front.saturating_add(size.spelled) > 511 {
+        if front.saturating_add(size.spelled) > LINE_LIMIT {
             return Err(LineFault::TooLong);
         }
         Ok(())

@@ -6,6 +6,7 @@ ghost use Rattle.irc_line.specs.Reading.{HasFault, HasFew, HasLine, IsClean, IsS
 ghost use Rattle.irc_line.specs.Splitting.{HasNoLineFeed, IsCutAnywhere, ItemsAreOfBoth, content_item, ended_items, items, unended, without_return};
 ghost use Rattle.irc_line.specs.declared.fault.LineFault.{LineFault};
 ghost use Rattle.irc_line.specs.declared.item.Item.{Item};
+ghost use Rattle.irc_line.specs.Limits.{content_limit, line_limit, parameter_limit};
 
 /// What is read of a content is what the grammar gives, and nothing is read where it gives nothing.
 pub fn the_reading_is_the_grammar()
@@ -16,14 +17,14 @@ pub fn the_reading_is_the_grammar()
 /// Every content has exactly one of these judgements: a fault, the first that holds of it in this
 /// order, or its parts.
 pub fn the_faults_have_an_order()
-    ensures too_long { (s : List ℕ) → 511 < length s → HasFault s LineFault.TooLong }
-    ensures bad_byte { (s : List ℕ) (place : ℕ) → length s ≤ 511 → IsFirstBad s place →
+    ensures too_long { (s : List ℕ) → line_limit < length s → HasFault s LineFault.TooLong }
+    ensures bad_byte { (s : List ℕ) (place : ℕ) → length s ≤ line_limit → IsFirstBad s place →
         HasFault s (LineFault.BadByte place) }
     ensures no_command { (s : List ℕ) → IsClean s → SaysNothing s → HasFault s LineFault.NoCommand }
-    ensures too_many_parameters { (s : List ℕ) (p : Parts) → Says s p → 15 < length p.parameters →
+    ensures too_many_parameters { (s : List ℕ) (p : Parts) → Says s p → parameter_limit < length p.parameters →
         HasFault s LineFault.TooManyParameters }
     ensures spelled_too_long { (s : List ℕ) (p : Parts) → Says s p → HasFew p →
-        511 < length (spelling p) →
+        line_limit < length (spelling p) →
         HasFault s LineFault.TooLong }
     ensures line { (s : List ℕ) (p : Parts) → Says s p → HasFew p → IsShort p → HasLine s p }
 {}
@@ -68,11 +69,11 @@ pub fn an_item_is_what_its_content_is()
     ensures empty { (ended : List ℕ) → without_return ended ≡ [] → ended_items ended ≡ [] }
     ensures some { (ended : List ℕ) → 0 < length (without_return ended) →
         ended_items ended ≡ content_item (without_return ended) ∷ [] }
-    ensures too_long { (content : List ℕ) → 510 < length content →
+    ensures too_long { (content : List ℕ) → content_limit < length content →
         content_item content ≡ Item.Refused LineFault.TooLong }
-    ensures got { (s : List ℕ) (p : Parts) → length s ≤ 510 → HasLine s p →
+    ensures got { (s : List ℕ) (p : Parts) → length s ≤ content_limit → HasLine s p →
         content_item s ≡ Item.Got p }
-    ensures refused { (s : List ℕ) (e : LineFault) → length s ≤ 510 → HasFault s e →
+    ensures refused { (s : List ℕ) (e : LineFault) → length s ≤ content_limit → HasFault s e →
         content_item s ≡ Item.Refused e }
     ensures not_memory { (s : List ℕ) → ¬ (content_item s ≡ Item.Refused LineFault.Memory) }
 {}

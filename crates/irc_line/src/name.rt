@@ -3,6 +3,7 @@ ghost use Rattle.std.specs.List.{list_all};
 ghost use Rattle.irc_line.specs.Names.{IsPassed, has_channel_mark, is_channel, is_name, is_name_byte};
 
 use crate::bytes::{begins_with, is_allowed};
+use crate::limits::NAME_LIMIT;
 use std::alloc::{AllocError, Global};
 use std::marker::Model;
 
@@ -76,7 +77,10 @@ fn all_may_name(bytes: &[u8]) -> bool
 pub fn is_a_name(bytes: &[u8]) -> bool
     ensures { result ≡ is_name bytes.now }
 {
-    1 <= bytes.len() && bytes.len() <= 64 && all_may_name(bytes) && !begins_with(bytes, b':')
+    1 <= bytes.len()
+        && bytes.len() <= NAME_LIMIT
+        && all_may_name(bytes)
+        && !begins_with(bytes, b':')
 }
 
 /// Whether these bytes are a channel's name: a name that begins with `#`, `&`, `+` or `!`

@@ -6,6 +6,7 @@ ghost use Rattle.irc_line.specs.Reading.{canonical, judged, read_command, read_p
 
 use crate::bytes::is_allowed;
 use crate::draft::Draft;
+use crate::limits::LINE_LIMIT;
 use crate::word::{is_a_command, split_word, without_spaces};
 use crate::{Line, LineFault};
 use std::alloc::{AllocError, Global};
@@ -54,7 +55,7 @@ impl Line {
 fn judge(content: &[u8]) -> Result<Draft<'_>, LineFault>
     ensures { result ≡ judged content.now }
 {
-    if content.len() > 511 {
+    if content.len() > LINE_LIMIT {
         return Err(LineFault::TooLong);
     }
     if let Some(place) = bad_place(content) {

@@ -4,6 +4,7 @@ ghost use Rattle.irc_line.specs.Lines.{cut_spelling, LacksRoom, has_colon, is_sp
 
 use crate::Line;
 use crate::bytes::{begins_with, has_space, is_same};
+use crate::limits::CONTENT_LIMIT;
 use std::alloc::AllocError;
 
 impl Line {
@@ -28,7 +29,7 @@ impl Line {
     {
         let before = out.len();
         self.write_to(out)?;
-        out.truncate(before + 510);
+        out.truncate(before + CONTENT_LIMIT);
         let ended = out.extend_from_slice(b"\r\n");
         if ended.is_err() {
             out.truncate(before);

@@ -2,7 +2,9 @@
 ghost use Rattle.std.specs.Prelude.{◌≡◌, ◌<◌, ◌≤◌, ◌++◌, [], length, take, position, IfOk, OnOk, OnErr, MatchOption};
 ghost use Rattle.irc_line.specs.Splitting.{BringsItems, HasNoLineFeed, HoldsMore, IsCutAtLineFeed, Stands, StandsBehind};
 ghost use Rattle.irc_line.specs.Splitting.{is_line_feed, content_item, ended_items, items_at, items_from, unended_from, without_return};
+ghost use Rattle.irc_line.specs.Limits.{held_limit};
 
+use crate::limits::{CONTENT_LIMIT, HELD_LIMIT};
 use crate::{Item, Line, LineFault};
 use std::alloc::{AllocError, Global};
 use std::marker::Model;
@@ -21,12 +23,13 @@ pub struct Splitter {
 
 impl Model for Splitter {
     ghost use Rattle.std.specs.Prelude.{ℕ, List, length, ◌≤◌};
+    ghost use Rattle.irc_line.specs.Limits.{held_limit};
 
     ghost Value = { List ℕ };
 
     ghost view = { λ s. s.held.items };
 
-    ghost invariant = { λ s. length s.held.items ≤ 512 };
+    ghost invariant = { λ s. length s.held.items ≤ held_limit };
 }
 
 impl Splitter {
@@ -66,15 +69,15 @@ impl Splitter {
     /// are then held.
     fn split(&self, ended: &[u8], rest: &[u8]) -> Result<(Vec<Item>, Vec<u8>), AllocError>
         ensures items { IfOk result (λ t. t.0.items ≡ items_at self.now ended.now rest.now) }
-        ensures held { IfOk result (λ t. t.1.items ≡ take 512 (unended_from [] rest.now)) }
-        ensures bound { IfOk result (λ t. length t.1.items ≤ 512) }
+        ensures held { IfOk result (λ t. t.1.items ≡ take held_limit (unended_from [] rest.now)) }
+        ensures bound { IfOk result (λ t. length t.1.items ≤ held_limit) }
     {
         let mut first = Vec::from_slice(self.alloc, &self.held)?;
         hold(&mut first, ended)?;
         let mut items = Vec::new(self.alloc);
         push_item(self.alloc, &mut items, &first)?;
         let unended = push_items(self.alloc, &mut items, rest)?;
-        let held = Vec::from_slice(self.alloc, at_most(unended, 512))?;
+        let held = Vec::from_slice(self.alloc, at_most(unended, HELD_LIMIT))?;
         Ok((items, held))
     }
 }
@@ -107,13 +110,13 @@ fn at_most(bytes: &[u8], n: usize) -> &[u8]
 /// Adds bytes to those that are held, up to the 512th.
 #[tactic(auto, using(crate::proofs::Splitting::held_more))]
 fn hold(held: &mut Vec<u8>, bytes: &[u8]) -> Result<(), AllocError>
-    requires { length held.old.items ≤ 512 }
-    ensures ok { OnOk result (held.new.items ≡ take 512 (held.old.items ++ bytes.now)) }
-    ensures bound { length held.new.items ≤ 512 }
+    requires { length held.old.items ≤ held_limit }
+    ensures ok { OnOk result (held.new.items ≡ take held_limit (held.old.items ++ bytes.now)) }
+    ensures bound { length held.new.items ≤ held_limit }
     ensures err { OnErr result (held.new.items ≡ held.old.items) }
-    ensures memory { OnErr result ((length held.old.items < 512) × (0 < length bytes.now)) }
+    ensures memory { OnErr result ((length held.old.items < held_limit) × (0 < length bytes.now)) }
 {
-    let room = 512 - held.len();
+    let room = HELD_LIMIT - held.len();
     held.extend_from_slice(at_most(bytes, room))
 }
 
@@ -132,7 +135,7 @@ fn content_of(ended: &[u8]) -> &[u8]
 fn judge(alloc: Global, content: &[u8]) -> Result<Item, AllocError>
     ensures { IfOk result (λ item. item ≡ content_item content.now) }
 {
-    if content.len() > 510 {
+    if content.len() > CONTENT_LIMIT {
         return Ok(Item::Refused(LineFault::TooLong));
     }
     match Line::parse(alloc, content) {

@@ -3,6 +3,7 @@ ghost use Rattle.std.specs.List.{list_all};
 ghost use Rattle.irc_line.specs.Names.{IsPassed, action_mark, begins_with, is_content_byte, is_text};
 
 use crate::bytes::{is_allowed, is_same};
+use crate::limits::CONTENT_LIMIT;
 use std::alloc::{AllocError, Global};
 use std::marker::Model;
 
@@ -62,7 +63,7 @@ fn all_allowed(bytes: &[u8]) -> bool
 pub fn is_a_text(bytes: &[u8]) -> bool
     ensures { result ≡ is_text bytes.now }
 {
-    bytes.len() <= 510 && all_allowed(bytes)
+    bytes.len() <= CONTENT_LIMIT && all_allowed(bytes)
 }
 
 /// What an ACTION begins with.

@@ -5,6 +5,7 @@ ghost use Rattle.machine_laws.specs.Runs.{After, Brings, History};
 ghost use Rattle.machine_laws.specs.Classes.{class_map};
 ghost use Rattle.machine_laws.specs.declared.class.Class.{Class};
 ghost use Rattle.machine_laws.specs.declared.class.Source.{Source};
+ghost use Rattle.wire_bytes.specs.Limits.{body_limit};
 
 use crate::class::{Class, Source};
 use crate::machine::Machine;
@@ -100,7 +101,7 @@ pub trait Hosted: Machine {
     /// Does nothing. Every body has a spelling, of at most 65,536 bytes.
     fn fits(body: &Self::Command)
         ensures fits { Self.Command.fits body.now }
-        ensures short { length (Self.Command.spelled body.now) ≤ 65536 };
+        ensures short { length (Self.Command.spelled body.now) ≤ body_limit };
 
     /// Who may bring a body. Takes no memory.
     fn source(body: &Self::Command) -> Source

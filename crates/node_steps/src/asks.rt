@@ -6,6 +6,7 @@ ghost use Rattle.raft_log.specs.Positions.{leader_of, role_of};
 ghost use Rattle.raft_log.specs.Seen.{node_of};
 ghost use Rattle.node_steps.specs.Asking.{finds_leader, is_full, may_ask};
 ghost use Rattle.node_steps.specs.Plans.{IsPrepared, ask_plan};
+ghost use Rattle.wire_bytes.specs.Limits.{body_limit};
 
 use crate::own::leads;
 use crate::refusal::Refusal;
@@ -30,7 +31,7 @@ pub fn on_ask<B: Wire>(
     body: B,
 ) -> Result<Step<B>, Unprepared>
     requires fits { B.fits body }
-    requires short { length (B.spelled body) ≤ 65536 }
+    requires short { length (B.spelled body) ≤ body_limit }
     ensures { IsPrepared (ask_plan id source body) standing log.now result }
 {
     if !may_ask(&standing, id, source) {

@@ -4,6 +4,7 @@ ghost use Rattle.raft_log.specs.Node.{message as sent_by, raised};
 ghost use Rattle.raft_log.specs.Seen.{Becomes};
 ghost use Rattle.raft_log.specs.Steps.{IsStep, IsWithinLog};
 ghost use Rattle.node_steps.specs.Messages.{handled, on_message};
+ghost use Rattle.wire_bytes.specs.Limits.{body_limit};
 
 use raft_log::{Kind, Log, Message, NodeId, NodeState, Standing, Step};
 use std::alloc::{AllocError, Global};
@@ -23,7 +24,7 @@ pub fn on_message<B: Wire>(
 ) -> Result<Step<B>, AllocError>
     requires within { IsWithinLog state.now.standing state.now.log }
     requires fits { B.fits blank }
-    requires short { length (B.spelled blank) ≤ 65536 }
+    requires short { length (B.spelled blank) ≤ body_limit }
     ensures { IfOk result (IsStep
         (λ s. on_message blank state.now.standing.peers.size id s message)
         state.now.standing state.now.log) }
@@ -84,7 +85,7 @@ fn handled<B: Wire>(
 ) -> Result<Step<B>, AllocError>
     requires within { IsWithinLog standing log.now }
     requires fits { B.fits blank }
-    requires short { length (B.spelled blank) ≤ 65536 }
+    requires short { length (B.spelled blank) ≤ body_limit }
     ensures { IfOk result (IsStep
         (λ s. handled blank standing.peers.size id s (sent_by term from id kind) kind)
         standing log.now) }

@@ -3,6 +3,7 @@ ghost use Rattle.std.specs.Prelude.{◌≡◌, ◌≤◌, length, true};
 ghost use Rattle.raft_log.specs.Node.{is_leader};
 ghost use Rattle.raft_log.specs.Positions.{role_of};
 ghost use Rattle.node_steps.specs.Plans.{IsPrepared, own_plan};
+ghost use Rattle.wire_bytes.specs.Limits.{body_limit};
 
 use crate::refusal::Refusal;
 use crate::unprepared::Unprepared;
@@ -23,7 +24,7 @@ pub(crate) fn append_own<B: Wire>(
 ) -> Result<Step<B>, Unprepared>
     requires leads { is_leader (role_of standing.position) ≡ true }
     requires fits { B.fits body }
-    requires short { length (B.spelled body) ≤ 65536 }
+    requires short { length (B.spelled body) ≤ body_limit }
     ensures { IsPrepared (own_plan live attempts body) standing log.now result }
 {
     if log.is_full() {

@@ -10,9 +10,10 @@ use Rattle.wire_bytes.specs.Fields.{Reading, behind}
 use Rattle.wire_bytes.specs.Codecs.{IsCodec, goes_on-ok, goes_on-bad, goes_on-memory, behind-memory, behind-ok, behind-bad, AreBytes-drop, value_is, behind-front}
 use Rattle.wire_bytes.specs.FieldCodecs.{number-codec, wide32}
 use Rattle.raft_log.specs.Spellings.{body_length, ending_at, measured, spelled_measured, FitsMeasured}
+use Rattle.wire_bytes.specs.Limits.{body_limit}
 
-pub length_codec : IsCodec (to_be_bytes w32) (λ n. n ≤ 65536) body_length
-length_codec = number-codec w32 (2 ^ 32) 65536 wide32 (omega arith)
+pub length_codec : IsCodec (to_be_bytes w32) (λ n. n ≤ body_limit) body_length
+length_codec = number-codec w32 (2 ^ 32) body_limit wide32 (omega arith)
 
 -- the outcome of a reading that gives this value, of so many bytes
 abbrev read : {X : Type 0} → X → ℕ → Result (X × ℕ) WireFault

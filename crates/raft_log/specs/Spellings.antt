@@ -5,10 +5,11 @@ use Rattle.wire_bytes.specs.declared.wire_fault.WireFault.{WireFault}
 use Rattle.wire_bytes.specs.declared.wire_fault.WireFault.TheVariants.{Bad}
 use Rattle.wire_bytes.specs.Fields.{Reading, number_to, behind, goes_on}
 use Rattle.wire_bytes.specs.Wants.{Wants, wants_next}
+use Rattle.wire_bytes.specs.Limits.{body_limit}
 
 -- four bytes, at most 65,536
 abbrev pub body_length : Reading ℕ
-body_length = number_to w32 65536
+body_length = number_to w32 body_limit
 
 -- what was read, where it ends here; else its length is refused
 abbrev pub ending_at : {X : Type 0} → ℕ → Result (X × ℕ) WireFault → Result (X × ℕ) WireFault
@@ -29,7 +30,7 @@ written_over items place bytes = take place items ++ (bytes ++ drop (place + len
 
 -- it is spelled in at most 65,536 bytes
 abbrev pub FitsMeasured : {X : Type 0} → (X → Type 0) → (X → List ℕ) → X → Type 0
-FitsMeasured fits spelled x = fits x × (length (spelled x) ≤ 65536)
+FitsMeasured fits spelled x = fits x × (length (spelled x) ≤ body_limit)
 
 -- what stands behind a length that was read, or a body that stands whole, since it is kept apart from the input
 abbrev pub wants_measured : {X : Type 0} → Wants → Reading X → Wants

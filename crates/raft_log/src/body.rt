@@ -1,10 +1,11 @@
 ghost use Rattle.std.specs.Prelude.{◌≡◌, ◌+◌, ◌≤◌, IfOk, length, true, vec_capacity};
 ghost use Rattle.raft_log.specs.Spellings.{written_over};
+ghost use Rattle.wire_bytes.specs.Limits.{body_limit};
 
 use std::alloc::{AllocError, Global};
 use std::marker::Model;
 use std::sync::Arc;
-use wire_bytes::{Copied, Wire, WireFault, take_behind, take_u32};
+use wire_bytes::{BODY_LIMIT, Copied, Wire, WireFault, take_behind, take_u32};
 
 /// A body that may stand in a log: it has a spelling, of at most 65,536 bytes. All copies of it share
 /// one value in memory.
@@ -27,7 +28,7 @@ impl<B: Wire> Model for LoggedBody<B> {
 impl<B: Wire> LoggedBody<B> {
     pub fn new(alloc: Global, body: B) -> Result<Self, AllocError>
         requires fits { B.fits body }
-        requires short { length (B.spelled body) ≤ 65536 }
+        requires short { length (B.spelled body) ≤ body_limit }
         ensures { IfOk result (λ b. b ≡ body) }
     {
         let body = Arc::new(alloc, body)?;
@@ -37,7 +38,7 @@ impl<B: Wire> LoggedBody<B> {
     pub fn get(&self) -> &B
         ensures value { result.now ≡ self.now }
         ensures fits { B.fits self.now }
-        ensures short { length (B.spelled self.now) ≤ 65536 }
+        ensures short { length (B.spelled self.now) ≤ body_limit }
     {
         &self.body
     }
@@ -94,7 +95,7 @@ impl<B: Wire> Wire for LoggedBody<B> {
     }
 
     fn take(alloc: Global, input: &[u8]) -> Result<(Self, usize), WireFault> {
-        let (size, place) = take_u32(input, 65_536)?;
+        let (size, place) = take_u32(input, BODY_LIMIT as u32)?;
         let (body, end) = take_behind::<B>(alloc, input, place)?;
         if end == place + size as usize {
             Ok((LoggedBody::new(alloc, body)?, end))

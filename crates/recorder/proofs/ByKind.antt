@@ -7,6 +7,7 @@ use Rattle.irc_line.specs.Lines.{Parts, spelling}
 use Rattle.irc_line.specs.Names.{is_name}
 use Rattle.raft_log.specs.Lists.{IsNode}
 use Rattle.wire_bytes.specs.Contents.{FitsLine}
+use Rattle.wire_bytes.specs.Limits.{second_limit}
 use Rattle.world_events.specs.declared.event.Input.{Input}
 use Rattle.world_events.specs.declared.event.Input.TheVariants as input
 use Rattle.recorder.specs.declared.kind.Kind.TheVariants as kind
@@ -115,7 +116,7 @@ module _ {B : Type 0} (spelled : B → List ℕ) (fits : B → Type 0) where
   of_closed P rest h (input.Apply n) f is e = absurd cc
   of_closed P rest h (input.Look n place target) f is e = absurd cc
 
-  pub of_heard : (P : Input B Parts (List ℕ) → Type 0) (rest : List ℕ) → ((n at : ℕ) (l : Parts) → IsNode n → at ≤ 250000000000 → FitsLine l → node_and n (number_and at (spelling l)) ≡ rest → P (input.Heard n at l))
+  pub of_heard : (P : Input B Parts (List ℕ) → Type 0) (rest : List ℕ) → ((n at : ℕ) (l : Parts) → IsNode n → at ≤ second_limit → FitsLine l → node_and n (number_and at (spelling l)) ≡ rest → P (input.Heard n at l))
       → (x : Input B Parts (List ℕ)) → FitsInput spelled fits x → kind_of spelled spelling x ≡ kind.Heard → fields spelled spelling x ≡ rest → P x
   of_heard P rest h (input.Timeout n) f is e = absurd cc
   of_heard P rest h (input.Beat n) f is e = absurd cc

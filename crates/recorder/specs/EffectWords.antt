@@ -11,6 +11,7 @@ use Rattle.upstream_claim.specs.declared.effect.ClaimsEffect.{ClaimsEffect}
 use Rattle.upstream_claim.specs.declared.effect.ClaimsEffect.TheVariants.{Inner as Claimed, Busy, Hand}
 use Rattle.request_once.specs.declared.answer.Answer.{Answer}
 use Rattle.request_once.specs.declared.answer.Answer.TheVariants.{Effect as Passed, Done, Repeat, Gap, Marked}
+use Rattle.irc_line.specs.Limits.{content_limit}
 
 -- a word and an origin, a space between them
 abbrev pub to_origin : List ℕ → Origin → List ℕ
@@ -18,7 +19,7 @@ to_origin word o = word ++ 32 ∷ origin_text o
 
 -- what a line is printed as: its spelling's first 510 bytes
 abbrev pub printed_line : List ℕ → List ℕ
-printed_line spelled = take 510 spelled
+printed_line spelled = take content_limit spelled
 
 -- a channel that is joined again
 abbrev pub rejoin_words : Parts → List ℕ

@@ -3,6 +3,7 @@ use Rattle.std.specs.Prelude.{◌≡◌, ℕ, suc, ◌<◌, ◌≤◌, ◌^◌, 
 use Rattle.hex.specs.Hex.{encode_lower}
 use Rattle.irc_line.specs.Names.{is_name}
 use Rattle.raft_log.specs.Lists.{IsNode}
+use Rattle.wire_bytes.specs.Limits.{second_limit}
 use Rattle.world_events.specs.declared.event.Input.{Input}
 use Rattle.world_events.specs.declared.event.Input.TheVariants as input
 use Rattle.world_events.specs.declared.event.Event.{Event}
@@ -85,7 +86,7 @@ module _ {B L : Type 0} (body : B → List ℕ) (line : L → List ℕ) where
     IsInput (input.Ask n b) = IsNode n × fits_body b
     IsInput (input.Opened n) = IsNode n
     IsInput (input.Closed n) = IsNode n
-    IsInput (input.Heard n at l) = IsNode n × ((at ≤ 250000000000) × fits_line l)
+    IsInput (input.Heard n at l) = IsNode n × ((at ≤ second_limit) × fits_line l)
     IsInput (input.Claim n) = IsNode n
     IsInput (input.Apply n) = IsNode n
     IsInput (input.Look n place target) = IsNode n × ((place < 2 ^ 64) × IsTrue (is_name target))

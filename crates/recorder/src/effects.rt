@@ -8,15 +8,12 @@ use crate::backwards::{MOST_DIGITS, MOST_LETTERS, MOST_TO_ORIGIN, write_number, 
 use crate::writing::push_number;
 use buffer_commands::Effect;
 use buffer_lines::Shown;
-use irc_line::Line;
+use irc_line::{CONTENT_LIMIT, Line};
 use request_once::Answer;
 use session_fence::FenceEffect;
 use std::alloc::AllocError;
 use upstream_claim::ClaimsEffect;
 use wire_bytes::Origin;
-
-/// How many bytes of a line's spelling are printed at most.
-const LINE_LEN: usize = 510;
 
 /// What is printed in words.
 pub trait Words {
@@ -180,7 +177,7 @@ fn push_sent(out: &mut Vec<u8>, line: &Line) -> Result<(), AllocError>
 {
     let start = out.len();
     line.write_to(out)?;
-    out.truncate(start + LINE_LEN);
+    out.truncate(start + CONTENT_LIMIT);
     Ok(())
 }
 
@@ -188,9 +185,9 @@ fn push_sent(out: &mut Vec<u8>, line: &Line) -> Result<(), AllocError>
 pub fn printed(spelling: &[u8]) -> &[u8]
     ensures { result.now ≡ printed_line spelling.now }
 {
-    if spelling.len() < LINE_LEN {
+    if spelling.len() < CONTENT_LIMIT {
         spelling
     } else {
-        &spelling[..LINE_LEN]
+        &spelling[..CONTENT_LIMIT]
     }
 }

@@ -11,11 +11,8 @@ use crate::words::{read_body, read_line, read_name};
 use buffer_commands::WireLine;
 use irc_line::Name;
 use std::alloc::{AllocError, Global};
-use wire_bytes::{Moment, Wire};
+use wire_bytes::{LAST_SECOND, Moment, Wire};
 use world_events::Input;
-
-/// The last second that a moment can be.
-const LAST_SECOND: u64 = 250_000_000_000;
 
 /// What happens, as its line without its end tells.
 pub fn read_input<B: Wire>(

@@ -1,6 +1,7 @@
 ghost use Rattle.std.specs.Prelude.{◌≤◌, IfOk, length};
 ghost use Rattle.raft_log.specs.Steps.{IsStep};
 ghost use Rattle.replication.specs.Replication.{on_vote};
+ghost use Rattle.wire_bytes.specs.Limits.{body_limit};
 
 use crate::bodies::on_forward;
 use raft_log::{Log, LoggedBody, NodeId, Position, Standing, Step};
@@ -20,7 +21,7 @@ pub fn on_vote<B: Wire>(
     blank: B,
 ) -> Result<Step<B>, AllocError>
     requires fits { B.fits blank }
-    requires short { length (B.spelled blank) ≤ 65536 }
+    requires short { length (B.spelled blank) ≤ body_limit }
     ensures { IfOk result (IsStep
         (λ s. on_vote blank standing.peers.size s from term granted) standing log.now) }
 {

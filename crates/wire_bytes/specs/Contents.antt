@@ -7,6 +7,7 @@ use Rattle.irc_line.specs.Reading.{canonical, judged}
 use Rattle.wire_bytes.specs.declared.wire_fault.WireFault.{WireFault}
 use Rattle.wire_bytes.specs.declared.wire_fault.WireFault.TheVariants.{Short, Bad}
 use Rattle.wire_bytes.specs.Fields.{Reading}
+use Rattle.irc_line.specs.Limits.{line_limit}
 
 -- the length in two bytes, and the bytes
 unfoldable pub sized : List ℕ → List ℕ
@@ -48,7 +49,7 @@ text = content (passed is_text)
 
 -- a line whose canonical spelling has at most 511 bytes
 abbrev pub FitsLine : Parts → Type 0
-FitsLine p = IsTrue (is_line p) × (length (spelling p) ≤ 511)
+FitsLine p = IsTrue (is_line p) × (length (spelling p) ≤ line_limit)
 
 -- the canonical spelling, behind its length
 unfoldable pub spelled_line : Parts → List ℕ

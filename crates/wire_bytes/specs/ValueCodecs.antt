@@ -2,6 +2,7 @@
 use Rattle.std.proofs.Common.{ℕ, ◌^◌, ◌≤◌, ◌∷◌, [], ◌++◌, refl, arith}
 use Rattle.std.specs.Int.{w64}
 use Rattle.wire_bytes.specs.Fields.{byte_within, both}
+use Rattle.wire_bytes.specs.Limits.{second_limit}
 use Rattle.wire_bytes.specs.Values.{FitsNumber, number, FitsMoment, moment, spelled_number, FitsOrigin, spelled_origin, origin, mark_of, FitsMark, spelled_mark, mark_taken, FitsSession, spelled_session, session}
 use Rattle.wire_bytes.specs.Codecs.{IsCodec, through-codec, both-codec}
 use Rattle.wire_bytes.specs.FieldCodecs.{byte-codec, number-codec, wide64}
@@ -12,7 +13,7 @@ number_is_codec = number-codec w64 (2 ^ 64) (2 ^ 60) wide64 (omega arith)
 
 pub moment_is_codec : IsCodec spelled_number FitsMoment moment
 unfolding moment spelled_number
-moment_is_codec = number-codec w64 (2 ^ 64) 250000000000 wide64 (omega arith)
+moment_is_codec = number-codec w64 (2 ^ 64) second_limit wide64 (omega arith)
 
 pub session_is_codec : IsCodec spelled_session FitsSession session
 unfolding session spelled_session

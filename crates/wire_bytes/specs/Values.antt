@@ -2,6 +2,7 @@
 use Rattle.std.specs.Prelude.{ℕ, ◌^◌, ◌≤◌, List, ◌∷◌, ◌++◌}
 use Rattle.std.specs.Int.{w64, to_be_bytes}
 use Rattle.wire_bytes.specs.declared.mark.Mark.{Mark}
+use Rattle.wire_bytes.specs.Limits.{second_limit}
 use Rattle.wire_bytes.specs.Fields.{Reading, byte_within, number_to, both, through}
 
 -- at most 2^60
@@ -12,13 +13,13 @@ FitsNumber n = n ≤ 2 ^ 60
 unfoldable pub number : Reading ℕ
 number = number_to w64 (2 ^ 60)
 
--- at most 250,000,000,000 seconds
+-- at most second_limit seconds
 abbrev pub FitsMoment : ℕ → Type 0
-FitsMoment n = n ≤ 250000000000
+FitsMoment n = n ≤ second_limit
 
--- eight bytes, at most 250,000,000,000
+-- eight bytes, at most second_limit
 unfoldable pub moment : Reading ℕ
-moment = number_to w64 250000000000
+moment = number_to w64 second_limit
 
 -- eight bytes, the highest first
 unfoldable pub spelled_number : ℕ → List ℕ

@@ -1,15 +1,17 @@
 ghost use Rattle.std.specs.Prelude.{IfOk, IfErr, Ok, Err, ◌≡◌, ℕ, ◌≤◌, Some};
+ghost use Rattle.wire_bytes.specs.Limits.{second_limit};
 ghost use Rattle.wire_bytes.specs.Values.{moment};
 
 use crate::copied::Copied;
 use crate::fields::take_u64;
+use crate::limits::LAST_SECOND;
 use crate::wire::Wire;
 use crate::wire_fault::WireFault;
 use std::alloc::{AllocError, Global};
 use std::fmt;
 use std::marker::Model;
 
-/// Whole seconds since 1970 in UTC, at most 250,000,000,000.
+/// Whole seconds since 1970 in UTC, at most `LAST_SECOND`.
 ///
 /// A clause sees it as the number of seconds.
 #[derive(Clone, Copy, Debug, PartialEq, Eq, PartialOrd, Ord)]
@@ -19,19 +21,20 @@ pub struct Moment {
 
 impl Model for Moment {
     ghost use Rattle.std.specs.Prelude.{ℕ, ◌≤◌};
+    ghost use Rattle.wire_bytes.specs.Limits.{second_limit};
 
     ghost Value = { ℕ };
 
     ghost view = { λ m. m.seconds };
 
-    ghost invariant = { λ m. m.seconds ≤ 250000000000 };
+    ghost invariant = { λ m. m.seconds ≤ second_limit };
 
     ghost inverse = { λ v. record { seconds = v } };
 }
 
 impl Moment {
     pub fn new(seconds: u64) -> Moment
-        requires { seconds ≤ 250000000000 }
+        requires { seconds ≤ second_limit }
         ensures { result ≡ seconds }
     {
         Moment { seconds }
@@ -39,7 +42,7 @@ impl Moment {
 
     pub fn seconds(self) -> u64
         ensures value { result ≡ self }
-        ensures limit { self ≤ 250000000000 }
+        ensures limit { self ≤ second_limit }
     {
         self.seconds
     }
@@ -73,7 +76,7 @@ impl Wire for Moment {
 
     #[tactic(auto, unfolding(crate::specs::Values::moment))]
     fn take(_alloc: Global, input: &[u8]) -> Result<(Self, usize), WireFault> {
-        let (seconds, len) = take_u64(input, 250_000_000_000)?;
+        let (seconds, len) = take_u64(input, LAST_SECOND)?;
         Ok((Moment { seconds }, len))
     }
 

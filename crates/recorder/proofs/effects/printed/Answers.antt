@@ -1,6 +1,7 @@
 use Rattle.std.proofs.Common.{sym, arith}
 use Rattle.std.proofs.lemmas.List.{take_all}
+use Rattle.irc_line.specs.Limits.{content_limit}
 use Rattle.recorder.proofs.effects.printed.Goals as goal
 
-pub returns-then-spelling-lt-LINE_LEN : goal.returns-then-spelling-lt-LINE_LEN
-returns-then-spelling-lt-LINE_LEN c = sym (take_all 510 c.args.spelling.now (omega arith))
+pub returns-then-spelling-lt-CONTENT_LIMIT : goal.returns-then-spelling-lt-CONTENT_LIMIT
+returns-then-spelling-lt-CONTENT_LIMIT c = sym (take_all content_limit c.args.spelling.now (omega arith))
