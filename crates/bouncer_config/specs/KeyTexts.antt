@@ -1,5 +1,6 @@
 -- The keys of a configuration: the words under which they stand, and what their values are.
 use Rattle.std.specs.Prelude.{ℕ, List, codes}
+use Rattle.buffer_commands.specs.Settings.{query_limit, size_limit}
 use Rattle.bouncer_config.specs.declared.key.Key.{Key}
 use Rattle.bouncer_config.specs.declared.key.Key.TheVariants.{Nick, Password, Upstream, UpstreamPassword, Listen, Store, Record, Channels, ChanBufferSize, QueryBufferSize, MaxQueryBuffers, OffsetMinutes, AutoClearChanBuffer, AutoClearQueryBuffer, MultiClients, BeatMs, TimeoutMs, FloodBurst, FloodMs, Log, Input}
 use Rattle.bouncer_config.specs.declared.key.Kind.{Kind}
@@ -53,9 +54,9 @@ between least most usual = record { least = least; most = most; usual = usual }
 
 -- the limits of each natural number
 abbrev pub limits_of : Key → Limits
-limits_of ChanBufferSize = between 0 500 50
-limits_of QueryBufferSize = between 0 500 50
-limits_of MaxQueryBuffers = between 1 50 50
+limits_of ChanBufferSize = between 0 size_limit 50
+limits_of QueryBufferSize = between 0 size_limit 50
+limits_of MaxQueryBuffers = between 1 query_limit 50
 limits_of BeatMs = between 10 10000 100
 limits_of TimeoutMs = between 50 60000 1000
 limits_of FloodBurst = between 1 100 5

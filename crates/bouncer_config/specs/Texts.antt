@@ -7,14 +7,19 @@ use Rattle.bouncer_config.specs.declared.input_end.InputEnd.{InputEnd}
 use Rattle.bouncer_config.specs.declared.input_end.InputEnd.TheVariants.{Stops, Ignored}
 use Rattle.bouncer_config.specs.declared.log_level.LogLevel.{LogLevel}
 use Rattle.bouncer_config.specs.declared.log_level.LogLevel.TheVariants.{Quiet, Info, Debug}
+use Rattle.bouncer_config.specs.declared.password.TheConstants.{PASSWORD_LIMIT}
 
 -- no NUL, CR, LF or space
 abbrev pub is_password_byte : ℕ → Bool
 is_password_byte b = is_content_byte b && not (b == 32)
 
--- 1 to 64 such bytes
+-- how many bytes a password has at most
+abbrev pub password_limit : ℕ
+password_limit = PASSWORD_LIMIT
+
+-- 1 to password_limit such bytes
 abbrev pub is_password : List ℕ → Bool
-is_password bytes = nat_le 1 (length bytes) && nat_le (length bytes) 64 && list_all is_password_byte bytes
+is_password bytes = nat_le 1 (length bytes) && nat_le (length bytes) password_limit && list_all is_password_byte bytes
 
 -- at least one byte, and none of them NUL
 abbrev pub is_path : List ℕ → Bool

@@ -14,7 +14,7 @@ use Rattle.bouncer_config.specs.declared.key.Key.{Key}
 use Rattle.bouncer_config.specs.declared.key.Key.TheVariants.{Nick, Password, Upstream, UpstreamPassword, Listen, Store, Record, Channels, ChanBufferSize, QueryBufferSize, MaxQueryBuffers, OffsetMinutes, AutoClearChanBuffer, AutoClearQueryBuffer, MultiClients, BeatMs, TimeoutMs, FloodBurst, FloodMs, Log, Input}
 use Rattle.bouncer_config.specs.declared.key.Kind.{Kind}
 use Rattle.bouncer_config.specs.declared.key.Kind.TheVariants.{Text, Texts, Number, Truth}
-use Rattle.bouncer_config.specs.declared.lists.TheConstants.{MOST_CHANNELS}
+use Rattle.buffer_commands.specs.Settings.{channel_limit}
 use Rattle.bouncer_config.specs.declared.problem.Problem.{Problem}
 use Rattle.bouncer_config.specs.declared.problem.Problem.TheVariants.{Memory, NotToml, Unknown, Missing, Kind as KindOf, Refused, ListenCount, ListenTwice, ChannelCount, Setup}
 
@@ -93,7 +93,7 @@ pub record ArePorts (table : Members) (upstream : ℕ) (ports : List ℕ) : Type
 
 -- no more channels are listed than a setup may have
 abbrev pub HasFewChannels : Members → Type 0
-HasFewChannels table = (ds : Items) → list_at Channels table ≡ Some ds → item_count ds ≤ MOST_CHANNELS
+HasFewChannels table = (ds : Items) → list_at Channels table ≡ Some ds → item_count ds ≤ channel_limit
 
 -- The channels and options that a table says are those of no setup, though there are not too many channels.
 pub record IsSetupFault (table : Members) (fault : SetupFault) : Type 0 where
@@ -127,5 +127,5 @@ IsProblem table (KindOf key) = (d : Data) × (value_at key table ≡ Some d) × 
 IsProblem table (Refused key) = (d : Data) × (value_at key table ≡ Some d) × (breaks (kind_of key) key d ≡ true)
 IsProblem table ListenCount = (ds : Items) × (list_at Listen table ≡ Some ds) × (¬ IsGroupSize (item_count ds))
 IsProblem table ListenTwice = IsTwice table
-IsProblem table ChannelCount = (ds : Items) × (list_at Channels table ≡ Some ds) × (MOST_CHANNELS < item_count ds)
+IsProblem table ChannelCount = (ds : Items) × (list_at Channels table ≡ Some ds) × (channel_limit < item_count ds)
 IsProblem table (Setup fault) = IsSetupFault table fault

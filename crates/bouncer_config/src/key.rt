@@ -1,6 +1,8 @@
 ghost use Rattle.std.specs.Prelude.{◌≡◌};
 ghost use Rattle.bouncer_config.specs.KeyTexts.{key_text, kind_of, limits_of};
 
+use buffer_commands::{MOST_LINES, MOST_QUERIES};
+
 /// A key of the configuration.
 #[derive(Clone, Copy, Debug, PartialEq, Eq)]
 pub enum Key {
@@ -101,10 +103,13 @@ impl Key {
         ensures { result ≡ limits_of self }
     {
         match self {
-            Key::ChanBufferSize | Key::QueryBufferSize => Limits::new(0, 500, 50),
-            Key::MaxQueryBuffers => Limits::new(1, 50, 50),
+            // what is kept lies in the memory of each node, and is played whole
+            Key::ChanBufferSize | Key::QueryBufferSize => Limits::new(0, MOST_LINES, 50),
+            Key::MaxQueryBuffers => Limits::new(1, MOST_QUERIES as u16, 50),
+            // without a leader nothing is agreed: a person waits for that a minute at the most
             Key::BeatMs => Limits::new(10, 10_000, 100),
             Key::TimeoutMs => Limits::new(50, 60_000, 1_000),
+            // as most servers take them: a few lines at once, then one in two seconds
             Key::FloodBurst => Limits::new(1, 100, 5),
             Key::FloodMs => Limits::new(0, 60_000, 2_000),
             _ => Limits::new(0, 0, 0),

@@ -13,12 +13,10 @@ use crate::address::Address;
 use crate::key::Key;
 use crate::problem::Problem;
 use crate::reading::{find, needed};
+use buffer_commands::MOST_CHANNELS;
 use irc_line::{Name, is_channel_name, is_name_below};
 use std::alloc::{AllocError, Global};
 use toml::{Table, Value};
-
-/// The most channels that may stand at the start.
-const MOST_CHANNELS: usize = 100;
 
 /// The address of a value, where it is one.
 fn address_at(value: &Value) -> Option<Address>

@@ -5,6 +5,10 @@ ghost use Rattle.bouncer_config.specs.Texts.{is_password, is_password_byte};
 
 use std::marker::Model;
 
+/// The most bytes of a password.
+// PASS with it stays far below the limit of a line
+const PASSWORD_LIMIT: usize = 64;
+
 /// A password: 1 to 64 bytes, none of them a space or what no line carries (NUL, CR and LF).
 #[derive(Drop)]
 pub struct Password {
@@ -59,5 +63,5 @@ fn all_may_stand(bytes: &[u8]) -> bool
 pub(crate) fn is_a_password(bytes: &[u8]) -> bool
     ensures { result ≡ is_password bytes.now }
 {
-    1 <= bytes.len() && bytes.len() <= 64 && all_may_stand(bytes)
+    1 <= bytes.len() && bytes.len() <= PASSWORD_LIMIT && all_may_stand(bytes)
 }

@@ -6,6 +6,7 @@ use Rattle.irc_line.specs.Keys.{is_below_all, are_rising}
 use Rattle.buffer_commands.specs.declared.options.Options.{Options}
 use Rattle.buffer_commands.specs.declared.setup_fault.SetupFault.{SetupFault}
 use Rattle.buffer_commands.specs.declared.setup_fault.SetupFault.TheVariants.{TooManyChannels, NotAChannel, NotRising, ChannelSize, QuerySize, MostQueries}
+use Rattle.buffer_commands.specs.declared.setup.TheConstants.{MOST_CHANNELS, MOST_LINES, MOST_QUERIES}
 
 -- what clauses see of a setup
 pub record Settings : Type 0 where
@@ -54,15 +55,27 @@ settings_of nick channels options =
 abbrev pub plain : Settings
 plain = settings_of (codes "me") (codes "#x" ∷ []) default_options
 
+-- how many channels a setup names at most
+abbrev pub channel_limit : ℕ
+channel_limit = MOST_CHANNELS
+
+-- how many lines a channel or a query keeps at most
+abbrev pub size_limit : ℕ
+size_limit = MOST_LINES
+
+-- how many queries are kept at most
+abbrev pub query_limit : ℕ
+query_limit = MOST_QUERIES
+
 -- what holds of the channels and the sizes of every setup
 pub record KeepsLimits (channels : List (List ℕ)) (options : Options) : Type 0 where
   pub rising : IsTrue (are_rising channels)
   pub named : IsTrue (list_all is_channel channels)
-  pub few : length channels ≤ 100
-  pub channel_size : options.channel_size ≤ 500
-  pub query_size : options.query_size ≤ 500
+  pub few : length channels ≤ channel_limit
+  pub channel_size : options.channel_size ≤ size_limit
+  pub query_size : options.query_size ≤ size_limit
   pub some_queries : 1 ≤ options.most_queries
-  pub few_queries : options.most_queries ≤ 50
+  pub few_queries : options.most_queries ≤ query_limit
 
 -- nothing was wrong, or this is what was wrong first
 abbrev pub Refuses : Result (Unit {0}) SetupFault → Option SetupFault → Type 0
@@ -70,15 +83,15 @@ Refuses result fault = MatchResult result (λ _. fault ≡ None) (λ e. fault �
 
 -- what is wrong with so many channels
 abbrev pub count_fault : ℕ → Option SetupFault
-count_fault count = if nat_lt 100 count then Some TooManyChannels else None
+count_fault count = if nat_lt channel_limit count then Some TooManyChannels else None
 
--- at most 100 names, each a channel's, each before the next one in the order of folded names
+-- at most channel_limit names, each a channel's, each before the next one in the order of folded names
 abbrev pub are_channels : List (List ℕ) → Bool
-are_channels channels = nat_le (length channels) 100 && (list_all is_channel channels && are_rising channels)
+are_channels channels = nat_le (length channels) channel_limit && (list_all is_channel channels && are_rising channels)
 
--- at most 500 lines for a channel and for a query, and 1 to 50 queries
+-- at most size_limit lines for a channel and for a query, and 1 to query_limit queries
 abbrev pub are_sizes : Options → Bool
-are_sizes options = nat_le options.channel_size 500 && (nat_le options.query_size 500 && (nat_le 1 options.most_queries && nat_le options.most_queries 50))
+are_sizes options = nat_le options.channel_size size_limit && (nat_le options.query_size size_limit && (nat_le 1 options.most_queries && nat_le options.most_queries query_limit))
 
 -- all limits hold
 abbrev pub within_limits : List (List ℕ) → Options → Bool
@@ -92,9 +105,9 @@ order_fault place (c ∷ cs) = if is_channel c then (if is_below_all c cs then o
 -- what is wrong first with the sizes
 abbrev pub size_fault : Options → Option SetupFault
 size_fault options =
-    if nat_lt 500 options.channel_size
+    if nat_lt size_limit options.channel_size
     then Some ChannelSize
-    else (if nat_lt 500 options.query_size then Some QuerySize else (if nat_lt options.most_queries 1 || nat_lt 50 options.most_queries then Some MostQueries else None))
+    else (if nat_lt size_limit options.query_size then Some QuerySize else (if nat_lt options.most_queries 1 || nat_lt query_limit options.most_queries then Some MostQueries else None))
 
 -- the first fault, or the second where there is no first
 abbrev pub first_fault : Option SetupFault → Option SetupFault → Option SetupFault
@@ -103,4 +116,4 @@ first_fault None other = other
 
 -- what is wrong first: the number of channels, then the channels one by one, then the sizes
 abbrev pub fault_of : List (List ℕ) → Options → Option SetupFault
-fault_of channels options = if nat_lt 100 (length channels) then Some TooManyChannels else first_fault (order_fault 0 channels) (size_fault options)
+fault_of channels options = if nat_lt channel_limit (length channels) then Some TooManyChannels else first_fault (order_fault 0 channels) (size_fault options)

@@ -3,6 +3,7 @@ ghost use Rattle.std.specs.List.{list_all};
 ghost use Rattle.irc_line.specs.Names.{is_channel, is_name};
 ghost use Rattle.irc_line.specs.Keys.{are_rising, is_below_all};
 ghost use Rattle.buffer_commands.specs.Settings.{Refuses, count_fault, fault_of, order_fault, plain, settings_of, size_fault, within_limits};
+ghost use Rattle.buffer_commands.specs.Settings.{channel_limit, query_limit, size_limit};
 
 use crate::options::Options;
 use crate::setup_fault::SetupFault;
@@ -13,13 +14,13 @@ use std::marker::Model;
 use wire_bytes::{Copied, copied_all};
 
 /// The most channels that may stand at the start.
-const MOST_CHANNELS: usize = 100;
+pub const MOST_CHANNELS: usize = 100;
 
 /// The most lines that a channel or a query may keep.
 pub const MOST_LINES: u16 = 500;
 
 /// The most queries that there may be.
-const MOST_QUERIES: u8 = 50;
+pub const MOST_QUERIES: u8 = 50;
 
 /// What a bouncer is set up with.
 #[derive(Drop)]
@@ -89,7 +90,7 @@ impl Setup {
         ensures value { result.now ≡ self.now.channels }
         ensures rising { IsTrue (are_rising self.now.channels) }
         ensures channels { IsTrue (list_all is_channel self.now.channels) }
-        ensures most { length self.now.channels ≤ 100 }
+        ensures most { length self.now.channels ≤ channel_limit }
     {
         self.channels.as_slice()
     }
@@ -97,7 +98,7 @@ impl Setup {
     /// How many lines a channel keeps.
     pub fn channel_size(&self) -> usize
         ensures value { result ≡ self.now.channel_size }
-        ensures limit { self.now.channel_size ≤ 500 }
+        ensures limit { self.now.channel_size ≤ size_limit }
     {
         self.options.channel_size as usize
     }
@@ -105,7 +106,7 @@ impl Setup {
     /// How many lines a query keeps.
     pub fn query_size(&self) -> usize
         ensures value { result ≡ self.now.query_size }
-        ensures limit { self.now.query_size ≤ 500 }
+        ensures limit { self.now.query_size ≤ size_limit }
     {
         self.options.query_size as usize
     }
@@ -114,7 +115,7 @@ impl Setup {
     pub fn most_queries(&self) -> usize
         ensures value { result ≡ self.now.most_queries }
         ensures least { 1 ≤ self.now.most_queries }
-        ensures most { self.now.most_queries ≤ 50 }
+        ensures most { self.now.most_queries ≤ query_limit }
     {
         self.options.most_queries as usize
     }

@@ -2,14 +2,12 @@ ghost use Rattle.std.specs.Prelude.{◌≡◌, ◌<◌, ◌≤◌, length, Match
 ghost use Rattle.irc_line.specs.Lines.{spelling};
 ghost use Rattle.irc_line.specs.Reading.{IsShort};
 ghost use Rattle.wire_bytes.specs.Contents.{FitsLine};
+ghost use Rattle.irc_line.specs.Limits.{line_limit};
 
-use irc_line::Line;
+use irc_line::{LINE_LIMIT, Line};
 use std::alloc::{AllocError, Global};
 use std::marker::Model;
 use wire_bytes::{Copied, Wire, WireFault};
-
-/// The most bytes that a line may have, without its CR LF, where it is to have a spelling.
-const MOST_BYTES: usize = 511;
 
 /// Any line of at most 511 bytes.
 #[derive(Drop)]
@@ -20,6 +18,7 @@ pub struct WireLine {
 impl Model for WireLine {
     ghost use Rattle.std.specs.Prelude.{◌≤◌, length};
     ghost use Rattle.irc_line.specs.Lines.{Parts, parts_code, spelling};
+    ghost use Rattle.irc_line.specs.Limits.{line_limit};
 
     ghost Value = { Parts };
 
@@ -27,16 +26,16 @@ impl Model for WireLine {
 
     ghost view = { λ l. l.line };
 
-    ghost invariant = { λ l. length (spelling l.line) ≤ 511 };
+    ghost invariant = { λ l. length (spelling l.line) ≤ line_limit };
 }
 
 impl WireLine {
     /// The line, where it is not too long.
     pub fn from_line(line: Line) -> Option<WireLine>
-        ensures { MatchOption result (511 < length (spelling line))
+        ensures { MatchOption result (line_limit < length (spelling line))
             (λ l. (l ≡ line) × IsShort line) }
     {
-        if line.spelled_len() <= MOST_BYTES {
+        if line.spelled_len() <= LINE_LIMIT {
             Some(WireLine { line })
         } else {
             None
@@ -45,7 +44,7 @@ impl WireLine {
 
     pub fn line(&self) -> &Line
         ensures value { result.now ≡ self.now }
-        ensures fits { length (spelling self.now) ≤ 511 }
+        ensures fits { length (spelling self.now) ≤ line_limit }
     {
         &self.line
     }

@@ -15,6 +15,7 @@ use Rattle.buffer_commands.specs.declared.command.Command.{Command}
 use Rattle.buffer_commands.specs.declared.command.Command.TheVariants.{Client, Upstream, Down}
 use Rattle.buffer_machine.specs.Crowd.{attached, ids, is_naming, is_some_of, takes}
 use Rattle.buffer_machine.specs.Messages.{is_among, is_none_of, is_storable, is_own, is_own_kick, is_new_nick, is_query_line, source, own_said}
+use Rattle.buffer_commands.specs.Settings.{size_limit}
 
 -- The own nick
 
@@ -185,7 +186,7 @@ first_size s t = if is_channel t then s.channel_size else s.query_size
 
 -- a size that no target may have
 abbrev pub is_past : ℕ → Bool
-is_past size = nat_lt 500 size
+is_past size = nat_lt size_limit size
 
 -- how many lines a target keeps after one command more that does not remove it
 abbrev pub size_after : List Origin → Bool → List ℕ → ℕ → Command → ℕ

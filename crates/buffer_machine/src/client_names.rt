@@ -4,6 +4,7 @@ ghost use Rattle.buffer_machine.specs.Crowd.{is_some_of, may_name, with_id};
 ghost use Rattle.buffer_machine.specs.Held.{index_in, names_of};
 ghost use Rattle.buffer_machine.specs.NameSteps.{flags, here_of, index_of, stand_below, with_holder};
 ghost use Rattle.buffer_targets.specs.Targets.{reader};
+ghost use Rattle.buffer_targets.specs.Targets.{readers};
 
 use buffer_targets::READERS;
 use irc_line::{Name, is_same};
@@ -28,6 +29,7 @@ impl Model for Names {
     ghost use Rattle.std.specs.List.{list_all};
     ghost use Rattle.buffer_machine.specs.Held.{Names, names_code};
     ghost use Rattle.buffer_machine.specs.NameSteps.{flags, stand_below};
+    ghost use Rattle.buffer_targets.specs.Targets.{readers};
 
     ghost Value = { Names };
 
@@ -35,7 +37,7 @@ impl Model for Names {
 
     ghost view = { λ n. record { ids = n.ids.items; holders = n.holders.items } };
 
-    ghost invariant = { λ n. (length n.ids.items ≤ 64)
+    ghost invariant = { λ n. (length n.ids.items ≤ readers)
         × (stand_below (length n.ids.items) n.holders.items ≡ true)
         × (n.here ≡ flags n.holders.items) };
 }
@@ -83,7 +85,7 @@ impl Names {
     /// Where a name stands; behind all others, where it is new. Names are compared byte by byte.
     pub fn place_of(&self, id: &Name) -> usize
         ensures place { result ≡ index_in id.now self.now.ids }
-        ensures within { may_name self.now.ids (Some id.now) ≡ true → result < 64 }
+        ensures within { may_name self.now.ids (Some id.now) ≡ true → result < readers }
     {
         place_in(self.ids.as_slice(), id)
     }
@@ -98,7 +100,7 @@ impl Names {
     /// The name of a client, if it is attached and has one.
     pub fn name_of(&self, origin: Origin) -> Option<usize>
         ensures name { result ≡ index_of origin self.now.holders }
-        ensures within { IfSome result (λ place. place < 64) }
+        ensures within { IfSome result (λ place. place < readers) }
     {
         name_in(self.holders.as_slice(), origin)
     }
@@ -113,7 +115,7 @@ impl Names {
     /// How many names there are.
     pub fn count(&self) -> usize
         ensures count { result ≡ length self.now.ids }
-        ensures within { result ≤ 64 }
+        ensures within { result ≤ readers }
     {
         self.ids.len()
     }
@@ -181,12 +183,12 @@ fn drop_run(holders: &mut Vec<Holder>, node: u8, floor: Number)
 
 /// Where a name stands among these, where it comes to stand if it is new.
 fn add_name(alloc: Global, ids: &mut Vec<Name>, id: &Name) -> Result<usize, AllocError>
-    requires few { length ids.old.items ≤ 64 }
+    requires few { length ids.old.items ≤ readers }
     requires room { may_name ids.old.items (Some id.now) ≡ true }
     ensures ok { OnOk result (ids.new.items ≡ with_id (Some id.now) ids.old.items) }
     ensures place { IfOk result (λ place. place ≡ index_in id.now ids.new.items) }
     ensures within { IfOk result (λ place. place < length ids.new.items) }
-    ensures few { length ids.new.items ≤ 64 }
+    ensures few { length ids.new.items ≤ readers }
     ensures more { length ids.old.items ≤ length ids.new.items }
 {
     let name = place_in(ids.as_slice(), id);
@@ -213,9 +215,9 @@ fn place_in(ids: &[Name], id: &Name) -> usize
 
 /// Where the name of a client stands, if it has one.
 fn name_in(holders: &[Holder], origin: Origin) -> Option<usize>
-    requires { stand_below 64 holders.now ≡ true }
+    requires { stand_below readers holders.now ≡ true }
     ensures name { result ≡ index_of origin holders.now }
-    ensures within { IfSome result (λ place. place < 64) }
+    ensures within { IfSome result (λ place. place < readers) }
 {
     for holder in holders {
         let (client, name) = *holder;
@@ -228,7 +230,7 @@ fn name_in(holders: &[Holder], origin: Origin) -> Option<usize>
 
 /// Who is here, where these clients are attached.
 fn flags_of(holders: &[Holder]) -> [bool; READERS]
-    requires { stand_below 64 holders.now ≡ true }
+    requires { stand_below readers holders.now ≡ true }
     ensures { result ≡ flags holders.now }
 {
     let mut here = NOBODY;
@@ -241,7 +243,7 @@ fn flags_of(holders: &[Holder]) -> [bool; READERS]
 
 /// A reader alone, of all that there may be.
 pub fn reader_alone(place: usize) -> [bool; READERS]
-    requires { place < 64 }
+    requires { place < readers }
     ensures { result ≡ reader place }
 {
     let mut here = NOBODY;

@@ -11,6 +11,7 @@ ghost use Rattle.buffer_machine.specs.Crowd.{attached, floor, holds, ids, is_id_
 ghost use Rattle.buffer_machine.specs.Buffers.{detached, emptied, is_known, kept, stored, stored_query};
 ghost use Rattle.buffer_machine.specs.Effects.{closings, effects, shown};
 ghost use Rattle.buffer_machine.specs.Marks.{mark, seen, unseen};
+ghost use Rattle.buffer_targets.specs.Targets.{readers};
 
 /// Where no client ever gives a name, no name is known and none has seen anything, and who is attached, what is stored, what is
 /// emptied and what each command brings about goes as it did before clients could give one.
@@ -41,7 +42,7 @@ pub fn without_names_all_is_as_before()
 /// At most 64 names are known, and none is forgotten.
 #[tactic(auto, using(crate::proofs::NameCount::few_ids, crate::proofs::NameCount::id_stays))]
 pub fn no_more_than_64_names_are_known()
-    ensures few { (s : Settings) (history : List Command) → length (ids s history) ≤ 64 }
+    ensures few { (s : Settings) (history : List Command) → length (ids s history) ≤ readers }
     ensures stays { (s : Settings) (x : Command) (earlier : List Command) (id : List ℕ)
         → is_id_in id (ids s earlier) ≡ true → is_id_in id (ids s (x ∷ earlier)) ≡ true }
 {}

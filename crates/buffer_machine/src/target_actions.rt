@@ -6,6 +6,7 @@ ghost use Rattle.buffer_machine.specs.Effects.{status};
 ghost use Rattle.buffer_machine.specs.Machine.{held_of};
 ghost use Rattle.buffer_machine.specs.Steps.{kinds_cleared, cleared_of, played_emptied, played_out, played_seen, sized_unless_past};
 ghost use Rattle.buffer_machine.specs.Answering.{answers_sizing, playing, clearing};
+ghost use Rattle.buffer_targets.specs.Targets.{readers};
 
 use crate::buffers::Buffers;
 use crate::client_names::reader_alone;
@@ -151,7 +152,7 @@ fn note_played(setup: &Setup, buffers: &mut Buffers, origin: Origin, name: &[u8]
 
 /// A name has seen all of a target that was played.
 fn see_played(buffers: &mut Buffers, name: &[u8], place: usize)
-    requires { place < 64 }
+    requires { place < readers }
     ensures { held_of buffers.new ≡
         played_seen (reader place) (fold_name name.now) (held_of buffers.old) }
 {

@@ -1,6 +1,7 @@
 -- What a gate writes, each line with CR LF.
 use Rattle.std.specs.Prelude.{ℕ, ◌==◌, if◌then◌else◌, List, [], ◌∷◌, ◌++◌, length, take, codes}
 use Rattle.irc_line.specs.Lines.{line_of, spelling}
+use Rattle.irc_line.specs.Limits.{content_limit, name_limit}
 
 -- a line as it leaves
 abbrev pub with_end : List ℕ → List ℕ
@@ -24,7 +25,7 @@ not_enough name command = reply (codes "461") (name ∷ command ∷ codes "Not e
 
 -- a word as it is told: its first 64 bytes, or `*` where it is empty
 abbrev pub told_word : List ℕ → List ℕ
-told_word word = if length word == 0 then codes "*" else take 64 word
+told_word word = if length word == 0 then codes "*" else take name_limit word
 
 -- a word that is no channel's name
 abbrev pub no_channel : List ℕ → List ℕ → List ℕ
@@ -49,4 +50,4 @@ status nick text =
 
 -- what is shown, as it leaves: its first 510 bytes with CR LF
 abbrev pub shown_cut : List ℕ → List ℕ
-shown_cut shown = with_end (take 510 shown)
+shown_cut shown = with_end (take content_limit shown)

@@ -21,11 +21,12 @@ use Rattle.client_gate.specs.Replies.{no_channel, not_enough, pong}
 use Rattle.client_gate.specs.StatusWords.{status_deeds}
 use Rattle.client_gate.specs.Turns.{Deed, Ask, Leave, Write, Close, Progress, all_done}
 use Rattle.client_gate.specs.Words.{pieces}
+use Rattle.irc_line.specs.Limits.{line_limit}
 
 -- the line goes upstream without its prefix; each line that is fed is short enough for it
 abbrev pub passed : Parts → List Deed
 passed line =
-    if nat_le (length (spelling (without_prefix line))) 511
+    if nat_le (length (spelling (without_prefix line))) line_limit
     then Ask (action.Pass (without_prefix line)) ∷ []
     else []
 

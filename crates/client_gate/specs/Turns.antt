@@ -6,6 +6,7 @@ use Rattle.client_gate.specs.declared.request.Request.{Request}
 use Rattle.client_gate.specs.declared.phase.Phase.{Phase}
 use Rattle.client_gate.specs.declared.phase.Phase.TheVariants.{Left}
 use Rattle.client_gate.specs.Replies.{status}
+use Rattle.client_gate.specs.declared.turn.TheConstants.{MOST_WAITING}
 
 -- where a call has come: the client's phase, how many requests wait, the number of the last one, and what the call
 -- answers: the requests that it numbered, the bytes that it writes, and whether it closes
@@ -29,9 +30,9 @@ pub data Deed : Type 0 where
 abbrev pub request : ℕ → Action → Request
 request number a = record { number = number; action = a }
 
--- fewer than 100 requests wait, and there is a number besides the last one, which is kept for Leave
+-- fewer than MOST_WAITING requests wait, and there is a number besides the last one, which is kept for Leave
 abbrev pub has_room : Progress → Bool
-has_room p = nat_lt p.waiting 100 && nat_lt (p.numbered + 1) (2 ^ 60)
+has_room p = nat_lt p.waiting MOST_WAITING && nat_lt (p.numbered + 1) (2 ^ 60)
 
 -- the next request, which waits from now on
 abbrev pub numbered_next : Action → Progress → Progress
@@ -76,7 +77,11 @@ abbrev pub has_left : Phase → Bool
 has_left Left = true
 has_left _ = false
 
--- the limits that a gate keeps: 100 requests may wait, and Leave besides, with numbers up to 2^60
+-- for how many requests a gate has room: those that may wait, and Leave besides
+abbrev pub waiting_room : ℕ
+waiting_room = MOST_WAITING + 1
+
+-- the limits that a gate keeps: MOST_WAITING requests may wait, and Leave besides, with numbers up to 2^60
 pub record IsWithin (phase : Phase) (waiting numbered : ℕ) : Type 0 where
-  pub all : (waiting ≤ 101) × (numbered ≤ 2 ^ 60)
-  pub but_leave : has_left phase ≡ false → (waiting ≤ 100) × (numbered < 2 ^ 60)
+  pub all : (waiting ≤ waiting_room) × (numbered ≤ 2 ^ 60)
+  pub but_leave : has_left phase ≡ false → (waiting ≤ MOST_WAITING) × (numbered < 2 ^ 60)

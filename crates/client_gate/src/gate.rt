@@ -1,5 +1,5 @@
 ghost use Rattle.std.specs.Prelude.{◌≡◌, ◌≤◌, ◌^◌, ◌∷◌, [], List, length, IfOk, IsOk, MatchResult, OnErr, OnOk, false, true};
-ghost use Rattle.client_gate.specs.Turns.{IsWithin, request};
+ghost use Rattle.client_gate.specs.Turns.{IsWithin, request, waiting_room};
 
 mod hearing;
 
@@ -9,7 +9,7 @@ use crate::phase::{Arrival, Phase};
 use crate::request::Request;
 use crate::serve::serve_all;
 use crate::settings::Settings;
-use crate::turn::{Outcome, Turn};
+use crate::turn::{MOST_WAITING, Outcome, Turn};
 use crate::waiting::{copies, push_all};
 use buffer_commands::{Action, Effect};
 use circular_buffer::HeapCircularBuffer;
@@ -25,7 +25,7 @@ use wire_bytes::{Number, Origin, copied_all};
 pub type GateEffect = Answer<ClaimsEffect<FenceEffect<Effect>>>;
 
 /// Room for the requests that may wait, and for a Leave.
-const MOST_WAITING: usize = 101;
+const ROOM: usize = MOST_WAITING + 1;
 
 /// Speaks IRC to one client.
 ///
@@ -46,7 +46,7 @@ pub struct ClientGate {
 
 impl Model for ClientGate {
     ghost use Rattle.std.specs.Prelude.{◌≡◌, length};
-    ghost use Rattle.client_gate.specs.Turns.{IsWithin};
+    ghost use Rattle.client_gate.specs.Turns.{IsWithin, waiting_room};
     ghost use Rattle.client_gate.specs.Calls.{Held};
 
     ghost Value = { Held };
@@ -62,7 +62,7 @@ impl Model for ClientGate {
       bytes = g.splitter;
     } };
 
-    ghost invariant = { λ g. (g.waiting.capacity ≡ 101)
+    ghost invariant = { λ g. (g.waiting.capacity ≡ waiting_room)
         × IsWithin g.phase (length g.waiting.items) g.numbered };
 }
 
@@ -98,7 +98,7 @@ impl ClientGate {
                 nick: false,
                 user: false,
             }),
-            waiting: HeapCircularBuffer::with_capacity(alloc, MOST_WAITING)?,
+            waiting: HeapCircularBuffer::with_capacity(alloc, ROOM)?,
             numbered: 0,
             closed: false,
         })
@@ -157,7 +157,7 @@ impl ClientGate {
     pub fn waiting(&self) -> usize
         ensures answer { (s : Settings) (calls : List Call) → Stands s calls self.now →
             result ≡ length (gate s calls).waiting }
-        ensures limit { result ≤ 101 }
+        ensures limit { result ≤ waiting_room }
     {
         self.waiting.len()
     }

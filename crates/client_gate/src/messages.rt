@@ -12,14 +12,11 @@ use crate::status::tell_status;
 use crate::turn::Turn;
 use crate::writing::at_most;
 use buffer_commands::{Action, ChannelName, Verb};
-use irc_line::{Line, Name, Text, is_a_name, is_a_text, is_channel_name, is_same_name};
+use irc_line::{Line, NAME_LIMIT, Name, Text, is_a_name, is_a_text, is_channel_name, is_same_name};
 use std::alloc::{AllocError, Global};
 
 /// The nick of the bouncer itself.
 const STATUS: &[u8] = b"*status";
-
-/// The most bytes of a word that is told.
-const MOST_TOLD: usize = 64;
 
 const NO_SUCH_CHANNEL: &[u8] = b"No such channel";
 
@@ -113,7 +110,7 @@ fn told_word(word: &[u8]) -> &[u8]
     if word.is_empty() {
         b"*"
     } else {
-        at_most(word, MOST_TOLD)
+        at_most(word, NAME_LIMIT)
     }
 }
 

@@ -15,7 +15,8 @@ use std::marker::Model;
 use wire_bytes::Number;
 
 /// The most requests but Leave that may wait.
-const MOST_WAITING: usize = 100;
+// each is held in memory until it is done, and a person who pastes sends fewer at once
+pub const MOST_WAITING: usize = 100;
 
 /// The number that no request but Leave may have.
 const LAST_NUMBER: u64 = 1 << 60;

@@ -5,11 +5,8 @@ ghost use Rattle.irc_line.specs.Lines.{line_of, spelling};
 ghost use Rattle.client_gate.specs.Replies.{reply, shown_cut, status, with_end};
 
 use buffer_lines::Shown;
-use irc_line::{Name, write_parts};
+use irc_line::{CONTENT_LIMIT, Name, write_parts};
 use std::alloc::AllocError;
-
-/// The most bytes of a line that is shown, without its CR LF (RFC 2812, 2.3).
-const MOST_SHOWN: usize = 510;
 
 /// Appends a line with this prefix.
 fn push_line(
@@ -49,7 +46,7 @@ pub fn push_status(out: &mut Vec<u8>, nick: &Name, text: &[u8]) -> Result<(), Al
 pub fn push_shown(out: &mut Vec<u8>, shown: &Shown) -> Result<(), AllocError>
     ensures { OnOk result (out.new.items ≡ out.old.items ++ shown_cut shown.now) }
 {
-    let text = at_most(shown.spelling(), MOST_SHOWN);
+    let text = at_most(shown.spelling(), CONTENT_LIMIT);
     out.reserve(text.len() + 2)?;
     out.extend_from_slice(text)?;
     out.extend_from_slice(b"\r\n")

@@ -29,6 +29,7 @@ use Rattle.driver.specs.declared.settings.Settings.{Settings}
 use Rattle.driver.specs.Monitors.{at, is_over}
 use Rattle.driver.specs.Telling.{Ordered, ordered}
 use Rattle.driver.specs.declared.link.TheConstants.{FIRST_WAIT, LONGEST_WAIT, GOOD_SESSION, SILENCE}
+use Rattle.irc_line.specs.Limits.{line_limit}
 
 -- the node that a connection is of, if there is one
 abbrev pub node_of : Stage → Option ℕ
@@ -122,7 +123,7 @@ Connects (Open session) settings now before stage after = (stage ≡ Open sessio
 -- what an uplink gives is a note to its node; a line that no body can hold is none
 abbrev pub note_of : Moment → UplinkInput → List (Note TowerBody WireLine)
 note_of at input.Opened = note.Opened ∷ []
-note_of at (input.Heard line) = if nat_lt 511 (length (spelling line)) then [] else note.Heard at line ∷ []
+note_of at (input.Heard line) = if nat_lt line_limit (length (spelling line)) then [] else note.Heard at line ∷ []
 note_of at input.Closed = note.Closed ∷ []
 
 -- the notes to its node of all that an uplink gives, in order

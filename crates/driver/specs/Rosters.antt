@@ -43,10 +43,14 @@ abbrev pub is_read_for : Ordered → List NodeMonitor → Option ℕ → Bool
 is_read_for orders monitors None = true
 is_read_for orders monitors (Some node) = takes_notes orders (slice_get monitors (node - 1))
 
+-- how many requests of a client may wait at its gate, at most, while more is read of it
+abbrev pub reading_limit : ℕ
+reading_limit = MOST_WAITING
+
 -- As many requests of a client wait at its gate, behind whatever calls of it, as may while more is read.
 abbrev pub IsFullIn : Bool → Option Client → Type 0
 IsFullIn full None = full ≡ false
-IsFullIn full (Some c) = (s : Settings) (calls : List Call) → Stands s calls c.gate → full ≡ nat_le MOST_WAITING (length (gate s calls).waiting)
+IsFullIn full (Some c) = (s : Settings) (calls : List Call) → Stands s calls c.gate → full ≡ nat_le reading_limit (length (gate s calls).waiting)
 
 -- Bytes are read of a client, if there is one: not while as many notes of its node wait as may, or as many of its requests.
 abbrev pub IsReadOf : Bool → Ordered → List NodeMonitor → Option Client → Type 0

@@ -5,7 +5,7 @@ ghost use Rattle.client_gate.specs.Gates.{last_request};
 ghost use Rattle.client_gate.specs.declared.settings.Settings.{Settings};
 ghost use Rattle.driver.specs.Asking.{held_behind, is_idle};
 ghost use Rattle.driver.specs.Clients.{behind_fed, parting_unless, passed};
-ghost use Rattle.driver.specs.Rosters.{IsNew};
+ghost use Rattle.driver.specs.Rosters.{IsNew, reading_limit};
 ghost use Rattle.driver.specs.Serving.{Hears, IsLost, Receives, StandsSo, ended, ended_if};
 ghost use Rattle.driver.specs.Telling.{ordered};
 
@@ -124,7 +124,7 @@ impl Client {
     /// Whether as many of its requests wait as may while more is read of it.
     pub fn is_full(&self) -> bool
         ensures { (s : Settings) (calls : List Call) → Stands s calls self.now.gate →
-            result ≡ nat_le 48 (length (gate s calls).waiting) }
+            result ≡ nat_le reading_limit (length (gate s calls).waiting) }
     {
         self.gate.waiting() >= MOST_WAITING
     }

@@ -25,6 +25,7 @@ use std::alloc::{AllocError, Global};
 use uplink::{Passed, Uplink};
 
 /// The first and the longest wait before the server is tried again, in milliseconds.
+// A server that failed for a moment is soon tried again, and one that is gone is not pressed.
 const FIRST_WAIT: u32 = 1000;
 
 const LONGEST_WAIT: u32 = 60_000;
@@ -33,6 +34,7 @@ const LONGEST_WAIT: u32 = 60_000;
 const GOOD_SESSION: u64 = 60_000;
 
 /// After how long without a word from the server the connection is closed, in milliseconds.
+// Servers send a PING every few minutes at the most: one that is silent for so long is gone.
 const SILENCE: u64 = 300_000;
 
 /// Where the connection stands.

@@ -31,6 +31,7 @@ use wire_bytes::Number;
 pub const MOST_NODES: usize = 7;
 
 /// The longest wait before a node that is down is started again, in milliseconds.
+// A disk that is full is not pressed, and a node that can start again is up within a minute.
 const LONGEST: u32 = 60_000;
 
 /// After how many timeouts without an answer a node counts as dead.

@@ -16,12 +16,13 @@ use Rattle.buffer_commands.specs.ActionCodec.{channel_is_codec}
 use Rattle.buffer_commands.specs.Settings.{are_channels}
 use Rattle.buffer_commands.specs.Spellings.{FitsChannel, channel_name}
 use Rattle.setup_spelling.specs.Spelling.{FitOptions, FitsSetup, SetupFields, channel_after, channels, channels_after, is_after, line_count, offset_minutes, options_in, options_taken, query_count, settings, setup_taken, spelled_channels, spelled_names, spelled_options, spelled_setup, spelled_short}
+use Rattle.buffer_commands.specs.Settings.{channel_limit, query_limit, size_limit}
 
 -- ---- numbers
 
-pub line_count_is_codec : IsCodec spelled_short (λ n. n ≤ 500) line_count
+pub line_count_is_codec : IsCodec spelled_short (λ n. n ≤ size_limit) line_count
 unfolding line_count spelled_short
-line_count_is_codec = number-codec w16 (2 ^ 16) 500 wide16 (omega arith)
+line_count_is_codec = number-codec w16 (2 ^ 16) size_limit wide16 (omega arith)
 
 pub offset_is_codec : IsCodec spelled_short (λ n. n ≤ 2878) offset_minutes
 unfolding offset_minutes spelled_short
@@ -111,17 +112,17 @@ channels_codec (suc n) before =
 abbrev AreChannels : List (List ℕ) → Type 0
 AreChannels cs = IsTrue (are_channels cs)
 
-few : (cs : List (List ℕ)) → AreChannels cs → length cs ≤ 100
-few cs h = let f = and_left (nat_le (length cs) 100) (list_all is_channel cs && are_rising cs) h in grind (arith, nat_tests)
+few : (cs : List (List ℕ)) → AreChannels cs → length cs ≤ channel_limit
+few cs h = let f = and_left (nat_le (length cs) channel_limit) (list_all is_channel cs && are_rising cs) h in grind (arith, nat_tests)
 
 rest_of : (cs : List (List ℕ)) → AreChannels cs → IsTrue (list_all is_channel cs && are_rising cs)
-rest_of cs h = and_right (nat_le (length cs) 100) (list_all is_channel cs && are_rising cs) h
+rest_of cs h = and_right (nat_le (length cs) channel_limit) (list_all is_channel cs && are_rising cs) h
 
-few_test : (n : ℕ) → n ≤ 100 → IsTrue (nat_le n 100)
+few_test : (n : ℕ) → n ≤ channel_limit → IsTrue (nat_le n channel_limit)
 few_test n h = grind (arith, nat_tests)
 
-to_channels : (n : ℕ) (cs : List (List ℕ)) → n ≤ 100 → AreAfter None n cs → AreChannels cs
-to_channels n cs most h = all_true (nat_le (length cs) 100) (list_all is_channel cs && are_rising cs) (few_test (length cs) (omega (arith, most, h.counted))) (all_true (list_all is_channel cs) (are_rising cs) h.named h.rise)
+to_channels : (n : ℕ) (cs : List (List ℕ)) → n ≤ channel_limit → AreAfter None n cs → AreChannels cs
+to_channels n cs most h = all_true (nat_le (length cs) channel_limit) (list_all is_channel cs && are_rising cs) (few_test (length cs) (omega (arith, most, h.counted))) (all_true (list_all is_channel cs) (are_rising cs) h.named h.rise)
 
 from_channels : (n : ℕ) (cs : List (List ℕ)) → AreChannels cs → length cs ≡ n → AreAfter None n cs
 from_channels n cs h e = record {
@@ -142,8 +143,8 @@ refit spelled fits other taken codec to from = record {
 pub channels_is_codec : IsCodec spelled_channels (λ cs. IsTrue (are_channels cs)) channels
 unfolding channels spelled_channels
 channels_is_codec =
-    then-codec spelled_channels spelled_names AreChannels (λ (n : ℕ). n ∷ []) (λ n. (0 ≤ n) × (n ≤ 100)) (byte_within 0 100) (λ n. channels_after n None) (λ n cs. length cs ≡ n)
-    (byte-codec 0 100)
+    then-codec spelled_channels spelled_names AreChannels (λ (n : ℕ). n ∷ []) (λ n. (0 ≤ n) × (n ≤ channel_limit)) (byte_within 0 channel_limit) (λ n. channels_after n None) (λ n cs. length cs ≡ n)
+    (byte-codec 0 channel_limit)
     (λ cs h. (length cs, (omega arith, few cs h), refl))
     (λ n cs e. ap (λ (k : ℕ). k ∷ spelled_names cs) e)
     (λ n f. refit spelled_names (AreAfter None n) (λ cs. AreChannels cs × (length cs ≡ n)) (channels_after n None) (channels_codec n None)
@@ -157,9 +158,9 @@ options_is_codec =
     (both-codec _ _ _ (λ b. truth_byte b ∷ []) (λ _. Unit {0}) truth
     (both-codec _ _ _ (λ b. truth_byte b ∷ []) (λ _. Unit {0}) truth
     (both-codec _ _ _ (λ b. truth_byte b ∷ []) (λ _. Unit {0}) truth
-    (both-codec _ _ _ (λ n. n ∷ []) (λ n. (1 ≤ n) × (n ≤ 50)) query_count
-    (both-codec spelled_short (λ n. n ≤ 500) line_count spelled_short (λ n. n ≤ 500) line_count line_count_is_codec line_count_is_codec)
-    (byte-codec 1 50)) truth_is_codec) truth_is_codec) truth_is_codec)
+    (both-codec _ _ _ (λ n. n ∷ []) (λ n. (1 ≤ n) × (n ≤ query_limit)) query_count
+    (both-codec spelled_short (λ n. n ≤ size_limit) line_count spelled_short (λ n. n ≤ size_limit) line_count line_count_is_codec line_count_is_codec)
+    (byte-codec 1 query_limit)) truth_is_codec) truth_is_codec) truth_is_codec)
     offset_is_codec
 
 -- ---- setups

@@ -8,6 +8,7 @@ use Rattle.wire_bytes.specs.Contents.{name, sized}
 use Rattle.buffer_commands.specs.Settings.{Settings, are_channels, settings_of}
 use Rattle.buffer_commands.specs.declared.options.Options.{Options}
 use Rattle.buffer_commands.specs.Spellings.{channel_name}
+use Rattle.buffer_commands.specs.Settings.{channel_limit, query_limit, size_limit}
 
 -- The channels: their number in one byte, at most 100, and their names
 
@@ -31,7 +32,7 @@ channels_after (suc n) before = channel_after before >>= λ c. through (λ cs. c
 
 -- the channels at the front of an input: how many, and as many names, in rising order of folded name
 unfoldable pub channels : Reading (List (List ℕ))
-channels = byte_within 0 100 >>= λ n. channels_after n None
+channels = byte_within 0 channel_limit >>= λ n. channels_after n None
 
 -- names as bytes, one behind the other, each behind its length
 abbrev pub spelled_names : List (List ℕ) → List ℕ
@@ -50,11 +51,11 @@ spelled_short n = to_be_bytes w16 n
 
 -- how many lines a target keeps, in two bytes: at most 500
 unfoldable pub line_count : Reading ℕ
-line_count = number_to w16 500
+line_count = number_to w16 size_limit
 
 -- how many queries are kept at most, in one byte: 1 to 50
 abbrev pub query_count : Reading ℕ
-query_count = byte_within 1 50
+query_count = byte_within 1 query_limit
 
 -- how far the times of played lines are ahead of UTC, in two bytes: the minutes and 1,439, at most 2,878
 unfoldable pub offset_minutes : Reading ℕ
@@ -74,7 +75,7 @@ spelled_options o = (((((spelled_short o.0.0.0.0.0.0 ++ spelled_short o.0.0.0.0.
 
 -- options within their limits: at most 500 lines, 1 to 50 queries, an offset of at most 2,878
 abbrev pub FitOptions : OptionFields → Type 0
-FitOptions o = ((((((o.0.0.0.0.0.0 ≤ 500) × (o.0.0.0.0.0.1 ≤ 500)) × ((1 ≤ o.0.0.0.0.1) × (o.0.0.0.0.1 ≤ 50))) × Unit {0}) × Unit {0}) × Unit {0}) × (o.1 ≤ 2878)
+FitOptions o = ((((((o.0.0.0.0.0.0 ≤ size_limit) × (o.0.0.0.0.0.1 ≤ size_limit)) × ((1 ≤ o.0.0.0.0.1) × (o.0.0.0.0.1 ≤ query_limit))) × Unit {0}) × Unit {0}) × Unit {0}) × (o.1 ≤ 2878)
 
 -- Setups
 

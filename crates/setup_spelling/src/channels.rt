@@ -4,14 +4,13 @@ ghost use Rattle.irc_line.specs.Lines.{LacksRoom};
 ghost use Rattle.wire_bytes.specs.Fields.{appended, behind};
 ghost use Rattle.setup_spelling.specs.Spelling.{channel_after, channels_after, is_after, last_of};
 ghost use Rattle.setup_spelling.specs.Spelling.{spelled_channels, spelled_names};
+ghost use Rattle.buffer_commands.specs.Settings.{channel_limit};
 
+use buffer_commands::MOST_CHANNELS;
 use irc_line::{Name, is_name_below};
 use std::alloc::{AllocError, Global};
 use std::marker::Model;
 use wire_bytes::{Copied, Wire, WireFault, copied_all, take_behind, take_byte, undo};
-
-/// The most channels that may stand at the start.
-const MOST_CHANNELS: u8 = 100;
 
 /// At most 100 names of channels, each before the next one in the order of folded names.
 #[derive(Drop)]
@@ -57,6 +56,7 @@ impl Wire for Channels {
     ghost use Rattle.wire_bytes.specs.Wants.{once_whole};
     ghost use Rattle.setup_spelling.specs.Spelling.{channels, spelled_channels};
     ghost use Rattle.setup_spelling.specs.SetupCodec.{channels_is_codec};
+    ghost use Rattle.buffer_commands.specs.Settings.{channel_limit};
 
     ghost spelled = { spelled_channels };
 
@@ -64,14 +64,14 @@ impl Wire for Channels {
 
     ghost taken = { channels };
 
-    ghost wants = { once_whole (byte_within 0 100) };
+    ghost wants = { once_whole (byte_within 0 channel_limit) };
 
     fn put(&self, out: &mut Vec<u8>) -> Result<(), AllocError> {
         put_channels(out, &self.names)
     }
 
     fn take(alloc: Global, input: &[u8]) -> Result<(Self, usize), WireFault> {
-        let (count, place) = take_byte(input, 0, MOST_CHANNELS)?;
+        let (count, place) = take_byte(input, 0, MOST_CHANNELS as u8)?;
         let (names, end) = take_names(alloc, input, place, count)?;
         Ok((Channels { names }, end))
     }
@@ -82,7 +82,7 @@ impl Wire for Channels {
 /// Appends the number of names and each in turn, or leaves the items as they were.
 #[tactic(auto, unfolding(crate::specs::Spelling::spelled_channels))]
 pub fn put_channels(out: &mut Vec<u8>, names: &[Name]) -> Result<(), AllocError>
-    requires { length names.now ≤ 100 }
+    requires { length names.now ≤ channel_limit }
     ensures items { out.new.items ≡ appended result out.old.items (spelled_channels names.now) }
     ensures full { OnErr result (LacksRoom out.old (length (spelled_channels names.now))) }
     ensures capacity { vec_capacity out.old ≤ vec_capacity out.new }

@@ -1,7 +1,9 @@
 //! The numbers of a setup as bytes, the highest first.
 ghost use Rattle.std.specs.Prelude.{◌≡◌, ◌≤◌, Ok};
 ghost use Rattle.setup_spelling.specs.Spelling.{line_count, offset_minutes, query_count};
+ghost use Rattle.buffer_commands.specs.Settings.{query_limit, size_limit};
 
+use buffer_commands::{MOST_LINES, MOST_QUERIES};
 use std::alloc::{AllocError, Global};
 use std::marker::Model;
 use wire_bytes::{Copied, Wire, WireFault, take_byte, take_u16};
@@ -16,19 +18,20 @@ pub struct LineCount {
 
 impl Model for LineCount {
     ghost use Rattle.std.specs.Prelude.{ℕ, ◌≤◌};
+    ghost use Rattle.buffer_commands.specs.Settings.{size_limit};
 
     ghost Value = { ℕ };
 
     ghost view = { λ c. c.lines };
 
-    ghost invariant = { λ c. c.lines ≤ 500 };
+    ghost invariant = { λ c. c.lines ≤ size_limit };
 
     ghost inverse = { λ v. record { lines = v } };
 }
 
 impl LineCount {
     pub fn new(lines: u16) -> LineCount
-        requires { lines ≤ 500 }
+        requires { lines ≤ size_limit }
         ensures { result ≡ lines }
     {
         LineCount { lines }
@@ -36,7 +39,7 @@ impl LineCount {
 
     pub fn lines(self) -> u16
         ensures value { result ≡ self }
-        ensures limit { self ≤ 500 }
+        ensures limit { self ≤ size_limit }
     {
         self.lines
     }
@@ -55,10 +58,11 @@ impl Wire for LineCount {
     ghost use Rattle.setup_spelling.specs.Spelling.{line_count, spelled_short};
     ghost use Rattle.wire_bytes.specs.Wants.{never};
     ghost use Rattle.setup_spelling.specs.SetupCodec.{line_count_is_codec};
+    ghost use Rattle.buffer_commands.specs.Settings.{size_limit};
 
     ghost spelled = { spelled_short };
 
-    ghost fits = { λ n. n ≤ 500 };
+    ghost fits = { λ n. n ≤ size_limit };
 
     ghost taken = { line_count };
 
@@ -71,7 +75,7 @@ impl Wire for LineCount {
 
     #[tactic(auto, unfolding(crate::specs::Spelling::line_count))]
     fn take(_alloc: Global, input: &[u8]) -> Result<(Self, usize), WireFault> {
-        let (lines, len) = take_u16(input, 500)?;
+        let (lines, len) = take_u16(input, MOST_LINES)?;
         Ok((LineCount { lines }, len))
     }
 
@@ -88,12 +92,13 @@ pub struct QueryCount {
 
 impl Model for QueryCount {
     ghost use Rattle.std.specs.Prelude.{ℕ, ◌≤◌};
+    ghost use Rattle.buffer_commands.specs.Settings.{query_limit};
 
     ghost Value = { ℕ };
 
     ghost view = { λ c. c.queries };
 
-    ghost invariant = { λ c. (1 ≤ c.queries) × (c.queries ≤ 50) };
+    ghost invariant = { λ c. (1 ≤ c.queries) × (c.queries ≤ query_limit) };
 
     ghost inverse = { λ v. record { queries = v } };
 }
@@ -101,7 +106,7 @@ impl Model for QueryCount {
 impl QueryCount {
     pub fn new(queries: u8) -> QueryCount
         requires some { 1 ≤ queries }
-        requires few { queries ≤ 50 }
+        requires few { queries ≤ query_limit }
         ensures { result ≡ queries }
     {
         QueryCount { queries }
@@ -110,7 +115,7 @@ impl QueryCount {
     pub fn queries(self) -> u8
         ensures value { result ≡ self }
         ensures some { 1 ≤ self }
-        ensures few { self ≤ 50 }
+        ensures few { self ≤ query_limit }
     {
         self.queries
     }
@@ -129,10 +134,11 @@ impl Wire for QueryCount {
     ghost use Rattle.setup_spelling.specs.Spelling.{query_count};
     ghost use Rattle.wire_bytes.specs.Wants.{never};
     ghost use Rattle.wire_bytes.specs.FieldCodecs.{byte-codec};
+    ghost use Rattle.buffer_commands.specs.Settings.{query_limit};
 
     ghost spelled = { λ n. n ∷ [] };
 
-    ghost fits = { λ n. (1 ≤ n) × (n ≤ 50) };
+    ghost fits = { λ n. (1 ≤ n) × (n ≤ query_limit) };
 
     ghost taken = { query_count };
 
@@ -143,11 +149,11 @@ impl Wire for QueryCount {
     }
 
     fn take(_alloc: Global, input: &[u8]) -> Result<(Self, usize), WireFault> {
-        let (queries, len) = take_byte(input, 1, 50)?;
+        let (queries, len) = take_byte(input, 1, MOST_QUERIES)?;
         Ok((QueryCount { queries }, len))
     }
 
-    ghost is_codec = { byte-codec 1 50 };
+    ghost is_codec = { byte-codec 1 query_limit };
 }
 
 /// By how many minutes the clock is ahead of UTC, with 1,439 added to them, at most 2,878: two bytes.

@@ -9,15 +9,20 @@ use Rattle.upstream_claim.specs.declared.command.ClaimsCommand.{ClaimsCommand}
 use Rattle.upstream_claim.specs.declared.command.ClaimsCommand.TheVariants.{Inner, Claim}
 use Rattle.upstream_claim.specs.declared.effect.ClaimsEffect.{ClaimsEffect}
 use Rattle.upstream_claim.specs.declared.effect.ClaimsEffect.TheVariants as effect
+use Rattle.upstream_claim.specs.declared.unclaimed.TheConstants.{MOST_LINES}
 
 -- the lines that were numbered, the one of number 1 first, and the claims that took effect, in order
 pub record Numbered : Type 0 where
   pub outgoing : List Parts
   pub claimed : List (ℕ × SessionId)
 
--- how many lines may be numbered: at most 1,000 wait to be claimed
+-- how many lines wait to be claimed at most
+abbrev pub waiting_limit : ℕ
+waiting_limit = MOST_LINES
+
+-- how many lines may be numbered
 abbrev pub room : Numbered → ℕ
-room q = 1000 - (length q.outgoing - length q.claimed)
+room q = waiting_limit - (length q.outgoing - length q.claimed)
 
 -- this is the number of the line that is to be claimed next: one more than there are claims, and numbered
 abbrev pub is_next : Numbered → ℕ → Bool

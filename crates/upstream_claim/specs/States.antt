@@ -3,11 +3,11 @@ use Rattle.std.specs.Prelude.{◌≡◌, ℕ, ◌-◌, ◌≤◌, if◌then◌el
 use Rattle.irc_line.specs.Lines.{Parts}
 use Rattle.wire_bytes.specs.declared.session_id.SessionId.{SessionId}
 use Rattle.upstream_claim.specs.declared.effect.ClaimsEffect.{ClaimsEffect}
-use Rattle.upstream_claim.specs.Numbered.{Numbered, is_next, handed, with_claim}
+use Rattle.upstream_claim.specs.Numbered.{Numbered, is_next, handed, waiting_limit, with_claim}
 
 -- how many more lines may wait
 abbrev pub space : List Parts → ℕ
-space waiting = 1000 - length waiting
+space waiting = waiting_limit - length waiting
 
 -- the number of the claims, and the lines that wait to be claimed
 pub record IsKept (n : ℕ) (lines : List Parts) (q : Numbered) : Type 0 where

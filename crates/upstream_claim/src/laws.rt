@@ -5,6 +5,7 @@ ghost use Rattle.machine_laws.specs.Runs.{History};
 ghost use Rattle.wire_bytes.specs.declared.session_id.SessionId.{SessionId};
 ghost use Rattle.upstream_claim.specs.Hands.{handed_over, hands};
 ghost use Rattle.upstream_claim.specs.Numbered.{answers, claimed, outgoing};
+ghost use Rattle.upstream_claim.specs.Numbered.{waiting_limit};
 
 use crate::command::ClaimsCommand;
 use machine_laws::HasSession;
@@ -26,7 +27,7 @@ pub fn each_line_is_claimed_once<M: HasSession>()
         → (1 ≤ n) × (n ≤ length (outgoing M.session M.sends (M.effects s) h)) }
     ensures waiting { (s : M.Setup) (h : History (ClaimsCommand M.Command))
         → length (outgoing M.session M.sends (M.effects s) h) ≤ length (claimed M.session M.sends
-        (M.effects s) h) + 1000 }
+        (M.effects s) h) + waiting_limit }
 {}
 
 /// The lines that a command hands out are those of the claims that it adds, in order; each is the line of its number.

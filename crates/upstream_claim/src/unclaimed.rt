@@ -1,5 +1,6 @@
 //! The lines that wait to be claimed.
 ghost use Rattle.std.specs.Prelude.{◌≡◌, ◌+◌, ◌==◌, ◌≤◌, ◌^◌, ◌++◌, ◌∷◌, [], length, drop, slice_get, nat_lt, nat_le, is_some, if◌then◌else◌, OnOk, Some, None};
+ghost use Rattle.upstream_claim.specs.Numbered.{waiting_limit};
 
 use irc_line::Line;
 use std::alloc::{AllocError, Global};
@@ -30,7 +31,7 @@ impl Unclaimed {
 
     /// Whether no more lines may wait.
     pub fn is_full(&self) -> bool
-        ensures { result ≡ nat_le 1000 (length self.now.lines.items) }
+        ensures { result ≡ nat_le waiting_limit (length self.now.lines.items) }
     {
         self.lines.len() >= MOST_LINES
     }

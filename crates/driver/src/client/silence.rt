@@ -16,6 +16,7 @@ const REGISTERS_WITHIN: u64 = 10_000;
 
 /// After how long without a word a client is asked for one, and after how long more its connection is
 /// closed, in milliseconds.
+// A connection that broke without a word is noticed within some minutes, as servers notice it.
 const SILENCE: u64 = 120_000;
 
 /// What a client is asked that was silent for long.
