@@ -5,6 +5,7 @@ use Rattle.wire_bytes.specs.Fields.{Reading, number_to}
 use Rattle.wire_bytes.specs.declared.wire_fault.WireFault.{WireFault}
 use Rattle.stable_store.specs.declared.store_fault.StoreFault.{StoreFault}
 use Rattle.stable_store.specs.declared.store_fault.StoreFault.TheVariants.{NotAStore, Version, Damaged}
+use Rattle.journal_store.specs.declared.find.TheConstants.{PAYLOAD_LIMIT}
 
 -- RBSTOR
 abbrev pub name : List ℕ
@@ -24,7 +25,7 @@ header = name ++ version
 
 -- the greatest length of a payload
 abbrev pub payload_limit : ℕ
-payload_limit = 33554432
+payload_limit = PAYLOAD_LIMIT
 
 -- these bytes stand at the front of a file
 abbrev pub begins : List ℕ → List ℕ → Bool

@@ -23,9 +23,14 @@ use Rattle.node_threads.specs.Rounds.{GathersMark, GathersTurn}
 use Rattle.node_threads.specs.declared.worker_loop.round.Round.{Round}
 use Rattle.node_threads.specs.Reports.{leads_in}
 use Rattle.node_threads.specs.Together.{HasTurnedAll, asks_of}
+use Rattle.node_threads.specs.declared.worker_loop.turning.TheConstants.{MOST_APPLIED}
 use Rattle.node_threads.specs.declared.job.Job.{Job}
 use Rattle.node_threads.specs.declared.job.Job.TheVariants as job
 use Rattle.node_threads.specs.declared.worker_loop.requests.Request.{Request}
+
+-- how many places a round applies at most
+abbrev pub apply_limit : ℕ
+apply_limit = MOST_APPLIED
 
 -- one thing that a worker does with its node beside its jobs
 pub data Deed (B L : Type 0) : Type 0 where

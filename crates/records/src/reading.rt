@@ -9,11 +9,9 @@ use irc_line::Name;
 use raft_log::GroupSize;
 use recorder::Dated;
 use std::alloc::Global;
+use whole_input::MOST_BYTES;
 use wire_bytes::Wire;
 use world_events::Event;
-
-/// The most bytes that a record file may have.
-const MOST_BYTES: usize = 67_108_864;
 
 /// What is needed to run again what was recorded.
 #[derive(Drop)]

@@ -8,7 +8,8 @@ use std::io;
 use std::io::{ErrorKind, Read};
 
 /// The most bytes that an input may have.
-const MOST_BYTES: usize = 67_108_864;
+// An input may be held in memory whole, and a file that is longer is a wrong one.
+pub const MOST_BYTES: usize = 67_108_864;
 
 /// The most reads that are tried, those that were interrupted too.
 pub const MOST_READS: u64 = 100_000_000;

@@ -7,5 +7,7 @@
 mod input;
 mod read_fault;
 
-pub use input::{MOST_READS, PIECE_LENGTH, count_within, read_piece, read_whole, room_for_a_piece};
+pub use input::{
+    MOST_BYTES, MOST_READS, PIECE_LENGTH, count_within, read_piece, read_whole, room_for_a_piece,
+};
 pub use read_fault::ReadFault;

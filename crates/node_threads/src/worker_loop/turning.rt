@@ -3,7 +3,7 @@ ghost use Rattle.std.specs.Prelude.{◌≡◌, [], false};
 ghost use Rattle.world_views.specs.Views.{carries};
 ghost use Rattle.node_cells.specs.Cells.{HasHeard, view_in};
 ghost use Rattle.node_threads.specs.Rounds.{Gathers};
-ghost use Rattle.node_threads.specs.Work.{HasApplied, HasAppliedSo, HasGathered, HasGatheredMark, HasHadTurn, HasMarkedOne};
+ghost use Rattle.node_threads.specs.Work.{HasApplied, HasAppliedSo, HasGathered, HasGatheredMark, HasHadTurn, HasMarkedOne, apply_limit};
 
 use crate::gate::{Gate, pass_gate};
 use crate::outlet::Outlet;
@@ -141,8 +141,8 @@ impl<M: Marking, G: Gate + Drop, O: Outlet<M::Effect>> WorkerLoop<M, G, O> {
         }
     }
 
-    /// Applies until all is applied that is agreed, or a turn does nothing. False where there is more: behind 1,000
-    /// places, or where what left is to be told first.
+    /// Applies until all is applied that is agreed, or a turn does nothing. False where there is more: behind
+    /// `MOST_APPLIED` places, or where what left is to be told first.
     pub fn apply_all<R: Wait, S: Stable<M::Command>, U: Upstream>(
         &mut self,
         rt: &R,
@@ -151,7 +151,7 @@ impl<M: Marking, G: Gate + Drop, O: Outlet<M::Effect>> WorkerLoop<M, G, O> {
         ensures applied { HasApplied (⟦<M as Described>⟧.machine cell.old.parts.ether.setup) U.tally
             cell.old.parts cell.new.parts }
         ensures many { result ≡ false → self.new.round.further.items ≡ [] → HasAppliedSo
-            (⟦<M as Described>⟧.machine cell.old.parts.ether.setup) U.tally 1_000
+            (⟦<M as Described>⟧.machine cell.old.parts.ether.setup) U.tally apply_limit
             cell.old.parts cell.new.parts }
     {
         for count in 0..MOST_APPLIED {
