@@ -8,6 +8,23 @@ LEAST = LISTENING + b'["127.0.0.1:1", "127.0.0.1:2", "127.0.0.1:3"]\n'
 
 UPSTREAM = "3: upstream: needs an address 127.0.0.1:PORT: of a server elsewhere, or with TLS, that of a tunnel to it"
 
+
+
+def channels(count):
+    """So many channels, as a list of texts without its brackets."""
+    return b", ".join(b'"#%03d"' % number for number in range(count))
+
+
+# at each limit, past which a text or a number is refused
+MOST = LEAST.replace(b'"me"', b'"' + b"n" * 64 + b'"').replace(b'"pass"', b'"' + b"p" * 64 + b'"') + b"\n".join(
+    [
+        b"channels = [" + channels(100) + b"]",
+        b"chan_buffer_size = 500\nquery_buffer_size = 500\nmax_query_buffers = 50",
+        b"offset_minutes = 1439\nbeat_ms = 10000\ntimeout_ms = 60000\nflood_burst = 100\nflood_ms = 60000",
+        b'upstream_password = "' + b"u" * 64 + b'"\n',
+    ]
+)
+
 # texts that are no TOML
 NO_TOML = [
     (
@@ -24,8 +41,10 @@ NEEDED = [
     (b"", " nick: is missing"),
     (b"nick = 3", "1: nick: needs a text"),
     (b'nick = "a b"', "1: nick: needs a name: 1 to 64 bytes without space or comma, the first no colon"),
+    (b'nick = "' + b"a" * 65 + b'"', "1: nick: needs a name: 1 to 64 bytes without space or comma, the first no colon"),
     (b'nick = "me"', " password: is missing"),
     (b'nick = "me"\npassword = ""', "2: password: needs 1 to 64 bytes without space"),
+    (b'nick = "me"\npassword = "' + b"a" * 65 + b'"', "2: password: needs 1 to 64 bytes without space"),
     (
         b'nick = "me"\npassword = "pass"\nupstream = "127.0.0.1:0"',
         UPSTREAM,
@@ -60,7 +79,9 @@ LISTEN = [
 RANGES = [
     (b"chan_buffer_size = 501", "6: chan_buffer_size: needs 0 to 500"),
     (b"query_buffer_size = -1", "6: query_buffer_size: needs 0 to 500"),
+    (b"query_buffer_size = 501", "6: query_buffer_size: needs 0 to 500"),
     (b"max_query_buffers = 0", "6: max_query_buffers: needs 1 to 50"),
+    (b"max_query_buffers = 51", "6: max_query_buffers: needs 1 to 50"),
     (b"offset_minutes = 1440", "6: offset_minutes: needs -1439 to 1439"),
     (b"offset_minutes = -1440", "6: offset_minutes: needs -1439 to 1439"),
     (b"multi_clients = 1", "6: multi_clients: needs true or false"),
@@ -81,6 +102,7 @@ OPTIONAL = [
     (b'channels = ["#x", "y"]', "6: channels: needs names of channels"),
     (b'channels = [\n  "#x",\n  "y",\n]', "8: channels: needs names of channels"),
     (b'channels = ["#x", "#y", "#X"]', "6: channels: names a channel twice"),
+    (b"channels = [" + channels(101) + b"]", "6: channels: takes at most 100 names"),
 ]
 
 FAULTY = [
