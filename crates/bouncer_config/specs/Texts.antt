@@ -17,7 +17,7 @@ is_password_byte b = is_content_byte b && not (b == 32)
 abbrev pub password_limit : ℕ
 password_limit = PASSWORD_LIMIT
 
--- 1 to password_limit such bytes
+-- such bytes, at least one and not too many
 abbrev pub is_password : List ℕ → Bool
 is_password bytes = nat_le 1 (length bytes) && nat_le (length bytes) password_limit && list_all is_password_byte bytes
 

@@ -106,7 +106,7 @@ impl Key {
             // what is kept lies in the memory of each node, and is played whole
             Key::ChanBufferSize | Key::QueryBufferSize => Limits::new(0, MOST_LINES, 50),
             Key::MaxQueryBuffers => Limits::new(1, MOST_QUERIES as u16, 50),
-            // without a leader nothing is agreed: a person waits for that a minute at the most
+            // without a leader nothing is agreed, and nobody should wait more than a minute
             Key::BeatMs => Limits::new(10, 10_000, 100),
             Key::TimeoutMs => Limits::new(50, 60_000, 1_000),
             // as most servers take them: a few lines at once, then one in two seconds

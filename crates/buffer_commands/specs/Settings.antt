@@ -85,11 +85,11 @@ Refuses result fault = MatchResult result (λ _. fault ≡ None) (λ e. fault �
 abbrev pub count_fault : ℕ → Option SetupFault
 count_fault count = if nat_lt channel_limit count then Some TooManyChannels else None
 
--- at most channel_limit names, each a channel's, each before the next one in the order of folded names
+-- not too many names, each a channel's, each before the next one in the order of folded names
 abbrev pub are_channels : List (List ℕ) → Bool
 are_channels channels = nat_le (length channels) channel_limit && (list_all is_channel channels && are_rising channels)
 
--- at most size_limit lines for a channel and for a query, and 1 to query_limit queries
+-- no more lines for a channel and for a query than one may keep, and at least one query and not too many
 abbrev pub are_sizes : Options → Bool
 are_sizes options = nat_le options.channel_size size_limit && (nat_le options.query_size size_limit && (nat_le 1 options.most_queries && nat_le options.most_queries query_limit))
 

@@ -14,12 +14,15 @@ use std::marker::Model;
 use wire_bytes::{Copied, copied_all};
 
 /// The most channels that may stand at the start.
+// each is joined at once where a session begins, and many networks allow no more
 pub const MOST_CHANNELS: usize = 100;
 
 /// The most lines that a channel or a query may keep.
+// a client that attaches is sent them all at once, and each node holds them in memory
 pub const MOST_LINES: u16 = 500;
 
 /// The most queries that there may be.
+// anybody on the network can begin one, and each is held in memory
 pub const MOST_QUERIES: u8 = 50;
 
 /// What a bouncer is set up with.

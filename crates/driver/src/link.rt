@@ -34,7 +34,7 @@ const LONGEST_WAIT: u32 = 60_000;
 const GOOD_SESSION: u64 = 60_000;
 
 /// After how long without a word from the server the connection is closed, in milliseconds.
-// Servers send a PING every few minutes at the most: one that is silent for so long is gone.
+// A server sends a PING at least every few minutes. One that says nothing for so long is gone.
 const SILENCE: u64 = 300_000;
 
 /// Where the connection stands.

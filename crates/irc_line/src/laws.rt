@@ -21,7 +21,8 @@ pub fn the_faults_have_an_order()
     ensures bad_byte { (s : List ℕ) (place : ℕ) → length s ≤ line_limit → IsFirstBad s place →
         HasFault s (LineFault.BadByte place) }
     ensures no_command { (s : List ℕ) → IsClean s → SaysNothing s → HasFault s LineFault.NoCommand }
-    ensures too_many_parameters { (s : List ℕ) (p : Parts) → Says s p → parameter_limit < length p.parameters →
+    ensures too_many_parameters { (s : List ℕ) (p : Parts) → Says s p →
+        parameter_limit < length p.parameters →
         HasFault s LineFault.TooManyParameters }
     ensures spelled_too_long { (s : List ℕ) (p : Parts) → Says s p → HasFew p →
         line_limit < length (spelling p) →

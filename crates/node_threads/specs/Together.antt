@@ -50,7 +50,7 @@ module _ {B L : Type 0} where
   asks_of [] = []
   asks_of (r ∷ waiting) = input.Ask r.body ∷ asks_of waiting
 
-  -- The first batch_limit of the requests that wait become inputs, and the rest waits; or where there is no memory for that, all wait on.
+  -- The first of the requests that wait become inputs, as many as go together, and the rest waits; or where there is no memory for that, all wait on.
   abbrev pub TakesFront : List (Request B) → List (NodeInput B L) → List (Request B) → Type 0
   TakesFront old inputs new = ((inputs ≡ asks_of (take batch_limit old)) × (new ≡ drop batch_limit old)) ⊎ ((inputs ≡ []) × (new ≡ old))
 

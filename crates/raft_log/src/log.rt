@@ -15,6 +15,7 @@ use std::marker::Model;
 use wire_bytes::{Copied, Number, Wire, copied_all};
 
 /// How many entries a log has at most.
+// a log stays in memory, and so many lines take some 400 MB on three nodes
 pub const ENTRY_LIMIT: usize = 1_000_000;
 
 /// A node's entries, the first at index 1 and at most 1,000,000. Index 0 has term 0.

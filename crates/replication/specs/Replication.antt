@@ -12,7 +12,7 @@ use Rattle.raft_log.specs.Node.{Node, is_leader, is_candidate, message, sending}
 use Rattle.election.specs.Elections as election
 
 module _ {B : Type 0} where
-  -- what a leader sends to a node: the entries from its next place on, at most batch_limit, and the place before them
+  -- what a leader sends to a node: the entries from its next place on, as many as go at once, and the place before them
   abbrev pub append_for : ℕ → Node B → ℕ → Message B
   append_for i s j =
       let prev : ℕ = pred (item_or s.next j 0) in

@@ -26,7 +26,7 @@ module _ {X : Type 0} where
   many zero reading = done []
   many (suc n) reading = through joined_pair (both reading (many n reading))
 
-  -- their number, at most batch_limit, and each in turn
+  -- their number, which is no more than go at once, and each in turn
   unfoldable pub counted : Reading X → Reading (List X)
   counted reading = number_to w16 batch_limit >>= λ n. many n reading
 
@@ -34,7 +34,7 @@ module _ {X : Type 0} where
   unfoldable pub spelled_counted : (X → List ℕ) → List X → List ℕ
   spelled_counted spelled xs = to_be_bytes w16 (length xs) ++ spelled_all spelled xs
 
-  -- at most batch_limit, and each fits
+  -- no more than go at once, and each fits
   abbrev pub FitsCounted : (X → Type 0) → List X → Type 0
   FitsCounted fits xs = (length xs ≤ batch_limit) × AllFit fits xs
 

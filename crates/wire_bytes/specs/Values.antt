@@ -13,11 +13,11 @@ FitsNumber n = n ≤ 2 ^ 60
 unfoldable pub number : Reading ℕ
 number = number_to w64 (2 ^ 60)
 
--- at most second_limit seconds
+-- no later than the last second
 abbrev pub FitsMoment : ℕ → Type 0
 FitsMoment n = n ≤ second_limit
 
--- eight bytes, at most second_limit
+-- eight bytes, no later than the last second
 unfoldable pub moment : Reading ℕ
 moment = number_to w64 second_limit
 
