@@ -18,6 +18,7 @@ mod Leading
 mod Learning
 mod Led
 mod Marks
+mod Merging
 mod Nicks
 mod OneClaim
 mod Owning

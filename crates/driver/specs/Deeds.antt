@@ -1,5 +1,5 @@
 -- What is done by orders, a byte at a time: so it is the same whether what goes to a client is one order or several.
-use Rattle.std.specs.Prelude.{ℕ, List, [], ◌∷◌, ◌++◌, map, flat_map, Option, Some, None}
+use Rattle.std.specs.Prelude.{◌==◌, ◌&&◌, ℕ, Bool, true, false, not, List, [], ◌∷◌, ◌++◌, map, flat_map, Option, Some, None}
 use Rattle.driver.specs.declared.order.Order.{Order}
 use Rattle.driver.specs.declared.order.Order.TheVariants.{Submit, Write, Close, Connect, Send, Disconnect, Log}
 use Rattle.driver.specs.declared.order_list.Writing.{Writing}
@@ -28,6 +28,37 @@ deeds = flat_map deeds_of
 abbrev pub write_of : Option Writing → List Order
 write_of None = []
 write_of (Some writing) = Write writing.client writing.bytes ∷ []
+
+-- the client that an order writes to, if it writes to one
+abbrev pub written_by : Order → Option ℕ
+written_by (Write client bytes) = Some client
+written_by other = None
+
+-- these are not the same client
+abbrev pub are_two : Option ℕ → Option ℕ → Bool
+are_two (Some client) (Some other) = not (client == other)
+are_two (Some client) None = true
+are_two None other = true
+
+-- behind an order that writes to this client, if it writes to one, no order writes to the client that the order before it writes to
+abbrev pub are_merged_behind : Option ℕ → List Order → Bool
+are_merged_behind client [] = true
+are_merged_behind client (order ∷ more) = are_two client (written_by order) && are_merged_behind (written_by order) more
+
+-- no order writes to the client that the order before it writes to
+abbrev pub are_merged : List Order → Bool
+are_merged = are_merged_behind None
+
+-- the client that the last of these orders writes to, if it writes to one; where there is none of them, this one
+abbrev pub written_last : Option ℕ → List Order → Option ℕ
+written_last client [] = client
+written_last client (order ∷ more) = written_last (written_by order) more
+
+-- where no write is held apart, the last of the others is none
+abbrev pub is_last_apart : Option Writing → Option ℕ → Bool
+is_last_apart None None = true
+is_last_apart None (Some client) = false
+is_last_apart (Some writing) client = true
 
 -- what was ordered, each write by itself
 abbrev pub said_in : Said → List Order

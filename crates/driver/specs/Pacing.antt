@@ -1,5 +1,5 @@
 -- How often lines may go, and how long is waited after what failed.
-use Rattle.std.specs.Prelude.{◌≡◌, ◌≤◌, ◌+◌, ◌*◌, ◌^◌, ◌&&◌, ◌++◌, ℕ, pred, Bool, nat_le, nat_lt, max, min, if◌then◌else◌, List, [], ◌∷◌, length}
+use Rattle.std.specs.Prelude.{◌≡◌, ◌≤◌, ◌+◌, ◌*◌, ◌&&◌, ◌++◌, ℕ, pred, Bool, nat_le, nat_lt, max, min, if◌then◌else◌, List, [], ◌∷◌, length}
 use Rattle.driver.specs.declared.pace.TheConstants.{LAST}
 
 -- a line may go at this moment, where so many may go at once, a line takes so long, and all is free again at a moment

@@ -1,5 +1,5 @@
 -- When earlier runs of a node are retired: the group agrees that they are gone.
-use Rattle.std.specs.Prelude.{ℕ, ◌+◌, ◌-◌, ◌*◌, ◌^◌, nat_lt, ◌&&◌, Bool, true, false, nat_eq, nat_le, if◌then◌else◌, List, [], ◌∷◌, Option, Some, None, slice_get}
+use Rattle.std.specs.Prelude.{ℕ, ◌+◌, ◌-◌, ◌*◌, nat_lt, ◌&&◌, Bool, true, false, nat_eq, nat_le, if◌then◌else◌, List, [], ◌∷◌, Option, Some, None, slice_get}
 use Rattle.bouncer_tower.specs.Bodies.{TowerBody}
 use Rattle.bouncer_tower.specs.Hosting.{of_buffers}
 use Rattle.buffer_commands.specs.declared.command.Command.TheVariants.{NodeGone}

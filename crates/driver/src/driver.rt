@@ -1,9 +1,9 @@
 //! The driver: what happened is told to it, and it gives orders.
-ghost use Rattle.std.specs.Prelude.{◌≡◌, IfOk, IfSome, None, OnErr, OnOk};
+ghost use Rattle.std.specs.Prelude.{◌≡◌, true, IfOk, IfSome, None, OnErr, OnOk};
 ghost use Rattle.driver.specs.Arriving.{Arrives, ArrivesIf, IsNewDriver, boot_at, monitors_behind};
 ghost use Rattle.driver.specs.Arriving.{last_number, new_monitors, next_number, turned_away_at};
 ghost use Rattle.driver.specs.Coming.{Comes};
-ghost use Rattle.driver.specs.Deeds.{deeds};
+ghost use Rattle.driver.specs.Deeds.{are_merged, deeds};
 ghost use Rattle.driver.specs.Driving.{changed_at, orders_at};
 ghost use Rattle.driver.specs.Retiring.{with_seen};
 ghost use Rattle.driver.specs.Hearing.{turned_away, turned_away_news};
@@ -91,6 +91,7 @@ impl Driver {
     pub fn orders(&mut self) -> Vec<Order>
         ensures given { deeds result.items ≡ deeds self.old.orders.items }
         ensures left { self.new ≡ record self.old { orders = emptied self.old.orders } }
+        ensures settled { are_merged result.items ≡ true }
     {
         self.orders.take()
     }

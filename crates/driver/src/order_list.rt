@@ -1,7 +1,7 @@
 //! Orders, of which those that write to one client, one behind the other, are one.
-ghost use Rattle.std.specs.Prelude.{◌≡◌, ◌≤◌, ◌+◌, ◌++◌, ◌∷◌, [], IfSome, None, OnErr, OnOk, map};
+ghost use Rattle.std.specs.Prelude.{◌≡◌, ◌≤◌, ◌+◌, ◌++◌, ◌∷◌, [], true, IfSome, None, Some, OnErr, OnOk, map};
 ghost use Rattle.std.specs.Vec.{vec_capacity, vec_len};
-ghost use Rattle.driver.specs.Deeds.{Byte, deeds, write_of};
+ghost use Rattle.driver.specs.Deeds.{Byte, are_merged, are_two, deeds, write_of, written_by, written_last};
 
 use crate::order::Order;
 use std::alloc::{AllocError, Global};
@@ -27,15 +27,17 @@ pub struct OrderList {
 }
 
 impl Model for OrderList {
-    ghost use Rattle.std.specs.Prelude.{◌≤◌, ◌+◌, ◌++◌, List, IfSome};
+    ghost use Rattle.std.specs.Prelude.{◌≡◌, ◌≤◌, ◌+◌, ◌++◌, true, List, None, IfSome};
     ghost use Rattle.driver.specs.declared.order.Order.{Order};
-    ghost use Rattle.driver.specs.Deeds.{write_of};
+    ghost use Rattle.driver.specs.Deeds.{are_merged, is_last_apart, write_of, written_last};
 
     ghost Value = { List Order };
 
     ghost view = { λ o. o.list.items ++ write_of o.last };
 
-    ghost invariant = { λ o. IfSome o.last (λ writing. o.list.len + 1 ≤ o.list.cap) };
+    ghost invariant = { λ o. IfSome o.last (λ writing. o.list.len + 1 ≤ o.list.cap)
+        × (is_last_apart o.last (written_last None o.list.items) ≡ true)
+        × (are_merged (o.list.items ++ write_of o.last) ≡ true) };
 }
 
 impl OrderList {
@@ -49,13 +51,15 @@ impl OrderList {
         }
     }
 
-    /// One more.
+    /// One more, which writes to no client.
     pub fn push(&mut self, order: Order) -> Result<(), AllocError>
+        requires { written_by order ≡ None }
         ensures ok { OnOk result (self.new ≡ self.old ++ order ∷ []) }
         ensures err { OnErr result (self.new ≡ self.old) }
     {
+        self.list.reserve(2)?;
         settle(&mut self.list, &mut self.last);
-        self.list.push(order)?;
+        self.list.push_reserved(order);
         Ok(())
     }
 
@@ -78,12 +82,13 @@ impl OrderList {
 
     /// Bytes go to a client, by an order of its own.
     fn begin_writing(&mut self, client: u64, bytes: Vec<u8>) -> Result<(), AllocError>
+        requires { are_two (written_last None self.old) (Some client) ≡ true }
         ensures ok { OnOk result
             (deeds self.new ≡ deeds self.old ++ map (Byte client) bytes.items) }
         ensures err { OnErr result (self.new ≡ self.old) }
     {
+        self.list.reserve(2)?;
         settle(&mut self.list, &mut self.last);
-        self.list.reserve(1)?;
         self.last = Some(Writing { client, bytes });
         Ok(())
     }
@@ -92,6 +97,7 @@ impl OrderList {
     pub fn take(&mut self, alloc: Global) -> Vec<Order>
         ensures given { result.items ≡ self.old }
         ensures left { self.new ≡ [] }
+        ensures settled { are_merged result.items ≡ true }
     {
         settle(&mut self.list, &mut self.last);
         replace(&mut self.list, Vec::new(alloc))
@@ -102,6 +108,8 @@ impl OrderList {
 fn settle(list: &mut Vec<Order>, last: &mut Option<Writing>)
     requires room { IfSome last.old (λ writing. vec_len list.old + 1 ≤ vec_capacity list.old) }
     ensures settled { list.new.items ≡ list.old.items ++ write_of last.old }
+    ensures len { vec_len list.new ≤ vec_len list.old + 1 }
+    ensures capacity { vec_capacity list.new ≡ vec_capacity list.old }
     ensures none { last.new ≡ None }
 {
     if let Some(Writing { client, bytes }) = replace(last, None) {

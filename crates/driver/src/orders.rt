@@ -1,8 +1,8 @@
 //! What is ordered, and how many notes each node was told.
-ghost use Rattle.std.specs.Prelude.{◌≡◌, ◌++◌, ◌∷◌, [], IfOk, OnErr, OnOk, zero};
+ghost use Rattle.std.specs.Prelude.{◌≡◌, ◌++◌, ◌∷◌, [], true, IfOk, None, OnErr, OnOk, zero};
 ghost use Rattle.std.specs.Global.{Vec};
 ghost use Rattle.driver.specs.declared.order.Order.TheVariants.{Close, Connect, Disconnect, Send, Submit, Log, Write};
-ghost use Rattle.driver.specs.Deeds.{deeds, said_in};
+ghost use Rattle.driver.specs.Deeds.{are_merged, deeds, said_in, written_by};
 ghost use Rattle.driver.specs.Telling.{counts, emptied, next_note, none_told, ordered, told_to};
 
 use crate::news::News;
@@ -139,9 +139,10 @@ impl Orders {
         self.add(Order::Log(news), self.told)
     }
 
-    /// This is ordered, too, by which the nodes were told so many notes.
+    /// This is ordered, too, which writes to no client, and by which the nodes were told so many notes.
     fn add(&mut self, order: Order, told: [u64; MOST_NODES]) -> Result<(), AllocError>
-        requires { told ≡ counts self.old.before (self.old.items ++ order ∷ []) }
+        requires counted { told ≡ counts self.old.before (self.old.items ++ order ∷ []) }
+        requires other { written_by order ≡ None }
         ensures { OnOk result (self.new ≡ ordered self.old (order ∷ [])) }
     {
         let ordered = Snapshot::of(&order);
@@ -158,6 +159,7 @@ impl Orders {
     pub fn take(&mut self) -> Vec<Order>
         ensures given { deeds result.items ≡ deeds self.old.items }
         ensures left { self.new ≡ emptied self.old }
+        ensures settled { are_merged result.items ≡ true }
     {
         self.before = self.told;
         self.said = Said::nothing();

@@ -5,8 +5,8 @@ use Rattle.driver.specs.Telling.{Ordered, counts, next_note}
 use Rattle.driver.proofs.Telling.{tell_counts}
 use Rattle.driver.proofs.orders.Orders.submit.Goals as goal
 
-pub add-requires : goal.add-requires
-add-requires c =
+pub add-requires-clause-counted : goal.add-requires-clause-counted
+add-requires-clause-counted c =
     let inside = c.self.inside in
     let node = c.args.node in
     let number = c.next-number.result in
