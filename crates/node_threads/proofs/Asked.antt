@@ -72,6 +72,10 @@ module _ {B L : Type 0} where
         ⊎_elim (λ (s : (inputs ≡ asks_of (take batch_limit old)) × (new ≡ drop batch_limit old)). subst (λ (l : List (NodeInput B L)). AreReady l c) (sym s.0) (front_ready old c leads))
         (λ (s : (inputs ≡ []) × (new ≡ old)). none_ready inputs c s.0) h
 
+  pub front_left : (old new : List (Request B)) (inputs : List (NodeInput B L)) → TakesFront old inputs new → (inputs ≡ [] → ⊥) → new ≡ drop batch_limit old
+  front_left old new inputs h some =
+      ⊎_elim (λ (s : (inputs ≡ asks_of (take batch_limit old)) × (new ≡ drop batch_limit old)). s.1) (λ (s : (inputs ≡ []) × (new ≡ old)). absurd (some s.0)) h
+
   pub front_asked : (old new : List (Request B)) (inputs : List (NodeInput B L)) → TakesFront old inputs new → (inputs ≡ [] → ⊥) → inputs ≡ asks_of (take batch_limit old)
   front_asked old new inputs h some =
       ⊎_elim (λ (s : (inputs ≡ asks_of (take batch_limit old)) × (new ≡ drop batch_limit old)). s.0) (λ (s : (inputs ≡ []) × (new ≡ old)). absurd (some s.0)) h

@@ -11,8 +11,8 @@ use Rattle.node_notes.specs.declared.note.Note.TheVariants as note
 use Rattle.node_threads.specs.declared.job.Job.{Job}
 use Rattle.node_threads.specs.declared.job.Job.TheVariants as job
 use Rattle.node_threads.specs.Homes.{IsSameHome}
-use Rattle.node_threads.specs.declared.worker_loop.requests.Request.{Request}
 use Rattle.node_threads.specs.Forwarding.{is_left}
+use Rattle.node_threads.specs.Waiting.{Account}
 use Rattle.node_threads.specs.Work.{Deed, Does, HasDeed, HasDone, HasDoneNote, HasGoneRound, HasHadTurn, HasLookedIn, HasTaken, HasTakenBut, HasTimedOut, HasTurnedIn, applies, takes_but, takes_unless}
 use Rattle.node_threads.specs.Work.Deed.{Takes, Turns}
 use Rattle.node_threads.proofs.Home.{home_after_input, home_after_look, home_after_restart, home_after_take, same_home, same_home_still}
@@ -85,12 +85,13 @@ module _ (M : Machine) {Setup Hosted Store U : Type 0} (tally : U → Tally) whe
   home_after_note note.Restart c d h = home_after_restart M c h.0 d h.1
   home_after_note note.End c d h = same_home c d h
 
-  pub home_after_round : (forwarded : Option ℕ) (waiting : List (Request M.Body)) (c d : CellOf M Setup Hosted Store U) → HasGoneRound M tally forwarded waiting c d → IsSameHome c d
-  home_after_round forwarded waiting c d h =
-      same_home_still c h.first d (home_before M tally _ waiting c h.first h.asks_before)
+  pub home_after_round : (forwarded : Option ℕ) (a : Account M.Body) (c : CellOf M Setup Hosted Store U) (b : Account M.Body) (d : CellOf M Setup Hosted Store U)
+      → HasGoneRound M tally forwarded a c b d → IsSameHome c d
+  home_after_round forwarded a c b d h =
+      same_home_still c h.first d (home_before M tally _ a c h.account_first h.first h.asks_before)
       (same_home_still h.first h.seen d (home_left _ h.first h.left h.seen h.leaves)
       (same_home_still h.seen h.heard d (home_after_taking h.left h.seen h.heard h.takes)
-      (same_home_still h.heard h.asked d (home_asked M tally h.now_waiting h.heard h.asked h.asks)
+      (same_home_still h.heard h.asked d (home_asked M tally h.account_heard h.heard h.account_asked h.asked h.asks)
       (same_home_still h.asked h.applied d (home_after _ h.asked h.applied h.applies_on.1) (home_after _ h.applied d h.beats)))))
 
   -- a note that is this one was done

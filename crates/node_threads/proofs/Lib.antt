@@ -5,6 +5,7 @@ mod HomeMarked
 pub mod Started
 mod Going
 mod Inflows
+mod Waiting
 mod Covered
 mod Taken
 mod GivenDone

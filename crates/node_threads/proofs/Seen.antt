@@ -1,5 +1,5 @@
 -- That looks whether a message was taken, and requests that are asked, leave a cell its node's.
-use Rattle.std.proofs.Common.{◌≡◌, inl, inr, ⊎_elim, ℕ, zero, suc, Bool, true, false, List, [], ◌∷◌, take, Option, None, Some, refl, sym, subst}
+use Rattle.std.proofs.Common.{◌≡◌, inl, inr, ⊎_elim, ℕ, zero, suc, Bool, true, false, List, [], ◌∷◌, take, Option, None, Some, refl, sym, ap, subst}
 use Rattle.raft_log.specs.Batches.{batch_limit}
 use Rattle.raft_node.specs.Machine.{Machine}
 use Rattle.raft_log.specs.declared.position.Position.{Position}
@@ -12,10 +12,11 @@ use Rattle.node_cells.specs.Openings.{HasSeenTo}
 use Rattle.node_cells.specs.Turns.{CellOf}
 use Rattle.node_cells.specs.Upstreams.{Tally}
 use Rattle.node_threads.specs.declared.worker_loop.requests.Request.{Request}
-use Rattle.node_threads.specs.Asking.{HasLeft, HasSeenIf, MayAsk, MayIn, MayUp}
+use Rattle.node_threads.specs.Asking.{HasLeft, HasSeenIf, MayAsk, MayIn, MayUp, term_in}
 use Rattle.node_threads.specs.Homes.{IsSameHome}
 use Rattle.node_threads.specs.Requests.{request}
-use Rattle.node_threads.specs.Work.{AsksBefore, AsksWhere, HasAskedEach, HasAskedFirstOf, HasAskedOn, HasAskedSome, HasAskedTogether, HasTriedTogether, HasHadTurn}
+use Rattle.node_threads.specs.Waiting.{Account}
+use Rattle.node_threads.specs.Work.{AsksBefore, AsksWhere, HasAskedEach, HasAskedFirstOf, HasAskedOn, HasAskedOne, HasAskedSome, HasAskedTogether, HasHadTurn, HasTriedTogether}
 use Rattle.node_threads.specs.Together.{asks_of}
 use Rattle.node_threads.proofs.Home.{home_after_all, home_after_input, home_after_seen, same_home, same_home_still}
 
@@ -40,6 +41,26 @@ module _ {Setup Hosted Store B L T E P U : Type 0} where
   pub home_may : (c : CellParts Setup Hosted Store B L T E P U) (may : Bool) (d : CellParts Setup Hosted Store B L T E P U) → MayAsk c may d → IsSameHome c d
   home_may c may d h = in_phase c.phase c may d h
 
+  seen_if_node : (node : ℕ) (c : CellParts Setup Hosted Store B L T E P U) (taken : Bool) (d : CellParts Setup Hosted Store B L T E P U) → HasSeenIf node c taken d → d.node ≡ c.node
+  seen_if_node node c taken d h =
+      ⊎_elim (λ (s : (to : ℕ) × (node ≡ suc to) × HasSeenTo c to taken d). s.2.same.node_is) (λ (s : (taken ≡ false) × (d ≡ c)). ap (λ z. z.node) s.1) h
+
+  node_in_position : (p : Position) (c : CellParts Setup Hosted Store B L T E P U) (may : Bool) (d : CellParts Setup Hosted Store B L T E P U) → MayIn p c may d → d.node ≡ c.node
+  node_in_position (Follower None) c may d h = ap (λ z. z.node) h.1
+  node_in_position (Follower (Some leader)) c may d h = seen_if_node leader c may d h
+  node_in_position Candidate c may d h = ap (λ z. z.node) h.1
+  node_in_position (Leader live) c may d h = ap (λ z. z.node) h.1
+
+  node_in_phase : (p : Phase B L T) (c : CellParts Setup Hosted Store B L T E P U) (may : Bool) (d : CellParts Setup Hosted Store B L T E P U) → MayUp p c may d → d.node ≡ c.node
+  node_in_phase Up c may d h = node_in_position c.node.state.standing.position c may d h
+  node_in_phase (DownInTurn x copy done) c may d h = ap (λ z. z.node) h.1
+  node_in_phase (DownInTurns inputs copies answers) c may d h = ap (λ z. z.node) h.1
+  node_in_phase DownInRestart c may d h = ap (λ z. z.node) h.1
+
+  -- a look whether the node may ask leaves it in its term
+  pub term_seen : (c : CellParts Setup Hosted Store B L T E P U) (may : Bool) (d : CellParts Setup Hosted Store B L T E P U) → MayAsk c may d → term_in d ≡ term_in c
+  term_seen c may d h = ap (λ n. n.state.standing.term) (node_in_phase c.phase c may d h)
+
   -- after a look whether the leader took a request
   pub home_left : (request : Option ℕ) (c : CellParts Setup Hosted Store B L T E P U) (left : Option ℕ) (d : CellParts Setup Hosted Store B L T E P U) → HasLeft request c left d → IsSameHome c d
   home_left None c left d h = same_home c d h.1
@@ -56,36 +77,50 @@ module _ (M : Machine) {Setup Hosted Store U : Type 0} (tally : U → Tally) whe
   home_first_of [] asked c d h = same_home c d h.1
   home_first_of (r ∷ waiting) asked c d h = same_home_still c h.seen d (home_may c h.may h.seen h.looked) (home_where r.body h.may asked h.seen d h.asks)
 
-  home_some : (n : ℕ) (c d : CellOf M Setup Hosted Store U) → HasAskedSome M tally n c d → IsSameHome c d
-  home_some zero c d h = same_home c d h
-  home_some (suc n) c d h = same_home_still c h.2 d (home_first_of h.0 h.1 c h.2 h.3) (home_some n h.2 d h.4)
+  pub home_asked_one : (a : Account M.Body) (asked : Bool) (c : CellOf M Setup Hosted Store U) (b : Account M.Body) (d : CellOf M Setup Hosted Store U) → HasAskedOne M tally a asked c b d
+      → IsSameHome c d
+  home_asked_one a asked c b d h = home_first_of a.requests.waiting asked c d h.cell
 
-  pub home_asked : (waiting : List (Request M.Body)) (c d : CellOf M Setup Hosted Store U) → HasAskedOn M tally waiting c d → IsSameHome c d
-  home_asked waiting c d h =
-      ⊎_elim (λ (t : HasAskedTogether M tally waiting c d). home_after_all M (asks_of (take batch_limit waiting)) c d t.turned) (λ (e : HasAskedEach M tally c d). home_some e.0 c d e.1) h
+  home_some : (n : ℕ) (a : Account M.Body) (c : CellOf M Setup Hosted Store U) (b : Account M.Body) (d : CellOf M Setup Hosted Store U) → HasAskedSome M tally n a c b d → IsSameHome c d
+  home_some zero a c b d h = same_home c d h.1
+  home_some (suc n) a c b d h = same_home_still c h.2 d (home_asked_one a h.0 c h.1 h.2 h.3) (home_some n h.1 h.2 b d h.4)
 
-  pub home_before : (asks : Bool) (waiting : List (Request M.Body)) (c d : CellOf M Setup Hosted Store U) → AsksBefore M tally asks waiting c d → IsSameHome c d
-  home_before true waiting c d h = home_first_of waiting h.0 c d h.1
-  home_before false waiting c d h = same_home c d h
+  pub home_asked : (a : Account M.Body) (c : CellOf M Setup Hosted Store U) (b : Account M.Body) (d : CellOf M Setup Hosted Store U) → HasAskedOn M tally a c b d → IsSameHome c d
+  home_asked a c b d h =
+      ⊎_elim (λ (t : HasAskedTogether M tally a c b d). home_after_all M (asks_of (take batch_limit a.requests.waiting)) c d t.turned)
+      (λ (e : HasAskedEach M tally a c b d). home_some e.0 a c b d e.1) h
+
+  pub home_before : (asks : Bool) (a : Account M.Body) (c : CellOf M Setup Hosted Store U) (b : Account M.Body) (d : CellOf M Setup Hosted Store U) → AsksBefore M tally asks a c b d → IsSameHome c d
+  home_before true a c b d h = home_asked_one a h.0 c b d h.1
+  home_before false a c b d h = same_home c d h.1
+
+  -- none was asked
+  pub asked_none : (a : Account M.Body) (c d : CellOf M Setup Hosted Store U) → HasAskedFirstOf M tally a.requests.waiting false c d → HasAskedOne M tally a false c a d
+  asked_none a c d h = record { cell = h; requests = refl }
 
   -- one request more is asked, or the node may not
-  pub asks_next : (waiting : List (Request M.Body)) (asked : Bool) (c b e : CellOf M Setup Hosted Store U) → HasAskedFirstOf M tally waiting asked c b → HasAskedEach M tally b e → HasAskedEach M tally c e
-  asks_next waiting asked c b e one rest = (suc rest.0, (waiting, asked, b, one, rest.1))
+  pub asks_next : (a : Account M.Body) (asked : Bool) (c : CellOf M Setup Hosted Store U) (m : Account M.Body) (e : CellOf M Setup Hosted Store U) (b : Account M.Body) (d : CellOf M Setup Hosted Store U)
+      → HasAskedOne M tally a asked c m e → HasAskedEach M tally m e b d → HasAskedEach M tally a c b d
+  asks_next a asked c m e b d one rest = (suc rest.0, (asked, m, e, one, rest.1))
 
-  pub asks_together : (waiting : List (Request M.Body)) (asked : Bool) (c d : CellOf M Setup Hosted Store U) → asked ≡ true → HasTriedTogether M tally waiting asked c d → HasAskedOn M tally waiting c d
-  asks_together waiting true c d is h = inl h
-  asks_together waiting false c d is h = absurd (cc is)
+  pub asks_together : (a : Account M.Body) (asked : Bool) (c : CellOf M Setup Hosted Store U) (b : Account M.Body) (d : CellOf M Setup Hosted Store U) → asked ≡ true
+      → HasTriedTogether M tally a asked c b d → HasAskedOn M tally a c b d
+  asks_together a true c b d is h = inl h
+  asks_together a false c b d is h = absurd (cc is)
 
-  pub not_together : (waiting : List (Request M.Body)) (asked : Bool) (c d : CellOf M Setup Hosted Store U) → asked ≡ false → HasTriedTogether M tally waiting asked c d → d ≡ c
-  not_together waiting true c d is h = absurd (cc is)
-  not_together waiting false c d is h = h
+  pub not_together : (a : Account M.Body) (asked : Bool) (c : CellOf M Setup Hosted Store U) (b : Account M.Body) (d : CellOf M Setup Hosted Store U) → asked ≡ false
+      → HasTriedTogether M tally a asked c b d → (b ≡ a) × (d ≡ c)
+  not_together a true c b d is h = absurd (cc is)
+  not_together a false c b d is h = h
 
   -- those that were not asked together are asked one by one
-  pub asks_behind : (waiting : List (Request M.Body)) (c b d : CellOf M Setup Hosted Store U) → b ≡ c → HasAskedEach M tally b d → HasAskedOn M tally waiting c d
-  asks_behind waiting c b d is h = inr (subst (λ (z : CellOf M Setup Hosted Store U). HasAskedEach M tally z d) is h)
+  pub asks_behind : (a : Account M.Body) (c : CellOf M Setup Hosted Store U) (m : Account M.Body) (e : CellOf M Setup Hosted Store U) (b : Account M.Body) (d : CellOf M Setup Hosted Store U)
+      → m ≡ a → e ≡ c → HasAskedEach M tally m e b d → HasAskedOn M tally a c b d
+  asks_behind a c m e b d is same h =
+      inr (subst (λ (z : Account M.Body × CellOf M Setup Hosted Store U). HasAskedEach M tally z.0 z.1 b d) (λ i. (is i, same i)) h)
 
-  pub asks_none : (c : CellOf M Setup Hosted Store U) → HasAskedEach M tally c c
-  asks_none c = (zero, refl)
+  pub asks_none : (a : Account M.Body) (c : CellOf M Setup Hosted Store U) → HasAskedEach M tally a c a c
+  asks_none a c = (zero, (refl, refl))
 
   -- where none waits
   pub none_waits : (waiting : List (Request M.Body)) (c : CellOf M Setup Hosted Store U) → waiting ≡ [] → HasAskedFirstOf M tally waiting false c c

@@ -35,6 +35,10 @@ module _ {Setup Hosted Store B L T E P U : Type 0} where
   abbrev pub leader_in : CellParts Setup Hosted Store B L T E P U → Option ℕ
   leader_in c = leader_of c.node.state.standing.position
 
+  -- the term that the node is in
+  abbrev pub term_in : CellParts Setup Hosted Store B L T E P U → ℕ
+  term_in c = c.node.state.standing.term
+
   -- One look whether this leader took the request that was posted to it last, if one was: where it did not, its mailbox is left.
   abbrev pub HasLeft : Option ℕ → CellParts Setup Hosted Store B L T E P U → Option ℕ → CellParts Setup Hosted Store B L T E P U → Type 0
   HasLeft None c left d = (left ≡ None) × (d ≡ c)

@@ -11,4 +11,5 @@ pub mod Rounds
 pub mod Taking
 pub mod Telling
 pub mod Together
+pub mod Waiting
 pub mod Work

@@ -15,6 +15,8 @@ use Rattle.node_cells.specs.declared.mark_turn.MarkTurn.{MarkTurn}
 use Rattle.node_threads.specs.declared.worker_loop.round.Round.{Round}
 use Rattle.node_threads.specs.Forwarding.{forwarded_after}
 use Rattle.node_threads.specs.Reports.{told_fault}
+use Rattle.node_threads.specs.Requests.{Queue}
+use Rattle.node_threads.specs.Waiting.{AreBack}
 
 -- whether an effect of this class is handed out upstream
 abbrev pub is_handed : {L : Type 0} → Class L → Bool
@@ -57,24 +59,27 @@ module _ {E : Type 0} where
   GathersAnswers (Ok answers) old new = new ≡ with_refusals answers old
   GathersAnswers (Err fault) old new = new ≡ with_fault (told_fault fault) old
 
-module _ {B E L : Type 0} (class : E → Class L) where
-  -- What a turn gave is gathered: what is told of what leaves, who is to look into its mailboxes, and whether a request was posted last, which the turn was or not.
-  pub record Gathers (is_request : Bool) (output : TurnOutput B E) (old : Round E) (forwarded : Option ℕ) (new : Round E) (now_forwarded : Option ℕ) : Type 0 where
+module _ {B E L : Type 0} (class : E → Class L) (term : ℕ) (leader : Option ℕ) where
+  -- What a turn gave is gathered, after which the node is in this term and knows this leader: what is told of what leaves, who is to look into its
+  -- mailboxes, whether a request was posted last, which the turn was or not, and which requests come back.
+  pub record Gathers (is_request : Bool) (output : TurnOutput B E) (old : Round E) (forwarded : Option ℕ) (requests : Queue B) (new : Round E) (now_forwarded : Option ℕ)
+      (now_requests : Queue B) : Type 0 where
     pub leaves : old.further.items ≡ [] → leaving new ≡ leaving old ++ reported class output.effects.items
     pub wakes : new.woken ≡ woken_by old.woken output.posted_to.items
     pub posts : now_forwarded ≡ forwarded_after is_request output.posted_to.items forwarded
+    pub returns : AreBack term leader output.replaced.items requests now_requests
     pub fault : new.fault ≡ old.fault
 
   -- of a turn that gave nothing, the first such fault is kept
-  abbrev pub GathersTurn : Bool → Result (TurnOutput B E) CellFault → Round E → Option ℕ → Round E → Option ℕ → Type 0
-  GathersTurn is_request (Ok output) old forwarded new now_forwarded = Gathers is_request output old forwarded new now_forwarded
-  GathersTurn is_request (Err fault) old forwarded new now_forwarded =
-      (new ≡ record old { fault = Some (first_fault old.fault (told_fault fault)) }) × (now_forwarded ≡ forwarded)
+  abbrev pub GathersTurn : Bool → Result (TurnOutput B E) CellFault → Round E → Option ℕ → Queue B → Round E → Option ℕ → Queue B → Type 0
+  GathersTurn is_request (Ok output) old forwarded requests new now_forwarded now_requests = Gathers is_request output old forwarded requests new now_forwarded now_requests
+  GathersTurn is_request (Err fault) old forwarded requests new now_forwarded now_requests =
+      (new ≡ record old { fault = Some (first_fault old.fault (told_fault fault)) }) × (now_forwarded ≡ forwarded) × (now_requests ≡ requests)
 
   -- of a mark that was not asked, nothing
-  abbrev pub GathersMark : Result (MarkTurn B E) CellFault → Round E → Option ℕ → Round E → Option ℕ → Type 0
-  GathersMark (Ok asked) old forwarded new now_forwarded = Gathers true asked.output old forwarded new now_forwarded
-  GathersMark (Err fault) old forwarded new now_forwarded = (new ≡ old) × (now_forwarded ≡ forwarded)
+  abbrev pub GathersMark : Result (MarkTurn B E) CellFault → Round E → Option ℕ → Queue B → Round E → Option ℕ → Queue B → Type 0
+  GathersMark (Ok asked) old forwarded requests new now_forwarded now_requests = Gathers true asked.output old forwarded requests new now_forwarded now_requests
+  GathersMark (Err fault) old forwarded requests new now_forwarded now_requests = (new ≡ old) × (now_forwarded ≡ forwarded) × (now_requests ≡ requests)
 
 module _ {B : Type 0} where
   abbrev pub is_append : Kind B → Bool

@@ -10,10 +10,10 @@ use Rattle.node_cells.specs.Upstreams.{Tally}
 use Rattle.node_threads.specs.declared.inflow.Next.{Next}
 use Rattle.node_threads.specs.declared.inflow.Next.TheVariants as next
 use Rattle.node_threads.specs.declared.job.Job.{Job}
-use Rattle.node_threads.specs.declared.worker_loop.requests.Request.{Request}
 use Rattle.node_threads.specs.Inflows.{Given, jobs_in}
 use Rattle.node_threads.specs.Reports.{is_end, leads_in}
 use Rattle.node_threads.specs.Together.{HasTurnedAll, HasTurnedTogether, appended, is_idle}
+use Rattle.node_threads.specs.Waiting.{Account, HasHeeded}
 use Rattle.node_threads.specs.Work.{HasDone, HasGoneRound, HasHadTurn}
 
 -- a piece of what a worker does with the jobs of its inbox
@@ -113,12 +113,14 @@ module _ (M : Machine) {Setup Hosted Store U : Type 0} (tally : U → Tally) whe
       pub over_is : over ≡ list_any is_over came
       pub these : HasDoneThese came left i c k d
 
-    -- What came was done, then what a round does behind its jobs; and another round comes, unless the worker is over.
-    pub record HasDoneRound (i : I) (c : CellOf M Setup Hosted Store U) (goes_on : Bool) (k : I) (d : CellOf M Setup Hosted Store U) : Type 0 where
+    -- What came was done, and each request among it waits; then what a round does behind its jobs; and another round comes, unless the worker is over.
+    pub record HasDoneRound (i : I) (a : Account M.Body) (c : CellOf M Setup Hosted Store U) (goes_on : Bool) (k : I) (b : Account M.Body)
+        (d : CellOf M Setup Hosted Store U) : Type 0 where
       pub between : CellOf M Setup Hosted Store U
       pub over : Bool
       pub forwarded : Option ℕ
-      pub waiting : List (Request M.Body)
+      pub account : Account M.Body
       pub jobs : HasDoneGiven [] i c over k between
-      pub rest : HasGoneRound M tally forwarded waiting between d
+      pub requests : HasHeeded gives i a k account
+      pub rest : HasGoneRound M tally forwarded account between b d
       pub goes_on_is : goes_on ≡ not over

@@ -17,11 +17,13 @@ use Rattle.node_cells.specs.Turns.{CellOf, HasLooked, HasTurned}
 use Rattle.node_cells.specs.Upstreams.{Tally}
 use Rattle.node_notes.specs.declared.note.Note.{Note}
 use Rattle.node_notes.specs.declared.note.Note.TheVariants as note
-use Rattle.node_threads.specs.Asking.{HasLeft, MayAsk, leader_in}
+use Rattle.node_threads.specs.Asking.{HasLeft, MayAsk, leader_in, term_in}
 use Rattle.node_threads.specs.Forwarding.{asks_first, is_left, is_request, request_at}
 use Rattle.node_threads.specs.Rounds.{GathersMark, GathersTurn}
 use Rattle.node_threads.specs.declared.worker_loop.round.Round.{Round}
 use Rattle.node_threads.specs.Reports.{leads_in}
+use Rattle.node_threads.specs.Requests.{Queue}
+use Rattle.node_threads.specs.Waiting.{Account, AsksFirst, AsksFront, HaveComeBack}
 use Rattle.node_threads.specs.Together.{HasTurnedAll, asks_of}
 use Rattle.node_threads.specs.declared.worker_loop.turning.TheConstants.{MOST_APPLIED}
 use Rattle.node_threads.specs.declared.job.Job.{Job}
@@ -88,11 +90,11 @@ module _ (M : Machine) {Setup Hosted Store U : Type 0} where
       pub turned : HasTurned M tally c x answer d
 
     -- so, and what it gave was gathered
-    pub record HasGathered (c : CellOf M Setup Hosted Store U) (x : NodeInput M.Body M.Line) (old : Round M.Effect) (forwarded : Option ℕ)
-        (d : CellOf M Setup Hosted Store U) (new : Round M.Effect) (now_forwarded : Option ℕ) : Type 0 where
+    pub record HasGathered (c : CellOf M Setup Hosted Store U) (x : NodeInput M.Body M.Line) (old : Round M.Effect) (forwarded : Option ℕ) (requests : Queue M.Body)
+        (d : CellOf M Setup Hosted Store U) (new : Round M.Effect) (now_forwarded : Option ℕ) (now_requests : Queue M.Body) : Type 0 where
       pub answer : Result (TurnOutput M.Body M.Effect) CellFault
       pub turned : HasTurned M tally c x answer d
-      pub gathers : GathersTurn M.class (is_request x) answer old forwarded new now_forwarded
+      pub gathers : GathersTurn M.class (term_in d) (leader_in d) (is_request x) answer old forwarded requests new now_forwarded now_requests
 
     -- a turn of this input, if there is one
     abbrev pub HasTurnedIn : Option (NodeInput M.Body M.Line) → CellOf M Setup Hosted Store U → CellOf M Setup Hosted Store U → Type 0
@@ -138,33 +140,39 @@ module _ (M : Machine) {Setup Hosted Store U : Type 0} where
     HasAskedFirstOf [] asked c d = (asked ≡ false) × (d ≡ c)
     HasAskedFirstOf (r ∷ waiting) asked c d = HasTriedAsking r.body asked c d
 
+    -- so, and it waits no more, where it was asked: each request that waits is asked once
+    pub record HasAskedOne (a : Account M.Body) (asked : Bool) (c : CellOf M Setup Hosted Store U) (b : Account M.Body) (d : CellOf M Setup Hosted Store U) : Type 0 where
+      pub cell : HasAskedFirstOf a.requests.waiting asked c d
+      pub requests : AsksFirst (term_in c) asked a b
+
     -- requests were asked one by one, so many at most
-    abbrev pub HasAskedSome : ℕ → CellOf M Setup Hosted Store U → CellOf M Setup Hosted Store U → Type 0
-    HasAskedSome zero c d = d ≡ c
-    HasAskedSome (suc n) c d =
-        (waiting : List (Request M.Body)) × (asked : Bool) × (b : CellOf M Setup Hosted Store U) × HasAskedFirstOf waiting asked c b × HasAskedSome n b d
+    abbrev pub HasAskedSome : ℕ → Account M.Body → CellOf M Setup Hosted Store U → Account M.Body → CellOf M Setup Hosted Store U → Type 0
+    HasAskedSome zero a c b d = (b ≡ a) × (d ≡ c)
+    HasAskedSome (suc n) a c b d =
+        (asked : Bool) × (m : Account M.Body) × (e : CellOf M Setup Hosted Store U) × HasAskedOne a asked c m e × HasAskedSome n m e b d
 
-    abbrev pub HasAskedEach : CellOf M Setup Hosted Store U → CellOf M Setup Hosted Store U → Type 0
-    HasAskedEach c d = (n : ℕ) × HasAskedSome n c d
+    abbrev pub HasAskedEach : Account M.Body → CellOf M Setup Hosted Store U → Account M.Body → CellOf M Setup Hosted Store U → Type 0
+    HasAskedEach a c b d = (n : ℕ) × HasAskedSome n a c b d
 
-    -- a node that leads was asked the first batch_limit of the requests that wait, together
-    pub record HasAskedTogether (waiting : List (Request M.Body)) (c d : CellOf M Setup Hosted Store U) : Type 0 where
+    -- a node that leads was asked the first batch_limit of the requests that wait, together, and the others wait on
+    pub record HasAskedTogether (a : Account M.Body) (c : CellOf M Setup Hosted Store U) (b : Account M.Body) (d : CellOf M Setup Hosted Store U) : Type 0 where
       pub leads : leads_in c ≡ true
-      pub turned : HasTurnedAll M (asks_of (take batch_limit waiting)) c d
+      pub turned : HasTurnedAll M (asks_of (take batch_limit a.requests.waiting)) c d
+      pub requests : AsksFront a b
 
     -- so, or nothing was done
-    abbrev pub HasTriedTogether : List (Request M.Body) → Bool → CellOf M Setup Hosted Store U → CellOf M Setup Hosted Store U → Type 0
-    HasTriedTogether waiting true c d = HasAskedTogether waiting c d
-    HasTriedTogether waiting false c d = d ≡ c
+    abbrev pub HasTriedTogether : Account M.Body → Bool → CellOf M Setup Hosted Store U → Account M.Body → CellOf M Setup Hosted Store U → Type 0
+    HasTriedTogether a true c b d = HasAskedTogether a c b d
+    HasTriedTogether a false c b d = (b ≡ a) × (d ≡ c)
 
     -- requests that wait were asked: together, or one by one where the node does not lead, or there is no memory for that
-    abbrev pub HasAskedOn : List (Request M.Body) → CellOf M Setup Hosted Store U → CellOf M Setup Hosted Store U → Type 0
-    HasAskedOn waiting c d = HasAskedTogether waiting c d ⊎ HasAskedEach c d
+    abbrev pub HasAskedOn : Account M.Body → CellOf M Setup Hosted Store U → Account M.Body → CellOf M Setup Hosted Store U → Type 0
+    HasAskedOn a c b d = HasAskedTogether a c b d ⊎ HasAskedEach a c b d
 
     -- the first request that waits is asked, where it is to be asked before the mailboxes are taken
-    abbrev pub AsksBefore : Bool → List (Request M.Body) → CellOf M Setup Hosted Store U → CellOf M Setup Hosted Store U → Type 0
-    AsksBefore true waiting c d = (asked : Bool) × HasAskedFirstOf waiting asked c d
-    AsksBefore false waiting c d = d ≡ c
+    abbrev pub AsksBefore : Bool → Account M.Body → CellOf M Setup Hosted Store U → Account M.Body → CellOf M Setup Hosted Store U → Type 0
+    AsksBefore true a c b d = (asked : Bool) × HasAskedOne a asked c b d
+    AsksBefore false a c b d = (b ≡ a) × (d ≡ c)
 
     -- so many agreed places were applied
     abbrev pub HasApplied : CellOf M Setup Hosted Store U → CellOf M Setup Hosted Store U → Type 0
@@ -198,23 +206,27 @@ module _ (M : Machine) {Setup Hosted Store U : Type 0} where
 
     -- What a round does behind its jobs. A node that knows a leader, to which it posted no request last, asks the first that waits. Then the
     -- mailboxes are taken, but for that of the leader to which a request lies that it did not take. Then requests are asked, agreed places are
-    -- applied, and where there is news, the node beats.
-    pub record HasGoneRound (forwarded : Option ℕ) (waiting : List (Request M.Body)) (c d : CellOf M Setup Hosted Store U) : Type 0 where
+    -- applied, and where there is news, the node beats. A request waits until it is asked, and waits again where it comes back.
+    pub record HasGoneRound (forwarded : Option ℕ) (a : Account M.Body) (c : CellOf M Setup Hosted Store U) (b : Account M.Body) (d : CellOf M Setup Hosted Store U) : Type 0 where
       pub first : CellOf M Setup Hosted Store U
       pub seen : CellOf M Setup Hosted Store U
       pub heard : CellOf M Setup Hosted Store U
       pub asked : CellOf M Setup Hosted Store U
       pub applied : CellOf M Setup Hosted Store U
+      pub account_first : Account M.Body
+      pub account_heard : Account M.Body
+      pub account_asked : Account M.Body
       pub now_forwarded : Option ℕ
-      pub now_waiting : List (Request M.Body)
       pub left : Option ℕ
       pub has_news : Bool
-      pub asks_before : AsksBefore (asks_first forwarded (leader_in c)) waiting c first
+      pub asks_before : AsksBefore (asks_first forwarded (leader_in c)) a c account_first first
       pub leaves : HasLeft (request_at now_forwarded (leader_in first)) first left seen
       pub takes : HasTakenBut left seen heard
-      pub asks : HasAskedOn now_waiting heard asked
+      pub taken_back : HaveComeBack account_first account_heard
+      pub asks : HasAskedOn account_heard heard account_asked asked
       pub applies_on : HasApplied asked applied
       pub beats : HasBeaten has_news applied d
+      pub come_back : HaveComeBack account_asked b
 
     module _ (marked : M.Body → Option Mark) (mark : Mark → M.Body) where
       -- the node's next mark was asked for, and this is its number
@@ -224,11 +236,11 @@ module _ (M : Machine) {Setup Hosted Store U : Type 0} where
         pub asked : HasMarked M tally marked mark c answer d
 
       -- so, and what that gave was gathered
-      pub record HasGatheredMark (c : CellOf M Setup Hosted Store U) (old : Round M.Effect) (forwarded : Option ℕ) (d : CellOf M Setup Hosted Store U)
-          (new : Round M.Effect) (now_forwarded : Option ℕ) : Type 0 where
+      pub record HasGatheredMark (c : CellOf M Setup Hosted Store U) (old : Round M.Effect) (forwarded : Option ℕ) (requests : Queue M.Body)
+          (d : CellOf M Setup Hosted Store U) (new : Round M.Effect) (now_forwarded : Option ℕ) (now_requests : Queue M.Body) : Type 0 where
         pub answer : Result (MarkTurn M.Body M.Effect) CellFault
         pub asked : HasMarked M tally marked mark c answer d
-        pub gathers : GathersMark M.class answer old forwarded new now_forwarded
+        pub gathers : GathersMark M.class (term_in d) (leader_in d) answer old forwarded requests new now_forwarded now_requests
 
     module _ (marked : M.Body → Option Mark) (mark : Mark → M.Body) {Action : Type 0} where
       -- what a job comes to by itself

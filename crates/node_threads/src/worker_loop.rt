@@ -3,6 +3,7 @@ ghost use Rattle.std.specs.Prelude.{◌≡◌, ◌&&◌, false, length, true};
 ghost use Rattle.node_threads.specs.Homes.{IsSameHome};
 ghost use Rattle.node_threads.specs.Reports.{has_grown, is_news};
 ghost use Rattle.node_threads.specs.Taking.{HasDoneRound};
+ghost use Rattle.node_threads.specs.Waiting.{HaveComeBack, account_of};
 ghost use Rattle.node_threads.specs.Work.{HasBeaten, HasGoneRound};
 
 use crate::beats::Beats;
@@ -105,7 +106,8 @@ impl<M: Marking, G: Gate + Drop, O: Outlet<M::Effect>> WorkerLoop<M, G, O> {
     ) -> bool
         ensures home { IsSameHome cell.old.parts cell.new.parts }
         ensures round { HasDoneRound (⟦<M as Described>⟧.machine cell.old.parts.ether.setup) U.tally
-            M.marked M.mark I.gives inbox.old cell.old.parts result inbox.new cell.new.parts }
+            M.marked M.mark I.gives inbox.old (account_of self.old) cell.old.parts result
+            inbox.new (account_of self.new) cell.new.parts }
     {
         let may_wait = self.may_wait;
         let is_over = self.do_jobs(rt, cell, inbox, may_wait);
@@ -121,7 +123,8 @@ impl<M: Marking, G: Gate + Drop, O: Outlet<M::Effect>> WorkerLoop<M, G, O> {
         cell: &mut NodeCell<M, S, U>,
     ) -> bool
         ensures { HasGoneRound (⟦<M as Described>⟧.machine cell.old.parts.ether.setup) U.tally
-            self.old.forwarded self.old.requests.waiting.items cell.old.parts cell.new.parts }
+            self.old.forwarded (account_of self.old) cell.old.parts
+            (account_of self.new) cell.new.parts }
     {
         self.ask_before(rt, cell);
         let left = self.leader_left(cell);
@@ -141,9 +144,10 @@ impl<M: Marking, G: Gate + Drop, O: Outlet<M::Effect>> WorkerLoop<M, G, O> {
         rt: &R,
         cell: &mut NodeCell<M, S, U>,
     )
-        ensures { HasBeaten (⟦<M as Described>⟧.machine cell.old.parts.ether.setup) U.tally
+        ensures beaten { HasBeaten (⟦<M as Described>⟧.machine cell.old.parts.ether.setup) U.tally
             (is_news self.old.beats self.old.beaten self.old.round.is_behind cell.old.parts)
             cell.old.parts cell.new.parts }
+        ensures requests { HaveComeBack (account_of self.old) (account_of self.new) }
     {
         if !self.has_news(cell) {
             return;
@@ -180,7 +184,9 @@ impl<M: Marking, G: Gate + Drop, O: Outlet<M::Effect>> WorkerLoop<M, G, O> {
     }
 
     /// Wakes the workers of the nodes that were posted to, or whose answer was taken.
-    fn wake_all<R: Wait>(&mut self, rt: &R) {
+    fn wake_all<R: Wait>(&mut self, rt: &R)
+        ensures { account_of self.new ≡ account_of self.old }
+    {
         for place in 0..MOST_NODES {
             if self.round.woken[place as usize] {
                 wake(rt, self.others.as_slice(), place + 1);

@@ -1,10 +1,11 @@
 //! How a worker asks the requests that wait.
-ghost use Rattle.std.specs.Prelude.{◌≡◌, true};
+ghost use Rattle.std.specs.Prelude.{◌≡◌, ◌≤◌, [], true};
 ghost use Rattle.node_threads.specs.Asking.{HasLeft, HasSeenIf, MayAsk, leader_in};
 ghost use Rattle.node_threads.specs.Forwarding.{asks_first, request_at};
 ghost use Rattle.node_threads.specs.Reports.{leads_in};
 ghost use Rattle.node_threads.specs.Together.{AreReady, TakesFront};
-ghost use Rattle.node_threads.specs.Work.{AsksBefore, HasAskedEach, HasAskedFirstOf, HasAskedOn, HasTriedTogether};
+ghost use Rattle.node_threads.specs.Waiting.{account_of};
+ghost use Rattle.node_threads.specs.Work.{AsksBefore, HasAskedEach, HasAskedOn, HasAskedOne, HasTriedTogether};
 
 use crate::gate::Gate;
 use crate::outlet::Outlet;
@@ -35,7 +36,7 @@ impl<M: Marking, G: Gate + Drop, O: Outlet<M::Effect>> WorkerLoop<M, G, O> {
     )
         ensures { AsksBefore (⟦<M as Described>⟧.machine cell.old.parts.ether.setup) U.tally
             (asks_first self.old.forwarded (leader_in cell.old.parts))
-            self.old.requests.waiting.items cell.old.parts cell.new.parts }
+            (account_of self.old) cell.old.parts (account_of self.new) cell.new.parts }
     {
         let leader = cell.state().standing.position.leader();
         if asks_first(self.forwarded, leader) {
@@ -51,7 +52,7 @@ impl<M: Marking, G: Gate + Drop, O: Outlet<M::Effect>> WorkerLoop<M, G, O> {
         cell: &mut NodeCell<M, S, U>,
     ) -> bool
         ensures { HasAskedOn (⟦<M as Described>⟧.machine cell.old.parts.ether.setup) U.tally
-            self.old.requests.waiting.items cell.old.parts cell.new.parts }
+            (account_of self.old) cell.old.parts (account_of self.new) cell.new.parts }
     {
         if self.ask_together(rt, cell) {
             return !self.requests.has_waiting();
@@ -67,7 +68,7 @@ impl<M: Marking, G: Gate + Drop, O: Outlet<M::Effect>> WorkerLoop<M, G, O> {
         cell: &mut NodeCell<M, S, U>,
     ) -> bool
         ensures { HasTriedTogether (⟦<M as Described>⟧.machine cell.old.parts.ether.setup) U.tally
-            self.old.requests.waiting.items result cell.old.parts cell.new.parts }
+            (account_of self.old) result cell.old.parts (account_of self.new) cell.new.parts }
     {
         if !leads(cell) {
             return false;
@@ -89,6 +90,9 @@ impl<M: Marking, G: Gate + Drop, O: Outlet<M::Effect>> WorkerLoop<M, G, O> {
         ensures front { TakesFront self.old.requests.waiting.items result.items
             self.new.requests.waiting.items }
         ensures ready { leads_in cell.now.parts ≡ true → AreReady result.items cell.now.parts }
+        ensures none { result.items ≡ [] → account_of self.new ≡ account_of self.old }
+        ensures lost { self.old.requests.lost ≤ self.new.requests.lost }
+        ensures done { self.new.done ≡ self.old.done }
     {
         let term = cell.state().standing.term;
         let count = BATCH_LIMIT.min(self.requests.waiting.len());
@@ -111,7 +115,7 @@ impl<M: Marking, G: Gate + Drop, O: Outlet<M::Effect>> WorkerLoop<M, G, O> {
         cell: &mut NodeCell<M, S, U>,
     ) -> bool
         ensures { HasAskedEach (⟦<M as Described>⟧.machine cell.old.parts.ether.setup) U.tally
-            cell.old.parts cell.new.parts }
+            (account_of self.old) cell.old.parts (account_of self.new) cell.new.parts }
     {
         for _ in 0..MOST_ASKED {
             if !self.ask_one(rt, cell) {
@@ -127,8 +131,8 @@ impl<M: Marking, G: Gate + Drop, O: Outlet<M::Effect>> WorkerLoop<M, G, O> {
         rt: &R,
         cell: &mut NodeCell<M, S, U>,
     ) -> bool
-        ensures { HasAskedFirstOf (⟦<M as Described>⟧.machine cell.old.parts.ether.setup) U.tally
-            self.old.requests.waiting.items result cell.old.parts cell.new.parts }
+        ensures { HasAskedOne (⟦<M as Described>⟧.machine cell.old.parts.ether.setup) U.tally
+            (account_of self.old) result cell.old.parts (account_of self.new) cell.new.parts }
     {
         if !self.requests.has_waiting() {
             return false;

@@ -3,7 +3,9 @@ ghost use Rattle.std.specs.Prelude.{◌≡◌, ◌≤◌, [], None, false, lengt
 ghost use Rattle.world_views.specs.Views.{carries};
 ghost use Rattle.node_threads.specs.Reports.{leads_in};
 ghost use Rattle.node_threads.specs.Taking.{HasAdded, HasDoneBehind, HasTakenUp};
+ghost use Rattle.node_threads.specs.Reports.{is_told};
 ghost use Rattle.node_threads.specs.Together.{AreReady, HasGatheredAll, HasTurnedAll, is_idle};
+ghost use Rattle.node_threads.specs.Waiting.{HaveComeBack, HeedsJob, account_of, counted};
 
 use crate::gate::{Gate, pass_gates};
 use crate::job::Job;
@@ -29,9 +31,11 @@ impl<M: Marking, G: Gate + Drop, O: Outlet<M::Effect>> WorkerLoop<M, G, O> {
         gathered: &mut Vec<NodeInput<M::Command, M::Line>>,
     ) -> bool
         requires { AreReady gathered.old.items cell.old.parts }
-        ensures { HasTakenUp (⟦<M as Described>⟧.machine cell.old.parts.ether.setup) U.tally
+        ensures taken { HasTakenUp (⟦<M as Described>⟧.machine cell.old.parts.ether.setup) U.tally
             M.marked M.mark job gathered.old.items cell.old.parts gathered.new.items
             cell.new.parts }
+        ensures requests { HeedsJob job (counted (is_told job) (account_of self.old))
+            (account_of self.new) }
     {
         self.count(job.is_told());
         if !leads(cell) {
@@ -55,8 +59,9 @@ impl<M: Marking, G: Gate + Drop, O: Outlet<M::Effect>> WorkerLoop<M, G, O> {
     ) -> bool
         requires ready { AreReady gathered.old.items cell.old.parts }
         requires no_message { carries input ≡ None }
-        ensures { HasAdded (⟦<M as Described>⟧.machine cell.old.parts.ether.setup) U.tally input
-            gathered.old.items cell.old.parts gathered.new.items cell.new.parts }
+        ensures added { HasAdded (⟦<M as Described>⟧.machine cell.old.parts.ether.setup) U.tally
+            input gathered.old.items cell.old.parts gathered.new.items cell.new.parts }
+        ensures requests { HaveComeBack (account_of self.old) (account_of self.new) }
     {
         match gathered.push(input) {
             Ok(()) => false,
@@ -78,9 +83,10 @@ impl<M: Marking, G: Gate + Drop, O: Outlet<M::Effect>> WorkerLoop<M, G, O> {
         gathered: &mut Vec<NodeInput<M::Command, M::Line>>,
     ) -> bool
         requires { AreReady gathered.old.items cell.old.parts }
-        ensures { HasDoneBehind (⟦<M as Described>⟧.machine cell.old.parts.ether.setup) U.tally
-            M.marked M.mark (is_idle job) job gathered.old.items cell.old.parts gathered.new.items
-            cell.new.parts }
+        ensures done { HasDoneBehind (⟦<M as Described>⟧.machine cell.old.parts.ether.setup)
+            U.tally M.marked M.mark (is_idle job) job gathered.old.items cell.old.parts
+            gathered.new.items cell.new.parts }
+        ensures requests { HeedsJob job (account_of self.old) (account_of self.new) }
     {
         if job.is_idle() {
             self.do_job(rt, cell, job);
@@ -102,6 +108,7 @@ impl<M: Marking, G: Gate + Drop, O: Outlet<M::Effect>> WorkerLoop<M, G, O> {
         ensures turned { HasTurnedAll (⟦<M as Described>⟧.machine cell.old.parts.ether.setup)
             gathered.old.items cell.old.parts cell.new.parts }
         ensures none { gathered.new.items ≡ [] }
+        ensures requests { account_of self.new ≡ account_of self.old }
     {
         let inputs = replace(gathered, Vec::new(self.alloc));
         self.turn_all(rt, cell, inputs);
@@ -121,6 +128,7 @@ impl<M: Marking, G: Gate + Drop, O: Outlet<M::Effect>> WorkerLoop<M, G, O> {
         ensures gathered { HasGatheredAll (⟦<M as Described>⟧.machine cell.old.parts.ether.setup)
             inputs.items cell.old.parts self.old.round cell.new.parts self.new.round }
         ensures forwarded { self.new.forwarded ≡ self.old.forwarded }
+        ensures requests { account_of self.new ≡ account_of self.old }
     {
         if !has_some(&inputs) {
             return;

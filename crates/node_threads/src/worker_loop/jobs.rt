@@ -4,6 +4,7 @@ ghost use Rattle.node_notes.specs.declared.note.Note.TheVariants.{Beat};
 ghost use Rattle.node_threads.specs.Reports.{is_told, leads_in};
 ghost use Rattle.node_threads.specs.Taking.{HasDoneGiven, gathered_piece};
 ghost use Rattle.node_threads.specs.Together.{AreReady};
+ghost use Rattle.node_threads.specs.Waiting.{HasHeeded, HaveComeBack, HeedsJob, HeedsNote, account_of, counted};
 ghost use Rattle.node_threads.specs.Work.{HasDone, HasDoneNote, HasTimedOut};
 
 use crate::gate::Gate;
@@ -35,9 +36,11 @@ impl<M: Marking, G: Gate + Drop, O: Outlet<M::Effect>> WorkerLoop<M, G, O> {
         inbox: &mut I,
         may_wait: bool,
     ) -> bool
-        ensures { HasDoneGiven (⟦<M as Described>⟧.machine cell.old.parts.ether.setup) U.tally
+        ensures done { HasDoneGiven (⟦<M as Described>⟧.machine cell.old.parts.ether.setup) U.tally
             M.marked M.mark I.gives [] inbox.old cell.old.parts result
             inbox.new cell.new.parts }
+        ensures requests { HasHeeded I.gives inbox.old (account_of self.old)
+            inbox.new (account_of self.new) }
     {
         let mut gathered = Vec::new(self.alloc);
         let is_over = self.take_jobs(rt, cell, inbox, may_wait, &mut gathered);
@@ -59,6 +62,8 @@ impl<M: Marking, G: Gate + Drop, O: Outlet<M::Effect>> WorkerLoop<M, G, O> {
             M.marked M.mark I.gives (gathered_piece gathered.new.items) inbox.old cell.old.parts
             result inbox.new cell.new.parts }
         ensures ready { AreReady gathered.new.items cell.new.parts }
+        ensures requests { HasHeeded I.gives inbox.old (account_of self.old)
+            inbox.new (account_of self.new) }
     {
         let mut alone = 0u64;
         // What a leader only appends of them is saved at once, so that a slow disk is waited for once: a
@@ -90,8 +95,9 @@ impl<M: Marking, G: Gate + Drop, O: Outlet<M::Effect>> WorkerLoop<M, G, O> {
         cell: &mut NodeCell<M, S, U>,
         job: Job<M>,
     )
-        ensures { HasDone (⟦<M as Described>⟧.machine cell.old.parts.ether.setup) U.tally
+        ensures done { HasDone (⟦<M as Described>⟧.machine cell.old.parts.ether.setup) U.tally
             M.marked M.mark job cell.old.parts cell.new.parts }
+        ensures requests { HeedsJob job (account_of self.old) (account_of self.new) }
     {
         match job {
             Job::Note(note) => self.follow(rt, cell, note),
@@ -116,8 +122,7 @@ impl<M: Marking, G: Gate + Drop, O: Outlet<M::Effect>> WorkerLoop<M, G, O> {
 
     /// A job is taken up, which counts where the node was told it.
     pub fn count(&mut self, is_told: bool)
-        ensures { self.new.done ≡ (if is_told then min (self.old.done + 1) (2 ^ 64 - 1)
-            else self.old.done) }
+        ensures { account_of self.new ≡ counted is_told (account_of self.old) }
     {
         if is_told {
             self.done = self.done.saturating_add(1);
@@ -134,6 +139,7 @@ impl<M: Marking, G: Gate + Drop, O: Outlet<M::Effect>> WorkerLoop<M, G, O> {
         ensures done { HasDoneNote (⟦<M as Described>⟧.machine cell.old.parts.ether.setup) U.tally
             note cell.old.parts cell.new.parts }
         ensures beat { note ≡ Beat → self.new.has_untold_beat ≡ true }
+        ensures requests { HeedsNote note (account_of self.old) (account_of self.new) }
     {
         match note {
             Note::Timeout(contacts) => self.time_out(rt, cell, contacts),
@@ -170,8 +176,9 @@ impl<M: Marking, G: Gate + Drop, O: Outlet<M::Effect>> WorkerLoop<M, G, O> {
         cell: &mut NodeCell<M, S, U>,
         contacts: u64,
     )
-        ensures { HasTimedOut (⟦<M as Described>⟧.machine cell.old.parts.ether.setup) U.tally
+        ensures turned { HasTimedOut (⟦<M as Described>⟧.machine cell.old.parts.ether.setup) U.tally
             (nat_le self.new.contacts contacts) cell.old.parts cell.new.parts }
+        ensures requests { HaveComeBack (account_of self.old) (account_of self.new) }
     {
         self.take_all(rt, cell, None);
         if self.is_due(cell, contacts) {

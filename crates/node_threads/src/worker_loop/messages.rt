@@ -3,6 +3,7 @@ ghost use Rattle.std.specs.Prelude.{◌≡◌, ◌<◌, ◌+◌, ◌^◌, ◌-�
 ghost use Rattle.world_views.specs.Views.{carries};
 ghost use Rattle.node_cells.specs.Cells.{HasHeard, view_in};
 ghost use Rattle.node_threads.specs.Rounds.{is_behind, is_led};
+ghost use Rattle.node_threads.specs.Waiting.{HaveComeBack, account_of};
 ghost use Rattle.node_threads.specs.Work.{Does, HasLookedIn, HasTaken, HasTakenBut, takes_unless};
 
 use crate::gate::Gate;
@@ -27,8 +28,9 @@ impl<M: Marking, G: Gate + Drop, O: Outlet<M::Effect>> WorkerLoop<M, G, O> {
         cell: &mut NodeCell<M, S, U>,
         left: Option<u8>,
     )
-        ensures { HasTakenBut (⟦<M as Described>⟧.machine cell.old.parts.ether.setup) U.tally left
-            cell.old.parts cell.new.parts }
+        ensures taken { HasTakenBut (⟦<M as Described>⟧.machine cell.old.parts.ether.setup) U.tally
+            left cell.old.parts cell.new.parts }
+        ensures requests { HaveComeBack (account_of self.old) (account_of self.new) }
     {
         let size = cell.size().value();
         for from in 0..size {
@@ -44,9 +46,10 @@ impl<M: Marking, G: Gate + Drop, O: Outlet<M::Effect>> WorkerLoop<M, G, O> {
         is_left: bool,
         from: u64,
     )
-        ensures { from < cell.old.parts.ether.size
+        ensures taken { from < cell.old.parts.ether.size
             → Does (⟦<M as Described>⟧.machine cell.old.parts.ether.setup) U.tally
             (takes_unless is_left from) cell.old.parts cell.new.parts }
+        ensures requests { HaveComeBack (account_of self.old) (account_of self.new) }
     {
         if !is_left {
             self.take_from(rt, cell, from);
@@ -61,9 +64,10 @@ impl<M: Marking, G: Gate + Drop, O: Outlet<M::Effect>> WorkerLoop<M, G, O> {
         cell: &mut NodeCell<M, S, U>,
         from: u64,
     )
-        ensures { from < cell.old.parts.ether.size
+        ensures taken { from < cell.old.parts.ether.size
             → HasLookedIn (⟦<M as Described>⟧.machine cell.old.parts.ether.setup) U.tally
             cell.old.parts from cell.new.parts }
+        ensures requests { HaveComeBack (account_of self.old) (account_of self.new) }
     {
         if cell.size().value() as u64 <= from {
             return;
@@ -92,6 +96,7 @@ impl<M: Marking, G: Gate + Drop, O: Outlet<M::Effect>> WorkerLoop<M, G, O> {
         ensures behind { self.new.round.is_behind ≡ (self.old.round.is_behind
             || is_behind message.now cell.now.parts.node.state.standing.term
             (length cell.now.parts.node.state.log)) }
+        ensures requests { account_of self.new ≡ account_of self.old }
     {
         match &message.kind {
             Kind::Forward(_) => wake(rt, self.others.as_slice(), message.from),

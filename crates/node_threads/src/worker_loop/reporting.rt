@@ -4,6 +4,7 @@ ghost use Rattle.node_threads.specs.Reports.{HasGrownAlone, IsReport, TellsFirst
 ghost use Rattle.node_threads.specs.Telling.{HasTold, IsKnown, IsUntold, StandsSo};
 ghost use Rattle.node_threads.specs.Requests.{in_term, queue_of};
 ghost use Rattle.node_threads.specs.Rounds.{leaving};
+ghost use Rattle.node_threads.specs.Waiting.{HaveComeBack, account_of};
 
 use crate::gate::Gate;
 use crate::outlet::Outlet;
@@ -35,6 +36,7 @@ impl<M: Marking, G: Gate + Drop, O: Outlet<M::Effect>> WorkerLoop<M, G, O> {
             (suc cell.now.parts.pass.node) self.old self.new }
         ensures known { result ≡ true
             → IsKnown (StandsSo M.next_claim cell.now.parts self.old) self.new }
+        ensures requests { HaveComeBack (account_of self.old) (account_of self.new) }
     {
         let now = self.stand(cell);
         let has_grown = self.has_grown(&now);

@@ -2,7 +2,10 @@
 ghost use Rattle.std.specs.Prelude.{◌≡◌, [], false};
 ghost use Rattle.world_views.specs.Views.{carries};
 ghost use Rattle.node_cells.specs.Cells.{HasHeard, view_in};
+ghost use Rattle.node_threads.specs.Asking.{leader_in, term_in};
+ghost use Rattle.node_threads.specs.Requests.{queue_of};
 ghost use Rattle.node_threads.specs.Rounds.{Gathers};
+ghost use Rattle.node_threads.specs.Waiting.{AreBack, ComesBack, HaveComeBack, account_of, brought_back};
 ghost use Rattle.node_threads.specs.Work.{HasApplied, HasAppliedSo, HasGathered, HasGatheredMark, HasHadTurn, HasMarkedOne, apply_limit};
 
 use crate::gate::{Gate, pass_gate};
@@ -36,7 +39,9 @@ impl<M: Marking, G: Gate + Drop, O: Outlet<M::Effect>> WorkerLoop<M, G, O> {
             cell.old.parts input cell.new.parts }
         ensures gathered { HasGathered (⟦<M as Described>⟧.machine cell.old.parts.ether.setup)
             U.tally cell.old.parts input self.old.round self.old.forwarded
-            cell.new.parts self.new.round self.new.forwarded }
+            (queue_of self.old.requests) cell.new.parts self.new.round self.new.forwarded
+            (queue_of self.new.requests) }
+        ensures requests { HaveComeBack (account_of self.old) (account_of self.new) }
         ensures contacts { self.new.contacts ≡ self.old.contacts }
         ensures beat { self.new.has_untold_beat ≡ self.old.has_untold_beat }
     {
@@ -68,7 +73,9 @@ impl<M: Marking, G: Gate + Drop, O: Outlet<M::Effect>> WorkerLoop<M, G, O> {
             M.marked M.mark cell.old.parts result cell.new.parts }
         ensures gathered { HasGatheredMark (⟦<M as Described>⟧.machine cell.old.parts.ether.setup)
             U.tally M.marked M.mark cell.old.parts self.old.round self.old.forwarded
-            cell.new.parts self.new.round self.new.forwarded }
+            (queue_of self.old.requests) cell.new.parts self.new.round self.new.forwarded
+            (queue_of self.new.requests) }
+        ensures requests { HaveComeBack (account_of self.old) (account_of self.new) }
     {
         if self.round.has_further() {
             return Err(CellFault::Memory);
@@ -91,8 +98,10 @@ impl<M: Marking, G: Gate + Drop, O: Outlet<M::Effect>> WorkerLoop<M, G, O> {
         output: TurnOutput<M::Command, M::Effect>,
         is_request: bool,
     )
-        ensures gathered { Gathers M.class is_request output self.old.round self.old.forwarded
-            self.new.round self.new.forwarded }
+        ensures gathered { Gathers M.class (term_in cell.now.parts) (leader_in cell.now.parts)
+            is_request output self.old.round self.old.forwarded (queue_of self.old.requests)
+            self.new.round self.new.forwarded (queue_of self.new.requests) }
+        ensures requests { HaveComeBack (account_of self.old) (account_of self.new) }
         ensures contacts { self.new.contacts ≡ self.old.contacts }
         ensures beat { self.new.has_untold_beat ≡ self.old.has_untold_beat }
     {
@@ -104,8 +113,8 @@ impl<M: Marking, G: Gate + Drop, O: Outlet<M::Effect>> WorkerLoop<M, G, O> {
         } = output;
         self.round.wake_each(posted_to.as_slice());
         self.forwarded = forwarded_after(self.forwarded, is_request, posted_to.as_slice());
-        for envelope in replaced {
-            self.take_back(cell, &envelope);
+        for envelope in &replaced {
+            self.take_back(cell, envelope);
         }
         self.round.leave(reported::<M>(effects));
     }
@@ -116,6 +125,10 @@ impl<M: Marking, G: Gate + Drop, O: Outlet<M::Effect>> WorkerLoop<M, G, O> {
         cell: &NodeCell<M, S, U>,
         envelope: &Envelope<M::Command>,
     )
+        ensures returned { ComesBack (brought_back (term_in cell.now.parts)
+            (leader_in cell.now.parts) self.old.requests.asked envelope.now.message)
+            (queue_of self.old.requests) (queue_of self.new.requests) }
+        ensures requests { HaveComeBack (account_of self.old) (account_of self.new) }
         ensures round { self.new.round ≡ self.old.round }
         ensures forwarded { self.new.forwarded ≡ self.old.forwarded }
         ensures contacts { self.new.contacts ≡ self.old.contacts }
@@ -153,6 +166,7 @@ impl<M: Marking, G: Gate + Drop, O: Outlet<M::Effect>> WorkerLoop<M, G, O> {
         ensures many { result ≡ false → self.new.round.further.items ≡ [] → HasAppliedSo
             (⟦<M as Described>⟧.machine cell.old.parts.ether.setup) U.tally apply_limit
             cell.old.parts cell.new.parts }
+        ensures requests { HaveComeBack (account_of self.old) (account_of self.new) }
     {
         for count in 0..MOST_APPLIED {
             let _ = count;

@@ -12,8 +12,8 @@ machine g s =
     hosted g.M.Hosted.blank g.M.Hosted.opened g.M.Hosted.shut g.M.Hosted.heard g.M.Hosted.claim g.M.Hosted.source (g.M.Machine.effects s)
     (g.M.Hosted.next_claim s) (g.M.Hosted.playback s) g.M.Hosted.class
 
-pub returns-in-Err : goal.returns-in-Err
-returns-in-Err g c =
+pub returns-in-Err-clause-added : goal.returns-in-Err-clause-added
+returns-in-Err-clause-added g c =
     let first = c.args.cell.now.parts in
     let between = c.turn_gathered.new.cell.parts in
     let new = c.turn.new.cell.parts in

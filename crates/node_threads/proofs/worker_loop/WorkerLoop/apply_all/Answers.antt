@@ -3,11 +3,13 @@ use Rattle.raft_node.specs.declared.input.Input.TheVariants.{Apply}
 use Rattle.node_threads.specs.Work.{HasHadTurn}
 use Rattle.node_threads.proofs.Going.{applies_next}
 use Rattle.node_threads.proofs.Home.{home_after_input, same_home, same_home_still}
+use Rattle.node_threads.specs.Waiting.{account_of}
+use Rattle.node_threads.proofs.Waiting.{back_again, none_back}
 use Rattle.node_threads.proofs.worker_loop.WorkerLoop.apply_all.Goals as goal
 use Rattle.node_threads.proofs.worker_loop.WorkerLoop.apply_all.Invariants.{machine}
 
 pub loop-count-init : goal.loop-count-init
-loop-count-init g c = (same_home c.args.cell.now.parts _ refl, refl)
+loop-count-init g c = (same_home c.args.cell.now.parts _ refl, refl, none_back _ _ refl)
 
 pub loop-count-preserved : goal.loop-count-preserved
 loop-count-preserved g c =
@@ -18,6 +20,7 @@ loop-count-preserved g c =
     let turned = subst (λ (s : g.row.M-Setup.Denot). HasHadTurn (machine g s) g.U.Upstream.tally old Apply new) (ap (λ e. e.setup) c.loop-count.invariant.0.ether) c.turn.ensures.turn in (
       same_home_still first old new c.loop-count.invariant.0 (home_after_input M g.U.Upstream.tally old Apply new turned),
       applies_next M g.U.Upstream.tally c.loop-count.count (c.loop-count.count + 1) first old new (omega arith) c.loop-count.invariant.1 turned,
+      back_again (account_of c.args.self.now) (account_of c.loop-count.self) (account_of c.turn.new.self) c.loop-count.invariant.2 c.turn.ensures.requests,
     )
 
 pub returns-then-is_some-clause-applied : goal.returns-then-is_some-clause-applied
@@ -31,6 +34,9 @@ returns-then-not-turn-clause-applied g c =
     let M = machine g first.ether.setup in
     let turned = subst (λ (s : g.row.M-Setup.Denot). HasHadTurn (machine g s) g.U.Upstream.tally old Apply new) (ap (λ e. e.setup) c.loop-count.invariant.0.ether) c.turn.ensures.turn in
     (suc c.loop-count.count, applies_next M g.U.Upstream.tally c.loop-count.count (suc c.loop-count.count) first old new refl c.loop-count.invariant.1 turned)
+
+pub returns-then-not-turn-clause-requests : goal.returns-then-not-turn-clause-requests
+returns-then-not-turn-clause-requests g c = back_again (account_of c.args.self.now) (account_of c.loop-count.self) (account_of c.turn.new.self) c.loop-count.invariant.2 c.turn.ensures.requests
 
 pub returns-clause-applied : goal.returns-clause-applied
 returns-clause-applied g c = (c.loop-count.count, c.loop-count.invariant.1)

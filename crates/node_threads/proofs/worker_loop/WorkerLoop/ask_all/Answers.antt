@@ -1,4 +1,5 @@
 use Rattle.std.proofs.Common.{rules, ◌≡◌, false, ap, subst}
+use Rattle.node_threads.specs.Waiting.{account_of}
 use Rattle.node_threads.specs.Work.{HasAskedEach}
 use Rattle.node_threads.proofs.Seen.{asks_behind, asks_together, not_together}
 use Rattle.node_threads.proofs.worker_loop.WorkerLoop.ask_all.Given as given
@@ -14,16 +15,19 @@ machine g s =
 pub returns-then-ask_together : goal.returns-then-ask_together
 returns-then-ask_together g c =
     let first = c.args.cell.now.parts in
-    asks_together (machine g first.ether.setup) g.U.Upstream.tally c.args.self.now.requests.waiting.items c.ask_together.result first c.ask_together.new.cell.parts (search rules) c.ask_together.ensures
+    asks_together (machine g first.ether.setup) g.U.Upstream.tally (account_of c.args.self.now) c.ask_together.result first (account_of c.ask_together.new.self) c.ask_together.new.cell.parts
+    (search rules) c.ask_together.ensures
 
 pub returns : goal.returns
 returns g c =
     let first = c.args.cell.now.parts in
     let between = c.ask_together.new.cell.parts in
     let new = c.ask_each.new.cell.parts in
-    let waiting = c.args.self.now.requests.waiting.items in
+    let waited = account_of c.args.self.now in
+    let still = account_of c.ask_together.new.self in
+    let now = account_of c.ask_each.new.self in
     let tally = g.U.Upstream.tally in
     let no : c.ask_together.result ≡ false = search rules in
-    let same : between ≡ first = not_together (machine g first.ether.setup) tally waiting c.ask_together.result first between no c.ask_together.ensures in
-    asks_behind (machine g first.ether.setup) tally waiting first between new same
-    (subst (λ (s : g.row.M-Setup.Denot). HasAskedEach (machine g s) tally between new) (ap (λ p. p.ether.setup) same) c.ask_each.ensures)
+    let same = not_together (machine g first.ether.setup) tally waited c.ask_together.result first still between no c.ask_together.ensures in
+    asks_behind (machine g first.ether.setup) tally waited first still between now new same.0 same.1
+    (subst (λ (s : g.row.M-Setup.Denot). HasAskedEach (machine g s) tally still between now new) (ap (λ p. p.ether.setup) same.1) c.ask_each.ensures)

@@ -2,6 +2,7 @@ use Rattle.raft_node.specs.Hosts.{hosted}
 use Rattle.raft_node.specs.Machine.{Machine}
 use Rattle.node_cells.specs.Turns.{CellOf}
 use Rattle.node_threads.specs.Homes.{IsSameHome}
+use Rattle.node_threads.specs.Waiting.{Account, account_of}
 use Rattle.node_threads.specs.Work.{HasAskedEach}
 use Rattle.node_threads.proofs.worker_loop.WorkerLoop.ask_each.Given as goal
 
@@ -14,4 +15,5 @@ abbrev pub invariant-loop : goal.invariant-loop
 invariant-loop g l =
     let first = l.fn.cell.parts in
     let M = machine g first.ether.setup in
-    IsSameHome first l.cell.parts × ((e : CellOf M _ _ _ _) → HasAskedEach M g.U.Upstream.tally l.cell.parts e → HasAskedEach M g.U.Upstream.tally first e)
+    IsSameHome first l.cell.parts
+    × ((b : Account _) (e : CellOf M _ _ _ _) → HasAskedEach M g.U.Upstream.tally (account_of l.self) l.cell.parts b e → HasAskedEach M g.U.Upstream.tally (account_of l.fn.self) first b e)

@@ -10,17 +10,17 @@ machine g s =
     hosted g.M.Hosted.blank g.M.Hosted.opened g.M.Hosted.shut g.M.Hosted.heard g.M.Hosted.claim g.M.Hosted.source (g.M.Machine.effects s)
     (g.M.Hosted.next_claim s) (g.M.Hosted.playback s) g.M.Hosted.class
 
-pub returns-then-turn : goal.returns-then-turn
-returns-then-turn g c =
+pub returns-then-turn-clause-beaten : goal.returns-then-turn-clause-beaten
+returns-then-turn-clause-beaten g c =
     let there : c.has_news.result ≡ true = search rules in
     subst (λ (news : Bool). HasBeaten (machine g c.args.cell.now.parts.ether.setup) g.U.Upstream.tally news c.args.cell.now.parts c.turn.new.cell.parts) (sym there ∙ c.has_news.ensures) (c.turn.new.cell.parts, c.turn.ensures.turn, refl)
 
-pub returns-else-turn : goal.returns-else-turn
-returns-else-turn g c =
+pub returns-else-turn-clause-beaten : goal.returns-else-turn-clause-beaten
+returns-else-turn-clause-beaten g c =
     let there : c.has_news.result ≡ true = search rules in
     subst (λ (news : Bool). HasBeaten (machine g c.args.cell.now.parts.ether.setup) g.U.Upstream.tally news c.args.cell.now.parts c.turn.new.cell.parts) (sym there ∙ c.has_news.ensures) (c.turn.new.cell.parts, c.turn.ensures.turn, refl)
 
-pub returns-then-not-has_news : goal.returns-then-not-has_news
-returns-then-not-has_news g c =
+pub returns-then-not-has_news-clause-beaten : goal.returns-then-not-has_news-clause-beaten
+returns-then-not-has_news-clause-beaten g c =
     let none : c.has_news.result ≡ false = search rules in
     subst (λ (news : Bool). HasBeaten (machine g c.args.cell.now.parts.ether.setup) g.U.Upstream.tally news c.args.cell.now.parts c.args.cell.now.parts) (sym none ∙ c.has_news.ensures) refl

@@ -1,8 +1,9 @@
-use Rattle.std.proofs.Common.{ap, subst}
+use Rattle.std.proofs.Common.{sym, ap, subst}
 use Rattle.raft_node.specs.Hosts.{hosted}
 use Rattle.raft_node.specs.Machine.{Machine}
 use Rattle.node_threads.specs.Taking.{gathered_piece}
 use Rattle.node_threads.specs.Together.{HasTurnedAll}
+use Rattle.node_threads.specs.Waiting.{Account, HasHeeded, account_of}
 use Rattle.node_threads.proofs.GivenDone.{given_all, home_after_given}
 use Rattle.node_threads.proofs.worker_loop.WorkerLoop.do_jobs.Given as given
 use Rattle.node_threads.proofs.worker_loop.WorkerLoop.do_jobs.Goals as goal
@@ -12,8 +13,13 @@ machine g s =
     hosted g.M.Hosted.blank g.M.Hosted.opened g.M.Hosted.shut g.M.Hosted.heard g.M.Hosted.claim g.M.Hosted.source (g.M.Machine.effects s)
     (g.M.Hosted.next_claim s) (g.M.Hosted.playback s) g.M.Hosted.class
 
-pub returns : goal.returns
-returns g c =
+pub returns-clause-requests : goal.returns-clause-requests
+returns-clause-requests g c =
+    subst (λ (b : Account _). HasHeeded g.I.Inflow.gives c.args.inbox.now (account_of c.args.self.now) c.take_jobs-is_over.new.inbox b) (sym c.turn_all.ensures.requests)
+    c.take_jobs-is_over.ensures.requests
+
+pub returns-clause-done : goal.returns-clause-done
+returns-clause-done g c =
     let first = c.args.cell.now.parts in
     let between = c.take_jobs-is_over.new.cell.parts in
     let new = c.turn_all.new.cell.parts in

@@ -1,6 +1,7 @@
 use Rattle.std.proofs.Common.{[], refl, ap, subst}
 use Rattle.raft_node.specs.Hosts.{hosted}
 use Rattle.raft_node.specs.Machine.{Machine}
+use Rattle.node_threads.specs.Waiting.{account_of}
 use Rattle.node_threads.specs.Work.{HasGoneRound}
 use Rattle.node_threads.proofs.GivenDone.{home_after_given}
 use Rattle.node_threads.proofs.Going.{home_after_round}
@@ -20,8 +21,8 @@ returns-clause-home g c =
     let between = jobs.new.cell.parts in
     let new = c.go_round-all_done.new.cell.parts in
     let tally = g.U.Upstream.tally in
-    let one = home_after_given (machine g old.ether.setup) tally g.M.Marking.marked g.M.Hosted.mark g.I.Inflow.gives [] c.args.inbox.now old jobs.result jobs.new.inbox between jobs.ensures in
-    let two = home_after_round (machine g between.ether.setup) tally jobs.new.self.forwarded jobs.new.self.requests.waiting.items between new c.go_round-all_done.ensures in
+    let one = home_after_given (machine g old.ether.setup) tally g.M.Marking.marked g.M.Hosted.mark g.I.Inflow.gives [] c.args.inbox.now old jobs.result jobs.new.inbox between jobs.ensures.done in
+    let two = home_after_round (machine g between.ether.setup) tally jobs.new.self.forwarded (account_of jobs.new.self) between (account_of c.go_round-all_done.new.self) new c.go_round-all_done.ensures in
     same_home_still old between new one two
 
 pub returns-clause-round : goal.returns-clause-round
@@ -32,14 +33,15 @@ returns-clause-round g c =
     let new = c.go_round-all_done.new.cell.parts in
     let tally = g.U.Upstream.tally in
     let forwarded = jobs.new.self.forwarded in
-    let waiting = jobs.new.self.requests.waiting.items in
-    let home = home_after_given (machine g old.ether.setup) tally g.M.Marking.marked g.M.Hosted.mark g.I.Inflow.gives [] c.args.inbox.now old jobs.result jobs.new.inbox between jobs.ensures in
+    let account = account_of jobs.new.self in
+    let home = home_after_given (machine g old.ether.setup) tally g.M.Marking.marked g.M.Hosted.mark g.I.Inflow.gives [] c.args.inbox.now old jobs.result jobs.new.inbox between jobs.ensures.done in
     record {
       between = between;
       over = jobs.result;
       forwarded = forwarded;
-      waiting = waiting;
-      jobs = jobs.ensures;
-      rest = subst (λ (s : g.row.M-Setup.Denot). HasGoneRound (machine g s) tally forwarded waiting between new) (ap (λ e. e.setup) home.ether) c.go_round-all_done.ensures;
+      account = account;
+      jobs = jobs.ensures.done;
+      requests = jobs.ensures.requests;
+      rest = subst (λ (s : g.row.M-Setup.Denot). HasGoneRound (machine g s) tally forwarded account between (account_of c.go_round-all_done.new.self) new) (ap (λ e. e.setup) home.ether) c.go_round-all_done.ensures;
       goes_on_is = refl;
     }

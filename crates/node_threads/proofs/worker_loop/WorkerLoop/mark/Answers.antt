@@ -6,4 +6,4 @@ pub returns-then-has_further-clause-mark : goal.returns-then-has_further-clause-
 returns-then-has_further-clause-mark g c = record { answer = Err Memory; result_is = refl; asked = refl }
 
 pub returns-then-has_further-clause-gathered : goal.returns-then-has_further-clause-gathered
-returns-then-has_further-clause-gathered g c = record { answer = Err Memory; asked = refl; gathers = (refl, refl) }
+returns-then-has_further-clause-gathered g c = record { answer = Err Memory; asked = refl; gathers = (refl, refl, refl) }

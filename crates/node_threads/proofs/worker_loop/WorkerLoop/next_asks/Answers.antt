@@ -1,7 +1,9 @@
-use Rattle.std.proofs.Common.{rules, ◌≡◌, ◌+◌, ◌-◌, ◌++◌, suc, [], length, min, take, drop, ap, ◌∙◌, subst, arith}
+use Rattle.std.proofs.Common.{rules, ◌≡◌, ◌+◌, ◌-◌, ◌++◌, suc, [], length, min, take, drop, refl, sym, ap, ◌∙◌, subst, arith}
 use Rattle.raft_log.specs.Batches.{batch_limit}
 use Rattle.node_threads.specs.Together.{TakesFront, asks_of}
 use Rattle.node_threads.proofs.Taken.{none_ready}
+use Rattle.node_threads.specs.Requests.{Queue, queue_of}
+use Rattle.node_threads.proofs.Waiting.{lost_by_asking, some_pushed}
 use Rattle.node_threads.proofs.Asked.{asks_ready, next_left, next_taken, none_waits_more, so_many}
 use Rattle.node_threads.proofs.worker_loop.WorkerLoop.next_asks.Goals as goal
 
@@ -14,6 +16,9 @@ loop-init g c =
     record {
       taken = λ i. c.in-Ok.ensures.items i ++ asks_of {L = g.row.M-Line.Denot} (take (all i) first);
       left = λ i. drop (all i) first;
+      kept = λ none. refl;
+      lost = omega arith;
+      done = refl;
       room = omega (arith, len, room);
     }
 
@@ -34,6 +39,9 @@ loop-preserved g c =
       taken = ap (λ l. l ++ asks_of {L = g.row.M-Line.Denot} (take m new)) c.push_reserved.ensures.items
           ∙ next_taken old new c.in-Some.ensures.0 c.in-Some.request c.loop.inputs.items (asks_of (take c.min-count.result first)) n m next waits c.loop.invariant.taken;
       left = next_left old new (drop c.min-count.result first) c.in-Some.ensures.0 c.in-Some.request n m next waits c.loop.invariant.left;
+      kept = λ none. absurd (some_pushed _ _ (sym c.push_reserved.ensures.items ∙ none));
+      lost = let least = c.loop.invariant.lost in let more = lost_by_asking _ (queue_of c.loop.self.requests) c.in-Some.request (queue_of c.ask.new.self) c.in-Some.ensures in omega (arith, least, more);
+      done = c.loop.invariant.done;
       room = omega (arith, len, full, room, next);
     }
 
@@ -47,6 +55,28 @@ returns-in_default-ask-clause-front g c =
     let none : old ≡ [] = c.in_default-ask.ensures.0 in
     subst (λ w. TakesFront first c.loop.inputs.items w) same
     (none_waits_more first old c.loop.inputs.items (c.min-count.result - c.loop.counter) c.min-count.result many c.loop.invariant.taken c.loop.invariant.left none)
+
+pub returns-in_default-ask-clause-none : goal.returns-in_default-ask-clause-none
+returns-in_default-ask-clause-none g c =
+    λ none. ap (λ (q : Queue _). record { done = c.loop.self.done; requests = q }) c.in_default-ask.ensures.1 ∙ c.loop.invariant.kept none
+
+pub returns-in_default-ask-clause-lost : goal.returns-in_default-ask-clause-lost
+returns-in_default-ask-clause-lost g c =
+    let is : c.ask.new.self.lost ≡ c.loop.self.requests.lost = ap (λ (q : Queue _). q.lost) c.in_default-ask.ensures.1 in
+    let least = c.loop.invariant.lost in
+    omega (arith, is, least)
+
+pub returns-in_default-ask-clause-done : goal.returns-in_default-ask-clause-done
+returns-in_default-ask-clause-done g c = c.loop.invariant.done
+
+pub returns-clause-none : goal.returns-clause-none
+returns-clause-none g c = c.loop.invariant.kept
+
+pub returns-clause-lost : goal.returns-clause-lost
+returns-clause-lost g c = c.loop.invariant.lost
+
+pub returns-clause-done : goal.returns-clause-done
+returns-clause-done g c = c.loop.invariant.done
 
 pub returns-clause-front : goal.returns-clause-front
 returns-clause-front g c =

@@ -1,5 +1,6 @@
 use Rattle.raft_node.specs.Hosts.{hosted}
 use Rattle.raft_node.specs.Machine.{Machine}
+use Rattle.node_threads.specs.Waiting.{HaveComeBack, account_of}
 use Rattle.node_threads.specs.Work.{Does, takes_but}
 use Rattle.node_threads.proofs.worker_loop.WorkerLoop.take_all.Given as goal
 
@@ -9,4 +10,8 @@ machine g s =
     (g.M.Hosted.next_claim s) (g.M.Hosted.playback s) g.M.Hosted.class
 
 abbrev pub invariant-loop-from : goal.invariant-loop-from
-invariant-loop-from g l = Does (machine g l.fn.cell.parts.ether.setup) g.U.Upstream.tally (takes_but l.fn.left l.from) l.fn.cell.parts l.cell.parts
+invariant-loop-from g l =
+    record {
+      taken : Does (machine g l.fn.cell.parts.ether.setup) g.U.Upstream.tally (takes_but l.fn.left l.from) l.fn.cell.parts l.cell.parts;
+      requests : HaveComeBack (account_of l.fn.self) (account_of l.self);
+    }

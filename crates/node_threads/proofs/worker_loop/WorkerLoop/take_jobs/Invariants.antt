@@ -1,6 +1,7 @@
 use Rattle.raft_node.specs.Hosts.{hosted}
 use Rattle.raft_node.specs.Machine.{Machine}
 use Rattle.node_threads.specs.Together.{AreReady}
+use Rattle.node_threads.specs.Waiting.{HasHeeded, account_of}
 use Rattle.node_threads.proofs.GivenDone.{IsTaking}
 use Rattle.node_threads.proofs.worker_loop.WorkerLoop.take_jobs.Given as goal
 
@@ -15,4 +16,5 @@ invariant-loop-place g l =
     record {
       taking : IsTaking (machine g first.ether.setup) g.U.Upstream.tally g.M.Marking.marked g.M.Hosted.mark g.I.Inflow.gives l.place l.gathered.items l.fn.inbox first l.inbox l.cell.parts;
       ready : AreReady l.gathered.items l.cell.parts;
+      requests : HasHeeded g.I.Inflow.gives l.fn.inbox (account_of l.fn.self) l.inbox (account_of l.self);
     }

@@ -10,14 +10,14 @@ machine g s =
     hosted g.M.Hosted.blank g.M.Hosted.opened g.M.Hosted.shut g.M.Hosted.heard g.M.Hosted.claim g.M.Hosted.source (g.M.Machine.effects s)
     (g.M.Hosted.next_claim s) (g.M.Hosted.playback s) g.M.Hosted.class
 
-pub returns-then-not-is_left : goal.returns-then-not-is_left
-returns-then-not-is_left g c =
+pub returns-then-not-is_left-clause-taken : goal.returns-then-not-is_left-clause-taken
+returns-then-not-is_left-clause-taken g c =
     let first = c.args.cell.now.parts in
     let not : c.args.is_left ≡ false = search rules in
-    λ within. takes_one (machine g first.ether.setup) g.U.Upstream.tally first c.take_from.new.cell.parts c.args.from c.args.is_left not (c.take_from.ensures within)
+    λ within. takes_one (machine g first.ether.setup) g.U.Upstream.tally first c.take_from.new.cell.parts c.args.from c.args.is_left not (c.take_from.ensures.taken within)
 
-pub returns-else-not-is_left : goal.returns-else-not-is_left
-returns-else-not-is_left g c =
+pub returns-else-not-is_left-clause-taken : goal.returns-else-not-is_left-clause-taken
+returns-else-not-is_left-clause-taken g c =
     let first = c.args.cell.now.parts in
     let is : c.args.is_left ≡ true = search rules in
     λ within. takes_none (machine g first.ether.setup) g.U.Upstream.tally first c.args.from c.args.is_left is

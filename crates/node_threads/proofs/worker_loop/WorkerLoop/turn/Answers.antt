@@ -6,4 +6,4 @@ pub returns-then-has_further-clause-turn : goal.returns-then-has_further-clause-
 returns-then-has_further-clause-turn g c = record { answer = Err Memory; turned = refl }
 
 pub returns-then-has_further-clause-gathered : goal.returns-then-has_further-clause-gathered
-returns-then-has_further-clause-gathered g c = record { answer = Err Memory; turned = refl; gathers = (c.fail.ensures, refl) }
+returns-then-has_further-clause-gathered g c = record { answer = Err Memory; turned = refl; gathers = (c.fail.ensures, refl, refl) }
