@@ -72,7 +72,7 @@ module _ {B : Type 0} where
   AsksFirst term true old new = (body : B) × (left : Queue B) × HasAsked term old.requests (Some body) left × HaveComeBack (record old { requests = left }) new
   AsksFirst term false old new = new ≡ old
 
-  -- The first batch_limit of the requests that wait are asked together, and the others wait on.
+  -- The first of the requests that wait are asked together, as many as go at once, and the others wait on.
   pub record AsksFront (old new : Account B) : Type 0 where
     pub waiting_is : new.requests.waiting ≡ drop batch_limit old.requests.waiting
     pub lost_grows : old.requests.lost ≤ new.requests.lost

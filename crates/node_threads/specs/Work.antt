@@ -154,7 +154,7 @@ module _ (M : Machine) {Setup Hosted Store U : Type 0} where
     abbrev pub HasAskedEach : Account M.Body → CellOf M Setup Hosted Store U → Account M.Body → CellOf M Setup Hosted Store U → Type 0
     HasAskedEach a c b d = (n : ℕ) × HasAskedSome n a c b d
 
-    -- a node that leads was asked the first batch_limit of the requests that wait, together, and the others wait on
+    -- a node that leads was asked the first of the requests that wait, together, as many as go at once, and the others wait on
     pub record HasAskedTogether (a : Account M.Body) (c : CellOf M Setup Hosted Store U) (b : Account M.Body) (d : CellOf M Setup Hosted Store U) : Type 0 where
       pub leads : leads_in c ≡ true
       pub turned : HasTurnedAll M (asks_of (take batch_limit a.requests.waiting)) c d
