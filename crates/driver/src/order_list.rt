@@ -57,6 +57,7 @@ impl OrderList {
         ensures ok { OnOk result (self.new ≡ self.old ++ order ∷ []) }
         ensures err { OnErr result (self.new ≡ self.old) }
     {
+        // for the write that is held apart, and for this one
         self.list.reserve(2)?;
         settle(&mut self.list, &mut self.last);
         self.list.push_reserved(order);
@@ -87,6 +88,7 @@ impl OrderList {
             (deeds self.new ≡ deeds self.old ++ map (Byte client) bytes.items) }
         ensures err { OnErr result (self.new ≡ self.old) }
     {
+        // for the write that is held apart, and for this one, which is held apart next
         self.list.reserve(2)?;
         settle(&mut self.list, &mut self.last);
         self.last = Some(Writing { client, bytes });

@@ -1,9 +1,8 @@
 //! The inputs that a worker gathers, for its node to do together.
 ghost use Rattle.std.specs.Prelude.{◌≡◌, ◌≤◌, [], None, false, length, true};
 ghost use Rattle.world_views.specs.Views.{carries};
-ghost use Rattle.node_threads.specs.Reports.{leads_in};
+ghost use Rattle.node_threads.specs.Reports.{is_told, leads_in};
 ghost use Rattle.node_threads.specs.Taking.{HasAdded, HasDoneBehind, HasTakenUp};
-ghost use Rattle.node_threads.specs.Reports.{is_told};
 ghost use Rattle.node_threads.specs.Together.{AreReady, HasGatheredAll, HasTurnedAll, is_idle};
 ghost use Rattle.node_threads.specs.Waiting.{HaveComeBack, HeedsJob, account_of, counted};
 
