@@ -59,7 +59,7 @@ module _ {B : Type 0} where
   AreBack term leader (e ∷ es) old new = (m : Queue B) × ComesBack (brought_back term leader old.asked e.message) old m × AreBack term leader es m new
 
   -- Requests came back, and wait before all others. Where there was no memory for one, it may be lost. Nothing else of the requests changed, and no note was
-  -- taken up.
+  -- taken up. Which ones came back this leaves open: of a turn AreBack says it.
   pub record HaveComeBack (old new : Account B) : Type 0 where
     pub back : List (Request B)
     pub waiting_is : new.requests.waiting ≡ back ++ old.requests.waiting

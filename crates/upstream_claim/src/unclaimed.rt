@@ -8,7 +8,7 @@ use std::collections::VecDeque;
 use wire_bytes::Number;
 
 /// The most lines that wait to be claimed.
-// each is held in memory while there is no server, and what a person says after hours is out of place
+// each is held in memory while there is no server, and a line that comes hours late is out of place
 const MOST_LINES: usize = 1_000;
 
 /// The lines that wait to be claimed, the one to be claimed next first, and how many were claimed before it.

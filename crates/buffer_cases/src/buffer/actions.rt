@@ -1,9 +1,9 @@
 //! Actions as bytes, by examples.
-use crate::made::{fault_of, is_spelled_again, name, taken};
-use buffer_commands::{Action, ChannelName, Verb};
-use std::alloc::Global;
+use crate::made::{fault_of, is_copied_so, is_spelled_again, name, taken, text};
+use buffer_commands::{Action, BufferSize, ChannelName, Verb};
+use std::alloc::{AllocError, Global};
 use std::test::Fail;
-use wire_bytes::WireFault;
+use wire_bytes::{Copied, WireFault};
 
 fn kind(action: &Action) -> &'static str {
     match action {
@@ -62,6 +62,20 @@ fn are_read(alloc: Global) -> Result<bool, WireFault> {
     Ok(true)
 }
 
+/// Whether an action that was made is spelled so, and its copy too.
+fn is_made(alloc: Global, action: Action, bytes: &[u8]) -> Result<bool, AllocError> {
+    action.fits();
+    is_copied_so(alloc, &action, bytes)
+}
+
+fn channel(alloc: Global, bytes: &[u8]) -> Result<ChannelName, Fail> {
+    Ok(ChannelName::from_name(name(alloc, bytes)?).ok_or("no channel")?)
+}
+
+fn notice(alloc: Global) -> Result<Action, Fail> {
+    Ok(Action::Say(Verb::Notice, name(alloc, b"bob")?, text(alloc, b"hi")?))
+}
+
 /// Bytes that are no action, and what is wrong with them.
 const FAULTS: &[(&[u8], WireFault)] = &[
     (b"\0", WireFault::Bad(0)),
@@ -91,13 +105,36 @@ fn is_channel(alloc: Global, bytes: &[u8]) -> Result<bool, Fail> {
     Ok(ChannelName::from_name(name).is_some())
 }
 
+/// Whether the copy of a channel's name is of these bytes.
+fn is_copied_channel(alloc: Global, bytes: &[u8]) -> Result<bool, Fail> {
+    let copy = channel(alloc, bytes)?.copy(alloc)?;
+    Ok(copy.name().as_bytes() == bytes)
+}
+
 #[test]
 fn an_action_has_one_spelling(rt: HostRuntime) -> Result<(), Fail> {
     let alloc = rt.alloc();
     assert!(rt; are_read(alloc)?);
+    assert!(rt; is_made(alloc, Action::Attach(None), b"\x01")?);
+    assert!(rt;
+        is_made(
+            alloc,
+            Action::Attach(Some(name(alloc, b"a")?)),
+            b"\x0f\0\x01a"
+        )?
+    );
+    assert!(rt; is_made(alloc, Action::Leave, b"\x02")?);
+    assert!(rt; is_made(alloc, Action::ClearChannels, b"\x0a")?);
+    assert!(rt; is_made(alloc, Action::ClearQueries, b"\x0b")?);
+    assert!(rt; is_made(alloc, Action::ClearAll, b"\x0c")?);
+    assert!(rt; is_made(alloc, notice(alloc)?, b"\x03\x01\0\x03bob\0\x02hi")?);
+    let set = Action::SetBuffer(name(alloc, b"#x")?, BufferSize::new(500));
+    assert!(rt; is_made(alloc, set, b"\x0d\0\x02#x\x01\xf4")?);
+    assert!(rt; is_made(alloc, Action::Join(channel(alloc, b"#x")?), b"\x04\0\x02#x")?);
     for (bytes, want) in FAULTS {
         assert!(rt; fault_of::<Action>(alloc, bytes) == Some(*want));
     }
-    assert!(rt; is_channel(alloc, b"#x")? && !is_channel(alloc, b"bob")?);
+    assert!(rt; !is_channel(alloc, b"bob")? && is_copied_channel(alloc, b"#x")?);
+    assert_eq!(rt; BufferSize::new(65535).lines(), 65535);
     Ok(())
 }
