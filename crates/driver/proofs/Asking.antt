@@ -21,11 +21,12 @@ use Rattle.driver.specs.declared.client.Client.{Client}
 use Rattle.driver.specs.declared.order.Order.{Order}
 use Rattle.driver.specs.declared.order.Order.TheVariants.{Write}
 use Rattle.driver.specs.Asking.{HearsNode, anew_if, asks_if, held_if, is_stuck, may_be_lost, now_asked}
-use Rattle.driver.specs.Clients.{asked_all, asks_of, parting_unless, passed, welcome, write_some, written}
+use Rattle.driver.specs.Clients.{asked_all, asks_of, is_cut, is_leaving, last_asks, parting_unless, passed, welcome, write_some, written}
 use Rattle.driver.specs.Crowds.{Ticks}
 use Rattle.driver.specs.Once.{AreQuiet, AsksOnce, Event, Happens, TellsOnce, asks_again, number_told, numbers_of, numbers_told}
-use Rattle.driver.specs.Once.{Goes, Learns, Speaks, Waits, Words}
-use Rattle.driver.specs.Serving.{HasPassed, Hears, IsCutOff, IsLost, Receives, ended, ended_if}
+use Rattle.driver.specs.Leaving.{IsDismissed, Leaves, is_overdue}
+use Rattle.driver.specs.Once.{Dismissed, Goes, Learns, Speaks, Waits, Words}
+use Rattle.driver.specs.Serving.{HasPassed, Hears, HearsEffect, IsCutOff, IsLost, IsParted, PartsIf, Receives, ended, ended_if, is_done}
 use Rattle.driver.specs.Silence.{IsKept, IsPing, IsSentOff, held_back, is_silent, is_too_slow, waited}
 use Rattle.driver.specs.Telling.{Ordered, ordered}
 
@@ -78,24 +79,24 @@ closed_once false gone s calls origin at = sym (append-nil (numbers_of (all_requ
 closed_once true gone s calls origin at = ended_once gone s calls origin at
 
 -- what a gate answered is told, where it numbered just that
-numbered_once : (s : Settings) (calls : List Call) (c : Client) (at : Moment) (fed : Fed) (earlier : List ℕ) → numbers_of (all_requests s calls) ≡ earlier ++ numbers_of fed.requests.items → numbers_of (all_requests s (ended_if fed.close c.is_gone calls)) ≡ earlier ++ numbers_told (passed c at (last_request (gate s calls)) fed)
+numbered_once : (s : Settings) (calls : List Call) (c : Client) (at : Moment) (fed : Fed) (earlier : List ℕ) → numbers_of (all_requests s calls) ≡ earlier ++ numbers_of fed.requests.items → numbers_of (all_requests s (ended_if (is_cut fed) c.is_gone calls)) ≡ earlier ++ numbers_told (passed c at (last_request (gate s calls)) fed)
 numbered_once s calls c at fed earlier is =
     let bytes = written c.is_gone c.origin.2 fed.reply in
     let asks = asked_all c.is_attached c.origin at fed.requests.items in
-    let end = if fed.close then parting_unless c.is_gone c.origin at (last_request (gate s calls)) else [] in
+    let end = if is_cut fed then parting_unless c.is_gone c.origin at (last_request (gate s calls)) else [] in
     let requests = numbers_of fed.requests.items in
     let told =
     told_append (bytes ++ asks) end
     ∙ ap (λ numbers. numbers ++ numbers_told end) (told_append bytes asks ∙ ap (λ numbers. numbers ++ numbers_told asks) (told_written c.is_gone c.origin.2 fed.reply) ∙ told_all c.is_attached c.origin at fed.requests.items)
     in
-    closed_once fed.close c.is_gone s calls c.origin at
+    closed_once (is_cut fed) c.is_gone s calls c.origin at
     ∙ ap (λ numbers. numbers ++ numbers_told end) is
     ∙ append_assoc earlier requests (numbers_told end)
     ∙ ap (λ numbers. earlier ++ numbers) (sym told)
 
-passed_once : (s : Settings) (calls behind : List Call) (answer : Given) (at : Moment) (c new : Client) (before after : Ordered) → numbers_of (all_requests s behind) ≡ numbers_of (all_requests s calls) ++ numbers_of answer.requests → HasPassed s behind answer at c before new after → TellsOnce s calls before new after
-passed_once s calls behind answer at c new before after more h = record {
-  behind = ended_if h.fed.close c.is_gone behind;
+passed_once : (s : Settings) (calls behind : List Call) (answer : Given) (now : ℕ) (at : Moment) (c new : Client) (before after : Ordered) → numbers_of (all_requests s behind) ≡ numbers_of (all_requests s calls) ++ numbers_of answer.requests → HasPassed s behind answer now at c before new after → TellsOnce s calls before new after
+passed_once s calls behind answer now at c new before after more h = record {
+  behind = ended_if (is_cut h.fed) c.is_gone behind;
   stands = h.stands.gate;
   told = passed c at (last_request (gate s behind)) h.fed;
   orders = h.orders;
@@ -134,16 +135,20 @@ refused_numbers : (s : Settings) (calls : List Call) → numbers_of (all_request
 unfolding all_requests
 refused_numbers s calls = ap (λ (requests : List Request). numbers_of requests) (append-nil (all_requests s calls))
 
-cut_once : (s : Settings) (calls : List Call) (at : Moment) (c new : Client) (before after : Ordered) → IsCutOff s calls at c before new after → TellsOnce s calls before new after
-cut_once s calls at c new before after h =
-    let told = parting_unless c.is_gone c.origin at (last_request (gate s (Refused ∷ calls))) in
+-- it is parted from
+parted_once : (s : Settings) (calls behind : List Call) (at : Moment) (c new : Client) (before after : Ordered) → numbers_of (all_requests s behind) ≡ numbers_of (all_requests s calls) → IsParted at s behind c before new after → TellsOnce s calls before new after
+parted_once s calls behind at c new before after same h =
+    let told = parting_unless c.is_gone c.origin at (last_request (gate s behind)) in
     record {
-      behind = ended c.is_gone (Refused ∷ calls);
+      behind = ended c.is_gone behind;
       stands = h.stands.gate;
       told = told;
       orders = h.orders;
-      once = ended_once c.is_gone s (Refused ∷ calls) c.origin at ∙ ap (λ numbers. numbers ++ numbers_told told) (refused_numbers s calls);
+      once = ended_once c.is_gone s behind c.origin at ∙ ap (λ numbers. numbers ++ numbers_told told) same;
     }
+
+cut_once : (s : Settings) (calls : List Call) (at : Moment) (c new : Client) (before after : Ordered) → IsCutOff s calls at c before new after → TellsOnce s calls before new after
+cut_once s calls at c new before after h = parted_once s calls (Refused ∷ calls) at c new before after (refused_numbers s calls) h
 
 -- nothing came of it
 nothing_once : (s : Settings) (calls : List Call) (old new : Client) (before after : Ordered) → Stands s calls old.gate → new ≡ old → after ≡ before → TellsOnce s calls before new after
@@ -155,21 +160,75 @@ nothing_once s calls old new before after stands same none = record {
   once = sym (append-nil (numbers_of (all_requests s calls)));
 }
 
-reads_by : (gone : Bool) (bytes : List ℕ) (now : ℕ) (at : Moment) (s : Settings) (calls : List Call) (old new : Client) (before after : Ordered) → old.is_gone ≡ gone → Stands s calls old.gate → Receives bytes now at s calls old before new after → TellsOnce s calls before new after
+-- what is told first, and then
+both_once : (s : Settings) (calls : List Call) (before between after : Ordered) (client new : Client) → (first : TellsOnce s calls before client between) → TellsOnce s first.behind between new after → TellsOnce s calls before new after
+both_once s calls before between after client new first last = record {
+  behind = last.behind;
+  stands = last.stands;
+  told = first.told ++ last.told;
+  orders =
+      last.orders
+      ∙ ap (λ (orders : Ordered). ordered orders last.told) first.orders
+      ∙ ap (λ (items : List Order). record before { items = items }) (append_assoc before.items first.told last.told);
+  once =
+      last.once
+      ∙ ap (λ numbers. numbers ++ numbers_told last.told) first.once
+      ∙ append_assoc (numbers_of (all_requests s calls)) (numbers_told first.told) (numbers_told last.told)
+      ∙ ap (λ numbers. numbers_of (all_requests s calls) ++ numbers) (sym (told_append first.told last.told));
+}
+
+-- it is parted from where this is so
+parts_once : (parts : Bool) (at : Moment) (s : Settings) (calls : List Call) (old new : Client) (before after : Ordered) → Stands s calls old.gate → PartsIf parts at s calls old before new after → TellsOnce s calls before new after
+parts_once false at s calls old new before after stands (same, none) = nothing_once s calls old new before after stands same none
+parts_once true at s calls old new before after stands h = parted_once s calls calls at old new before after refl h
+
+reads_by : (gone : Bool) (bytes : List ℕ) (now : ℕ) (at : Moment) (s : Settings) (calls : List Call) (old new : Client) (before after : Ordered) → is_leaving old ≡ gone → Stands s calls old.gate → Receives bytes now at s calls old before new after → TellsOnce s calls before new after
 reads_by true bytes now at s calls old new before after is stands h =
-    let (same, none) = h.gone is in nothing_once s calls old new before after stands same none
+    let (same, none) = h.leaving is in nothing_once s calls old new before after stands same none
 reads_by false bytes now at s calls old new before after is stands h =
     ⊎_elim
-    (λ p. passed_once s calls (Feed bytes ∷ calls) (fed_answer s calls bytes) at _ new before after (feed_numbers s calls bytes) p)
+    (λ p. passed_once s calls (Feed bytes ∷ calls) (fed_answer s calls bytes) now at _ new before after (feed_numbers s calls bytes) p)
     (λ p. cut_once s calls at _ new before after p)
-    (h.stays is)
+    (h.hears is)
+
+effect_once : (e : GateEffect) (nick : List ℕ) (now : ℕ) (at : Moment) (s : Settings) (calls : List Call) (old new : Client) (before after : Ordered) → HearsEffect e nick now at s calls old before new after → TellsOnce s calls before new after
+effect_once e nick now at s calls old new before after h =
+    ⊎_elim
+    (λ p. passed_once s calls (Hear e ∷ calls) (given_effect s e) now at _ new before after (hear_numbers s calls e) p)
+    (λ p. cut_once s calls at _ new before after p)
+    h
 
 hears_once : (e : GateEffect) (nick : List ℕ) (now : ℕ) (at : Moment) (s : Settings) (calls : List Call) (old new : Client) (before after : Ordered) → Hears e nick now at s calls old before new after → TellsOnce s calls before new after
 hears_once e nick now at s calls old new before after h =
-    ⊎_elim
-    (λ p. passed_once s calls (Hear e ∷ calls) (given_effect s e) at _ new before after (hear_numbers s calls e) p)
-    (λ p. cut_once s calls at _ new before after p)
-    h
+    let first = effect_once e nick now at s calls old h.told before h.orders h.hears in
+    both_once s calls before h.orders after h.told new first
+    (parts_once (is_done (gate s first.behind).waiting h.told) at s first.behind h.told new h.orders after first.stands (h.parts first.behind first.stands))
+
+-- a client that is to leave asks for that once
+told_asked : (origin : Origin) (at : Moment) (last : Option Request) → numbers_told (last_asks origin at last) ≡ numbers_of (option_to_list last)
+told_asked origin at None = refl
+told_asked origin at (Some request) = refl
+
+leaves_once : (now : ℕ) (at : Moment) (s : Settings) (calls : List Call) (old new : Client) (before after : Ordered) → Leaves now at s calls old before new after → TellsOnce s calls before new after
+unfolding all_requests
+leaves_once now at s calls old new before after h =
+    let last = last_request (gate s calls) in
+    let first : TellsOnce s calls before h.told h.orders = record {
+      behind = End ∷ calls;
+      stands = h.stands.gate;
+      told = last_asks old.origin at last;
+      orders = h.asks;
+      once =
+          map-append (λ (request : Request). request.number) (all_requests s calls) (option_to_list last)
+          ∙ ap (λ numbers. numbers_of (all_requests s calls) ++ numbers) (sym (told_asked old.origin at last));
+    } in
+    both_once s calls before h.orders after h.told new first
+    (parts_once (is_done (gate s (End ∷ calls)).waiting h.told) at s (End ∷ calls) h.told new h.orders after h.stands.gate h.parts)
+
+dismissed_by : (leaves : Bool) (now : ℕ) (at : Moment) (s : Settings) (calls : List Call) (old new : Client) (before after : Ordered) → is_leaving old ≡ leaves → Stands s calls old.gate → IsDismissed now at s calls old before new after → TellsOnce s calls before new after
+dismissed_by true now at s calls old new before after is stands h =
+    let (same, none) = h.leaving is in nothing_once s calls old new before after stands same none
+dismissed_by false now at s calls old new before after is stands h = leaves_once now at s calls old new before after (h.leaves is)
 
 lost_by : (gone : Bool) (now : ℕ) (at : Moment) (s : Settings) (calls : List Call) (old new : Client) (before after : Ordered) → old.is_gone ≡ gone → Stands s calls old.gate → IsLost now at s calls old before new after → TellsOnce s calls before new after
 lost_by true now at s calls old new before after is stands h = record {
@@ -230,44 +289,31 @@ sent_once now at s calls old new before after stands sent =
       once = h.once;
     }
 
-ticks_by : (reads slow : Bool) (timeout now : ℕ) (at : Moment) (s : Settings) (calls : List Call) (old new : Client) (before after : Ordered) → is_too_slow (waited reads now old) now ≡ slow → is_stuck timeout now old ≡ false → Stands s calls old.gate → Ticks reads timeout now at s calls old before new after → TellsOnce s calls before new after
-ticks_by true true timeout now at s calls old new before after is quiet stands t =
-    sent_once now at s calls old new before after stands (t.slow is)
-ticks_by false true timeout now at s calls old new before after is quiet stands t =
-    sent_once now at s calls (held_back now old) new before after stands (t.slow is)
-ticks_by true false timeout now at s calls old new before after is quiet stands t =
-    kept_once timeout now at s calls old new before after quiet stands (t.kept is)
-ticks_by false false timeout now at s calls old new before after is quiet stands t =
-    kept_once timeout now at s calls (held_back now old) new before after quiet stands (t.kept is)
+ticks_by : (overdue reads slow : Bool) (timeout now : ℕ) (at : Moment) (s : Settings) (calls : List Call) (old new : Client) (before after : Ordered) → is_overdue old now ≡ overdue → is_too_slow (waited reads now old) now ≡ slow → is_stuck timeout now old ≡ false → Stands s calls old.gate → Ticks reads timeout now at s calls old before new after → TellsOnce s calls before new after
+ticks_by true reads slow timeout now at s calls old new before after late is quiet stands t =
+    lost_by old.is_gone now at s calls old new before after refl stands (t.overdue late)
+ticks_by false true true timeout now at s calls old new before after late is quiet stands t =
+    sent_once now at s calls old new before after stands (t.slow late is)
+ticks_by false false true timeout now at s calls old new before after late is quiet stands t =
+    sent_once now at s calls (held_back now old) new before after stands (t.slow late is)
+ticks_by false true false timeout now at s calls old new before after late is quiet stands t =
+    kept_once timeout now at s calls old new before after quiet stands (t.kept late is)
+ticks_by false false false timeout now at s calls old new before after late is quiet stands t =
+    kept_once timeout now at s calls (held_back now old) new before after quiet stands (t.kept late is)
 
 event_once : (event : Event) (now : ℕ) (at : Moment) (s : Settings) (calls : List Call) (old new : Client) (before after : Ordered) → asks_again event now old ≡ false → Happens event now at old before new after → Stands s calls old.gate → TellsOnce s calls before new after
 event_once (Speaks bytes) now at s calls old new before after quiet h stands =
-    reads_by old.is_gone bytes now at s calls old new before after refl stands (h s calls stands)
+    reads_by (is_leaving old) bytes now at s calls old new before after refl stands (h s calls stands)
 event_once (Learns effect nick) now at s calls old new before after quiet h stands =
     hears_once effect nick now at s calls old new before after (h s calls stands)
 event_once Goes now at s calls old new before after quiet h stands =
     lost_by old.is_gone now at s calls old new before after refl stands (h s calls stands)
+event_once Dismissed now at s calls old new before after quiet h stands =
+    dismissed_by (is_leaving old) now at s calls old new before after refl stands (h s calls stands)
 event_once (Words lost refused) now at s calls old new before after quiet h stands =
     words_once lost refused now at s calls old new before after quiet stands (h s calls stands)
 event_once (Waits reads timeout) now at s calls old new before after quiet h stands =
-    ticks_by reads (is_too_slow (waited reads now old) now) timeout now at s calls old new before after refl quiet stands (h s calls stands)
-
--- what is told first, and then
-both_once : (s : Settings) (calls : List Call) (before between after : Ordered) (client new : Client) → (first : TellsOnce s calls before client between) → TellsOnce s first.behind between new after → TellsOnce s calls before new after
-both_once s calls before between after client new first last = record {
-  behind = last.behind;
-  stands = last.stands;
-  told = first.told ++ last.told;
-  orders =
-      last.orders
-      ∙ ap (λ (orders : Ordered). ordered orders last.told) first.orders
-      ∙ ap (λ (items : List Order). record before { items = items }) (append_assoc before.items first.told last.told);
-  once =
-      last.once
-      ∙ ap (λ numbers. numbers ++ numbers_told last.told) first.once
-      ∙ append_assoc (numbers_of (all_requests s calls)) (numbers_told first.told) (numbers_told last.told)
-      ∙ ap (λ numbers. numbers_of (all_requests s calls) ++ numbers) (sym (told_append first.told last.told));
-}
+    ticks_by (is_overdue old now) reads (is_too_slow (waited reads now old) now) timeout now at s calls old new before after refl refl quiet stands (h s calls stands)
 
 pub asks_once : AsksOnce
 unfolding AreQuiet

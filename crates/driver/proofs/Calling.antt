@@ -118,7 +118,7 @@ speaks_by n bytes now at number (Some c) old new is sound s =
     let behind = crowd new.clients s.comes.told in
     let g =
     one_grows (NoClaim n) number _ _ (told_of old) behind c is is sound.good s.others s.comes.served
-    (λ gs calls client stands h. reads_own c.is_gone bytes now at gs calls c client old.orders s.comes.told refl stands h)
+    (λ gs calls client stands h. reads_own (is_leaving c) bytes now at gs calls c client old.orders s.comes.told refl stands h)
     in
     let greeted = greeted_adds (NoClaim n) (is_attached_in (client_at old.clients number)) new.clients number (nick_in old) s.comes.told new.orders g.good s.comes.greeted in
     let all = adds_both (NoClaim n) old.orders s.comes.told new.orders (record { told = g.told; orders = g.orders; all = g.all }) greeted in

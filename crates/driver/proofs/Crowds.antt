@@ -1,8 +1,9 @@
 -- What comes of clients, one and then those behind it.
 use Rattle.std.proofs.Common.{◌≡◌, ◌∷◌, ℕ, Bool, List, [], refl, subst, sym}
 use Rattle.wire_bytes.specs.declared.moment.Moment.{Moment}
+use Rattle.driver.specs.declared.absence.Absence.{Absence}
 use Rattle.driver.specs.declared.node_monitor.NodeMonitor.{NodeMonitor}
-use Rattle.driver.specs.Crowds.{CutEach, CutsClient, LeaveEach, LeavesClient, TickEach, TicksClient, Told, WordEach, WordsClient}
+use Rattle.driver.specs.Crowds.{CutEach, CutsClient, DismissEach, DismissesClient, LeaveEach, LeavesClient, TickEach, TicksClient, Told, WordEach, WordsClient}
 
 -- time passes for one client, and then for those behind it
 pub tick_more : (at : Moment) (timeout now : ℕ) (monitors : List NodeMonitor) (number : ℕ) (left more : List ℕ) (old behind new : Told) → left ≡ number ∷ more → TicksClient at timeout now monitors number old behind → TickEach at timeout now monitors more behind new → TickEach at timeout now monitors left old new
@@ -29,16 +30,16 @@ leave_none at node boot left last none =
     subst (λ (left : List ℕ). LeaveEach at node boot left last last) (sym none) refl
 
 -- one client is cut off, or stays, and then those behind it
-pub cut_more : (node number : ℕ) (left more : List ℕ) (old behind new : Told) → left ≡ number ∷ more → CutsClient node number old behind → CutEach node more behind new → CutEach node left old new
+pub cut_more : (why : Absence) (node number : ℕ) (left more : List ℕ) (old behind new : Told) → left ≡ number ∷ more → CutsClient why node number old behind → CutEach why node more behind new → CutEach why node left old new
 unfolding CutEach
-cut_more node number left more old behind new is cuts all =
-    subst (λ (left : List ℕ). CutEach node left old new) (sym is) (behind, cuts, all)
+cut_more why node number left more old behind new is cuts all =
+    subst (λ (left : List ℕ). CutEach why node left old new) (sym is) (behind, cuts, all)
 
 -- where none is left it is done
-pub cut_none : (node : ℕ) (left : List ℕ) (last : Told) → left ≡ [] → CutEach node left last last
+pub cut_none : (why : Absence) (node : ℕ) (left : List ℕ) (last : Told) → left ≡ [] → CutEach why node left last last
 unfolding CutEach
-cut_none node left last none =
-    subst (λ (left : List ℕ). CutEach node left last last) (sym none) refl
+cut_none why node left last none =
+    subst (λ (left : List ℕ). CutEach why node left last last) (sym none) refl
 
 -- one client hears what its node told, and then those behind it
 pub word_more : (at : Moment) (now node lost : ℕ) (refused : Bool) (number : ℕ) (left more : List ℕ) (old behind new : Told) → left ≡ number ∷ more → WordsClient at now node lost refused number old behind → WordEach at now node lost refused more behind new → WordEach at now node lost refused left old new
@@ -51,3 +52,13 @@ pub word_none : (at : Moment) (now node lost : ℕ) (refused : Bool) (left : Lis
 unfolding WordEach
 word_none at now node lost refused left last none =
     subst (λ (left : List ℕ). WordEach at now node lost refused left last last) (sym none) refl
+
+pub dismiss_more : (at : Moment) (now number : ℕ) (left more : List ℕ) (old behind new : Told) → left ≡ number ∷ more → DismissesClient at now number old behind → DismissEach at now more behind new → DismissEach at now left old new
+unfolding DismissEach
+dismiss_more at now number left more old behind new is dismisses all =
+    subst (λ (left : List ℕ). DismissEach at now left old new) (sym is) (behind, dismisses, all)
+
+pub dismiss_none : (at : Moment) (now : ℕ) (left : List ℕ) (last : Told) → left ≡ [] → DismissEach at now left last last
+unfolding DismissEach
+dismiss_none at now left last none =
+    subst (λ (left : List ℕ). DismissEach at now left last last) (sym none) refl

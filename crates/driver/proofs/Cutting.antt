@@ -1,4 +1,4 @@
--- The clients of a node that is down: none is left.
+-- The clients of a node that serves nobody: none is left.
 use Rattle.std.proofs.Common.{◌≡◌, ◌∙◌, ◌++◌, ℕ, Bool, true, false, List, [], ◌∷◌, Option, Some, None, refl, sym, ap, subst}
 use Rattle.std.specs.Prelude.{is_some}
 use Rattle.std.specs.List.{All}
@@ -8,6 +8,7 @@ use Rattle.std.proofs.lemmas.List.{append_assoc, append-nil}
 use Rattle.std.proofs.lemmas.List.Elements.{All-cons, All-contains, All-nil}
 use Rattle.std.proofs.lemmas.Map.Lookups.{exact_unsigned}
 use Rattle.std.proofs.lemmas.Map.Views.{btree_map_contains_key_iff}
+use Rattle.driver.specs.declared.absence.Absence.{Absence}
 use Rattle.driver.specs.declared.client.Client.{Client}
 use Rattle.driver.specs.declared.clients.Clients.{Clients}
 use Rattle.driver.specs.declared.news.News.{News}
@@ -61,16 +62,16 @@ gone_old number old new others gone n c is =
     (λ same. none_some c (client_at old n ≡ Some c) (sym (subst (λ (k : ℕ). client_at new k ≡ None) same gone) ∙ is))
     (λ apart. sym (others n apart) ∙ is)
 
-told_cut : (node number : ℕ) (gone : Bool) (c : Client) (old new : Told) → AreOld old.clients new.clients → client_at new.clients number ≡ None → IsToldIf gone c old.orders new.orders → Cut node number old new
+told_cut : (why : Absence) (node number : ℕ) (gone : Bool) (c : Client) (old new : Told) → AreOld old.clients new.clients → client_at new.clients number ≡ None → IsToldIf gone why c old.orders new.orders → Cut node number old new
 unfolding AllAre
-told_cut node number true c old new left none same = record {
+told_cut why node number true c old new left none same = record {
   told = [];
   orders = same ∙ sym (ap (λ (items : List Order). record old.orders { items = items }) (append-nil old.orders.items));
   all = tt;
   left = left;
   away = λ d is. none_some d (is_of d.origin node ≡ false) (sym none ∙ is);
 }
-told_cut node number false c old new left none (line, says, orders) = record {
+told_cut why node number false c old new left none (line, says, orders) = record {
   told = Write c.origin.2 line ∷ Close c.origin.2 ∷ Log (News.Left c.origin) ∷ [];
   orders = orders;
   all = ((tt, refl), ((tt, refl), ((tt, refl), tt)));
@@ -82,32 +83,32 @@ abbrev pub or_that : Client → Option Client → Client
 or_that c None = c
 or_that c (Some d) = d
 
-cut_of : (node number : ℕ) (c : Client) (own : Bool) (old new : Told) → client_at old.clients number ≡ Some c → is_of c.origin node ≡ own → CutsClient node number old new → Cut node number old new
-cut_of node number c false old new is own u =
+cut_of : (why : Absence) (node number : ℕ) (c : Client) (own : Bool) (old new : Told) → client_at old.clients number ≡ Some c → is_of c.origin node ≡ own → CutsClient why node number old new → Cut node number old new
+cut_of why node number c false old new is own u =
     same_cut node number old new
     (λ d found. subst (λ (x : Client). is_of x.origin node ≡ false) (ap (or_that c) (sym is ∙ found)) own)
     (u.stays c is own)
-cut_of node number c true old new is own u =
+cut_of why node number c true old new is own u =
     let gone = u.leaves c is own in
-    told_cut node number c.is_gone c old new (gone_old number old.clients new.clients u.others gone) gone (u.told c is own)
+    told_cut why node number c.is_gone c old new (gone_old number old.clients new.clients u.others gone) gone (u.told c is own)
 
-cut_by : (node number : ℕ) (found : Option Client) (old new : Told) → client_at old.clients number ≡ found → CutsClient node number old new → Cut node number old new
-cut_by node number None old new is u =
+cut_by : (why : Absence) (node number : ℕ) (found : Option Client) (old new : Told) → client_at old.clients number ≡ found → CutsClient why node number old new → Cut node number old new
+cut_by why node number None old new is u =
     same_cut node number old new (λ d found. none_some d (is_of d.origin node ≡ false) (sym is ∙ found)) (u.nobody is)
-cut_by node number (Some c) old new is u = cut_of node number c (is_of c.origin node) old new is refl u
+cut_by why node number (Some c) old new is u = cut_of why node number c (is_of c.origin node) old new is refl u
 
-cuts_each : (node : ℕ) (numbers : List ℕ) (old new : Told) → CutEach node numbers old new → Cuts node numbers old new
+cuts_each : (why : Absence) (node : ℕ) (numbers : List ℕ) (old new : Told) → CutEach why node numbers old new → Cuts node numbers old new
 unfolding CutEach AllAre
-cuts_each node [] old new same = record {
+cuts_each why node [] old new same = record {
   told = [];
   orders = ap (λ (told : Told). told.orders) same ∙ sym (ap (λ (items : List Order). record old.orders { items = items }) (append-nil old.orders.items));
   all = tt;
   left = λ number c is. subst (λ (told : Told). client_at told.clients number ≡ Some c) same is;
   away = All-nil (IsAway node new.clients);
 }
-cuts_each node (number ∷ numbers) old new (behind, cuts, more) =
-    let first = cut_by node number (client_at old.clients number) old behind refl cuts in
-    let last = cuts_each node numbers behind new more in
+cuts_each why node (number ∷ numbers) old new (behind, cuts, more) =
+    let first = cut_by why node number (client_at old.clients number) old behind refl cuts in
+    let last = cuts_each why node numbers behind new more in
     record {
       told = first.told ++ last.told;
       orders =
@@ -120,9 +121,9 @@ cuts_each node (number ∷ numbers) old new (behind, cuts, more) =
     }
 
 -- Once all were told, each client that is left is another node's.
-pub cuts_all : (P : Order → Type 0) (node : ℕ) (old new : Told) → AllGood P old.clients → CutEach node (keys old.clients.all) old new → Grows (Plain node true) old new
-cuts_all P node old new good cuts =
-    let c = cuts_each node (keys old.clients.all) old new cuts in
+pub cuts_all : (P : Order → Type 0) (why : Absence) (node : ℕ) (old new : Told) → AllGood P old.clients → CutEach why node (keys old.clients.all) old new → Grows (Plain node true) old new
+cuts_all P why node old new good cuts =
+    let c = cuts_each why node (keys old.clients.all) old new cuts in
     record {
       told = c.told;
       orders = c.orders;

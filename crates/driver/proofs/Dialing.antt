@@ -21,7 +21,7 @@ use Rattle.driver.specs.declared.link.Stage.{Stage}
 use Rattle.driver.specs.declared.link.Stage.TheVariants.{Connecting, Idle, Open}
 use Rattle.driver.specs.declared.news.News.TheVariants.{LogFills, TurnedAway}
 use Rattle.driver.specs.declared.order.Order.TheVariants as order
-use Rattle.driver.specs.Arriving.{ArrivesBy, boot_at, next_number, turned_away_by, visited}
+use Rattle.driver.specs.Arriving.{ArrivesBy, boot_at, boot_in, next_number, turned_away_by, visited}
 use Rattle.driver.specs.Calls.{ConnectsTo, Goes, Orders, Speaks}
 use Rattle.driver.specs.Crowds.{told as crowd}
 use Rattle.driver.specs.Driving.{orders_of, told_of}
@@ -86,6 +86,15 @@ visited_as n down None taken monitors node at = changed_as n node down turned_aw
 visited_as n down (Some boot) true monitors node at = changed_as n node down (with_seen boot) monitors (λ d. (refl, refl)) at
 visited_as n down (Some boot) false monitors node at = at
 
+-- a node that takes clients is up
+open_if : (hangs : Bool) (boot : Option ℕ) → is_some (if hangs then None else boot) ≡ true → is_some boot ≡ true
+open_if true boot is = absurd (cc is)
+open_if false boot is = is
+
+open_up : (found : Option NodeMonitor) → is_some (boot_in found) ≡ true → is_some (boot_up (status_in found)) ≡ true
+open_up None is = absurd (cc is)
+open_up (Some d) is = open_if d.presence.is_hanging (boot_up d.status) is
+
 pub connect_stays : (n now node : ℕ) (down : Bool) (old new : Driver) → Steady n down old → ConnectsTo now node old new → Stays n down old new
 connect_stays n now node down old new steady c =
     let boot = boot_at old.monitors node in
@@ -95,7 +104,7 @@ connect_stays n now node down old new steady c =
       steady = record {
         good =
             arrive_fits n down node boot (next_number old.monitors node old.numbered) old.settings.password.items (nick_in old) now old.clients new.clients
-            (λ up. both_false down (nat_eq node n) (λ own. up_own n node down old.monitors steady.at up own))
+            (λ up. both_false down (nat_eq node n) (λ own. up_own n node down old.monitors steady.at (open_up (slice_get old.monitors (node - 1)) up) own))
             steady.good c.others c.arrived;
         ids = ids_kept old.monitors new.monitors (λ j. ap (λ (monitors : List NodeMonitor). look_at monitors j) c.monitors ∙ visited_look boot taken old.monitors node j) steady.ids;
         at =
@@ -114,7 +123,7 @@ speaks_stay n down bytes now at number (Some c) old new is steady s =
     let behind = crowd new.clients s.comes.told in
     let g =
     one_grows (Plain n down) number _ _ (told_of old) behind c is is steady.good s.others s.comes.served
-    (λ gs calls client stands h. reads_own c.is_gone bytes now at gs calls c client old.orders s.comes.told refl stands h)
+    (λ gs calls client stands h. reads_own (is_leaving c) bytes now at gs calls c client old.orders s.comes.told refl stands h)
     in
     let greeted = greeted_adds (Plain n down) (is_attached_in (client_at old.clients number)) new.clients number (nick_in old) s.comes.told new.orders g.good s.comes.greeted in
     let all = adds_both (Plain n down) old.orders s.comes.told new.orders (record { told = g.told; orders = g.orders; all = g.all }) greeted in

@@ -16,7 +16,7 @@ use Rattle.driver.specs.declared.order.Order.{Order}
 use Rattle.driver.specs.declared.settings.Settings.{Settings}
 use Rattle.driver.specs.Arriving.{IsNewDriver, new_monitors}
 use Rattle.driver.specs.Calls.{Call, Does, DoesAll, IsTold, Step}
-use Rattle.driver.specs.Calls.{Connect, Connected, End, Hand, Hear, Lose, Notice, Receive, ReceiveLine, Refuse, Take, Tick, Watch}
+use Rattle.driver.specs.Calls.{Connect, Connected, Dismiss, End, Hand, Hear, Lose, Notice, Receive, ReceiveLine, Refuse, Take, Tick, Watch, WatchNodes}
 use Rattle.driver.specs.Counting.{all_told}
 use Rattle.driver.specs.Downtime.{DownIsOnlyRestarted}
 use Rattle.driver.specs.Filling.{TellsLevelIf, WatchesFor, is_left_out}
@@ -39,6 +39,7 @@ use Rattle.driver.proofs.Restarts.{Follows, Plain, follows_all, follows_both, re
 use Rattle.driver.proofs.Resting.{ends_stay, lead_own}
 use Rattle.driver.proofs.Staying.{StandsAs, Stays, Steady, orders_stay}
 use Rattle.driver.proofs.Waiting.{items_same}
+use Rattle.driver.proofs.Watching.{dismissed_stay, nodes_link, nodes_stay}
 
 -- The connection to the server is of no node that is down.
 abbrev pub IsUp : ℕ → Bool → Stage → Type 0
@@ -181,8 +182,12 @@ call_result n down (Notice text) told old new low steady up o is =
     kept n down old new told
     (given_stay n down _ old new steady o (all_written_add (Plain n down) (keys old.clients.all) old.clients _ old.orders new.orders steady.good o.given))
     (ap (λ (driver : Driver). driver.link) o.rest) up is
+call_result n down (Dismiss now at) told old new low steady up d is =
+    kept n down old new told (dismissed_stay n now at down old new steady d) (ap (λ (driver : Driver). driver.link) d.rest) up is
 call_result n down Watch told old new low steady up w is =
     kept n down old new told (watch_stays n down w.leader old new steady w.watches) (watch_link w.leader old new w.watches) up is
+call_result n down (WatchNodes now) told old new low steady up w is =
+    kept n down old new told (nodes_stay n now down old new steady w) (nodes_link now old new w) up is
 call_result n down (Refuse number) told old new low steady up o is =
     kept n down old new told
     (given_stay n down _ old new steady o (written_adds (Plain n down) old.clients number (client_at old.clients number) _ old.orders new.orders refl steady.good o.given))

@@ -15,7 +15,7 @@ use Rattle.driver.specs.declared.news.News.TheVariants as news
 use Rattle.driver.specs.declared.order.Order.{Order}
 use Rattle.driver.specs.declared.order.Order.TheVariants as order
 use Rattle.driver.specs.Driving.{changed_at, orders_of}
-use Rattle.driver.specs.Hearing.{down_behind, down_news, elected_news, heard_behind, heard_news, is_elected, is_none, stood_behind, stood_news, told_behind, up_behind, up_news, was_up}
+use Rattle.driver.specs.Hearing.{answers_news, down_behind, down_news, elected_news, heard_behind, heard_news, is_elected, is_none, stood_behind, stood_news, told_behind, up_behind, up_news, was_up}
 use Rattle.driver.specs.Reports.{Hears, Stands}
 use Rattle.driver.specs.Telling.{ordered, told_to}
 use Rattle.driver.specs.Waking.{awake, slept, waited_longer}
@@ -89,13 +89,21 @@ unfolding AllAre
 up_other n down id boot true apart = tt
 up_other n down id boot false apart = ((tt, said_up down (nat_eq id n) apart), tt)
 
+answers_plain : (n : ℕ) (down : Bool) (id : ℕ) (hung : Bool) → AllAre (Plain n down) (answers_news id hung)
+unfolding AllAre
+answers_plain n down id true = ((tt, refl), tt)
+answers_plain n down id false = tt
+
 down_other : (n : ℕ) (down : Bool) (id : ℕ) (cause : Cause) (since : Option Outage) → nat_eq id n ≡ false → AllAre (Plain n down) (down_news id cause since)
 unfolding AllAre
 down_other n down id cause None apart = ((tt, said_down down (nat_eq id n) apart), tt)
 down_other n down id cause (Some since) apart = tt
 
 stood_other : (n : ℕ) (down : Bool) (d : NodeMonitor) (status : Status) (cause : Option Cause) → nat_eq d.id n ≡ false → AllAre (Plain n down) (stood_news d status cause)
-stood_other n down d status None apart = up_other n down d.id status.boot (was_up d.status) apart
+stood_other n down d status None apart =
+    all_append (Plain n down) (answers_news d.id d.presence.is_hanging) (up_news d.id status.boot (was_up d.status))
+    (answers_plain n down d.id d.presence.is_hanging)
+    (up_other n down d.id status.boot (was_up d.status) apart)
 stood_other n down d status (Some cause) apart = down_other n down d.id cause d.down apart
 
 -- the monitor of a report is another node's, if it is one's
@@ -170,7 +178,10 @@ down_own n down id cause None own is = (tt, begun_down down (nat_eq id n) own)
 down_own n down id cause (Some since) own is = sym is
 
 pub stood_own : (n : ℕ) (down : Bool) (d : NodeMonitor) (status : Status) (cause : Option Cause) → nat_eq d.id n ≡ true → StandsAs down (Some d) → Follows n down (stood_news d status cause) (is_some cause)
-stood_own n down d status None own (is, so) = up_own n down d.id status.boot (was_up d.status) own (λ up. sym so ∙ was_up_so d.status up)
+stood_own n down d status None own (is, so) =
+    follows_both n down down false (answers_news d.id d.presence.is_hanging) (up_news d.id status.boot (was_up d.status))
+    (follows_all n down (answers_news d.id d.presence.is_hanging) (answers_plain n down d.id d.presence.is_hanging))
+    (up_own n down d.id status.boot (was_up d.status) own (λ up. sym so ∙ was_up_so d.status up))
 stood_own n down d status (Some cause) own (is, so) = down_own n down d.id cause d.down own is
 
 up_stands : (d : NodeMonitor) (now : ℕ) (up : Bool) → is_some (up_behind d now up).down ≡ false

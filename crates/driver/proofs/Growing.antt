@@ -8,20 +8,22 @@ use Rattle.wire_bytes.specs.declared.origin.Origin.{Origin}
 use Rattle.client_gate.specs.declared.settings.Settings.{Settings}
 use Rattle.client_gate.specs.Calls.{Call, Stands, gate}
 use Rattle.client_gate.specs.Gates.{last_request}
+use Rattle.driver.specs.declared.absence.Absence.{Absence}
 use Rattle.driver.specs.declared.client.Client.{Client}
 use Rattle.driver.specs.declared.clients.Clients.{Clients}
 use Rattle.driver.specs.declared.news.News.{News}
 use Rattle.driver.specs.declared.order.Order.{Order}
 use Rattle.driver.specs.declared.order.Order.TheVariants.{Close, Log, Write}
 use Rattle.driver.specs.Asking.{is_idle}
-use Rattle.driver.specs.Clients.{parting_unless}
-use Rattle.driver.specs.Crowds.{CutEach, CutsClient, IsSame, LeaveEach, LeavesClient, TickEach, TicksClient, Told, WordEach, WordsClient, is_below, is_of}
+use Rattle.driver.specs.Clients.{is_leaving, parting_unless}
+use Rattle.driver.specs.Crowds.{CutEach, CutsClient, DismissEach, DismissesClient, IsSame, LeaveEach, LeavesClient, TickEach, TicksClient, Told, WordEach, WordsClient, is_below, is_of}
+use Rattle.driver.specs.Leaving.{is_overdue}
 use Rattle.driver.specs.Once.{IsFor, TellsOnly}
 use Rattle.driver.specs.Outages.{IsToldIf}
 use Rattle.driver.specs.Rosters.{AreOthersSame, Serves, client_at, kept}
 use Rattle.driver.specs.Silence.{is_too_slow, waited}
 use Rattle.driver.specs.Telling.{Ordered, ordered}
-use Rattle.driver.proofs.Owning.{Owns, only_parting, ticks_own, words_own}
+use Rattle.driver.proofs.Owning.{Owns, dismissed_own, only_parting, ticks_own, words_own}
 
 -- all orders are so
 unfoldable pub AllAre : (Order → Type 0) → List Order → Type 0
@@ -136,7 +138,7 @@ tick_by P at timeout now monitors number None old new is good t = same_grows P o
 tick_by P at timeout now monitors number (Some c) old new is good t =
     one_grows P number _ _ old new c is is good t.others t.served
     (λ s calls client stands h.
-    ticks_own h.reads (is_too_slow (waited h.reads now c) now) timeout now at s calls c client old.orders new.orders refl stands h.ticks)
+    ticks_own (is_overdue c now) h.reads (is_too_slow (waited h.reads now c) now) timeout now at s calls c client old.orders new.orders refl refl stands h.ticks)
 
 pub ticks_grow : (P : Order → Type 0) (at : Moment) (timeout now : ℕ) (monitors : List _) (numbers : List ℕ) (old new : Told) → AllGood P old.clients → TickEach at timeout now monitors numbers old new → Grows P old new
 unfolding TickEach
@@ -198,35 +200,50 @@ leaves_grow P at node boot (number ∷ numbers) old new good (behind, leaves, mo
     let first = leave_by P at node boot number (client_at old.clients number) old behind refl good leaves in
     grows_both P old behind new first (leaves_grow P at node boot numbers behind new first.good more)
 
--- Clients of a node that is down are cut off.
-cut_told : (P : Order → Type 0) (gone : Bool) (c : Client) (old new : Told) → Good P c → AllGood P new.clients → IsToldIf gone c old.orders new.orders → Grows P old new
+-- Clients of a node that serves nobody are cut off.
+cut_told : (P : Order → Type 0) (why : Absence) (gone : Bool) (c : Client) (old new : Told) → Good P c → AllGood P new.clients → IsToldIf gone why c old.orders new.orders → Grows P old new
 unfolding AllAre
-cut_told P true c old new g good none = record {
+cut_told P why true c old new g good none = record {
   told = [];
   orders = none ∙ sym (ap (λ (items : List Order). record old.orders { items = items }) (append-nil old.orders.items));
   all = tt;
   good = good;
 }
-cut_told P false c old new g good (line, says, orders) = record {
+cut_told P why false c old new g good (line, says, orders) = record {
   told = Write c.origin.2 line ∷ Close c.origin.2 ∷ Log (News.Left c.origin) ∷ [];
   orders = orders;
   all = (g.fits (Write c.origin.2 line) refl, (g.fits (Close c.origin.2) refl, (g.fits (Log (News.Left c.origin)) refl, tt)));
   good = good;
 }
 
-cut_of : (P : Order → Type 0) (node number : ℕ) (c : Client) (own : Bool) (old new : Told) → client_at old.clients number ≡ Some c → is_of c.origin node ≡ own → AllGood P old.clients → CutsClient node number old new → Grows P old new
-cut_of P node number c false old new is own good u = same_grows P old new good (u.stays c is own)
-cut_of P node number c true old new is own good u =
-    cut_told P c.is_gone c old new (good number c is) (gone_good P number old.clients new.clients good u.others (u.leaves c is own)) (u.told c is own)
+cut_of : (P : Order → Type 0) (why : Absence) (node number : ℕ) (c : Client) (own : Bool) (old new : Told) → client_at old.clients number ≡ Some c → is_of c.origin node ≡ own → AllGood P old.clients → CutsClient why node number old new → Grows P old new
+cut_of P why node number c false old new is own good u = same_grows P old new good (u.stays c is own)
+cut_of P why node number c true old new is own good u =
+    cut_told P why c.is_gone c old new (good number c is) (gone_good P number old.clients new.clients good u.others (u.leaves c is own)) (u.told c is own)
 
-cut_by : (P : Order → Type 0) (node number : ℕ) (found : Option Client) (old new : Told) → client_at old.clients number ≡ found → AllGood P old.clients → CutsClient node number old new → Grows P old new
-cut_by P node number None old new is good u = same_grows P old new good (u.nobody is)
-cut_by P node number (Some c) old new is good u = cut_of P node number c (is_of c.origin node) old new is refl good u
+cut_by : (P : Order → Type 0) (why : Absence) (node number : ℕ) (found : Option Client) (old new : Told) → client_at old.clients number ≡ found → AllGood P old.clients → CutsClient why node number old new → Grows P old new
+cut_by P why node number None old new is good u = same_grows P old new good (u.nobody is)
+cut_by P why node number (Some c) old new is good u = cut_of P why node number c (is_of c.origin node) old new is refl good u
 
-pub cuts_grow : (P : Order → Type 0) (node : ℕ) (numbers : List ℕ) (old new : Told) → AllGood P old.clients → CutEach node numbers old new → Grows P old new
+pub cuts_grow : (P : Order → Type 0) (why : Absence) (node : ℕ) (numbers : List ℕ) (old new : Told) → AllGood P old.clients → CutEach why node numbers old new → Grows P old new
 unfolding CutEach
-cuts_grow P node [] old new good same =
+cuts_grow P why node [] old new good same =
     same_grows P old new good (ap (λ (told : Told). told.clients) same, ap (λ (told : Told). told.orders) same)
-cuts_grow P node (number ∷ numbers) old new good (behind, cuts, more) =
-    let first = cut_by P node number (client_at old.clients number) old behind refl good cuts in
-    grows_both P old behind new first (cuts_grow P node numbers behind new first.good more)
+cuts_grow P why node (number ∷ numbers) old new good (behind, cuts, more) =
+    let first = cut_by P why node number (client_at old.clients number) old behind refl good cuts in
+    grows_both P old behind new first (cuts_grow P why node numbers behind new first.good more)
+
+-- Clients are to leave.
+dismiss_by : (P : Order → Type 0) (at : Moment) (now number : ℕ) (found : Option Client) (old new : Told) → client_at old.clients number ≡ found → AllGood P old.clients → DismissesClient at now number old new → Grows P old new
+dismiss_by P at now number None old new is good d = same_grows P old new good (d.nobody is)
+dismiss_by P at now number (Some c) old new is good d =
+    one_grows P number _ _ old new c is is good d.others d.served
+    (λ s calls client stands h. dismissed_own (is_leaving c) now at s calls c client old.orders new.orders refl stands h)
+
+pub dismisses_grow : (P : Order → Type 0) (at : Moment) (now : ℕ) (numbers : List ℕ) (old new : Told) → AllGood P old.clients → DismissEach at now numbers old new → Grows P old new
+unfolding DismissEach
+dismisses_grow P at now [] old new good same =
+    same_grows P old new good (ap (λ (told : Told). told.clients) same, ap (λ (told : Told). told.orders) same)
+dismisses_grow P at now (number ∷ numbers) old new good (behind, dismisses, more) =
+    let first = dismiss_by P at now number (client_at old.clients number) old behind refl good dismisses in
+    grows_both P old behind new first (dismisses_grow P at now numbers behind new first.good more)

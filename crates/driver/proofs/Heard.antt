@@ -10,6 +10,7 @@ use Rattle.node_notes.specs.declared.status.Status.{Status}
 use Rattle.raft_node.specs.declared.node_fault.Cause.{Cause}
 use Rattle.driver.specs.declared.clients.Clients.{Clients}
 use Rattle.driver.specs.declared.node_monitor.NodeMonitor.{NodeMonitor}
+use Rattle.driver.specs.declared.absence.Absence.TheVariants.{Down}
 use Rattle.driver.specs.declared.driver.Driver.{Driver}
 use Rattle.driver.specs.declared.retirement.Retirement.{Retirement}
 use Rattle.driver.specs.declared.news.Ending.TheVariants.{Silent}
@@ -46,12 +47,12 @@ words_if n down true refused now at node lost old new good w = words_grow (Plain
 words_if n down false refused now at node lost old new good same = told_fits n down old new good same
 
 words_fit : (n : ℕ) (down : Bool) (cause : Option Cause) (refused lost : Bool) (now : ℕ) (at : Moment) (node : ℕ) (driver : Driver) (old new : Told) → AllGood (Plain n down) old.clients → WordsBy cause refused lost now at node driver old new → Grows (Plain n down) old new
-words_fit n down (Some cause) refused lost now at node driver old new good w = cuts_grow (Plain n down) node (keys old.clients.all) old new good w
+words_fit n down (Some cause) refused lost now at node driver old new good w = cuts_grow (Plain n down) Down node (keys old.clients.all) old new good w
 words_fit n down None refused lost now at node driver old new good w = words_if n down (refused || lost) refused now at node (lost_at driver.monitors node) old new good w
 
 -- of the node itself, which is down or up behind the report
 words_own : (n : ℕ) (P : Order → Type 0) (cause : Option Cause) (refused lost : Bool) (now : ℕ) (at : Moment) (driver : Driver) (old new : Told) → AllGood P old.clients → WordsBy cause refused lost now at n driver old new → Grows (Plain n (is_some cause)) old new
-words_own n P (Some cause) refused lost now at driver old new good w = cuts_all P n old new good w
+words_own n P (Some cause) refused lost now at driver old new good w = cuts_all P Down n old new good w
 words_own n P None refused lost now at driver old new good w =
     words_if n false (refused || lost) refused now at n (lost_at driver.monitors n) old new (λ number c is. apart_good n false P c refl (good number c is)) w
 

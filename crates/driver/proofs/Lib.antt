@@ -5,12 +5,12 @@ mod Claiming
 mod Counting
 mod Crowds
 mod Cutting
-mod Monitors
 mod Dialing
 mod Downtime
 mod Driving
 mod Falling
 mod Growing
+mod Hanging
 mod Heard
 mod Keeping
 mod Kicks
@@ -19,6 +19,7 @@ mod Learning
 mod Led
 mod Marks
 mod Merging
+mod Monitors
 mod Nicks
 mod OneClaim
 mod Owning
@@ -36,3 +37,4 @@ mod Sessions
 mod Staying
 mod Telling
 mod Waiting
+mod Watching

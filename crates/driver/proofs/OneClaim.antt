@@ -10,7 +10,7 @@ use Rattle.driver.specs.declared.order.Order.{Order}
 use Rattle.driver.specs.declared.settings.Settings.{Settings}
 use Rattle.driver.specs.Arriving.{IsNewDriver, new_monitors}
 use Rattle.driver.specs.Calls.{Call, Does, DoesAll, IsTold, Step}
-use Rattle.driver.specs.Calls.{Connect, Connected, End, Hand, Hear, Lose, Notice, Receive, ReceiveLine, Refuse, Take, Tick, Watch}
+use Rattle.driver.specs.Calls.{Connect, Connected, Dismiss, End, Hand, Hear, Lose, Notice, Receive, ReceiveLine, Refuse, Take, Tick, Watch, WatchNodes}
 use Rattle.driver.specs.Claiming.{Claims, OneClaimWaits, applies_all, claims, tells_claim}
 use Rattle.driver.specs.Links.{is_session_of, node_of}
 use Rattle.driver.specs.Rosters.{client_at}
@@ -20,6 +20,7 @@ use Rattle.driver.proofs.Monitors.{Ids, Look, look_at}
 use Rattle.driver.proofs.Growing.{AllGood, Good, none_some}
 use Rattle.driver.proofs.Quiet.{NoClaim}
 use Rattle.driver.proofs.Reporting.{report_outcome, tick_outcome}
+use Rattle.driver.proofs.Watching.{dismissed_keep, nodes_keep}
 use Rattle.driver.proofs.Waiting.{Fresh, Outcome, Waits, or_status, outcome_keeps, true_false, waits_kept}
 use Rattle.driver.proofs.Calling.{connect_keeps, goes_by, orders_of_call, speaks_by, stands_add, takes_keep, watch_keeps}
 
@@ -41,7 +42,9 @@ outcome n (ReceiveLine now at bytes) told old new low sound t is = outcome_keeps
 outcome n (End now why) told old new low sound e is = outcome_keeps n false old new told (ends_keep n now why old new sound e) is
 outcome n (Notice text) told old new low sound o is =
     outcome_keeps n false old new told (orders_of_call n _ old new sound o (all_written_add (NoClaim n) (keys old.clients.all) old.clients _ old.orders new.orders sound.good o.given)) is
+outcome n (Dismiss now at) told old new low sound d is = outcome_keeps n false old new told (dismissed_keep n now at old new sound d) is
 outcome n Watch told old new low sound w is = outcome_keeps n false old new told (watch_keeps n w.leader old new sound w.watches) is
+outcome n (WatchNodes now) told old new low sound w is = outcome_keeps n false old new told (nodes_keep n now old new sound w) is
 outcome n (Refuse number) told old new low sound o is =
     outcome_keeps n false old new told (orders_of_call n _ old new sound o (written_adds (NoClaim n) old.clients number (client_at old.clients number) _ old.orders new.orders refl sound.good o.given)) is
 outcome n Take told old new low sound o is = record {

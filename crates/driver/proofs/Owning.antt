@@ -15,10 +15,11 @@ use Rattle.driver.specs.declared.client.Client.{Client}
 use Rattle.driver.specs.declared.order.Order.{Order}
 use Rattle.driver.specs.declared.order.Order.TheVariants.{Write}
 use Rattle.driver.specs.Asking.{HearsNode, anew_if, held_if, is_stuck, may_be_lost, now_asked}
-use Rattle.driver.specs.Clients.{asked_all, asks_of, parting_unless, passed, write_some, written}
+use Rattle.driver.specs.Clients.{asked_all, asks_of, is_cut, is_leaving, last_asks, parting_unless, passed, write_some, written}
 use Rattle.driver.specs.Crowds.{Ticks}
-use Rattle.driver.specs.Once.{AsksOwn, Event, Goes, HappenAll, Happens, Learns, Speaks, TellsOnly, Waits, Words}
-use Rattle.driver.specs.Serving.{HasPassed, Hears, IsCutOff, IsLost, Receives, ended, ended_if}
+use Rattle.driver.specs.Leaving.{IsDismissed, Leaves, is_overdue}
+use Rattle.driver.specs.Once.{AsksOwn, Dismissed, Event, Goes, HappenAll, Happens, Learns, Speaks, TellsOnly, Waits, Words}
+use Rattle.driver.specs.Serving.{HasPassed, Hears, HearsEffect, IsCutOff, IsLost, IsParted, PartsIf, Receives, ended, ended_if, is_done}
 use Rattle.driver.specs.Silence.{IsKept, IsPing, IsSentOff, held_back, is_silent, is_too_slow, waited}
 use Rattle.driver.specs.Telling.{Ordered, ordered}
 
@@ -64,10 +65,10 @@ only_passed : (c : Client) (at : Moment) (last : Option Request) (fed : Fed) →
 only_passed c at last fed =
     let bytes = written c.is_gone c.origin.2 fed.reply in
     let asks = asked_all c.is_attached c.origin at fed.requests.items in
-    let end = if fed.close then parting_unless c.is_gone c.origin at last else [] in
+    let end = if is_cut fed then parting_unless c.is_gone c.origin at last else [] in
     only_append c.origin (bytes ++ asks) end
     (only_append c.origin bytes asks (only_written c.origin c.is_gone fed.reply) (only_all c.is_attached c.origin at fed.requests.items))
-    (only_end fed.close c.is_gone c.origin at last)
+    (only_end (is_cut fed) c.is_gone c.origin at last)
 
 only_again : (again : Bool) (origin : Origin) (at : Moment) (waiting : List Request) → TellsOnly origin (if again then asks_of origin at waiting else [])
 unfolding TellsOnly
@@ -88,9 +89,9 @@ pub record Owns (s : Settings) (old : Client) (before : Ordered) (new : Client) 
   pub orders : after ≡ ordered before told
   pub own : TellsOnly old.origin told
 
-passed_own : (s : Settings) (behind : List Call) (answer : Given) (at : Moment) (c new : Client) (before after : Ordered) → HasPassed s behind answer at c before new after → Owns s c before new after
-passed_own s behind answer at c new before after h = record {
-  behind = ended_if h.fed.close c.is_gone behind;
+passed_own : (s : Settings) (behind : List Call) (answer : Given) (now : ℕ) (at : Moment) (c new : Client) (before after : Ordered) → HasPassed s behind answer now at c before new after → Owns s c before new after
+passed_own s behind answer now at c new before after h = record {
+  behind = ended_if (is_cut h.fed) c.is_gone behind;
   stands = h.stands.gate;
   origin = ap (λ (client : Client). client.origin) h.stands.rest;
   told = passed c at (last_request (gate s behind)) h.fed;
@@ -98,15 +99,18 @@ passed_own s behind answer at c new before after h = record {
   own = only_passed c at (last_request (gate s behind)) h.fed;
 }
 
-cut_own : (s : Settings) (calls : List Call) (at : Moment) (c new : Client) (before after : Ordered) → IsCutOff s calls at c before new after → Owns s c before new after
-cut_own s calls at c new before after h = record {
-  behind = ended c.is_gone (Refused ∷ calls);
+parted_own : (s : Settings) (behind : List Call) (at : Moment) (c new : Client) (before after : Ordered) → IsParted at s behind c before new after → Owns s c before new after
+parted_own s behind at c new before after h = record {
+  behind = ended c.is_gone behind;
   stands = h.stands.gate;
   origin = ap (λ (client : Client). client.origin) h.stands.rest;
-  told = parting_unless c.is_gone c.origin at (last_request (gate s (Refused ∷ calls)));
+  told = parting_unless c.is_gone c.origin at (last_request (gate s behind));
   orders = h.orders;
-  own = only_parting c.is_gone c.origin at (last_request (gate s (Refused ∷ calls)));
+  own = only_parting c.is_gone c.origin at (last_request (gate s behind));
 }
+
+cut_own : (s : Settings) (calls : List Call) (at : Moment) (c new : Client) (before after : Ordered) → IsCutOff s calls at c before new after → Owns s c before new after
+cut_own s calls at c new before after h = parted_own s (Refused ∷ calls) at c new before after h
 
 -- the same of a client of the same origin
 renamed : (s : Settings) (old c new : Client) (before after : Ordered) → c.origin ≡ old.origin → Owns s c before new after → Owns s old before new after
@@ -130,21 +134,69 @@ nothing_own s calls old new before after stands same none = record {
   own = tt;
 }
 
-pub reads_own : (gone : Bool) (bytes : List ℕ) (now : ℕ) (at : Moment) (s : Settings) (calls : List Call) (old new : Client) (before after : Ordered) → old.is_gone ≡ gone → Stands s calls old.gate → Receives bytes now at s calls old before new after → Owns s old before new after
+-- what is told first, and then
+both_own : (s : Settings) (old client new : Client) (before between after : Ordered) → Owns s old before client between → Owns s client between new after → Owns s old before new after
+both_own s old client new before between after first last = record {
+  behind = last.behind;
+  stands = last.stands;
+  origin = last.origin ∙ first.origin;
+  told = first.told ++ last.told;
+  orders =
+      last.orders
+      ∙ ap (λ (orders : Ordered). ordered orders last.told) first.orders
+      ∙ ap (λ (items : List Order). record before { items = items }) (append_assoc before.items first.told last.told);
+  own = only_append old.origin first.told last.told first.own (subst (λ (origin : Origin). TellsOnly origin last.told) first.origin last.own);
+}
+
+parts_own : (parts : Bool) (at : Moment) (s : Settings) (calls : List Call) (old new : Client) (before after : Ordered) → Stands s calls old.gate → PartsIf parts at s calls old before new after → Owns s old before new after
+parts_own false at s calls old new before after stands (same, none) = nothing_own s calls old new before after stands same none
+parts_own true at s calls old new before after stands h = parted_own s calls at old new before after h
+
+pub reads_own : (gone : Bool) (bytes : List ℕ) (now : ℕ) (at : Moment) (s : Settings) (calls : List Call) (old new : Client) (before after : Ordered) → is_leaving old ≡ gone → Stands s calls old.gate → Receives bytes now at s calls old before new after → Owns s old before new after
 reads_own true bytes now at s calls old new before after is stands h =
-    let (same, none) = h.gone is in nothing_own s calls old new before after stands same none
+    let (same, none) = h.leaving is in nothing_own s calls old new before after stands same none
 reads_own false bytes now at s calls old new before after is stands h =
     ⊎_elim
-    (λ p. renamed s old _ new before after refl (passed_own s (Feed bytes ∷ calls) (fed_answer s calls bytes) at _ new before after p))
+    (λ p. renamed s old _ new before after refl (passed_own s (Feed bytes ∷ calls) (fed_answer s calls bytes) now at _ new before after p))
     (λ p. renamed s old _ new before after refl (cut_own s calls at _ new before after p))
-    (h.stays is)
+    (h.hears is)
+
+effect_own : (e : GateEffect) (nick : List ℕ) (now : ℕ) (at : Moment) (s : Settings) (calls : List Call) (old new : Client) (before after : Ordered) → HearsEffect e nick now at s calls old before new after → Owns s old before new after
+effect_own e nick now at s calls old new before after h =
+    ⊎_elim
+    (λ p. renamed s old _ new before after refl (passed_own s (Hear e ∷ calls) (given_effect s e) now at _ new before after p))
+    (λ p. renamed s old _ new before after refl (cut_own s calls at _ new before after p))
+    h
 
 pub hears_own : (e : GateEffect) (nick : List ℕ) (now : ℕ) (at : Moment) (s : Settings) (calls : List Call) (old new : Client) (before after : Ordered) → Hears e nick now at s calls old before new after → Owns s old before new after
 hears_own e nick now at s calls old new before after h =
-    ⊎_elim
-    (λ p. renamed s old _ new before after refl (passed_own s (Hear e ∷ calls) (given_effect s e) at _ new before after p))
-    (λ p. renamed s old _ new before after refl (cut_own s calls at _ new before after p))
-    h
+    let first = effect_own e nick now at s calls old h.told before h.orders h.hears in
+    both_own s old h.told new before h.orders after first
+    (parts_own (is_done (gate s first.behind).waiting h.told) at s first.behind h.told new h.orders after first.stands (h.parts first.behind first.stands))
+
+only_last : (origin : Origin) (at : Moment) (last : Option Request) → TellsOnly origin (last_asks origin at last)
+unfolding TellsOnly
+only_last origin at None = tt
+only_last origin at (Some request) = ((refl, refl), tt)
+
+leaves_own : (now : ℕ) (at : Moment) (s : Settings) (calls : List Call) (old new : Client) (before after : Ordered) → Leaves now at s calls old before new after → Owns s old before new after
+leaves_own now at s calls old new before after h =
+    let last = last_request (gate s calls) in
+    let first : Owns s old before h.told h.orders = record {
+      behind = End ∷ calls;
+      stands = h.stands.gate;
+      origin = ap (λ (client : Client). client.origin) h.stands.rest;
+      told = last_asks old.origin at last;
+      orders = h.asks;
+      own = only_last old.origin at last;
+    } in
+    both_own s old h.told new before h.orders after first
+    (parts_own (is_done (gate s (End ∷ calls)).waiting h.told) at s (End ∷ calls) h.told new h.orders after h.stands.gate h.parts)
+
+pub dismissed_own : (leaves : Bool) (now : ℕ) (at : Moment) (s : Settings) (calls : List Call) (old new : Client) (before after : Ordered) → is_leaving old ≡ leaves → Stands s calls old.gate → IsDismissed now at s calls old before new after → Owns s old before new after
+dismissed_own true now at s calls old new before after is stands h =
+    let (same, none) = h.leaving is in nothing_own s calls old new before after stands same none
+dismissed_own false now at s calls old new before after is stands h = leaves_own now at s calls old new before after (h.leaves is)
 
 pub lost_own : (gone : Bool) (now : ℕ) (at : Moment) (s : Settings) (calls : List Call) (old new : Client) (before after : Ordered) → old.is_gone ≡ gone → Stands s calls old.gate → IsLost now at s calls old before new after → Owns s old before new after
 lost_own true now at s calls old new before after is stands h = record {
@@ -219,27 +271,31 @@ sent_own now at s calls old new before after stands sent =
       own = (refl, h.own);
     }
 
-pub ticks_own : (reads slow : Bool) (timeout now : ℕ) (at : Moment) (s : Settings) (calls : List Call) (old new : Client) (before after : Ordered) → is_too_slow (waited reads now old) now ≡ slow → Stands s calls old.gate → Ticks reads timeout now at s calls old before new after → Owns s old before new after
-ticks_own true true timeout now at s calls old new before after is stands t =
-    sent_own now at s calls old new before after stands (t.slow is)
-ticks_own false true timeout now at s calls old new before after is stands t =
-    renamed s old (held_back now old) new before after refl (sent_own now at s calls (held_back now old) new before after stands (t.slow is))
-ticks_own true false timeout now at s calls old new before after is stands t =
-    kept_own timeout now at s calls old new before after stands (t.kept is)
-ticks_own false false timeout now at s calls old new before after is stands t =
-    renamed s old (held_back now old) new before after refl (kept_own timeout now at s calls (held_back now old) new before after stands (t.kept is))
+pub ticks_own : (overdue reads slow : Bool) (timeout now : ℕ) (at : Moment) (s : Settings) (calls : List Call) (old new : Client) (before after : Ordered) → is_overdue old now ≡ overdue → is_too_slow (waited reads now old) now ≡ slow → Stands s calls old.gate → Ticks reads timeout now at s calls old before new after → Owns s old before new after
+ticks_own true reads slow timeout now at s calls old new before after late is stands t =
+    lost_own old.is_gone now at s calls old new before after refl stands (t.overdue late)
+ticks_own false true true timeout now at s calls old new before after late is stands t =
+    sent_own now at s calls old new before after stands (t.slow late is)
+ticks_own false false true timeout now at s calls old new before after late is stands t =
+    renamed s old (held_back now old) new before after refl (sent_own now at s calls (held_back now old) new before after stands (t.slow late is))
+ticks_own false true false timeout now at s calls old new before after late is stands t =
+    kept_own timeout now at s calls old new before after stands (t.kept late is)
+ticks_own false false false timeout now at s calls old new before after late is stands t =
+    renamed s old (held_back now old) new before after refl (kept_own timeout now at s calls (held_back now old) new before after stands (t.kept late is))
 
 event_own : (event : Event) (now : ℕ) (at : Moment) (s : Settings) (calls : List Call) (old new : Client) (before after : Ordered) → Happens event now at old before new after → Stands s calls old.gate → Owns s old before new after
 event_own (Speaks bytes) now at s calls old new before after h stands =
-    reads_own old.is_gone bytes now at s calls old new before after refl stands (h s calls stands)
+    reads_own (is_leaving old) bytes now at s calls old new before after refl stands (h s calls stands)
 event_own (Learns effect nick) now at s calls old new before after h stands =
     hears_own effect nick now at s calls old new before after (h s calls stands)
 event_own Goes now at s calls old new before after h stands =
     lost_own old.is_gone now at s calls old new before after refl stands (h s calls stands)
+event_own Dismissed now at s calls old new before after h stands =
+    dismissed_own (is_leaving old) now at s calls old new before after refl stands (h s calls stands)
 event_own (Words lost refused) now at s calls old new before after h stands =
     words_own lost refused now at s calls old new before after stands (h s calls stands)
 event_own (Waits reads timeout) now at s calls old new before after h stands =
-    ticks_own reads (is_too_slow (waited reads now old) now) timeout now at s calls old new before after refl stands (h s calls stands)
+    ticks_own (is_overdue old now) reads (is_too_slow (waited reads now old) now) timeout now at s calls old new before after refl refl stands (h s calls stands)
 
 pub asks_own : AsksOwn
 unfolding HappenAll TellsOnly

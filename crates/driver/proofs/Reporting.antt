@@ -11,6 +11,7 @@ use Rattle.driver.specs.declared.node_monitor.standing.Outage.{Outage}
 use Rattle.driver.specs.declared.clients.Clients.{Clients}
 use Rattle.driver.specs.declared.node_monitor.standing.Claimed.{Claimed}
 use Rattle.driver.specs.declared.node_monitor.NodeMonitor.{NodeMonitor}
+use Rattle.driver.specs.declared.absence.Absence.TheVariants.{Down}
 use Rattle.driver.specs.declared.driver.Driver.{Driver}
 use Rattle.driver.specs.declared.retirement.Retirement.{Retirement}
 use Rattle.driver.specs.declared.order.Order.{Order}
@@ -22,7 +23,7 @@ use Rattle.driver.specs.declared.news.News.TheVariants.{Elected}
 use Rattle.driver.specs.declared.settings.Settings.{Settings}
 use Rattle.driver.specs.Driving.{Ticks, orders_of, round_of, told_of}
 use Rattle.driver.specs.Retiring.{fresh, retirement_at}
-use Rattle.driver.specs.Hearing.{down_behind, down_news, elected_news, heard_behind, heard_news, is_elected, progressed, settled, settles, stood_behind, stood_news, told_behind, up_behind, up_news, was_up}
+use Rattle.driver.specs.Hearing.{answers_news, down_behind, down_news, elected_news, heard_behind, heard_news, is_elected, progressed, settled, settles, stood_behind, stood_news, told_behind, up_behind, up_news, was_up}
 use Rattle.driver.specs.Links.{is_silent}
 use Rattle.driver.specs.Reports.{BeginsIf, Hears, Stands, WordsBy, WordsIf, heard_at, lost_at}
 use Rattle.driver.specs.Rounds.{Round, SpreadsAll, SpreadsBy, ask_orders, retired, retirement_due, retirement_told}
@@ -104,13 +105,21 @@ unfolding AllAre
 up_quiet n id boot true = tt
 up_quiet n id boot false = (refl, tt)
 
+pub answers_quiet : (n id : ℕ) (hung : Bool) → AllAre (NoClaim n) (answers_news id hung)
+unfolding AllAre
+answers_quiet n id true = (refl, tt)
+answers_quiet n id false = tt
+
 pub down_quiet : (n id : ℕ) (cause : Cause) (down : Option Outage) → AllAre (NoClaim n) (down_news id cause down)
 unfolding AllAre
 down_quiet n id cause None = (refl, tt)
 down_quiet n id cause (Some since) = tt
 
 pub stood_quiet : (n : ℕ) (d : NodeMonitor) (status : Status) (down : Option Cause) → AllAre (NoClaim n) (stood_news d status down)
-stood_quiet n d status None = up_quiet n d.id status.boot (was_up d.status)
+stood_quiet n d status None =
+    all_append (NoClaim n) (answers_news d.id d.presence.is_hanging) (up_news d.id status.boot (was_up d.status))
+    (answers_quiet n d.id d.presence.is_hanging)
+    (up_quiet n d.id status.boot (was_up d.status))
 stood_quiet n d status (Some cause) = down_quiet n d.id cause d.down
 
 pub news_quiet : (n : ℕ) (status : Status) (found : Option NodeMonitor) → AllAre (NoClaim n) (orders_of (λ d. heard_news d status) found)
@@ -155,7 +164,7 @@ words_if n true refused now at node lost old new good w = words_grow (NoClaim n)
 words_if n false refused now at node lost old new good same = told_same n old new good same
 
 pub words_by : (n : ℕ) (down : Option Cause) (refused lost : Bool) (now : ℕ) (at : Moment) (node : ℕ) (driver : Driver) (old new : Told) → AllGood (NoClaim n) old.clients → WordsBy down refused lost now at node driver old new → Grows (NoClaim n) old new
-words_by n (Some cause) refused lost now at node driver old new good w = cuts_grow (NoClaim n) node (keys old.clients.all) old new good w
+words_by n (Some cause) refused lost now at node driver old new good w = cuts_grow (NoClaim n) Down node (keys old.clients.all) old new good w
 words_by n None refused lost now at node driver old new good w = words_if n (refused || lost) refused now at node (lost_at driver.monitors node) old new good w
 
 pub word_quiet : (n boot : ℕ) (found : Option NodeMonitor) → AllAre (NoClaim n) (orders_of (λ d. retirement_told (fresh d.id boot) d) found)

@@ -78,6 +78,10 @@ said_still n (news.Unopened node why) is = refl
 said_still n (news.Closed node why) is = refl
 said_still n (news.Down node cause) is = refl
 said_still n (news.Up node boot) is = ap (λ (b : Bool). not b) is
+said_still n (news.Hangs node) is = refl
+said_still n (news.Answers node) is = refl
+said_still n news.TooFew is = refl
+said_still n news.Enough is = refl
 said_still n (news.TurnedAway node) is = refl
 said_still n (news.LogFills node level) is = refl
 
@@ -149,6 +153,10 @@ client_news n down origin (news.Unopened node why) is = absurd is
 client_news n down origin (news.Closed node why) is = absurd is
 client_news n down origin (news.Down node cause) is = absurd is
 client_news n down origin (news.Up node boot) is = absurd is
+client_news n down origin (news.Hangs node) is = absurd is
+client_news n down origin (news.Answers node) is = absurd is
+client_news n down origin news.TooFew is = absurd is
+client_news n down origin news.Enough is = absurd is
 client_news n down origin (news.TurnedAway node) is = absurd is
 client_news n down origin (news.LogFills node level) is = absurd is
 

@@ -1,5 +1,5 @@
 -- What a driver begins with, and a client that connects.
-use Rattle.std.specs.Prelude.{◌≡◌, ◌+◌, ℕ, Bool, nat_lt, if◌then◌else◌, List, [], ◌∷◌, Option, Some, None}
+use Rattle.std.specs.Prelude.{◌≡◌, ◌+◌, ◌-◌, ℕ, Bool, nat_lt, if◌then◌else◌, List, [], ◌∷◌, Option, Some, None, slice_get}
 use Rattle.client_gate.specs.Calls.{Held, Stands}
 use Rattle.client_gate.specs.Made.{made}
 use Rattle.wire_bytes.specs.declared.origin.Origin.{Origin}
@@ -14,8 +14,9 @@ use Rattle.driver.specs.declared.settings.Settings.{Settings}
 use Rattle.driver.specs.Monitors.{at, new_monitor}
 use Rattle.driver.specs.Driving.{changed_at, orders_at}
 use Rattle.driver.specs.Retiring.{no_retirements, with_seen}
-use Rattle.driver.specs.Hearing.{boot_up, turned_away, turned_away_news}
-use Rattle.driver.specs.Links.{first_backoff, status_at}
+use Rattle.driver.specs.Hearing.{turned_away, turned_away_news}
+use Rattle.driver.specs.Absences.{boot_open}
+use Rattle.driver.specs.Links.{first_backoff}
 use Rattle.driver.specs.Rosters.{IsNew, client_at}
 use Rattle.driver.specs.Telling.{none_told}
 use Rattle.driver.specs.declared.driver.TheConstants.{MOST_NUMBER}
@@ -44,19 +45,25 @@ pub record IsNewDriver (settings : Settings) (now : ℕ) (new : Driver) : Type 0
   pub given : new.given ≡ None
   pub level : new.level ≡ Roomy
   pub pace : new.pace ≡ record { burst = settings.flood_burst; line_ms = settings.flood_ms; free_at = 0 }
+  pub is_not_short : new.is_short ≡ false
   pub ran : new.ran ≡ at now
   pub orders : new.orders ≡ none_told
 
--- the run in which a node is up, if it is
+-- the run in which a node takes clients, if there is one
+abbrev pub boot_in : Option NodeMonitor → Option ℕ
+boot_in None = None
+boot_in (Some monitor) = boot_open monitor
+
+-- the run in which this node takes clients, if it does; nodes count from 1
 abbrev pub boot_at : List NodeMonitor → ℕ → Option ℕ
-boot_at monitors node = boot_up (status_at monitors node)
+boot_at monitors node = boot_in (slice_get monitors (node - 1))
 
 -- the number of a client that connects to a node with this run: one more than the last, where numbers are left
 abbrev pub number_if : Option ℕ → ℕ → Option ℕ
 number_if None last = None
 number_if (Some boot) last = if nat_lt last MOST_NUMBER then Some (last + 1) else None
 
--- the number of a client that connects to this node: none where the node is not up, or where no number is left
+-- the number of a client that connects to this node: none where the node takes none, or where no number is left
 abbrev pub next_number : List NodeMonitor → ℕ → ℕ → Option ℕ
 next_number monitors node last = number_if (boot_at monitors node) last
 

@@ -12,7 +12,8 @@ use Rattle.driver.specs.declared.order.Order.{Order}
 use Rattle.driver.specs.declared.settings.Settings.{Settings}
 use Rattle.driver.specs.Arriving.{ArrivesIf, IsNewDriver, monitors_behind, next_number, turned_away_at}
 use Rattle.driver.specs.Coming.{Comes}
-use Rattle.driver.specs.Driving.{Ends, Ticks}
+use Rattle.driver.specs.Absences.{WatchesNodes}
+use Rattle.driver.specs.Driving.{Dismisses, Ends, Ticks}
 use Rattle.driver.specs.Filling.{Watches, words_of}
 use Rattle.driver.specs.Links.{Connects, Sends, node_of}
 use Rattle.driver.specs.Nicks.{AllAreWritten, IsWritten, nick_in, notice}
@@ -23,8 +24,8 @@ use Rattle.driver.specs.Sessions.{TakesIf}
 use Rattle.driver.specs.Telling.{Ordered, emptied, ordered}
 
 -- A call: a client connects to a node, sends bytes or is gone; a node hands out a line for the server; a node's worker reports; time
--- passes; the server is connected to, sends bytes or is gone; all clients are told something; the log is looked at; what a client sent is
--- not taken; the orders are taken.
+-- passes; the server is connected to, sends bytes or is gone; all clients are told something, or are to leave; the log is looked at, or the
+-- nodes are; what a client sent is not taken; the orders are taken.
 pub data Call : Type 0 where
   Connect : ℕ → ℕ → Call
   Receive : List ℕ → ℕ → Moment → ℕ → Call
@@ -36,7 +37,9 @@ pub data Call : Type 0 where
   ReceiveLine : ℕ → Moment → List ℕ → Call
   End : ℕ → Ending → Call
   Notice : List ℕ → Call
+  Dismiss : ℕ → Moment → Call
   Watch : Call
+  WatchNodes : ℕ → Call
   Refuse : ℕ → Call
   Take : Call
 
@@ -95,7 +98,9 @@ Does (Connected now) old new = Stands now old new
 Does (ReceiveLine now at bytes) old new = TakesIf (node_of old.link.stage) now at bytes old new
 Does (End now why) old new = Ends now why old new
 Does (Notice text) old new = Orders (λ before after. AllAreWritten old.clients (notice (nick_in old) text) before after) old new
+Does (Dismiss now at) old new = Dismisses now at old new
 Does Watch old new = Watches old new
+Does (WatchNodes now) old new = WatchesNodes now old new
 Does (Refuse number) old new =
     Orders (λ before after. IsWritten (client_at old.clients number) (notice (nick_in old) (words_of Full)) before after) old new
 Does Take old new = Orders (λ before after. after ≡ emptied before) old new

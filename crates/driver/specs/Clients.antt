@@ -1,5 +1,5 @@
 -- What a client's requests are to its node.
-use Rattle.std.specs.Prelude.{◌||◌, ℕ, Bool, true, false, if◌then◌else◌, List, [], ◌∷◌, ◌++◌, Option, Some, None}
+use Rattle.std.specs.Prelude.{◌&&◌, ◌||◌, not, is_some, ℕ, Bool, true, false, if◌then◌else◌, List, [], ◌∷◌, ◌++◌, Option, Some, None}
 use Rattle.std.specs.Global.{Vec}
 use Rattle.bouncer_tower.specs.Bodies.{TowerBody}
 use Rattle.buffer_commands.specs.declared.wire_line.WireLine.{WireLine}
@@ -11,6 +11,7 @@ use Rattle.wire_bytes.specs.declared.moment.Moment.{Moment}
 use Rattle.node_notes.specs.declared.note.Note.{Note}
 use Rattle.node_notes.specs.declared.note.Note.TheVariants.{Ask}
 use Rattle.driver.specs.declared.client.Client.{Client}
+use Rattle.driver.specs.declared.timer.Timer.{Timer}
 use Rattle.driver.specs.declared.news.News.TheVariants.{Attached, Left}
 use Rattle.driver.specs.declared.order.Order.{Order}
 use Rattle.driver.specs.declared.order.Order.TheVariants.{Submit, Log, Close, Write}
@@ -67,15 +68,35 @@ abbrev pub written : Bool → ℕ → Vec ℕ → List Order
 written true client bytes = []
 written false client bytes = write_some client bytes bytes.items
 
--- what a gate answered goes on: the bytes to its client, the requests to its node, and where it closes, the client is parted from
+-- a client asked to leave by what its gate answered: the gate closes, and the last of the requests is Leave
+abbrev pub has_left : Fed → Bool
+has_left fed = fed.close && is_some_asked fed.requests.items
+
+-- its gate closes, and not since it asked to leave
+abbrev pub is_cut : Fed → Bool
+is_cut fed = fed.close && not (is_some_asked fed.requests.items)
+
+-- what a gate answered goes on: the bytes to its client, the requests to its node; and where it closes, and the client did not ask to
+-- leave, the client is parted from
 abbrev pub passed : Client → Moment → Option Request → Fed → List Order
 passed c at last fed =
     (written c.is_gone c.origin.2 fed.reply ++ asked_all c.is_attached c.origin at fed.requests.items)
-    ++ (if fed.close then parting_unless c.is_gone c.origin at last else [])
+    ++ (if is_cut fed then parting_unless c.is_gone c.origin at last else [])
 
--- a client whose gate answered so: it is attached once it asked for something, and gone where the gate closes
-abbrev pub behind_fed : Client → Fed → Client
-behind_fed c fed = record c {
+-- since when a client leaves that asked to leave now, or did not
+abbrev pub leaves_since : Bool → ℕ → Option Timer → Option Timer
+leaves_since true now before = Some (record { since = now })
+leaves_since false now before = before
+
+-- a client whose gate answered so: it is attached once it asked for something; it leaves where it asked to, and is gone where the gate
+-- closes for another reason
+abbrev pub behind_fed : ℕ → Client → Fed → Client
+behind_fed now c fed = record c {
   is_attached = c.is_attached || is_some_asked fed.requests.items;
-  is_gone = c.is_gone || fed.close;
+  leaving = leaves_since (has_left fed) now c.leaving;
+  is_gone = c.is_gone || is_cut fed;
 }
+
+-- nothing more is read of a client: it leaves, or its connection is gone
+abbrev pub is_leaving : Client → Bool
+is_leaving c = c.is_gone || is_some c.leaving

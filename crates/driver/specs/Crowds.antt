@@ -6,12 +6,15 @@ use Rattle.client_gate.specs.Gates.{last_request}
 use Rattle.wire_bytes.specs.declared.moment.Moment.{Moment}
 use Rattle.wire_bytes.specs.declared.origin.Origin.{Origin}
 use Rattle.driver.specs.declared.client.Client.{Client}
+use Rattle.driver.specs.declared.absence.Absence.{Absence}
 use Rattle.driver.specs.declared.clients.Clients.{Clients}
 use Rattle.driver.specs.declared.node_monitor.NodeMonitor.{NodeMonitor}
 use Rattle.driver.specs.Asking.{HearsNode}
 use Rattle.driver.specs.Clients.{parting_unless}
-use Rattle.driver.specs.Outages.{IsToldDown}
+use Rattle.driver.specs.Leaving.{IsDismissed, is_overdue}
+use Rattle.driver.specs.Outages.{IsToldOff}
 use Rattle.driver.specs.Rosters.{AreOthersSame, IsReadOf, Serves, client_at}
+use Rattle.driver.specs.Serving.{IsLost}
 use Rattle.driver.specs.Silence.{IsKept, IsSentOff, is_too_slow, waited}
 use Rattle.driver.specs.Telling.{Ordered, ordered}
 
@@ -24,10 +27,11 @@ pub record Told : Type 0 where
 abbrev pub told : Clients → Ordered → Told
 told clients orders = record { clients = clients; orders = orders }
 
--- Time brought a client what it brings, where it was read or was not: one that is too slow is parted from.
+-- Time brought a client what it brings, where it was read or was not: one that leaves for too long, or is too slow, is parted from.
 pub record Ticks (reads : Bool) (timeout now : ℕ) (at : Moment) (s : Settings) (calls : List Call) (old : Client) (before : Ordered) (new : Client) (after : Ordered) : Type 0 where
-  pub slow : is_too_slow (waited reads now old) now ≡ true → IsSentOff now at s calls (waited reads now old) before new after
-  pub kept : is_too_slow (waited reads now old) now ≡ false → IsKept timeout now at s calls (waited reads now old) before new after
+  pub overdue : is_overdue old now ≡ true → IsLost now at s calls old before new after
+  pub slow : is_overdue old now ≡ false → is_too_slow (waited reads now old) now ≡ true → IsSentOff now at s calls (waited reads now old) before new after
+  pub kept : is_overdue old now ≡ false → is_too_slow (waited reads now old) now ≡ false → IsKept timeout now at s calls (waited reads now old) before new after
 
 -- A client is read or not, and time brings it what it brings.
 pub record TicksRead (timeout now : ℕ) (at : Moment) (monitors : List NodeMonitor) (s : Settings) (calls : List Call) (old : Client) (before : Ordered) (new : Client) (after : Ordered) : Type 0 where
@@ -90,18 +94,19 @@ abbrev pub is_one_of : Option Client → ℕ → Bool
 is_one_of None node = false
 is_one_of (Some client) node = is_of client.origin node
 
--- A node is down: the client of this number, where it is one of that node, is told so and forgotten; all others are as they were.
-pub record CutsClient (node number : ℕ) (old new : Told) : Type 0 where
+-- A node serves nobody: the client of this number, where it is one of that node, is told why and forgotten; all others are as they were.
+pub record CutsClient (why : Absence) (node number : ℕ) (old new : Told) : Type 0 where
   pub others : AreOthersSame number old.clients new.clients
   pub nobody : client_at old.clients number ≡ None → IsSame old new
   pub stays : (c : Client) → client_at old.clients number ≡ Some c → is_of c.origin node ≡ false → IsSame old new
   pub leaves : (c : Client) → client_at old.clients number ≡ Some c → is_of c.origin node ≡ true → client_at new.clients number ≡ None
-  pub told : (c : Client) → client_at old.clients number ≡ Some c → is_of c.origin node ≡ true → IsToldDown c old.orders new.orders
+  pub told : (c : Client) → client_at old.clients number ≡ Some c → is_of c.origin node ≡ true → IsToldOff why c old.orders new.orders
 
 -- the same of the clients of these numbers, in this order
-unfoldable pub CutEach : ℕ → List ℕ → Told → Told → Type 0
-CutEach node [] old new = new ≡ old
-CutEach node (number ∷ numbers) old new = (behind : Told) × CutsClient node number old behind × CutEach node numbers behind new
+unfoldable pub CutEach : Absence → ℕ → List ℕ → Told → Told → Type 0
+CutEach why node [] old new = new ≡ old
+CutEach why node (number ∷ numbers) old new =
+    (behind : Told) × CutsClient why node number old behind × CutEach why node numbers behind new
 
 -- A node told what may be lost, and whether it refused a turn: the client of this number hears it, where it is one of that node; all
 -- others are as they were.
@@ -121,3 +126,19 @@ WordEach at now node lost refused [] old new = new ≡ old
 WordEach at now node lost refused (number ∷ numbers) old new =
     (behind : Told)
     × WordsClient at now node lost refused number old behind × WordEach at now node lost refused numbers behind new
+
+-- The client of this number is to leave, where there is one; all others are as they were.
+pub record DismissesClient (at : Moment) (now number : ℕ) (old new : Told) : Type 0 where
+  pub others : AreOthersSame number old.clients new.clients
+  pub nobody : client_at old.clients number ≡ None → IsSame old new
+  pub served :
+      Serves
+      (λ c. client_at old.clients number ≡ Some c)
+      (λ s calls c client. IsDismissed now at s calls c old.orders client new.orders)
+      number new.clients
+
+-- the same of the clients of these numbers, in this order
+unfoldable pub DismissEach : Moment → ℕ → List ℕ → Told → Told → Type 0
+DismissEach at now [] old new = new ≡ old
+DismissEach at now (number ∷ numbers) old new =
+    (behind : Told) × DismissesClient at now number old behind × DismissEach at now numbers behind new

@@ -13,7 +13,7 @@ use Rattle.driver.specs.declared.order.Order.{Order}
 use Rattle.driver.specs.declared.order.Order.TheVariants.{Connect, Disconnect, Submit}
 use Rattle.driver.specs.declared.settings.Settings.{Settings}
 use Rattle.driver.specs.declared.link.Stage.TheVariants.{Connecting}
-use Rattle.driver.specs.Crowds.{TickEach, Told, told as crowd}
+use Rattle.driver.specs.Crowds.{DismissEach, TickEach, Told, told as crowd}
 use Rattle.driver.specs.Monitors.{claim_at, claim_due, monitor_behind, monitor_claimed, note_at, told}
 use Rattle.driver.specs.Retiring.{restart_at, restart_behind}
 use Rattle.driver.specs.Leading.{IsLeader, is_older, is_that}
@@ -150,6 +150,11 @@ round_of driver = round driver.retirements.all driver.orders
 -- the clients, and what was ordered, as a driver has them
 abbrev pub told_of : Driver → Told
 told_of driver = crowd driver.clients driver.orders
+
+-- The bouncer is about to end: each client is to leave.
+pub record Dismisses (now : ℕ) (at : Moment) (old new : Driver) : Type 0 where
+  pub clients : DismissEach at now (keys old.clients.all) (told_of old) (told_of new)
+  pub rest : new ≡ record old { clients = new.clients; orders = new.orders }
 
 -- What time brings. The driver is awake, and the connection to a server that is silent is left; then each client ticks,
 -- in the order of their numbers, and then each node; what comes last is retirements.

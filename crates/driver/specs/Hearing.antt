@@ -11,7 +11,7 @@ use Rattle.driver.specs.declared.node_monitor.standing.Claimed.{Claimed}
 use Rattle.driver.specs.declared.node_monitor.standing.Outage.{Outage}
 use Rattle.driver.specs.declared.node_monitor.NodeMonitor.{NodeMonitor}
 use Rattle.driver.specs.declared.node_monitor.hearing.Heard.{Heard}
-use Rattle.driver.specs.declared.news.News.TheVariants.{Down, Elected, TurnedAway, Up}
+use Rattle.driver.specs.declared.news.News.TheVariants.{Answers, Down, Elected, TurnedAway, Up}
 use Rattle.driver.specs.declared.order.Order.{Order}
 use Rattle.driver.specs.declared.order.Order.TheVariants.{Log}
 use Rattle.driver.specs.Monitors.{at, is_over, outage}
@@ -59,8 +59,14 @@ abbrev pub down_behind : NodeMonitor → ℕ → Option Outage → NodeMonitor
 down_behind monitor now None = record monitor {
   down = Some (outage now (wait_behind monitor now));
   backoff = record monitor.backoff { next = doubled monitor.backoff.most (wait_behind monitor now) };
+  presence = record monitor.presence { is_hanging = false };
 }
 down_behind monitor now (Some since) = monitor
+
+-- an operator is told that a node answers again of which it was told that it hangs
+abbrev pub answers_news : ℕ → Bool → List Order
+answers_news id false = []
+answers_news id true = Log (Answers id) ∷ []
 
 -- an operator is told that a node is up in this run, unless it was up before
 abbrev pub up_news : ℕ → ℕ → Bool → List Order
@@ -71,13 +77,13 @@ up_news id boot false = Log (Up id boot) ∷ []
 abbrev pub up_behind : NodeMonitor → ℕ → Bool → NodeMonitor
 up_behind monitor now true = record monitor {
   down = None;
-  presence = record monitor.presence { last_report = at now };
+  presence = record monitor.presence { last_report = at now; is_hanging = false };
   visitors = record monitor.visitors { has_turned_away = false };
 }
 up_behind monitor now false = record monitor {
   following = record monitor.following { last_leader_contact = at now };
   down = None;
-  presence = record { last_report = at now; up = at now };
+  presence = record { last_report = at now; up = at now; is_hanging = false };
   visitors = record monitor.visitors { has_turned_away = false };
 }
 
@@ -156,9 +162,9 @@ heard_of monitor told status progress = record {
   has_lost = nat_lt monitor.progress.lost (progressed monitor.progress told progress).lost;
 }
 
--- an operator is told that a node is up, or is down, where that is new
+-- an operator is told that a node answers again, that it is up, or that it is down, where that is new
 abbrev pub stood_news : NodeMonitor → Status → Option Cause → List Order
-stood_news monitor status None = up_news monitor.id status.boot (was_up monitor.status)
+stood_news monitor status None = answers_news monitor.id monitor.presence.is_hanging ++ up_news monitor.id status.boot (was_up monitor.status)
 stood_news monitor status (Some cause) = down_news monitor.id cause monitor.down
 
 -- what an operator is told

@@ -1,3 +1,4 @@
+pub mod Absences
 pub mod Arriving
 pub mod Asking
 pub mod Calls
@@ -16,6 +17,7 @@ pub mod Hearing
 pub mod Kicks
 pub mod Leading
 pub mod Learning
+pub mod Leaving
 pub mod Led
 pub mod Links
 pub mod Nicks

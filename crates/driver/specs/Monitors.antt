@@ -100,7 +100,7 @@ new_monitor settings now id = record {
   down = None;
   backoff = record { first = settings.timeout_ms; most = LONGEST; next = settings.timeout_ms };
   restart_note = 0;
-  presence = record { last_report = at now; up = at now };
+  presence = record { last_report = at now; up = at now; is_hanging = false };
   visitors = record { greatest_boot = None; has_turned_away = false };
 }
 

@@ -19,6 +19,7 @@ use Rattle.driver.specs.declared.order.Order.{Order}
 use Rattle.driver.specs.declared.order.Order.TheVariants.{Close, Submit, Log, Write}
 use Rattle.driver.specs.Asking.{HearsNode, is_stuck, may_be_lost}
 use Rattle.driver.specs.Crowds.{Ticks}
+use Rattle.driver.specs.Leaving.{IsDismissed}
 use Rattle.driver.specs.Serving.{Hears, IsLost, Receives}
 use Rattle.driver.specs.Telling.{Ordered, ordered}
 
@@ -48,12 +49,13 @@ pub record TellsOnce (s : Settings) (calls : List Call) (before : Ordered) (new 
   pub orders : after ≡ ordered before told
   pub once : numbers_of (all_requests s behind) ≡ numbers_of (all_requests s calls) ++ numbers_told told
 
--- What happens to a client at a moment: bytes of it come, something comes of a request, under a nick, its connection is gone, its node tells what
--- may be lost and whether it refused a turn, or time passes, in which it is read or not.
+-- What happens to a client at a moment: bytes of it come, something comes of a request, under a nick, its connection is gone, it is to leave, its
+-- node tells what may be lost and whether it refused a turn, or time passes, in which it is read or not.
 pub data Event : Type 0 where
   Speaks : List ℕ → Event
   Learns : GateEffect → List ℕ → Event
   Goes : Event
+  Dismissed : Event
   Words : ℕ → Bool → Event
   Waits : Bool → ℕ → Event
 
@@ -65,6 +67,8 @@ Happens (Learns effect nick) now at old before new after =
     (s : Settings) (calls : List Call) → Stands s calls old.gate → Hears effect nick now at s calls old before new after
 Happens Goes now at old before new after =
     (s : Settings) (calls : List Call) → Stands s calls old.gate → IsLost now at s calls old before new after
+Happens Dismissed now at old before new after =
+    (s : Settings) (calls : List Call) → Stands s calls old.gate → IsDismissed now at s calls old before new after
 Happens (Words lost refused) now at old before new after =
     (s : Settings) (calls : List Call) → Stands s calls old.gate → HearsNode lost refused now at s calls old before new after
 Happens (Waits reads timeout) now at old before new after =

@@ -1,17 +1,21 @@
 -- What an operator is told.
-use Rattle.std.specs.Prelude.{ℕ}
+use Rattle.std.specs.Prelude.{ℕ, Option, Some, None}
 use Rattle.driver.specs.declared.news.News.{News}
-use Rattle.driver.specs.declared.news.News.TheVariants.{Attached, Left, Elected, Opened, Unopened, Closed, Down, Up, TurnedAway, LogFills}
+use Rattle.driver.specs.declared.news.News.TheVariants.{Attached, Left, Elected, Opened, Unopened, Closed, Down, Up, Hangs, Answers, TooFew, Enough, TurnedAway, LogFills}
 
--- the node that a line is of
-abbrev pub node_of : News → ℕ
-node_of (Attached origin) = origin.0
-node_of (Left origin) = origin.0
-node_of (Elected node term) = node
-node_of (Opened node) = node
-node_of (Unopened node why) = node
-node_of (Closed node why) = node
-node_of (Down node cause) = node
-node_of (Up node boot) = node
-node_of (TurnedAway node) = node
-node_of (LogFills node level) = node
+-- the node that a line is of, where it is of one
+abbrev pub node_of : News → Option ℕ
+node_of (Attached origin) = Some origin.0
+node_of (Left origin) = Some origin.0
+node_of (Elected node term) = Some node
+node_of (Opened node) = Some node
+node_of (Unopened node why) = Some node
+node_of (Closed node why) = Some node
+node_of (Down node cause) = Some node
+node_of (Up node boot) = Some node
+node_of (Hangs node) = Some node
+node_of (Answers node) = Some node
+node_of TooFew = None
+node_of Enough = None
+node_of (TurnedAway node) = Some node
+node_of (LogFills node level) = Some node

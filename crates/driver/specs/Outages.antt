@@ -1,22 +1,29 @@
--- What clients are told whose node is down.
+-- What clients are told whose node serves nobody.
 use Rattle.std.specs.Prelude.{◌≡◌, ◌+◌, ℕ, Bool, true, false, codes, List, [], ◌∷◌, ◌++◌}
 use Rattle.std.specs.Global.{Vec}
+use Rattle.driver.specs.declared.absence.Absence.{Absence}
+use Rattle.driver.specs.declared.absence.Absence.TheVariants.{Down, Hanging}
 use Rattle.driver.specs.declared.client.Client.{Client}
 use Rattle.driver.specs.declared.news.News.TheVariants.{Left}
 use Rattle.driver.specs.declared.order.Order.TheVariants.{Close, Log, Write}
 use Rattle.driver.specs.Telling.{Ordered, ordered}
 
--- the line that clients of a node get that is down
-abbrev pub down_line : ℕ → List ℕ
-down_line node = codes "ERROR :node " ++ (48 + node) ∷ codes " is down" ++ 13 ∷ 10 ∷ []
+-- why a node serves nobody, in words
+abbrev pub words_of : Absence → List ℕ
+words_of Down = codes " is down"
+words_of Hanging = codes " does not answer"
 
--- a client whose connection stands is told that its node is down, and then it is closed; nothing is asked of the node
-abbrev pub IsToldIf : Bool → Client → Ordered → Ordered → Type 0
-IsToldIf true c before after = after ≡ before
-IsToldIf false c before after =
-    (line : Vec ℕ) × (line.items ≡ down_line c.origin.0)
+-- the line that clients of a node get that serves nobody
+abbrev pub absence_line : Absence → ℕ → List ℕ
+absence_line why node = codes "ERROR :node " ++ (48 + node) ∷ words_of why ++ 13 ∷ 10 ∷ []
+
+-- a client whose connection stands is told why its node serves nobody, and then it is closed; nothing is asked of the node
+abbrev pub IsToldIf : Bool → Absence → Client → Ordered → Ordered → Type 0
+IsToldIf true why c before after = after ≡ before
+IsToldIf false why c before after =
+    (line : Vec ℕ) × (line.items ≡ absence_line why c.origin.0)
     × (after ≡ ordered before (Write c.origin.2 line ∷ Close c.origin.2 ∷ Log (Left c.origin) ∷ []))
 
--- a client is told that its node is down, and is closed, unless its connection is gone already
-abbrev pub IsToldDown : Client → Ordered → Ordered → Type 0
-IsToldDown c before after = IsToldIf c.is_gone c before after
+-- a client is told why its node serves nobody, and is closed, unless its connection is gone already
+abbrev pub IsToldOff : Absence → Client → Ordered → Ordered → Type 0
+IsToldOff why c before after = IsToldIf c.is_gone why c before after

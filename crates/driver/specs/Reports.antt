@@ -8,6 +8,7 @@ use Rattle.node_notes.specs.declared.status.Status.{Status}
 use Rattle.raft_node.specs.declared.node_fault.Cause.{Cause}
 use Rattle.driver.specs.declared.node_monitor.NodeMonitor.{NodeMonitor}
 use Rattle.driver.specs.declared.node_monitor.hearing.Heard.{Heard}
+use Rattle.driver.specs.declared.absence.Absence.TheVariants.{Down}
 use Rattle.driver.specs.declared.driver.Driver.{Driver}
 use Rattle.driver.specs.Crowds.{CutEach, LeaveEach, Told, WordEach}
 use Rattle.driver.specs.Driving.{TicksNode, changed_at, orders_at, told_of}
@@ -60,7 +61,7 @@ WordsIf false refused now at node lost old new = new ≡ old
 
 -- Clients of a node that is down are told so, and cut off.
 abbrev pub WordsBy : Option Cause → Bool → Bool → ℕ → Moment → ℕ → Driver → Told → Told → Type 0
-WordsBy (Some cause) refused lost now at node driver old new = CutEach node (keys old.clients.all) old new
+WordsBy (Some cause) refused lost now at node driver old new = CutEach Down node (keys old.clients.all) old new
 WordsBy None refused lost now at node driver old new = WordsIf (refused || lost) refused now at node (lost_at driver.monitors node) old new
 
 -- A run of a node began, with this boot: the clients of its earlier runs are left, and it is asked to retire these.

@@ -1,11 +1,12 @@
 -- When earlier runs of a node are retired: the group agrees that they are gone.
-use Rattle.std.specs.Prelude.{ℕ, ◌+◌, ◌-◌, ◌*◌, nat_lt, ◌&&◌, Bool, true, false, nat_eq, nat_le, if◌then◌else◌, List, [], ◌∷◌, Option, Some, None, slice_get}
+use Rattle.std.specs.Prelude.{ℕ, ◌+◌, ◌-◌, ◌*◌, nat_lt, ◌&&◌, ◌||◌, Bool, true, false, nat_eq, nat_le, if◌then◌else◌, List, [], ◌∷◌, Option, Some, None, slice_get}
 use Rattle.bouncer_tower.specs.Bodies.{TowerBody}
 use Rattle.bouncer_tower.specs.Hosting.{of_buffers}
 use Rattle.buffer_commands.specs.declared.command.Command.TheVariants.{NodeGone}
 use Rattle.buffer_commands.specs.declared.wire_line.WireLine.{WireLine}
 use Rattle.node_notes.specs.Notes.{leads}
 use Rattle.driver.specs.declared.node_monitor.standing.Outage.{Outage}
+use Rattle.driver.specs.declared.node_monitor.standing.Presence.{Presence}
 use Rattle.node_notes.specs.declared.note.Note.{Note}
 use Rattle.node_notes.specs.declared.note.Note.TheVariants.{Restart}
 use Rattle.node_notes.specs.declared.status.Status.{Status}
@@ -103,16 +104,20 @@ abbrev pub gone_below : Option ℕ → Option ℕ
 gone_below None = None
 gone_below (Some boot) = if nat_lt boot MOST_BOOT then Some (boot + 1) else None
 
--- the last run of a node that is over: where it is down, that in which it was last heard of; where it answered nothing for ten
--- waits, the last one of which a boot was seen
+-- the last run of a node that is over: where it is down, that in which it was last heard of; where it answered nothing for too
+-- long, the last one of which a boot was seen
 abbrev pub boot_over : Option Outage → Option Status → Option ℕ → Bool → Option ℕ
 boot_over (Some since) (Some status) seen silent = Some (greatest seen status.boot)
 boot_over (Some since) None seen silent = if silent then seen else None
 boot_over None status seen silent = if silent then seen else None
 
--- the last run of a node that is over now, if one is: the node is down, or answered nothing for ten waits
+-- a node answered nothing for so long that its runs count as over: for ten waits, or so long that its clients were told that it hangs
+abbrev pub is_dead : Presence → ℕ → ℕ → Bool
+is_dead presence wait now = presence.is_hanging || is_over presence.last_report (DEAD * wait) now
+
+-- the last run of a node that is over now, if one is: the node is down, or answered nothing for too long
 abbrev pub dead_boot : NodeMonitor → ℕ → ℕ → Option ℕ
-dead_boot monitor wait now = boot_over monitor.down monitor.status monitor.visitors.greatest_boot (is_over monitor.presence.last_report (DEAD * wait) now)
+dead_boot monitor wait now = boot_over monitor.down monitor.status monitor.visitors.greatest_boot (is_dead monitor.presence wait now)
 
 -- the boot below which the runs of a node are over now, if some are
 abbrev pub dead_below : NodeMonitor → ℕ → ℕ → Option ℕ

@@ -11,6 +11,7 @@ use Rattle.driver.specs.declared.clients.Clients.{Clients}
 use Rattle.driver.specs.declared.node_monitor.NodeMonitor.{NodeMonitor}
 use Rattle.driver.specs.Monitors.{at, is_full}
 use Rattle.driver.specs.Asking.{is_idle}
+use Rattle.driver.specs.Clients.{is_leaving}
 use Rattle.driver.specs.Telling.{Ordered, told_to}
 use Rattle.driver.specs.declared.client.TheConstants.{MOST_WAITING}
 
@@ -32,6 +33,11 @@ is_there (Some client) origin = same_origin client.origin origin
 abbrev pub is_attached_in : Option Client → Bool
 is_attached_in None = false
 is_attached_in (Some client) = client.is_attached
+
+-- nothing more is read of a client, if there is one: it leaves, or its connection is gone
+abbrev pub is_leaving_in : Option Client → Bool
+is_leaving_in None = false
+is_leaving_in (Some client) = is_leaving client
 
 -- bytes are read that may bring notes to a node of which this is known: not while as many as may wait already
 abbrev pub takes_notes : Ordered → Option NodeMonitor → Bool
@@ -93,4 +99,5 @@ pub record IsNew (origin : Origin) (held : Held) (nick : List ℕ) (now : ℕ) (
   pub is_not_attached : client.is_attached ≡ false
   pub has_none_open : client.channels ≡ []
   pub is_not_pinged : client.is_pinged ≡ false
+  pub is_not_leaving : client.leaving ≡ None
   pub is_not_gone : client.is_gone ≡ false

@@ -1,5 +1,5 @@
 -- What comes of a client's bytes, of what came of its requests, and of its end.
-use Rattle.std.specs.Prelude.{◌≡◌, ◌⊎◌, ℕ, Bool, true, false, List, ◌∷◌}
+use Rattle.std.specs.Prelude.{◌≡◌, ◌⊎◌, ◌&&◌, is_some, ℕ, Bool, true, false, List, ◌∷◌}
 use Rattle.client_gate.specs.declared.fed.Fed.{Fed}
 use Rattle.client_gate.specs.declared.request.Request.{Request}
 use Rattle.client_gate.specs.declared.settings.Settings.{Settings}
@@ -9,8 +9,8 @@ use Rattle.client_gate.specs.Gates.{GateEffect, Given, given_effect, last_reques
 use Rattle.wire_bytes.specs.declared.moment.Moment.{Moment}
 use Rattle.driver.specs.declared.client.Asked.{Asked}
 use Rattle.driver.specs.declared.client.Client.{Client}
-use Rattle.driver.specs.Asking.{begun, held_behind, now_asked}
-use Rattle.driver.specs.Clients.{behind_fed, parting_unless, passed}
+use Rattle.driver.specs.Asking.{begun, held_behind, is_idle, now_asked}
+use Rattle.driver.specs.Clients.{behind_fed, is_cut, is_leaving, parting_unless, passed}
 use Rattle.driver.specs.Monitors.{at}
 use Rattle.driver.specs.Opening.{open_behind}
 use Rattle.driver.specs.Telling.{Ordered, ordered}
@@ -45,31 +45,53 @@ pub record StandsSo (s : Settings) (calls : List Call) (c new : Client) : Type 0
   pub rest : new ≡ record c { gate = new.gate }
 
 -- The gate, behind these calls, gave this answer, and it went on; behind it stand these orders.
-pub record HasPassed (s : Settings) (calls : List Call) (answer : Given) (at : Moment) (c : Client) (before : Ordered) (new : Client) (after : Ordered) : Type 0 where
+pub record HasPassed (s : Settings) (calls : List Call) (answer : Given) (now : ℕ) (at : Moment) (c : Client) (before : Ordered) (new : Client) (after : Ordered) : Type 0 where
   pub fed : Fed
   pub is : given_in fed ≡ answer
   pub orders : after ≡ ordered before (passed c at (last_request (gate s calls)) fed)
-  pub stands : StandsSo s (ended_if fed.close c.is_gone calls) (behind_fed c fed) new
+  pub stands : StandsSo s (ended_if (is_cut fed) c.is_gone calls) (behind_fed now c fed) new
+
+-- A client whose gate stands behind these calls is parted from, unless its connection is gone already.
+pub record IsParted (at : Moment) (s : Settings) (calls : List Call) (old : Client) (before : Ordered) (new : Client) (after : Ordered) : Type 0 where
+  pub orders : after ≡ ordered before (parting_unless old.is_gone old.origin at (last_request (gate s calls)))
+  pub stands : StandsSo s (ended old.is_gone calls) (record old { is_gone = true }) new
+
+-- the same where this is so; else nothing changes
+abbrev pub PartsIf : Bool → Moment → Settings → List Call → Client → Ordered → Client → Ordered → Type 0
+PartsIf false at s calls old before new after = (new ≡ old) × (after ≡ before)
+PartsIf true at s calls old before new after = IsParted at s calls old before new after
+
+-- a client leaves, and all that it asked for is done
+abbrev pub is_done : List Request → Client → Bool
+is_done waiting c = is_some c.leaving && is_idle waiting
 
 -- The gate found no memory: the client is parted from.
-pub record IsCutOff (s : Settings) (calls : List Call) (at : Moment) (c : Client) (before : Ordered) (new : Client) (after : Ordered) : Type 0 where
-  pub orders : after ≡ ordered before (parting_unless c.is_gone c.origin at (last_request (gate s (Refused ∷ calls))))
-  pub stands : StandsSo s (ended c.is_gone (Refused ∷ calls)) (record c { is_gone = true }) new
+abbrev pub IsCutOff : Settings → List Call → Moment → Client → Ordered → Client → Ordered → Type 0
+IsCutOff s calls at c before new after = IsParted at s (Refused ∷ calls) c before new after
 
--- Bytes came from a client, whose connection may be gone.
+-- Bytes came from a client, which may leave, or whose connection may be gone: then nothing comes of them.
 pub record Receives (bytes : List ℕ) (now : ℕ) (moment : Moment) (s : Settings) (calls : List Call) (old : Client) (before : Ordered) (new : Client) (after : Ordered) : Type 0 where
-  pub stays :
+  pub hears :
       let heard = spoke (now_asked before now old) now (gate s calls).waiting old in
-      old.is_gone ≡ false
-      → HasPassed s (Feed bytes ∷ calls) (fed_answer s calls bytes) moment heard before new after
+      is_leaving old ≡ false
+      → HasPassed s (Feed bytes ∷ calls) (fed_answer s calls bytes) now moment heard before new after
       ⊎ IsCutOff s calls moment heard before new after
-  pub gone : old.is_gone ≡ true → (new ≡ old) × (after ≡ before)
+  pub leaving : is_leaving old ≡ true → (new ≡ old) × (after ≡ before)
 
 -- Something came of a request of a client; what was left out is not asked for again at once.
-abbrev pub Hears : GateEffect → List ℕ → ℕ → Moment → Settings → List Call → Client → Ordered → Client → Ordered → Type 0
-Hears effect nick now moment s calls old before new after =
-    HasPassed s (Hear effect ∷ calls) (given_effect s effect) moment (answered (now_asked before now old) effect nick (gate s calls).waiting old) before new after
+abbrev pub HearsEffect : GateEffect → List ℕ → ℕ → Moment → Settings → List Call → Client → Ordered → Client → Ordered → Type 0
+HearsEffect effect nick now moment s calls old before new after =
+    HasPassed s (Hear effect ∷ calls) (given_effect s effect) now moment (answered (now_asked before now old) effect nick (gate s calls).waiting old) before new after
     ⊎ IsCutOff s calls moment (begun (now_asked before now old) (gate s calls).waiting old) before new after
+
+-- Something came of a request of a client, and where the client leaves, and all that it asked for is done by that, it is parted from.
+pub record Hears (effect : GateEffect) (nick : List ℕ) (now : ℕ) (moment : Moment) (s : Settings) (calls : List Call) (old : Client) (before : Ordered) (new : Client) (after : Ordered) : Type 0 where
+  pub told : Client
+  pub orders : Ordered
+  pub hears : HearsEffect effect nick now moment s calls old before told orders
+  pub parts :
+      (behind : List Call) → Stands s behind told.gate
+      → PartsIf (is_done (gate s behind).waiting told) moment s behind told orders new after
 
 -- A client's connection is gone, or is closed; where it was gone before nothing changes.
 pub record IsLost (now : ℕ) (moment : Moment) (s : Settings) (calls : List Call) (old : Client) (before : Ordered) (new : Client) (after : Ordered) : Type 0 where

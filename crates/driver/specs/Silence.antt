@@ -8,15 +8,16 @@ use Rattle.driver.specs.declared.client.Client.{Client}
 use Rattle.driver.specs.declared.order.Order.{Order}
 use Rattle.driver.specs.declared.order.Order.TheVariants.{Write}
 use Rattle.driver.specs.Asking.{anew_if, asks_if, is_stuck, now_asked}
+use Rattle.driver.specs.Clients.{is_leaving}
 use Rattle.driver.specs.Monitors.{at, is_over}
 use Rattle.driver.specs.Serving.{IsLost}
 use Rattle.driver.specs.Telling.{Ordered, ordered}
 use Rattle.driver.specs.declared.client.silence.TheConstants.{REGISTERS_WITHIN, SILENCE}
 
--- a client that is still there did not register within 10 seconds, or did not answer within four minutes
+-- a client that is still there, and does not leave, did not register within 10 seconds, or did not answer within four minutes
 abbrev pub is_too_slow : Client → ℕ → Bool
 is_too_slow c now =
-    if c.is_gone
+    if is_leaving c
     then false
     else if c.is_attached then c.is_pinged && is_over c.heard (2 * SILENCE) now else is_over c.since REGISTERS_WITHIN now
 
@@ -39,9 +40,9 @@ pub record IsSentOff (now : ℕ) (at : Moment) (s : Settings) (calls : List Call
   pub says : line.items ≡ late_line old.is_attached
   pub lost : IsLost now at s calls old (ordered before (Write old.origin.2 line ∷ [])) new after
 
--- a client that is still there was silent for two minutes, and was not asked for a word since
+-- a client that is still there, and does not leave, was silent for two minutes, and was not asked for a word since
 abbrev pub is_silent : Client → ℕ → Bool
-is_silent c now = not (c.is_pinged || c.is_gone || not (is_over c.heard SILENCE now))
+is_silent c now = not (c.is_pinged || is_leaving c || not (is_over c.heard SILENCE now))
 
 -- a client is asked for a word, if it is
 abbrev pub IsPing : Bool → ℕ → List Order → Type 0

@@ -4,13 +4,14 @@ ghost use Rattle.client_gate.specs.Calls.{Call, Stands, gate};
 ghost use Rattle.client_gate.specs.Gates.{last_request};
 ghost use Rattle.client_gate.specs.declared.settings.Settings.{Settings};
 ghost use Rattle.driver.specs.Asking.{held_behind, is_idle};
-ghost use Rattle.driver.specs.Clients.{behind_fed, parting_unless, passed};
+ghost use Rattle.driver.specs.Clients.{behind_fed, is_cut, parting_unless, passed};
 ghost use Rattle.driver.specs.Rosters.{IsNew, reading_limit};
-ghost use Rattle.driver.specs.Serving.{Hears, IsLost, Receives, StandsSo, ended, ended_if};
+ghost use Rattle.driver.specs.Serving.{Hears, HearsEffect, IsLost, IsParted, Receives, StandsSo, ended_if};
 ghost use Rattle.driver.specs.Telling.{ordered};
 
 mod asking;
 mod channels;
+mod farewell;
 mod joining;
 mod naming;
 mod opening;
@@ -65,6 +66,8 @@ pub struct Client {
     channels: Channels,
     /// It was asked for a word since it was last heard of.
     is_pinged: bool,
+    /// Since when it leaves, where it does: its last request, Leave, was told to its node.
+    leaving: Option<Timer>,
     /// Its connection is gone, or is to be closed.
     is_gone: bool,
 }
@@ -89,6 +92,7 @@ impl Client {
             is_attached: false,
             channels: Channels::new(alloc),
             is_pinged: false,
+            leaving: None,
             is_gone: false,
         }
     }
@@ -140,7 +144,7 @@ impl Client {
             OnOk result (Receives bytes.now now.now.ms now.now.at s calls
             self.old orders.old self.new orders.new) }
     {
-        if self.is_gone {
+        if self.is_leaving() {
             return Ok(());
         }
         self.begin_asking(now, orders);
@@ -153,7 +157,7 @@ impl Client {
         Ok(())
     }
 
-    /// Something came of a request, under this nick.
+    /// Something came of a request, under this nick. One that leaves is closed once its last request is done.
     pub fn hear(
         &mut self,
         now: &Now,
@@ -163,6 +167,22 @@ impl Client {
     ) -> Result<(), AllocError>
         ensures { (s : Settings) (calls : List Call) → Stands s calls self.old.gate →
             OnOk result (Hears effect.now nick.now now.now.ms now.now.at s calls
+            self.old orders.old self.new orders.new) }
+    {
+        self.hear_effect(now, nick, effect, orders)?;
+        self.part_if_done(now, orders)
+    }
+
+    /// Something came of a request, under this nick.
+    fn hear_effect(
+        &mut self,
+        now: &Now,
+        nick: &[u8],
+        effect: &TowerEffect,
+        orders: &mut Orders,
+    ) -> Result<(), AllocError>
+        ensures { (s : Settings) (calls : List Call) → Stands s calls self.old.gate →
+            OnOk result (HearsEffect effect.now nick.now now.now.ms now.now.at s calls
             self.old orders.old self.new orders.new) }
     {
         self.begin_asking(now, orders);
@@ -177,14 +197,15 @@ impl Client {
         Ok(())
     }
 
-    /// What its gate answered goes on: the bytes to the client, the requests to its node.
+    /// What its gate answered goes on: the bytes to the client, the requests to its node. Where the gate
+    /// closes, and the client asked to leave by that, it stays until that is done; else it is closed.
     fn pass(&mut self, now: &Now, fed: Fed, orders: &mut Orders) -> Result<(), AllocError>
         ensures passed { (s : Settings) (calls : List Call) → Stands s calls self.old.gate →
             OnOk result (orders.new ≡ ordered orders.old
             (passed self.old now.now.at (last_request (gate s calls)) fed)) }
         ensures stands { (s : Settings) (calls : List Call) → Stands s calls self.old.gate →
-            OnOk result (StandsSo s (ended_if fed.close self.old.is_gone calls)
-            (behind_fed self.old fed) self.new) }
+            OnOk result (StandsSo s (ended_if (is_cut fed) self.old.is_gone calls)
+            (behind_fed now.now.ms self.old fed) self.new) }
     {
         let Fed {
             requests,
@@ -194,7 +215,12 @@ impl Client {
         if !reply.is_empty() && !self.is_gone {
             orders.write(self.origin.client(), reply)?;
         }
+        let has_left = close && !requests.is_empty();
         self.ask_all(now, requests, orders)?;
+        if has_left {
+            self.leaving = Some(Timer::from(now.ms));
+            return Ok(());
+        }
         if close {
             self.part(now, orders)?;
         }
@@ -217,13 +243,9 @@ impl Client {
 
     /// Its connection is closed, and its last request goes to its node.
     #[tactic(auto, unfolding(crate::specs::Clients::parting_unless))]
-    fn part(&mut self, now: &Now, orders: &mut Orders) -> Result<(), AllocError>
-        ensures told { (s : Settings) (calls : List Call) → Stands s calls self.old.gate →
-            OnOk result (orders.new ≡ ordered orders.old (parting_unless self.old.is_gone
-            self.old.origin now.now.at (last_request (gate s calls)))) }
-        ensures stands { (s : Settings) (calls : List Call) → Stands s calls self.old.gate →
-            OnOk result (StandsSo s (ended self.old.is_gone calls)
-            (record self.old { is_gone = true }) self.new) }
+    pub(crate) fn part(&mut self, now: &Now, orders: &mut Orders) -> Result<(), AllocError>
+        ensures { (s : Settings) (calls : List Call) → Stands s calls self.old.gate → OnOk result
+            (IsParted now.now.at s calls self.old orders.old self.new orders.new) }
     {
         if self.is_gone {
             return Ok(());

@@ -6,9 +6,11 @@ ghost use Rattle.client_gate.specs.declared.settings.Settings.{Settings};
 ghost use Rattle.driver.specs.declared.client.Client.{Client};
 ghost use Rattle.machine_laws.specs.Origins.{same_origin};
 ghost use Rattle.driver.specs.Crowds.{TickEach, TicksRead, told};
-ghost use Rattle.driver.specs.Rosters.{AreOthersSame, IsFullIn, IsKept, Serves, client_at, is_attached_in, is_there, node_in};
+ghost use Rattle.driver.specs.Rosters.{AreOthersSame, IsFullIn, IsKept, Serves, client_at, is_attached_in};
+ghost use Rattle.driver.specs.Rosters.{is_leaving_in, is_there, node_in};
 ghost use Rattle.driver.specs.Serving.{Hears, IsLost, Receives};
 
+mod dismissing;
 mod kicking;
 mod leaving;
 mod news;
@@ -139,7 +141,7 @@ impl Clients {
     }
 
     /// The client of this number is forgotten where nothing is left to do for it.
-    fn forget_if_over(&mut self, number: u64)
+    pub(crate) fn forget_if_over(&mut self, number: u64)
         ensures others { AreOthersSame number self.old self.new }
         ensures nobody { client_at self.old number ≡ None → self.new ≡ self.old }
         ensures kept { IsKept number self.old self.new }
@@ -178,6 +180,16 @@ impl Clients {
     {
         match self.all.get(&number) {
             Some(client) => client.is_attached(),
+            None => false,
+        }
+    }
+
+    /// Whether nothing more is read of the client of this number, if there is one.
+    pub fn is_leaving(&self, number: u64) -> bool
+        ensures { result ≡ is_leaving_in (client_at self.now number) }
+    {
+        match self.all.get(&number) {
+            Some(client) => client.is_leaving(),
             None => false,
         }
     }
@@ -226,7 +238,7 @@ impl Clients {
     }
 
     /// The numbers of the clients, in order.
-    fn numbers(&self) -> Result<Vec<u64>, AllocError>
+    pub(crate) fn numbers(&self) -> Result<Vec<u64>, AllocError>
         ensures { IfOk result (λ numbers. numbers.items ≡ keys self.now.all) }
     {
         let mut numbers = Vec::new(self.alloc);

@@ -4,12 +4,12 @@ ghost use Rattle.driver.specs.Arriving.{Arrives, ArrivesIf, IsNewDriver, boot_at
 ghost use Rattle.driver.specs.Arriving.{last_number, new_monitors, next_number, turned_away_at};
 ghost use Rattle.driver.specs.Coming.{Comes};
 ghost use Rattle.driver.specs.Deeds.{are_merged, deeds};
-ghost use Rattle.driver.specs.Driving.{changed_at, orders_at};
+ghost use Rattle.driver.specs.Driving.{Dismisses, changed_at, orders_at};
 ghost use Rattle.driver.specs.Retiring.{with_seen};
-ghost use Rattle.driver.specs.Hearing.{turned_away, turned_away_news};
-ghost use Rattle.driver.specs.Links.{Sends};
+ghost use Rattle.driver.specs.Hearing.{boot_up, turned_away, turned_away_news};
+ghost use Rattle.driver.specs.Links.{Sends, status_at};
 ghost use Rattle.driver.specs.Nicks.{nick_in};
-ghost use Rattle.driver.specs.Rosters.{AreOthersSame, Serves, client_at, is_attached_in};
+ghost use Rattle.driver.specs.Rosters.{AreOthersSame, Serves, client_at, is_attached_in, is_leaving_in};
 ghost use Rattle.driver.specs.Serving.{IsLost};
 ghost use Rattle.driver.specs.Telling.{emptied, ordered};
 
@@ -20,6 +20,7 @@ mod reading;
 mod rejoining;
 mod session;
 mod ticking;
+mod watching;
 
 use crate::client::Client;
 use crate::clients::Clients;
@@ -58,6 +59,8 @@ pub struct Driver {
     /// How full the log is, of which people were told last.
     level: Level,
     pace: Pace,
+    /// Fewer nodes than a majority serve clients, as people were told last.
+    is_short: bool,
     /// When it last heard of a node, or was told that time passed.
     ran: Timer,
     orders: Orders,
@@ -81,6 +84,7 @@ impl Driver {
             given: None,
             level: Level::Roomy,
             pace,
+            is_short: false,
             ran: Timer::from(now.ms),
             orders: Orders::new(alloc),
         }
@@ -96,7 +100,7 @@ impl Driver {
         self.orders.take()
     }
 
-    /// A client has connected to this node. Its number; none where the node is not up, or the numbers
+    /// A client has connected to this node. Its number; none where the node is not up or hangs, or the numbers
     /// are spent: its connection is then to be closed. An operator is told of the first that was turned
     /// away since the node was up.
     pub fn connect(&mut self, now: &Now, node: NodeId) -> Result<Option<u64>, AllocError>
@@ -121,7 +125,7 @@ impl Driver {
           orders = self.new.orders;
         }) }
     {
-        let Some(boot) = self.boot_of(node) else {
+        let Some(boot) = self.open_boot(node) else {
             self.turn_away(node)?;
             return Ok(None);
         };
@@ -138,10 +142,18 @@ impl Driver {
 
     /// The run in which a node is up, if it is.
     pub(crate) fn boot_of(&self, node: NodeId) -> Option<Number>
-        ensures { result ≡ boot_at self.now.monitors node }
+        ensures { result ≡ boot_up (status_at self.now.monitors node) }
     {
         let monitor = self.monitors.get(node.value() as usize - 1)?;
         monitor.boot()
+    }
+
+    /// The run in which a node takes clients, if it does.
+    fn open_boot(&self, node: NodeId) -> Option<Number>
+        ensures { result ≡ boot_at self.now.monitors node }
+    {
+        let monitor = self.monitors.get(node.value() as usize - 1)?;
+        monitor.open_boot()
     }
 
     /// A client connected to a node that is not up.
@@ -217,6 +229,22 @@ impl Driver {
         ensures { result ≡ is_attached_in (client_at self.now.clients number) }
     {
         self.clients.is_attached(number)
+    }
+
+    /// Whether nothing more is read of the client of this number: it leaves, or its connection is to be closed.
+    /// What it is shown until then is still written.
+    pub fn is_leaving(&self, number: u64) -> bool
+        ensures { result ≡ is_leaving_in (client_at self.now.clients number) }
+    {
+        self.clients.is_leaving(number)
+    }
+
+    /// The bouncer is about to end: each client is to leave, as by a QUIT of its own. Its connection is closed once
+    /// its Leave is done, or five seconds later; that of one that did not register is closed at once.
+    pub fn end(&mut self, now: &Now) -> Result<(), AllocError>
+        ensures { OnOk result (Dismisses now.now.ms now.now.at self.old self.new) }
+    {
+        self.clients.dismiss_all(now, &mut self.orders)
     }
 
     /// A line was handed out by a node, for its session.

@@ -4,6 +4,7 @@
 //! client up, each of its requests is told to its node once, and in order. Both are proved where there is memory.
 #![tactic(auto)]
 
+mod absence;
 mod backoff;
 mod client;
 mod clients;
@@ -25,6 +26,7 @@ mod said;
 mod settings;
 mod timer;
 
+pub use absence::Absence;
 pub use backoff::Backoff;
 pub use driver::Driver;
 pub use level::{FULL, Level};

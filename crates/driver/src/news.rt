@@ -58,6 +58,14 @@ pub enum News {
     Down(NodeId, Cause),
     /// A node is up, in its run of this number.
     Up(NodeId, Number),
+    /// A node has answered nothing for too long, while others go on.
+    Hangs(NodeId),
+    /// A node that hung answers again.
+    Answers(NodeId),
+    /// Fewer nodes than a majority answer, so that nothing is agreed.
+    TooFew,
+    /// A majority answers again.
+    Enough,
     /// A client connected to a node that is not up.
     TurnedAway(NodeId),
     /// The log of the node that leads is as full as this.
@@ -76,16 +84,18 @@ impl News {
         }
     }
 
-    /// The node that it is of.
-    pub fn node(&self) -> u8
+    /// The node that it is of, where it is of one.
+    pub fn node(&self) -> Option<NodeId>
         ensures { result ≡ node_of self.now }
     {
         match self {
-            News::Attached(origin) | News::Left(origin) => origin.node(),
-            News::Elected(node, _) | News::Opened(node) => node.value(),
-            News::Unopened(node, _) | News::Closed(node, _) => node.value(),
-            News::Down(node, _) | News::Up(node, _) => node.value(),
-            News::TurnedAway(node) | News::LogFills(node, _) => node.value(),
+            News::Attached(origin) | News::Left(origin) => Some(NodeId::new(origin.node())),
+            News::Elected(node, _) | News::Opened(node) => Some(*node),
+            News::Unopened(node, _) | News::Closed(node, _) => Some(*node),
+            News::Down(node, _) | News::Up(node, _) => Some(*node),
+            News::Hangs(node) | News::Answers(node) => Some(*node),
+            News::TurnedAway(node) | News::LogFills(node, _) => Some(*node),
+            News::TooFew | News::Enough => None,
         }
     }
 }
@@ -101,6 +111,10 @@ impl fmt::Display for News {
             News::Closed(_, why) => write!(f, "upstream closed: {why}"),
             News::Down(_, cause) => write!(f, "down: {cause}"),
             News::Up(_, boot) => write!(f, "up, run {}", boot.value()),
+            News::Hangs(_) => write!(f, "does not answer: its clients are closed"),
+            News::Answers(_) => write!(f, "answers again"),
+            News::TooFew => write!(f, "too few nodes are up: nothing is shown or sent until more are"),
+            News::Enough => write!(f, "enough nodes are up again"),
             News::TurnedAway(_) => write!(f, "client turned away: the node is down"),
             News::LogFills(_, Level::Full) => {
                 write!(

@@ -8,6 +8,7 @@ ghost use Rattle.driver.specs.Telling.{ordered, told_to};
 ghost use Rattle.driver.specs.Waking.{waited_longer};
 
 mod clock;
+mod hanging;
 mod hearing;
 mod reading;
 mod standing;
@@ -94,6 +95,7 @@ impl NodeMonitor {
             presence: Presence {
                 last_report: Timer::from(now.ms),
                 up: Timer::from(now.ms),
+                is_hanging: false,
             },
             visitors: Visitors {
                 greatest_boot: None,
@@ -169,8 +171,8 @@ impl NodeMonitor {
     }
 
     /// The runs below this boot are to be retired: where the node is down, those up to the greatest boot
-    /// known of it; where it answered nothing for ten timeouts, those up to the greatest boot seen in an
-    /// origin, where one was.
+    /// known of it; where it answered nothing for ten timeouts, or its clients were told that it hangs, those
+    /// up to the greatest boot seen in an origin, where one was.
     pub fn dead_below(&self, now: &Now, settings: &Settings) -> Option<Number>
         ensures { result ≡ dead_below self.now settings.now.timeout_ms now.now.ms }
     {
@@ -188,9 +190,11 @@ impl NodeMonitor {
         let silence = DEAD * settings.timeout_ms as u64;
         match (self.down, self.status) {
             (Some(_), Some(status)) => Some(self.greatest_seen(status.boot)),
-            _ if self.presence.last_report.has_passed(silence, now.ms) => self
-                .visitors
-                .greatest_boot,
+            _ if self.presence.is_hanging
+                || self.presence.last_report.has_passed(silence, now.ms) =>
+            {
+                self.visitors.greatest_boot
+            }
             _ => None,
         }
     }

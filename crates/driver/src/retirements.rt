@@ -1,5 +1,6 @@
 //! The retirements of all nodes.
-ghost use Rattle.std.specs.Prelude.{◌≡◌, ◌-◌, OnOk, map, slice_get};
+ghost use Rattle.std.specs.Prelude.{◌≡◌, ◌-◌, OnOk, Some, map, slice_get};
+ghost use Rattle.driver.specs.Absences.{retired_in};
 ghost use Rattle.driver.specs.Monitors.{told};
 ghost use Rattle.driver.specs.Driving.{orders_at, tick_orders, ticked};
 ghost use Rattle.driver.specs.Retiring.{applied_floor, fresh, heard_in, is_news, no_retirements};
@@ -55,6 +56,15 @@ impl Retirements {
         retirement.ask(now, monitor, orders)?;
         self.all[monitor.id().value() as usize - 1] = Some(retirement);
         Ok(())
+    }
+
+    /// The runs of this node that are over are retired: that is asked for once a node leads.
+    pub fn retire_run(&mut self, now: &Now, settings: &Settings, monitor: &NodeMonitor)
+        ensures { self.new ≡ record self.old
+            { all = retired_in settings.now now.now.ms (Some monitor.now) self.old.all } }
+    {
+        let place = &mut self.all[monitor.id().value() as usize - 1];
+        retire(place, now, settings, monitor);
     }
 
     /// A node stands so, and that many of its notes are done; whether a turn of it did nothing.

@@ -1,9 +1,12 @@
 //! What a driver goes by.
 use irc_line::{Name, Text};
+use raft_log::GroupSize;
 
 /// What a driver goes by.
 #[derive(Drop)]
 pub struct Settings {
+    /// How many nodes there are.
+    pub size: GroupSize,
     /// The nick that is asked for.
     pub nick: Name,
     /// What clients send in PASS.

@@ -2,6 +2,8 @@
 ghost use Rattle.std.specs.Prelude.{◌≡◌, ◌||◌, true, false, List, OnOk};
 ghost use Rattle.client_gate.specs.Calls.{Call, Stands};
 ghost use Rattle.client_gate.specs.declared.settings.Settings.{Settings};
+ghost use Rattle.driver.specs.Leaving.{is_overdue};
+ghost use Rattle.driver.specs.Serving.{IsLost};
 ghost use Rattle.driver.specs.Silence.{IsAsked, IsKept, IsSentOff, held_back, is_too_slow, late_line, waited};
 
 use crate::client::Client;
@@ -29,8 +31,8 @@ const TOO_SLOW: &[u8] = b"ERROR :you did not register in time\r\n";
 const TOO_SILENT: &[u8] = b"ERROR :no word from you for too long\r\n";
 
 impl Client {
-    /// Time passed, in which it was read or was not: it may be too slow to register, or, where it was read,
-    /// too silent; and where it is held up, what waits is asked for again, once each timeout.
+    /// Time passed, in which it was read or was not: it may leave for too long, be too slow to register, or, where
+    /// it was read, too silent; and where it is held up, what waits is asked for again, once each timeout.
     pub fn tick(
         &mut self,
         now: &Now,
@@ -38,15 +40,23 @@ impl Client {
         is_read: bool,
         orders: &mut Orders,
     ) -> Result<(), AllocError>
+        ensures overdue { (s : Settings) (calls : List Call) → Stands s calls self.old.gate →
+            is_overdue self.old now.now.ms ≡ true → OnOk result
+            (IsLost now.now.ms now.now.at s calls self.old orders.old self.new orders.new) }
         ensures slow { (s : Settings) (calls : List Call) → Stands s calls self.old.gate →
+            is_overdue self.old now.now.ms ≡ false →
             is_too_slow (waited is_read now.now.ms self.old) now.now.ms ≡ true → OnOk result
             (IsSentOff now.now.ms now.now.at s calls (waited is_read now.now.ms self.old)
             orders.old self.new orders.new) }
         ensures kept { (s : Settings) (calls : List Call) → Stands s calls self.old.gate →
+            is_overdue self.old now.now.ms ≡ false →
             is_too_slow (waited is_read now.now.ms self.old) now.now.ms ≡ false → OnOk result
             (IsKept timeout_ms now.now.ms now.now.at s calls (waited is_read now.now.ms self.old)
             orders.old self.new orders.new) }
     {
+        if self.is_overdue(now) {
+            return self.hang_up(now, orders);
+        }
         if !is_read {
             self.hold_back(now);
         }
@@ -90,7 +100,7 @@ impl Client {
     fn ask_for_word(&mut self, now: &Now, orders: &mut Orders) -> Result<(), AllocError>
         ensures { OnOk result (IsAsked self.old now.now.ms orders.old self.new orders.new) }
     {
-        if self.is_pinged || self.is_gone || !self.heard.has_passed(SILENCE, now.ms) {
+        if self.is_pinged || self.is_leaving() || !self.heard.has_passed(SILENCE, now.ms) {
             return Ok(());
         }
         self.is_pinged = true;
@@ -120,12 +130,12 @@ impl Client {
         }
     }
 
-    /// Whether it did not register in time, or did not answer; one that is gone no more is.
+    /// Whether it did not register in time, or did not answer; one that leaves or is gone no more is.
     fn is_too_slow(&self, now: &Now) -> bool
         ensures { result ≡ is_too_slow self.now now.now.ms }
     {
         // what a lost client still asks for, its Leave, has to be done
-        if self.is_gone {
+        if self.is_leaving() {
             return false;
         }
         if self.is_attached {

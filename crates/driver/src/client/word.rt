@@ -3,8 +3,9 @@ ghost use Rattle.std.specs.Prelude.{◌≡◌, List, OnOk};
 ghost use Rattle.client_gate.specs.Calls.{Call, Stands};
 ghost use Rattle.client_gate.specs.declared.settings.Settings.{Settings};
 ghost use Rattle.driver.specs.Asking.{HearsNode};
-ghost use Rattle.driver.specs.Outages.{IsToldDown};
+ghost use Rattle.driver.specs.Outages.{IsToldOff};
 
+use crate::absence::Absence;
 use crate::client::Client;
 use crate::news::News;
 use crate::order::Now;
@@ -33,17 +34,18 @@ impl Client {
         self.ask_again(now, orders)
     }
 
-    /// Its node is down, and with it the run of the node that it is a client of: it is told so, and its
+    /// Its node serves nobody, and the run of the node that it is a client of is over: it is told why, and its
     /// connection is closed.
-    pub fn hear_down(&self, orders: &mut Orders) -> Result<(), AllocError>
-        ensures { OnOk result (IsToldDown self.now orders.old orders.new) }
+    pub fn hear_absence(&self, why: Absence, orders: &mut Orders) -> Result<(), AllocError>
+        ensures { OnOk result (IsToldOff why self.now orders.old orders.new) }
     {
         if self.is_gone {
             return Ok(());
         }
         let mut error = Vec::from_slice(self.alloc, b"ERROR :node ")?;
         error.push(b'0' + self.origin.node())?;
-        error.extend_from_slice(b" is down\r\n")?;
+        error.extend_from_slice(why.words())?;
+        error.extend_from_slice(b"\r\n")?;
         orders.write(self.origin.client(), error)?;
         orders.close(self.origin.client())?;
         orders.log(News::Left(self.origin))?;

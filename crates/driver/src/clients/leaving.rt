@@ -7,10 +7,11 @@ ghost use Rattle.client_gate.specs.declared.settings.Settings.{Settings};
 ghost use Rattle.driver.specs.declared.client.Client.{Client};
 ghost use Rattle.driver.specs.Clients.{parting_unless};
 ghost use Rattle.driver.specs.Crowds.{CutEach, LeaveEach, is_below, is_of, is_one_below, told};
-ghost use Rattle.driver.specs.Outages.{IsToldDown};
+ghost use Rattle.driver.specs.Outages.{IsToldOff};
 ghost use Rattle.driver.specs.Rosters.{AreOthersSame, client_at};
 ghost use Rattle.driver.specs.Telling.{ordered};
 
+use crate::absence::Absence;
 use crate::clients::Clients;
 use crate::order::Now;
 use crate::orders::Orders;
@@ -80,15 +81,20 @@ impl Clients {
         }
     }
 
-    /// A node is down: its clients are told so, their connections are closed, and nothing more is done for
-    /// these.
-    pub fn cut_off(&mut self, node: NodeId, orders: &mut Orders) -> Result<(), AllocError>
-        ensures { OnOk result (CutEach node (keys self.old.all)
+    /// A node serves nobody: its clients are told why, their connections are closed, and nothing more is done
+    /// for these.
+    pub fn cut_off(
+        &mut self,
+        why: Absence,
+        node: NodeId,
+        orders: &mut Orders,
+    ) -> Result<(), AllocError>
+        ensures { OnOk result (CutEach why node (keys self.old.all)
             (told self.old orders.old) (told self.new orders.new)) }
     {
         let numbers = self.numbers()?;
         for number in numbers {
-            self.cut_if_of(node, number, orders)?;
+            self.cut_if_of(why, node, number, orders)?;
         }
         Ok(())
     }
@@ -96,6 +102,7 @@ impl Clients {
     /// The client of this number is cut off where it is one of this node.
     fn cut_if_of(
         &mut self,
+        why: Absence,
         node: NodeId,
         number: u64,
         orders: &mut Orders,
@@ -108,7 +115,7 @@ impl Clients {
         ensures leaves { (c : Client) → client_at self.old number ≡ Some c →
             is_of c.origin node ≡ true → OnOk result (client_at self.new number ≡ None) }
         ensures told { (c : Client) → client_at self.old number ≡ Some c →
-            is_of c.origin node ≡ true → OnOk result (IsToldDown c orders.old orders.new) }
+            is_of c.origin node ≡ true → OnOk result (IsToldOff why c orders.old orders.new) }
     {
         if !self.is_of(node, number) {
             return Ok(());
@@ -116,7 +123,7 @@ impl Clients {
         let Some(client) = self.all.get(&number) else {
             return Ok(());
         };
-        client.hear_down(orders)?;
+        client.hear_absence(why, orders)?;
         self.all.remove(&number);
         Ok(())
     }

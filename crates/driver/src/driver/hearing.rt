@@ -10,6 +10,7 @@ ghost use Rattle.driver.specs.Hearing.{heard_behind, heard_news, heard_of};
 ghost use Rattle.driver.specs.Reports.{Begins, BeginsIf, Hears, Stands, WordsBy, heard_at};
 ghost use Rattle.driver.specs.Telling.{ordered, told_to};
 
+use crate::absence::Absence;
 use crate::driver::Driver;
 use crate::driver::nick::nick_by;
 use crate::node_monitor::Heard;
@@ -82,7 +83,7 @@ impl Driver {
             { clients = self.new.clients; orders = self.new.orders } }
     {
         if status.down.is_some() {
-            return self.clients.cut_off(node, &mut self.orders);
+            return self.clients.cut_off(Absence::Down, node, &mut self.orders);
         }
         if !is_refused && !heard.has_lost {
             return Ok(());

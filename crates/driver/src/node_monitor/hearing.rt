@@ -1,6 +1,6 @@
 //! What a node's worker tells of how the node stands.
 ghost use Rattle.std.specs.Prelude.{◌≡◌, ◌++◌, IfOk, OnOk, None, Some};
-ghost use Rattle.driver.specs.Hearing.{down_behind, down_news, elected_news, heard_behind, heard_news};
+ghost use Rattle.driver.specs.Hearing.{answers_news, down_behind, down_news, elected_news, heard_behind, heard_news};
 ghost use Rattle.driver.specs.Hearing.{heard_of, is_new_run, is_raised, led_in, up_behind, up_news};
 ghost use Rattle.driver.specs.Hearing.{progressed, settled, waiting_behind, was_up};
 ghost use Rattle.driver.specs.Telling.{ordered, told_to};
@@ -144,10 +144,11 @@ impl NodeMonitor {
             self.backoff.reset();
         }
         self.down = Some(Outage::from(now.ms, self.backoff.fail()));
+        self.presence.is_hanging = false;
         orders.log(News::Down(self.id, cause))
     }
 
-    /// It is up.
+    /// It is up, and answers.
     fn hear_up(
         &mut self,
         now: &Now,
@@ -155,13 +156,17 @@ impl NodeMonitor {
         boot: Number,
         orders: &mut Orders,
     ) -> Result<(), AllocError>
-        ensures told { OnOk result (orders.new
-            ≡ ordered orders.old (up_news self.old.id boot was_up)) }
+        ensures told { OnOk result (orders.new ≡ ordered orders.old
+            (answers_news self.old.id self.old.presence.is_hanging ++ up_news self.old.id boot was_up)) }
         ensures monitor { OnOk result (self.new ≡ up_behind self.old now.now.ms was_up) }
     {
         self.down = None;
         self.presence.last_report = Timer::from(now.ms);
         self.visitors.has_turned_away = false;
+        if self.presence.is_hanging {
+            self.presence.is_hanging = false;
+            orders.log(News::Answers(self.id))?;
+        }
         if !was_up {
             self.following.last_leader_contact = Timer::from(now.ms);
             self.presence.up = Timer::from(now.ms);

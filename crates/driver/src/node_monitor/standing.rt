@@ -69,6 +69,8 @@ pub struct Presence {
     pub last_report: Timer,
     /// When it last came up.
     pub up: Timer,
+    /// It was up, and has answered nothing for so long since that its clients were told.
+    pub is_hanging: bool,
 }
 
 /// What is known of the clients of a node.

@@ -34,6 +34,10 @@ pub enum Step<'a> {
     Server(u64, &'a [u8], u8),
     /// The connection to the server is gone.
     Closes(u64, Ending),
+    /// The nodes are looked at.
+    Watches(u64),
+    /// The bouncer is about to end.
+    Ends(u64),
     /// What was ordered since is not looked at.
     Ordered,
     /// These orders were given since, as text.
@@ -44,6 +48,10 @@ pub enum Step<'a> {
     ReadsClient(u64, bool),
     /// Whether the client of this number registered.
     IsAttached(u64, bool),
+    /// Whether nothing more is read of the client of this number.
+    IsLeaving(u64, bool),
+    /// Whether clients of a node were told that it hangs.
+    IsHanging(NodeId, bool),
 }
 
 /// A new driver is told how a story begins and how it goes on.
@@ -96,10 +104,14 @@ fn follow_one(
         Step::Connected(ms) => driver.connected(&at(*ms))?,
         Step::Server(ms, bytes, times) => receive(driver, *ms, bytes, *times)?,
         Step::Closes(ms, why) => driver.close(&at(*ms), *why)?,
+        Step::Watches(ms) => driver.watch_nodes(&at(*ms))?,
+        Step::Ends(ms) => driver.end(&at(*ms))?,
         Step::Ordered => forget(alloc, driver)?,
         Step::Orders(wanted) => check(rt, alloc, driver, wanted)?,
         Step::ReadsServer(reads) => assert!(rt; driver.reads_server() == *reads),
         Step::IsAttached(number, is) => assert!(rt; driver.is_attached(*number) == *is),
+        Step::IsLeaving(number, is) => assert!(rt; driver.is_leaving(*number) == *is),
+        Step::IsHanging(node, is) => assert!(rt; driver.is_hanging(*node) == *is),
         Step::ReadsClient(number, reads) => assert!(rt; driver.reads_client(*number) == *reads),
     }
     Ok(())

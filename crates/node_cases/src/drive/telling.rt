@@ -3,7 +3,7 @@ use driver::{Driver, News, Now, Order, Settings, TowerReport};
 use irc_line::Name;
 use node_notes::{Note, Progress, Report, Status};
 use node_steps::Refusal;
-use raft_log::{NodeId, Role};
+use raft_log::{GroupSize, NodeId, Role};
 use raft_node::{Cause, NodeFault};
 use std::alloc::Global;
 use std::test::Fail;
@@ -21,6 +21,7 @@ pub fn at(ms: u64) -> Now {
 pub fn new_driver(alloc: Global) -> Result<Driver, Fail> {
     let nick = Name::from_bytes(Vec::from_slice(alloc, b"me")?).ok_or("no name")?;
     let settings = Settings {
+        size: GroupSize::new(3).ok_or("no size")?,
         nick,
         password: Vec::from_slice(alloc, b"pw")?,
         upstream_password: None,
@@ -174,7 +175,10 @@ fn tell(alloc: Global, out: &mut Vec<u8>, order: &Order) -> Result<(), Fail> {
         }
         Order::Disconnect => out.extend_from_slice(b"disconnect ")?,
         Order::Log(news) => {
-            let node = news.node();
+            let node = match news.node() {
+                Some(node) => node.value(),
+                None => 0,
+            };
             out.extend_from_slice(format!(in alloc; "news@{node} [{news}] ")?.as_bytes())?;
         }
     }

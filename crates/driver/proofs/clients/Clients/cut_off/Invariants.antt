@@ -6,5 +6,5 @@ use Rattle.driver.proofs.clients.Clients.cut_off.Given as goal
 -- once it comes to what is left, it came to all
 abbrev pub invariant-loop-number : goal.invariant-loop-number
 invariant-loop-number l =
-    (new : Told) → CutEach l.node (into_iter_items l.number-iterator) (told l.self l.orders) new
-    → CutEach l.node (keys l.initial.self.all) (told l.initial.self l.initial.orders) new
+    (new : Told) → CutEach l.why l.node (into_iter_items l.number-iterator) (told l.self l.orders) new
+    → CutEach l.why l.node (keys l.initial.self.all) (told l.initial.self l.initial.orders) new

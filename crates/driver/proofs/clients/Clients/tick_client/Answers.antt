@@ -19,7 +19,11 @@ returns-clause-served c s calls d is stands =
             subst
             (λ (x : Client). Ticks reads c.args.timeout_ms now.ms now.at s calls x c.args.orders.now c.tick.new.self c.tick.new.orders)
             same
-            (record { slow = λ late. c.in_ok-tick.ensures.slow s calls here late; kept = λ late. c.in_ok-tick.ensures.kept s calls here late });
+            (record {
+              overdue = λ late. c.in_ok-tick.ensures.overdue s calls here late;
+              slow = λ early late. c.in_ok-tick.ensures.slow s calls here early late;
+              kept = λ early late. c.in_ok-tick.ensures.kept s calls here early late;
+            });
       };
       is_kept = search rules;
     }

@@ -4,7 +4,7 @@ use Rattle.driver.specs.declared.order.Order.TheVariants.{Close, Log, Write}
 use Rattle.driver.specs.Outages.{IsToldIf}
 use Rattle.driver.specs.Telling.{ordered}
 use Rattle.driver.proofs.Telling.{three_ordered}
-use Rattle.driver.proofs.client.Client.hear_down.Goals as goal
+use Rattle.driver.proofs.client.Client.hear_absence.Goals as goal
 
 pub returns : goal.returns
 returns c =
@@ -16,6 +16,6 @@ returns c =
     let stays : client.is_gone ≡ false = search rules in
     let told : c.log.new.self ≡ ordered (ordered (ordered before (write ∷ [])) (close ∷ [])) (tell ∷ []) = search rules in
     subst
-    (λ (b : Bool). IsToldIf b client before c.log.new.self)
+    (λ (b : Bool). IsToldIf b c.args.why client before c.log.new.self)
     (sym stays)
     (c.extend_from_slice.new.self, search rules, told ∙ three_ordered before write close tell)

@@ -1,0 +1,24 @@
+//! Why a node serves nobody.
+ghost use Rattle.std.specs.Prelude.{◌≡◌};
+ghost use Rattle.driver.specs.Outages.{words_of};
+
+/// Why a node serves nobody.
+#[derive(Clone, Copy, Debug, PartialEq, Eq)]
+pub enum Absence {
+    /// It is down.
+    Down,
+    /// It has answered nothing for too long.
+    Hanging,
+}
+
+impl Absence {
+    /// What the node's clients are told, behind its name.
+    pub fn words(self) -> &'static [u8]
+        ensures { result.now ≡ words_of self }
+    {
+        match self {
+            Absence::Down => b" is down",
+            Absence::Hanging => b" does not answer",
+        }
+    }
+}

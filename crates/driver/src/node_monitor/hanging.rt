@@ -1,0 +1,90 @@
+//! A node that hangs: it is up, as far as is known, and answers nothing.
+ghost use Rattle.std.specs.Prelude.{◌≡◌, ◌∷◌, [], OnOk};
+ghost use Rattle.driver.specs.declared.news.News.TheVariants.{Hangs};
+ghost use Rattle.driver.specs.declared.order.Order.TheVariants.{Log};
+ghost use Rattle.driver.specs.Absences.{begins_to_hang, boot_open, hanging, hastened, is_absent, is_silent};
+ghost use Rattle.driver.specs.Telling.{ordered};
+
+use crate::news::News;
+use crate::node_monitor::NodeMonitor;
+use crate::node_monitor::standing::Outage;
+use crate::order::Now;
+use crate::orders::Orders;
+use crate::settings::Settings;
+use std::alloc::AllocError;
+use wire_bytes::Number;
+
+/// After how long without an answer a node counts as one that hangs, in milliseconds.
+// A sync of a disk that is merely slow takes less, and who waits longer takes the bouncer for dead.
+const HANGS_AFTER: u64 = 5_000;
+
+/// How many timeouts that is at least: nodes whose leader seldom sends have less to tell.
+const TIMEOUTS: u64 = 2;
+
+/// How long a node that is down waits at most while too few nodes are up, in milliseconds.
+// Nothing can be agreed meanwhile, so that a try costs nothing that matters.
+const SHORT_WAIT: u32 = 2_000;
+
+impl NodeMonitor {
+    /// Whether it serves nobody at this moment: it is down, or has answered nothing for so long that it
+    /// counts as one that hangs.
+    pub fn is_absent(&self, now: &Now, settings: &Settings) -> bool
+        ensures { result ≡ is_absent settings.now.timeout_ms now.now.ms self.now }
+    {
+        self.down.is_some() || self.is_silent(now, settings)
+    }
+
+    /// Whether it has answered nothing for so long.
+    fn is_silent(&self, now: &Now, settings: &Settings) -> bool
+        ensures { result ≡ is_silent settings.now.timeout_ms now.now.ms self.now }
+    {
+        let limit = HANGS_AFTER.max(TIMEOUTS * settings.timeout_ms as u64);
+        self.presence.last_report.has_passed(limit, now.ms)
+    }
+
+    /// Whether it hangs, and its clients were not told: it was up when it was last heard of.
+    pub fn begins_to_hang(&self, now: &Now, settings: &Settings) -> bool
+        ensures { result ≡ begins_to_hang settings.now.timeout_ms now.now.ms self.now }
+    {
+        self.boot().is_some() && !self.presence.is_hanging && self.is_silent(now, settings)
+    }
+
+    /// It hangs: an operator is told, and it takes no clients until it answers.
+    pub fn hang(&mut self, orders: &mut Orders) -> Result<(), AllocError>
+        ensures told { OnOk result
+            (orders.new ≡ ordered orders.old (Log (Hangs self.old.id) ∷ [])) }
+        ensures monitor { self.new ≡ hanging self.old }
+    {
+        self.presence.is_hanging = true;
+        orders.log(News::Hangs(self.id))
+    }
+
+    /// Whether its clients were told that it hangs, and it has not answered since.
+    pub fn is_hanging(&self) -> bool
+        ensures { result ≡ self.now.presence.is_hanging }
+    {
+        self.presence.is_hanging
+    }
+
+    /// The run in which it takes clients: it is up, and does not hang.
+    pub fn open_boot(&self) -> Option<Number>
+        ensures { result ≡ boot_open self.now }
+    {
+        if self.presence.is_hanging {
+            return None;
+        }
+        self.boot()
+    }
+
+    /// Too few nodes are up: where it is down, it is started again soon.
+    pub fn hasten(&mut self)
+        ensures { self.new ≡ hastened self.old }
+    {
+        if let Some(outage) = self.down {
+            self.down = Some(Outage {
+                wait_ms: outage.wait_ms.min(SHORT_WAIT),
+                ..outage
+            });
+        }
+    }
+}
