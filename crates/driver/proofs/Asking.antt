@@ -112,7 +112,7 @@ none_by true first other own none = own
 none_by false first other own none = none
 
 -- what comes of a request asks for nothing
-hear_asks_none : (s : Settings) (e : GateEffect) → (given_effect s e).requests ≡ []
+pub hear_asks_none : (s : Settings) (e : GateEffect) → (given_effect s e).requests ≡ []
 hear_asks_none s (answer.Effect (claims.Inner (fence.Inner (effect.Close o)))) = none_by (same_origin s.origin o) _ _ refl refl
 hear_asks_none s (answer.Effect (claims.Inner (fence.Inner (effect.Show o x)))) = none_by (same_origin s.origin o) _ _ refl refl
 hear_asks_none s (answer.Effect (claims.Inner (fence.Inner (effect.Send o x)))) = refl

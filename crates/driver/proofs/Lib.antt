@@ -9,6 +9,7 @@ mod Dialing
 mod Downtime
 mod Driving
 mod Falling
+mod Farewells
 mod Growing
 mod Hanging
 mod Heard

@@ -283,7 +283,7 @@ ticks_own false true false timeout now at s calls old new before after late is s
 ticks_own false false false timeout now at s calls old new before after late is stands t =
     renamed s old (held_back now old) new before after refl (kept_own timeout now at s calls (held_back now old) new before after stands (t.kept late is))
 
-event_own : (event : Event) (now : ℕ) (at : Moment) (s : Settings) (calls : List Call) (old new : Client) (before after : Ordered) → Happens event now at old before new after → Stands s calls old.gate → Owns s old before new after
+pub event_own : (event : Event) (now : ℕ) (at : Moment) (s : Settings) (calls : List Call) (old new : Client) (before after : Ordered) → Happens event now at old before new after → Stands s calls old.gate → Owns s old before new after
 event_own (Speaks bytes) now at s calls old new before after h stands =
     reads_own (is_leaving old) bytes now at s calls old new before after refl stands (h s calls stands)
 event_own (Learns effect nick) now at s calls old new before after h stands =

@@ -34,9 +34,12 @@ abbrev pub begins_to_hang : ℕ → ℕ → NodeMonitor → Bool
 begins_to_hang timeout now monitor =
     is_some (boot_up monitor.status) && not monitor.presence.is_hanging && is_silent timeout now monitor
 
--- a node whose clients were told that it hangs
+-- A node whose clients were told that it hangs. An operator, who is told so, is told of no client that is turned away.
 abbrev pub hanging : NodeMonitor → NodeMonitor
-hanging monitor = record monitor { presence = record monitor.presence { is_hanging = true } }
+hanging monitor = record monitor {
+  presence = record monitor.presence { is_hanging = true };
+  visitors = record monitor.visitors { has_turned_away = true };
+}
 
 -- its clients were told so, if there is one
 abbrev pub is_hanging_in : Option NodeMonitor → Bool

@@ -1,5 +1,5 @@
 -- What a driver begins with, and a client that connects.
-use Rattle.std.specs.Prelude.{◌≡◌, ◌+◌, ◌-◌, ℕ, Bool, nat_lt, if◌then◌else◌, List, [], ◌∷◌, Option, Some, None, slice_get}
+use Rattle.std.specs.Prelude.{◌≡◌, ◌+◌, ◌-◌, ℕ, Bool, false, nat_lt, if◌then◌else◌, List, [], ◌∷◌, Option, Some, None, slice_get}
 use Rattle.client_gate.specs.Calls.{Held, Stands}
 use Rattle.client_gate.specs.Made.{made}
 use Rattle.wire_bytes.specs.declared.origin.Origin.{Origin}

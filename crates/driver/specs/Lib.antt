@@ -11,6 +11,7 @@ pub mod Monitors
 pub mod Downtime
 pub mod Deeds
 pub mod Driving
+pub mod Farewells
 pub mod Filling
 pub mod Retiring
 pub mod Hearing

@@ -2,6 +2,7 @@
 ghost use Rattle.driver.specs.Claiming.{OneClaimWaits};
 ghost use Rattle.driver.specs.Counting.{NotesAreCounted};
 ghost use Rattle.driver.specs.Downtime.{DownIsOnlyRestarted};
+ghost use Rattle.driver.specs.Farewells.{LeaversAreShownAll};
 ghost use Rattle.driver.specs.Learning.{JoinsShowTheNick};
 ghost use Rattle.driver.specs.Led.{IsOfLeaderHeard, IsOfLeaderTicked};
 ghost use Rattle.driver.specs.Once.{AsksOnce, AsksOwn};
@@ -17,6 +18,12 @@ pub fn requests_are_told_once()
 /// Whatever happens to a client, what it asks goes to its own node alone.
 pub fn requests_go_to_their_own_node()
     ensures { AsksOwn }
+{}
+
+/// Whatever happens to a client that leaves, as long as its connection stands: all that it is shown is written to
+/// it, in order, and nothing else, and it is not closed.
+pub fn who_leaves_is_shown_all()
+    ensures { LeaversAreShownAll }
 {}
 
 /// Behind each report of a worker, and whenever time passed, the connection to the server is of the node

@@ -1,4 +1,5 @@
 //! What is told by hand to what drives the nodes, and the orders that must come of it.
+mod absences;
 mod asking;
 mod node_stories;
 mod outages;

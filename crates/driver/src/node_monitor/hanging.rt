@@ -56,6 +56,8 @@ impl NodeMonitor {
         ensures monitor { self.new ≡ hanging self.old }
     {
         self.presence.is_hanging = true;
+        // that it takes no clients is said by that
+        self.visitors.has_turned_away = true;
         orders.log(News::Hangs(self.id))
     }
 
