@@ -2,6 +2,7 @@
 use bouncer_tower::TowerBody;
 use driver::News;
 use file_disk::{FileJournal, LastError};
+use raft_log::NodeId;
 use raft_node::Cause;
 use std::alloc::{AllocError, Global};
 use std::{fmt, io};
@@ -23,6 +24,13 @@ impl JournalErrors {
             errors.push(journal.disk().last_error()?)?;
         }
         Ok(JournalErrors { errors })
+    }
+
+    /// The first node whose journal failed, if one did, and why, if the system told it.
+    pub fn first(&self) -> Option<(NodeId, Option<io::Error>)> {
+        let index = self.errors.iter().position(|error| error.is_met())?;
+        let error = self.errors.get(index)?.get();
+        Some((NodeId::new(index as u8 + 1), error))
     }
 
     /// Why the journal of a node failed, where this tells that the node is down for that.
