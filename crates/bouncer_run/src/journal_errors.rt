@@ -7,6 +7,9 @@ use raft_node::Cause;
 use std::alloc::{AllocError, Global};
 use std::{fmt, io};
 
+/// How many nodes there may be.
+const MOST_NODES: u8 = 7;
+
 /// Why each node's journal failed last, node 1's first, also while the nodes have them.
 #[derive(Drop)]
 pub struct JournalErrors {
@@ -28,9 +31,14 @@ impl JournalErrors {
 
     /// The first node whose journal failed, if one did, and why, if the system told it.
     pub fn first(&self) -> Option<(NodeId, Option<io::Error>)> {
-        let index = self.errors.iter().position(|error| error.is_met())?;
-        let error = self.errors.get(index)?.get();
-        Some((NodeId::new(index as u8 + 1), error))
+        for index in 0..MOST_NODES {
+            if let Some(error) = self.errors.get(index as usize) {
+                if error.is_met() {
+                    return Some((NodeId::new(index + 1), error.get()));
+                }
+            }
+        }
+        None
     }
 
     /// Why the journal of a node failed, where this tells that the node is down for that.

@@ -15,6 +15,9 @@ use std::io::{self, ErrorKind};
 /// moved back within that time, and a second program that made it anew has its session soon after.
 const LOOK_EVERY: u64 = 1_000;
 
+/// How many nodes there may be.
+const MOST_NODES: u8 = 7;
+
 /// A journal that is open, and its path.
 #[derive(Drop)]
 struct Place {
@@ -40,9 +43,11 @@ impl StoreWatch {
         journals: &[FileJournal<TowerBody>],
     ) -> io::Result<StoreWatch> {
         let mut places = Vec::new(alloc);
-        for journal in journals {
-            let node = NodeId::new(places.len() as u8 + 1);
-            let path = journal_path(alloc, folder, node)?;
+        for index in 0..MOST_NODES {
+            let Some(journal) = journals.get(index as usize) else {
+                break;
+            };
+            let path = journal_path(alloc, folder, NodeId::new(index + 1))?;
             let file = journal.disk().file_id()?;
             places.push(Place { path, file })?;
         }

@@ -121,9 +121,10 @@ impl FileDisk<SystemFile> {
     }
 }
 
-/// Whether something lies at a path. Where the system does not tell that nothing does, it counts as there.
+/// Whether something lies at a path, also a link that leads nowhere. Where the system does not tell that nothing does,
+/// it counts as there.
 fn is_there<R: Files>(rt: &R, path: &str) -> bool {
-    match fs::metadata(rt, path) {
+    match fs::symlink_metadata(rt, path) {
         Ok(_) => true,
         Err(error) => error.kind() != ErrorKind::NotFound,
     }
