@@ -29,8 +29,9 @@ fault_of_reading input.InputTooLong = InputTooLong
 fault_of_reading input.Read = Read
 fault_of_reading input.Memory = Memory
 
--- a loop that ends by a fault: of a socket, or for want of memory
+-- a loop that ends by a fault: of a store, of a socket, or for want of memory
 abbrev pub fault_of_loop : LoopFault → RunFault
+fault_of_loop ended.Store = Store
 fault_of_loop ended.Socket = Socket
 fault_of_loop ended.Memory = Memory
 

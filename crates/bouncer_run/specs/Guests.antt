@@ -1,13 +1,28 @@
 -- What an operator is told of clients that go.
-use Rattle.std.specs.Prelude.{ℕ, Option, Some, None}
+use Rattle.std.specs.Prelude.{ℕ, zero, suc, Bool, true, false, Option, Some, None}
 use Rattle.std.specs.declared.net.socket_addr.SocketAddr.{SocketAddr}
 use Rattle.bouncer_run.specs.declared.edge_news.EdgeNews.{EdgeNews}
-use Rattle.bouncer_run.specs.declared.edge_news.EdgeNews.TheVariants.{Unregistered, WrongPassword}
+use Rattle.bouncer_run.specs.declared.edge_news.EdgeNews.TheVariants as news
+use Rattle.bouncer_run.specs.declared.guest.Hold.{Hold}
+use Rattle.bouncer_run.specs.declared.guest.Hold.TheVariants.{Closing, Served, Unregistered, Unsent}
 use Rattle.bouncer_run.specs.declared.guest.Stage.{Stage}
 use Rattle.bouncer_run.specs.declared.guest.Stage.TheVariants.{Arriving, Refused, Registered}
 
 -- of one that did not register it is told so, or that its password was wrong
 abbrev pub parting : Stage → ℕ → ℕ → SocketAddr → Option EdgeNews
-parting Arriving node number address = Some (Unregistered node number address)
-parting Refused node number address = Some (WrongPassword node number address)
+parting Arriving node number address = Some (news.Unregistered node number address)
+parting Refused node number address = Some (news.WrongPassword node number address)
 parting Registered node number address = None
+
+-- it registered
+abbrev pub is_registered : Stage → Bool
+is_registered Arriving = false
+is_registered Refused = false
+is_registered Registered = true
+
+-- the hold on its place of a client that registered or not, whose connection is to be closed or not, and for which so many bytes wait
+abbrev pub hold : Bool → Bool → ℕ → Hold
+hold false ending waiting = Unregistered
+hold true false waiting = Served
+hold true true zero = Closing
+hold true true (suc waiting) = Unsent

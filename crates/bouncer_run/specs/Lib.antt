@@ -10,7 +10,9 @@ pub mod Levels
 pub mod Moving
 pub mod Pasts
 pub mod Settings
+pub mod Stopping
 pub mod Turns
+pub mod Watches
 pub mod LoopMessages
 pub mod Days
 pub mod Rates

@@ -5,14 +5,15 @@ use Rattle.driver.specs.declared.client.Client.{Client}
 use Rattle.driver.specs.declared.node_monitor.NodeMonitor.{NodeMonitor}
 use Rattle.driver.specs.declared.driver.Driver.{Driver}
 use Rattle.driver.specs.Links.{node_of}
-use Rattle.driver.specs.Rosters.{IsReadOf, client_at, is_attached_in, is_read_for}
+use Rattle.driver.specs.Rosters.{IsReadOf, client_at, is_attached_in, is_leaving_in, is_read_for}
 use Rattle.driver.specs.Telling.{Ordered}
 use Rattle.bouncer_run.specs.declared.sockets.TheConstants.{CLIENTS}
 
--- a client is read as the driver says, but in any case before it registered
+-- A client has its turn as the driver says, but in any case before it registered, and where it leaves: then nothing is read of it.
 pub record IsReadNow (reads : Bool) (orders : Ordered) (monitors : List NodeMonitor) (client : Option Client) : Type 0 where
-  pub registered : is_attached_in client ≡ true → IsReadOf reads orders monitors client
+  pub registered : is_leaving_in client ≡ false → is_attached_in client ≡ true → IsReadOf reads orders monitors client
   pub arriving : is_attached_in client ≡ false → reads ≡ true
+  pub leaving : is_leaving_in client ≡ true → reads ≡ true
 
 -- whether the connection of this token may be read at this moment: the server's, or that of the client whose number is CLIENTS less
 pub record MayBeRead (driver : Driver) (token : ℕ) (reads : Bool) : Type 0 where

@@ -1,6 +1,7 @@
 //! Clients that come.
 use crate::edge_news::EdgeNews;
 use crate::event_loop::LoopFault;
+use crate::guest::Hold;
 use crate::sockets::{MOST_CLIENTS, Sockets};
 use driver::{Driver, Now};
 use mio::net::TcpStream;
@@ -128,15 +129,31 @@ impl Sockets {
             return Ok(());
         }
         let Some(number) = driver.connect(now, node)? else {
-            let line = format!(in self.alloc; "ERROR :node {} is down\r\n", node.value())?;
-            self.turn_away(now, stream, line.as_bytes());
-            return Ok(());
+            return self.refuse(now, driver, node, stream);
         };
         if self.admit(number, node, stream, from).is_err() {
             driver.lose(now, number)?;
             return Ok(());
         }
         self.tell(EdgeNews::Came(node, number, from))?;
+        Ok(())
+    }
+
+    /// A connection that was just made to a node that takes no client is closed behind a line that says why.
+    fn refuse(
+        &mut self,
+        now: &Now,
+        driver: &Driver,
+        node: NodeId,
+        stream: TcpStream,
+    ) -> Result<(), LoopFault> {
+        let why = if driver.is_hanging(node) {
+            "does not answer"
+        } else {
+            "is down"
+        };
+        let line = format!(in self.alloc; "ERROR :node {} {why}\r\n", node.value())?;
+        self.turn_away(now, stream, line.as_bytes());
         Ok(())
     }
 
@@ -148,26 +165,46 @@ impl Sockets {
         self.leaving.add(now.ms, stream);
     }
 
-    /// The oldest client that has not registered gives its place to a new one. Whether there is
-    /// one.
+    /// A client gives its place to a new one: the oldest that has not registered, or else one that is only to be
+    /// closed. What waits for it is written first, as far as it takes that at once. Whether there is one.
     fn make_place(&mut self, now: &Now, driver: &mut Driver) -> Result<bool, LoopFault> {
-        let Some(number) = self.oldest_unregistered(driver) else {
+        let Some(number) = self.who_gives_way(driver) else {
             return Ok(false);
         };
         let Some(guest) = self.clients.remove(&number) else {
             return Ok(false);
         };
+        let mut guest = guest;
         self.tell(EdgeNews::GaveWay(guest.node, number, guest.address))?;
-        self.turn_away(now, guest.connection.stream, CROWDED);
+        guest.connection.flush(now.ms);
+        if guest.connection.is_idle() {
+            self.turn_away(now, guest.connection.stream, CROWDED);
+        } else {
+            // it was told why already, or a line would land in the middle of another
+            self.leaving.add(now.ms, guest.connection.stream);
+        }
         driver.lose(now, number)?;
         Ok(true)
     }
 
-    /// The number of the oldest client that has not registered, or is to be closed.
-    fn oldest_unregistered(&self, driver: &Driver) -> Option<u64> {
-        self.clients
-            .keys()
-            .copied()
-            .find(|number| !driver.is_attached(*number))
+    /// The number of the client whose place is taken, if one is.
+    fn who_gives_way(&self, driver: &Driver) -> Option<u64> {
+        for hold in [Hold::Unregistered, Hold::Closing, Hold::Unsent] {
+            let oldest = self.oldest(driver, hold);
+            if oldest.is_some() {
+                return oldest;
+            }
+        }
+        None
+    }
+
+    /// The number of the oldest client with such a hold on its place.
+    fn oldest(&self, driver: &Driver, hold: Hold) -> Option<u64> {
+        for (number, guest) in &self.clients {
+            if guest.hold(driver.is_attached(*number)) == hold {
+                return Some(*number);
+            }
+        }
+        None
     }
 }

@@ -1,5 +1,5 @@
 //! A connection, with what is still to be written to it.
-ghost use Rattle.std.specs.Prelude.{◌≡◌, ◌&&◌, ◌==◌, false, length, IfOk, IsTrue};
+ghost use Rattle.std.specs.Prelude.{◌≡◌, ◌&&◌, ◌==◌, not, false, length, IfOk, IsTrue};
 ghost use Rattle.bouncer_run.specs.Connections.{gathered, is_ending, is_late, is_later, may_wait};
 ghost use Rattle.bouncer_run.specs.Moving.{Moves};
 
@@ -109,6 +109,20 @@ impl<S: Read + Write + Drop> Connection<S> {
         Ok(true)
     }
 
+    /// Whether something waits to be written.
+    pub fn has_unsent(&self) -> bool
+        ensures { result ≡ not (length self.now.unsent == 0) }
+    {
+        !self.unsent.is_empty()
+    }
+
+    /// Whether nothing waits to be written, and it is not to be closed.
+    pub fn is_idle(&self) -> bool
+        ensures { result ≡ (not (is_ending self.now.phase) && (length self.now.unsent == 0)) }
+    {
+        !self.is_ending() && self.unsent.is_empty()
+    }
+
     /// Whether something waits that may be taken.
     pub fn is_waiting(&self) -> bool {
         self.flow == Flow::Free && !self.unsent.is_empty()
@@ -140,7 +154,7 @@ impl<S: Read + Write + Drop> Connection<S> {
     }
 
     /// Whether it is to be closed.
-    fn is_ending(&self) -> bool
+    pub fn is_ending(&self) -> bool
         ensures { result ≡ is_ending self.now.phase }
     {
         self.phase != Phase::Open

@@ -5,13 +5,15 @@ ghost use Rattle.bouncer_run.specs.Settings.{AreSettingsOf};
 use bouncer_config::Config;
 use driver::Settings;
 use irc_line::Text;
+use raft_log::GroupSize;
 use std::alloc::{AllocError, Global};
 
-/// What the driver of a configuration goes by.
-pub fn settings_of(alloc: Global, config: &Config) -> Result<Settings, AllocError>
-    ensures { IfOk result (AreSettingsOf config.now) }
+/// What the driver of a configuration goes by, whose group has so many nodes.
+pub fn settings_of(alloc: Global, config: &Config, size: GroupSize) -> Result<Settings, AllocError>
+    ensures { IfOk result (AreSettingsOf config.now size) }
 {
     Ok(Settings {
+        size,
         nick: config.setup.nick().copy(alloc)?,
         password: Vec::from_slice(alloc, config.password.as_bytes())?,
         upstream_password: upstream_password(alloc, config)?,

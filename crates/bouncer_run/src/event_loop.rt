@@ -5,24 +5,23 @@ ghost use Rattle.bouncer_run.specs.LoopMessages.{IsHeard, is_end};
 use crate::clock::{Clockwork, Ticks};
 use crate::edge_news::EdgeNews;
 use crate::inlet::LoopMessage;
+use crate::loop_news::{tell_edge, tell_news};
 use crate::operator::Operator;
 use crate::sockets::Sockets;
-use buffer_commands::Action;
+use crate::stopping::Stopping;
+use crate::store_watch::StoreWatch;
 use crossbeam_channel::Receiver;
-use driver::{Driver, News, Now, Order, TowerNote};
-use irc_line::Name;
+use driver::{Driver, Now, Order, TowerNote};
 use mio::Events;
-use node_notes::Note;
 use raft_log::NodeId;
-use request_once::Body;
 use std::alloc::{AllocError, Global};
+use std::fs::Files;
 use std::net::Net;
 use std::rt::Clock;
 use std::sync::Wait;
 use std::time::Duration;
 use std::vec::IntoIter;
 use thiserror::Error;
-use wire_bytes::{Copied, Origin};
 
 /// How many sockets are told of at once.
 const EVENTS: usize = 256;
@@ -33,6 +32,9 @@ const MOST_MESSAGES: usize = 10_000;
 /// Why the loop ended before it was to.
 #[derive(Clone, Copy, Debug, Drop, PartialEq, Eq, Error)]
 pub enum LoopFault {
+    /// The journals do not lie at their paths any more.
+    #[error("Store")]
+    Store,
     #[error("Socket")]
     Socket,
     #[error("Memory")]
@@ -57,9 +59,9 @@ pub trait Nodes {
     fn tell<R: Wait>(&self, rt: &R, node: NodeId, note: TowerNote) -> bool;
 }
 
-/// Waits for sockets, for messages and for time to pass, until it is told to end; an operator is told
-/// what happens.
-pub fn run_loop<R: Net + Wait + Clock, N: Nodes, O: Operator>(
+/// Waits for sockets, for messages and for time to pass, until it is told to end, and clients that attached are
+/// gone, or had time to be; an operator is told what happens. `Store` where the journals lie at their paths no more.
+pub fn run_loop<R: Net + Wait + Clock + Files, N: Nodes, O: Operator>(
     rt: &R,
     alloc: Global,
     tick_ms: u64,
@@ -67,11 +69,13 @@ pub fn run_loop<R: Net + Wait + Clock, N: Nodes, O: Operator>(
     sockets: &mut Sockets,
     nodes: &N,
     messages: &Receiver<LoopMessage>,
+    watch: &mut StoreWatch,
     operator: &mut O,
 ) -> Result<(), LoopFault> {
     let mut events = Events::with_capacity(alloc, EVENTS)?;
     let clock = Clockwork::start(rt).map_err(|_| LoopFault::Socket)?;
     let mut ticks = Ticks::new(tick_ms);
+    let mut stopping = Stopping::no();
     let mut now = clock.now(rt).map_err(|_| LoopFault::Socket)?;
     for _ in rt.forever() {
         let wait = Duration::from_millis(ticks.wait(now.ms));
@@ -80,21 +84,44 @@ pub fn run_loop<R: Net + Wait + Clock, N: Nodes, O: Operator>(
         }
         now = clock.now(rt).map_err(|_| LoopFault::Socket)?;
         sockets.serve_all(&now, driver, &events)?;
-        let is_over = hear_messages(rt, &now, driver, messages)?;
+        if hear_messages(rt, &now, driver, messages)? && stopping.begin(now.ms) {
+            stop(&now, driver, sockets, operator)?;
+        }
         sockets.take_turns(&now, driver)?;
         if ticks.take(now.ms) {
+            look(rt, &now, watch)?;
             tick(&now, driver, sockets, operator)?;
         }
         // what the sockets tell comes before what the driver made of it
         tell_edge(&now, sockets, operator);
         carry_out_all(rt, &now, driver, sockets, nodes, operator)?;
         tell_edge(&now, sockets, operator);
-        if is_over {
-            operator.hear_edge(&now, EdgeNews::InputEnded);
+        if stopping.is_over(now.ms, sockets.clients.is_empty()) {
             break;
         }
     }
     sockets.finish(&now);
+    Ok(())
+}
+
+/// The input ended: an operator is told so at once, nobody is taken any more, and clients leave.
+fn stop<O: Operator>(
+    now: &Now,
+    driver: &mut Driver,
+    sockets: &mut Sockets,
+    operator: &mut O,
+) -> Result<(), LoopFault> {
+    operator.hear_edge(now, EdgeNews::InputEnded);
+    sockets.stop_listening();
+    driver.end(now)?;
+    Ok(())
+}
+
+/// Not all journals are away from their paths, as far as a look that is due tells.
+fn look<R: Files>(rt: &R, now: &Now, watch: &mut StoreWatch) -> Result<(), LoopFault> {
+    if watch.look(rt, now.ms) {
+        return Err(LoopFault::Store);
+    }
     Ok(())
 }
 
@@ -206,86 +233,4 @@ fn carry_out<R: Net + Wait, N: Nodes, O: Operator>(
         other => return sockets.carry_out(rt, now, driver, other, rest),
     }
     Ok(rest.next())
-}
-
-/// An operator is told of news, and by which name a client attached. The next order, of those that are left.
-fn tell_news<O: Operator>(
-    now: &Now,
-    driver: &mut Driver,
-    sockets: &mut Sockets,
-    operator: &mut O,
-    news: News,
-    rest: &mut IntoIter<Order, Global>,
-) -> Result<Option<Order>, LoopFault> {
-    let has_come = matches!(news, News::Attached(_));
-    log(now, driver, sockets, operator, news)?;
-    let next = rest.next();
-    if let Some(asked) = &next {
-        if has_come {
-            tell_name(now, sockets.alloc, operator, asked)?;
-        }
-    }
-    Ok(next)
-}
-
-/// An operator is told by which name a client attached, where that is what is asked.
-fn tell_name<O: Operator>(
-    now: &Now,
-    alloc: Global,
-    operator: &mut O,
-    asked: &Order,
-) -> Result<(), AllocError> {
-    if let Some((origin, name)) = named(asked) {
-        let node = NodeId::new(origin.node());
-        let name = name.copy(alloc)?;
-        operator.hear_edge(now, EdgeNews::Named(node, origin.client(), name));
-    }
-    Ok(())
-}
-
-/// The client that asks to attach by a name, and the name.
-fn named(order: &Order) -> Option<(Origin, &Name)> {
-    match order {
-        Order::Submit(_, Note::Ask(Body::Asked(origin, _, _, Action::Attach(Some(name))))) => {
-            Some((*origin, name))
-        }
-        _ => None,
-    }
-}
-
-/// An operator is told of news, and so are clients whom they concern.
-fn log<O: Operator>(
-    now: &Now,
-    driver: &mut Driver,
-    sockets: &mut Sockets,
-    operator: &mut O,
-    news: News,
-) -> Result<(), LoopFault> {
-    tell_clients(driver, &news)?;
-    if let News::Attached(origin) = news {
-        sockets.register(origin.client());
-    }
-    operator.hear(now, news);
-    if let News::Opened(node) = news {
-        let nick = driver.nick().copy(sockets.alloc)?;
-        operator.hear_edge(now, EdgeNews::Nick(node, nick));
-    }
-    Ok(())
-}
-
-/// Clients are told that the server is there, or gone.
-fn tell_clients(driver: &mut Driver, news: &News) -> Result<(), LoopFault> {
-    match news {
-        News::Opened(_) => driver.notice(b"Connected to the server.")?,
-        News::Closed(_, _) => driver.notice(b"The server is gone. What you say is sent later.")?,
-        _ => {}
-    }
-    Ok(())
-}
-
-/// An operator is told what happened at the sockets.
-fn tell_edge<O: Operator>(now: &Now, sockets: &mut Sockets, operator: &mut O) {
-    for news in sockets.news() {
-        operator.hear_edge(now, news);
-    }
 }

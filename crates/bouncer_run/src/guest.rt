@@ -1,6 +1,7 @@
 //! A client's connection, and how far the client came.
-ghost use Rattle.std.specs.Prelude.{◌≡◌};
-ghost use Rattle.bouncer_run.specs.Guests.{parting};
+ghost use Rattle.std.specs.Prelude.{◌≡◌, ◌||◌, length};
+ghost use Rattle.bouncer_run.specs.Connections.{is_ending};
+ghost use Rattle.bouncer_run.specs.Guests.{hold, is_registered, parting};
 
 use crate::connection::Connection;
 use crate::edge_news::EdgeNews;
@@ -20,6 +21,19 @@ pub enum Stage {
     /// Its password was wrong.
     Refused,
     Registered,
+}
+
+/// What hold a client has on its place, the least first.
+#[derive(Clone, Copy, Debug, PartialEq, Eq)]
+pub enum Hold {
+    /// It has not registered.
+    Unregistered,
+    /// It registered, is only to be closed, and nothing waits to be written to it.
+    Closing,
+    /// It registered, is only to be closed, and something waits to be written to it.
+    Unsent,
+    /// It is served.
+    Served,
 }
 
 /// A client's connection.
@@ -48,6 +62,22 @@ impl Guest {
             self.stage = Stage::Refused;
         }
         self.connection.write(bytes)
+    }
+
+    /// What hold it has on its place, where the driver knows that it registered, or not yet.
+    pub fn hold(&self, is_attached: bool) -> Hold
+        ensures { result ≡ hold (is_attached || is_registered self.now.stage)
+            (is_ending self.now.connection.phase) (length self.now.connection.unsent) }
+    {
+        if !is_attached && self.stage != Stage::Registered {
+            Hold::Unregistered
+        } else if !self.connection.is_ending() {
+            Hold::Served
+        } else if self.connection.has_unsent() {
+            Hold::Unsent
+        } else {
+            Hold::Closing
+        }
     }
 
     /// What an operator is told where the client of this number goes and did not register.

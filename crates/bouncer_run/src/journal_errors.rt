@@ -2,9 +2,13 @@
 use bouncer_tower::TowerBody;
 use driver::News;
 use file_disk::{FileJournal, LastError};
+use raft_log::NodeId;
 use raft_node::Cause;
 use std::alloc::{AllocError, Global};
 use std::{fmt, io};
+
+/// How many nodes there may be.
+const MOST_NODES: u8 = 7;
 
 /// Why each node's journal failed last, node 1's first, also while the nodes have them.
 #[derive(Drop)]
@@ -23,6 +27,18 @@ impl JournalErrors {
             errors.push(journal.disk().last_error()?)?;
         }
         Ok(JournalErrors { errors })
+    }
+
+    /// The first node whose journal failed, if one did, and why, if the system told it.
+    pub fn first(&self) -> Option<(NodeId, Option<io::Error>)> {
+        for index in 0..MOST_NODES {
+            if let Some(error) = self.errors.get(index as usize) {
+                if error.is_met() {
+                    return Some((NodeId::new(index + 1), error.get()));
+                }
+            }
+        }
+        None
     }
 
     /// Why the journal of a node failed, where this tells that the node is down for that.

@@ -3,6 +3,7 @@ ghost use Rattle.std.specs.Prelude.{◌≡◌, false, length, IfErr, IfOk};
 ghost use Rattle.std.specs.List.{All};
 ghost use Rattle.bouncer_run.specs.Faults.{IsFaultOfOpening, IsOrMemory};
 
+use crate::made::Made;
 use crate::run_fault::RunFault;
 use crate::system::System;
 use bouncer_config::Config;
@@ -14,12 +15,14 @@ use run_plan::journal_path;
 use stable_store::StoreFault;
 
 /// A journal for each node, node 1's first, in the folder that the configuration names, which is
-/// made where it is not there. A renewal that was decided is finished first. Where there are no journals, a line
-/// was written to standard error that names the folder or the file, and says why.
+/// made where it is not there. A renewal that was decided is finished first. The folder and the files that are made
+/// are noted. Where there are no journals, a line was written to standard error that names the folder or the file, and
+/// says why.
 pub fn journals<R: System>(
     rt: &R,
     config: &Config,
     size: GroupSize,
+    made: &mut Made,
 ) -> Result<Vec<FileJournal<TowerBody>>, RunFault>
     ensures count { IfOk result (λ journals. length journals.items ≡ size) }
     ensures serve { IfOk result (λ journals. All (λ j. j.broken ≡ false) journals.items) }
@@ -27,14 +30,14 @@ pub fn journals<R: System>(
 {
     let alloc = rt.alloc();
     let folder = config.store.as_str();
-    make_folder(rt, folder)?;
+    make_folder(rt, folder, made)?;
     finish(rt, folder)?;
     let mut journals: Vec<FileJournal<TowerBody>> = Vec::new(alloc);
     for index in 0..size.value() {
         let path = journal_path(alloc, folder, NodeId::new(index + 1))?;
         let journal = match journals.first() {
-            None => open(rt, path.as_str(), &Log::new(alloc))?,
-            Some(first) => open(rt, path.as_str(), first.log())?,
+            None => open(rt, path.as_str(), &Log::new(alloc), made)?,
+            Some(first) => open(rt, path.as_str(), first.log(), made)?,
         };
         if journals.push(journal).is_err() {
             return Err(RunFault::Memory);
@@ -49,17 +52,28 @@ fn open<R: System>(
     rt: &R,
     path: &str,
     beside: &Log<TowerBody>,
+    made: &mut Made,
 ) -> Result<FileJournal<TowerBody>, RunFault>
     ensures serves { IfOk result (λ j. j.broken ≡ false) }
     ensures fault { IfErr result (IsOrMemory RunFault.Store) }
 {
-    match open_journal(rt, rt.alloc(), path, beside) {
-        Ok(journal) => Ok(journal),
+    let journal = match open_journal(rt, rt.alloc(), path, beside) {
+        Ok(journal) => journal,
         Err(fault) => {
             let _ = eprintln!(rt; "{path}: {fault}");
-            Err(fault_of(&fault))
+            return Err(fault_of(&fault));
+        }
+    };
+    match journal.disk().made(rt.alloc(), path) {
+        Ok(None) => {}
+        Ok(Some(file)) => made.add(file)?,
+        Err(error) => {
+            journal.disk().remove_made(rt, path);
+            let _ = eprintln!(rt; "{path}: {error}");
+            return Err(RunFault::of_error(&error, RunFault::Store));
         }
     }
+    Ok(journal)
 }
 
 /// What it is to the program that a journal is not opened.
@@ -74,12 +88,13 @@ fn fault_of(fault: &OpenFault) -> RunFault
     }
 }
 
-/// The folder of a path is there, one that is made where it is not.
-fn make_folder<R: System>(rt: &R, path: &str) -> Result<(), RunFault>
+/// The folder of a path is there, one that is made where it is not, which is noted.
+fn make_folder<R: System>(rt: &R, path: &str, made: &mut Made) -> Result<(), RunFault>
     ensures { IfErr result (IsOrMemory RunFault.Store) }
 {
     match journal_folder::make_folder(rt, path) {
-        Ok(()) => Ok(()),
+        Ok(true) => Ok(made.add_folder(rt.alloc(), path)?),
+        Ok(false) => Ok(()),
         Err(error) => {
             let _ = eprintln!(rt; "{path}: {error}");
             Err(RunFault::of_error(&error, RunFault::Store))

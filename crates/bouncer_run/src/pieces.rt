@@ -1,7 +1,7 @@
 //! The next piece of what came, where it is to be read: what it would bring may have to wait.
-ghost use Rattle.std.specs.Prelude.{◌≡◌, not, IsTrue};
+ghost use Rattle.std.specs.Prelude.{◌≡◌, not, true, IsTrue};
 ghost use Rattle.driver.specs.Links.{node_of};
-ghost use Rattle.driver.specs.Rosters.{client_at, is_read_for};
+ghost use Rattle.driver.specs.Rosters.{client_at, is_leaving_in, is_read_for};
 ghost use Rattle.bouncer_run.specs.Connections.{is_later};
 ghost use Rattle.bouncer_run.specs.Turns.{IsReadNow};
 
@@ -18,14 +18,19 @@ pub const PIECES: usize = 16;
 
 impl Sockets {
     /// The next piece of what a client sent. It is read before it registered, then where the driver
-    /// reads the client, and nowhere else.
+    /// reads the client, and nowhere else: of a client that leaves nothing is.
     pub fn next_of_client(&mut self, driver: &Driver, number: u64, piece: &mut [u8]) -> Got
         ensures later { IsReadNow (not (is_later result)) driver.now.orders driver.now.monitors
             (client_at driver.now.clients number) }
         ensures untouched { IsTrue (is_later result) → piece.new ≡ piece.old }
+        ensures leaving { is_leaving_in (client_at driver.now.clients number) ≡ true
+            → (result ≡ Got.Nothing) × (piece.new ≡ piece.old) }
     {
         if !reads_client(driver, number) {
             return Got::Later;
+        }
+        if driver.is_leaving(number) {
+            return Got::Nothing;
         }
         match self.clients.get_mut(&number) {
             Some(guest) => guest.connection.read(piece),
@@ -50,11 +55,12 @@ impl Sockets {
     }
 }
 
-/// Whether a client is read at this moment: before it registered in any case, since what it sends
-/// until then asks for nothing of its node, and its time to register passes.
+/// Whether a client has its turn at this moment: before it registered in any case, since what it sends
+/// until then asks for nothing of its node, and its time to register passes; and where it leaves, since nothing is read
+/// of it then.
 pub fn reads_client(driver: &Driver, number: u64) -> bool
     ensures { IsReadNow result driver.now.orders driver.now.monitors
         (client_at driver.now.clients number) }
 {
-    !driver.is_attached(number) || driver.reads_client(number)
+    driver.is_leaving(number) || !driver.is_attached(number) || driver.reads_client(number)
 }

@@ -5,7 +5,7 @@ ghost use Rattle.bouncer_run.specs.Faults.{IsOrMemory};
 use crate::clock::{Clockwork, time_of_day};
 use crate::driver_settings::settings_of;
 use crate::ending::watch_input;
-use crate::event_loop::run_loop;
+use crate::event_loop::{LoopFault, run_loop};
 use crate::first_mark::rate_of;
 use crate::group::{address_of, size_of};
 use crate::growth::Growth;
@@ -15,13 +15,15 @@ use crate::input::open_input;
 use crate::journal_errors::JournalErrors;
 use crate::journal_files::journals;
 use crate::listening::listen_all;
+use crate::made::Made;
 use crate::parts::parts;
 use crate::reading::read;
-use crate::record_file::{try_record, write_record};
+use crate::record_file::{TowerRecord, try_record, write_record};
 use crate::run_fault::RunFault;
 use crate::running::Running;
 use crate::setting_apart::set_apart;
 use crate::sockets::Sockets;
+use crate::store_watch::StoreWatch;
 use crate::system::System;
 use crate::telling::Telling;
 use crate::warnings::warn;
@@ -31,8 +33,8 @@ use crossbeam_channel::{Receiver, unbounded};
 use driver::Driver;
 use file_disk::FileJournal;
 use node_cells::Upstream;
-use raft_log::NodeId;
-use std::alloc::{AllocError, Global};
+use raft_log::{GroupSize, NodeId};
+use std::alloc::Global;
 use std::io;
 use std::io::Read;
 use std::os::fd::AsRawFd;
@@ -45,7 +47,8 @@ const TICK: u64 = 20;
 /// Runs the bouncer that the configuration in the file of this path says, until the input ends;
 /// then its record is written, if the configuration names a file. Where it does not run, or ended
 /// before it was to, the fault is the first of its kinds, in the order of `RunFault`, and want of
-/// memory where it was met. What tells the loop a node's lines for the server is made by `hands`.
+/// memory where it was met. Where it is refused before clients are served, what it made is gone. What
+/// tells the loop a node's lines for the server is made by `hands`.
 pub fn run<
     R: System,
     I: Read + AsRawFd + Drop + Send + 'static,
@@ -57,28 +60,142 @@ pub fn run<
     let config = read(rt, path)?;
     let input = open_input(rt, path, config.input_end, input)?;
     let size = size_of(&config);
-    let mut journals = journals(rt, &config, size)?;
-    set_apart(rt, &config, &mut journals)?;
-    let telling = telling_of(rt, &config, journals.as_slice())?;
-    let mut edge = Edge::new(rt, &config)?;
-    let parts = parts(rt, &edge.inlets, journals, hands)?;
-    let running = Running::start(rt, &config, size, parts)?;
-    let ran = edge.serve(rt, &config, telling, input, &running);
-    let records = running.stop(rt);
-    ran?;
+    let started = start(rt, &config, size, input, hands)?;
+    let records = started.serve(rt, &config)?;
     write_record(rt, config, size, records)
 }
 
-/// Who tells of a bouncer over these journals: also why one of them fails, and when a log that fills is full.
-fn telling_of<R: System>(
+/// Starts the bouncer of a configuration, or leaves nothing behind.
+fn start<
+    R: System,
+    I: Read + Drop + Send + 'static,
+    U: Upstream + Send + 'static,
+    F: Fn(R, Global, NodeId, Inlet) -> U,
+>(
+    rt: &R,
+    config: &Config,
+    size: GroupSize,
+    input: Option<I>,
+    hands: &F,
+) -> Result<Started<R, U>, RunFault>
+    requires { F.IsAlwaysCallable hands.now }
+{
+    // it is dropped last, so that what was made is locked until it is gone
+    let mut made = Made::nothing(rt.alloc());
+    let started = Started::new(rt, config, size, input, hands, &mut made);
+    if started.is_err() {
+        made.take_back(rt);
+    }
+    started
+}
+
+/// A bouncer that is ready to serve clients.
+#[derive(Drop)]
+struct Started<R: System, U: Upstream> {
+    edge: Edge,
+    running: Running<U>,
+    driver: Driver,
+    telling: Telling<R>,
+    watch: StoreWatch,
+    reader: Option<JoinHandle<()>>,
+}
+
+impl<R: System, U: Upstream + Send + 'static> Started<R, U> {
+    /// Opens the journals, starts the nodes and listens. What it makes is noted.
+    fn new<I: Read + Drop + Send + 'static, F: Fn(R, Global, NodeId, Inlet) -> U>(
+        rt: &R,
+        config: &Config,
+        size: GroupSize,
+        input: Option<I>,
+        hands: &F,
+        made: &mut Made,
+    ) -> Result<Self, RunFault>
+        requires { F.IsAlwaysCallable hands.now }
+    {
+        let alloc = rt.alloc();
+        let mut journals = journals(rt, config, size, made)?;
+        set_apart(rt, config, &mut journals)?;
+        let watch = watch_of(rt, config, journals.as_slice())?;
+        let errors = JournalErrors::of(alloc, journals.as_slice())?;
+        let rate = rate_of(alloc, journals.as_slice(), time_of_day(rt))?;
+        let mut edge = Edge::new(rt, config)?;
+        let parts = parts(rt, &edge.inlets, journals, hands)?;
+        let running = Running::start(rt, config, size, parts, &errors)?;
+        let telling = Telling::over(*rt, config.log, errors, Growth::new(rate));
+        match edge.open(rt, config, size, &telling, input) {
+            Ok((driver, reader)) => Ok(Started {
+                edge,
+                running,
+                driver,
+                telling,
+                watch,
+                reader,
+            }),
+            Err(fault) => {
+                running.stop(rt);
+                Err(fault)
+            }
+        }
+    }
+
+    /// Serves clients and the server until the input ends. What the nodes did, node 1's first. Where the journals do not
+    /// lie at their paths any more, a line was written to standard error that names the folder, and says what to do.
+    fn serve(self, rt: &R, config: &Config) -> Result<Vec<TowerRecord>, RunFault> {
+        let Started {
+            edge,
+            running,
+            driver,
+            telling,
+            watch,
+            reader,
+        } = self;
+        let (mut edge, mut driver, mut telling, mut watch) = (edge, driver, telling, watch);
+        let ran = run_loop(
+            rt,
+            rt.alloc(),
+            TICK,
+            &mut driver,
+            &mut edge.sockets,
+            &running,
+            &edge.messages,
+            &mut watch,
+            &mut telling,
+        );
+        let records = running.stop(rt);
+        if ran == Err(LoopFault::Store) {
+            tell_away(rt, config.store.as_str());
+        }
+        ran.map_err(RunFault::of_loop)?;
+        if let Some(reader) = reader {
+            reader.join(rt);
+        }
+        Ok(records)
+    }
+}
+
+/// The watch over journals. Where there is none, a line was written to standard error that says why.
+fn watch_of<R: System>(
     rt: &R,
     config: &Config,
     journals: &[FileJournal<TowerBody>],
-) -> Result<Telling<R>, AllocError> {
-    let alloc = rt.alloc();
-    let errors = JournalErrors::of(alloc, journals)?;
-    let rate = rate_of(alloc, journals, time_of_day(rt))?;
-    Ok(Telling::over(*rt, config.log, errors, Growth::new(rate)))
+) -> Result<StoreWatch, RunFault>
+    ensures { IfErr result (IsOrMemory RunFault.Store) }
+{
+    let store = config.store.as_str();
+    match StoreWatch::of(rt.alloc(), store, journals) {
+        Ok(watch) => Ok(watch),
+        Err(error) => {
+            let _ = eprintln!(rt; "{store}: {error}");
+            Err(RunFault::of_error(&error, RunFault::Store))
+        }
+    }
+}
+
+/// Says on standard error that the journals do not lie in their folder any more.
+fn tell_away<R: System>(rt: &R, folder: &str) {
+    let _ = eprintln!(rt;
+        "{folder}: the journals of this program lie here no more: move their folder back, and start again"
+    );
 }
 
 /// The sockets, and what the loop is told by other threads.
@@ -110,16 +227,15 @@ impl Edge {
         })
     }
 
-    /// Listens, and serves clients and the server until the input ends. `Write` is told at once, of a
-    /// record that could not be written at the end.
-    fn serve<R: System, I: Read + Drop + Send + 'static, U: Upstream>(
+    /// Listens, and reads the input. `Write` is told at once, of a record that could not be written at the end.
+    fn open<R: System, I: Read + Drop + Send + 'static>(
         &mut self,
         rt: &R,
         config: &Config,
-        telling: Telling<R>,
+        size: GroupSize,
+        telling: &Telling<R>,
         input: Option<I>,
-        running: &Running<U>,
-    ) -> Result<(), RunFault>
+    ) -> Result<(Driver, Option<JoinHandle<()>>), RunFault>
         ensures { IfErr result (λ f. IsOrMemory RunFault.Socket f ⊎ (f ≡ RunFault.Write)) }
     {
         let alloc = rt.alloc();
@@ -127,27 +243,12 @@ impl Edge {
             .map_err(socket_fault)?
             .now(rt)
             .map_err(socket_fault)?;
-        let mut telling = telling;
-        warn(&now, config, &telling);
-        listen_all(rt, config, &now, &mut self.sockets, &telling)?;
+        warn(&now, config, telling);
+        listen_all(rt, config, &now, &mut self.sockets, telling)?;
         try_record(rt, config)?;
-        let mut driver = Driver::new(alloc, settings_of(alloc, config)?, &now);
+        let driver = Driver::new(alloc, settings_of(alloc, config, size)?, &now);
         let reader = self.watch(rt, input)?;
-        run_loop(
-            rt,
-            alloc,
-            TICK,
-            &mut driver,
-            &mut self.sockets,
-            running,
-            &self.messages,
-            &mut telling,
-        )
-        .map_err(RunFault::of_loop)?;
-        if let Some(reader) = reader {
-            reader.join(rt);
-        }
-        Ok(())
+        Ok((driver, reader))
     }
 
     /// The thread that reads the input, where there is one to be read.

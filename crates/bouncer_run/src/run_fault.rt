@@ -23,8 +23,8 @@ pub enum RunFault {
     /// The configuration is not one.
     #[error("Config")]
     Config,
-    /// The folder of the journals can't be made, a journal can't be made or adopted, or a node does
-    /// not start over it.
+    /// The folder of the journals can't be made, a journal can't be made or adopted, a node does
+    /// not start over it, or the journals do not lie at their paths any more.
     #[error("Store")]
     Store,
     /// A node can't listen at its address, or the sockets can't be waited for.
@@ -68,6 +68,7 @@ impl RunFault {
         ensures { result ≡ fault_of_loop fault }
     {
         match fault {
+            LoopFault::Store => RunFault::Store,
             LoopFault::Socket => RunFault::Socket,
             LoopFault::Memory => RunFault::Memory,
         }

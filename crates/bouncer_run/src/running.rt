@@ -7,6 +7,7 @@ ghost use Rattle.bouncer_run.specs.declared.run_fault.RunFault.TheVariants.{Stor
 use crate::event_loop::Nodes;
 use crate::fault::fault_of_cluster;
 use crate::group::recording_of;
+use crate::journal_errors::JournalErrors;
 use crate::parts::BouncerPart;
 use crate::record_file::TowerRecord;
 use crate::run_fault::RunFault;
@@ -16,8 +17,10 @@ use bouncer_tower::{Tower, TowerBody};
 use driver::TowerNote;
 use file_disk::FileJournal;
 use node_cells::Upstream;
-use node_threads::{Beats, Cluster, OpenGate};
+use node_threads::{Beats, Cluster, ClusterFault, OpenGate};
 use raft_log::{GroupSize, NodeId};
+use run_plan::journal_path;
+use std::alloc::AllocError;
 use std::sync::Wait;
 
 /// The nodes of a bouncer, each in a thread of its own.
@@ -28,12 +31,14 @@ pub struct Running<U: Upstream> {
 
 impl<U: Upstream + Send + 'static> Running<U> {
     /// Starts the nodes of a configuration, which keep their turns where it names a file for the
-    /// record. Where one does not start, a line was written to standard error that says why.
+    /// record. Where one does not start, a line was written to standard error that names its journal, and says why: what
+    /// the system told as the journal failed, if it did.
     pub fn start<S: System>(
         rt: &S,
         config: &Config,
         size: GroupSize,
         parts: Vec<BouncerPart<U>>,
+        errors: &JournalErrors,
     ) -> Result<Running<U>, RunFault>
         requires { length parts.items ≡ size }
         ensures nodes { IfOk result (λ r. (r.nodes.ether.size ≡ size)
@@ -57,8 +62,7 @@ impl<U: Upstream + Send + 'static> Running<U> {
         ) {
             Ok(nodes) => Ok(Running { nodes }),
             Err(fault) => {
-                let store = &config.store;
-                let _ = eprintln!(rt; "{store}: {fault}");
+                let _ = tell_why(rt, config, fault, errors);
                 Err(fault_of_cluster(fault))
             }
         }
@@ -80,4 +84,24 @@ impl<U: Upstream> Nodes for Running<U> {
             Err(_) => false,
         }
     }
+}
+
+/// Says on standard error why the nodes do not start, with the journal that failed, if one did.
+fn tell_why<R: System>(
+    rt: &R,
+    config: &Config,
+    fault: ClusterFault,
+    errors: &JournalErrors,
+) -> Result<(), AllocError> {
+    let store = config.store.as_str();
+    let Some((node, error)) = errors.first() else {
+        let _ = eprintln!(rt; "{store}: {fault}");
+        return Ok(());
+    };
+    let path = journal_path(rt.alloc(), store, node)?;
+    let _ = match error {
+        Some(error) => eprintln!(rt; "{path}: {error}"),
+        None => eprintln!(rt; "{path}: {fault}"),
+    };
+    Ok(())
 }

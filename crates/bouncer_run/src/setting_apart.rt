@@ -11,13 +11,14 @@ use bouncer_tower::TowerBody;
 use file_disk::{FileJournal, may_be_new};
 use journal_folder::{Earlier, earlier_of, give};
 use raft_log::NodeId;
+use run_plan::journal_path;
 use stable_store::StoreFault;
 use std::{fmt, io};
 use wire_bytes::Number;
 
 /// A node whose journal is new while another's is not had earlier runs, and its journal was moved
 /// away: the others tell of them, and it begins behind them. Where that can't be, a line was
-/// written to standard error that names the folder, and says why.
+/// written to standard error that names its journal, and says why.
 pub fn set_apart<R: System>(
     rt: &R,
     config: &Config,
@@ -33,8 +34,8 @@ pub fn set_apart<R: System>(
             Ok(Some(earlier)) => tell_boot(rt, config, node, earlier.boot),
             Ok(None) => {}
             Err(fault) => {
-                let store = &config.store;
-                let _ = eprintln!(rt; "{store}: {fault}");
+                let path = journal_path(rt.alloc(), config.store.as_str(), node)?;
+                let _ = eprintln!(rt; "{path}: {fault}");
                 return Err(fault.kind());
             }
         }
@@ -57,10 +58,19 @@ fn set_node_apart<R: System>(
         return Ok(None);
     }
     let earlier = earlier_of(node, journals.as_slice())?;
-    if !give(rt.alloc(), node, &mut journals[index], &earlier)? {
-        return Ok(None);
+    match give(rt.alloc(), node, &mut journals[index], &earlier) {
+        Ok(true) => Ok(Some(earlier)),
+        Ok(false) => Ok(None),
+        Err(fault) => Err(Unread::of_store(fault, last_error(&journals[index]))),
     }
-    Ok(Some(earlier))
+}
+
+/// Why a call of a journal's file failed last, if the system told it.
+fn last_error(journal: &FileJournal<TowerBody>) -> Option<io::Error> {
+    match journal.disk().last_error() {
+        Ok(last) => last.get(),
+        Err(_) => None,
+    }
 }
 
 /// An operator is told that a node begins behind a run.
@@ -93,6 +103,14 @@ enum Unread {
 }
 
 impl Unread {
+    /// A store fails. Where its device did, this is the system's error, if it told one.
+    fn of_store(fault: StoreFault, last_error: Option<io::Error>) -> Unread {
+        match (fault, last_error) {
+            (StoreFault::Device, Some(error)) => Unread::System(error),
+            (fault, _) => Unread::Store(fault),
+        }
+    }
+
     /// What it is to the program.
     fn kind(&self) -> RunFault
         ensures { IsOrMemory RunFault.Store result }

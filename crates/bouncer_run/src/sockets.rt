@@ -90,6 +90,11 @@ impl Sockets {
         Ok(())
     }
 
+    /// No node listens any more.
+    pub fn stop_listening(&mut self) {
+        self.listeners.clear();
+    }
+
     /// The connection of a client of a node, which has this number.
     pub fn admit(
         &mut self,

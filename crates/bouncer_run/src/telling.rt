@@ -9,6 +9,7 @@ use crate::operator::Operator;
 use bouncer_config::LogLevel;
 use driver::{News, Now};
 use jiff::Timestamp;
+use raft_log::NodeId;
 use std::alloc::AllocError;
 use std::fmt::Display;
 use std::io;
@@ -55,6 +56,14 @@ impl<R: Runtime> Telling<R> {
         }
     }
 
+    /// One event, which may be of a node.
+    fn tell_of<E: Display>(&self, now: &Now, node: Option<NodeId>, event: &E) {
+        match node {
+            Some(node) => self.tell(now, node.value(), event),
+            None => self.tell_all(now, event),
+        }
+    }
+
     /// Why the store of a node failed, where this tells that it did, and it is known.
     fn error_of(&self, news: &News) -> Option<io::Error> {
         match &self.errors {
@@ -93,12 +102,12 @@ impl<R: Runtime> Operator for Telling<R> {
     fn hear(&mut self, now: &Now, news: News) {
         if let Some(error) = self.error_of(&news) {
             let because = Because { news: &news, error };
-            self.tell(now, news.node(), &because);
+            self.tell_of(now, news.node(), &because);
         } else if let Some(days) = self.days_of(now, &news) {
             let full_in = FullIn { news: &news, days };
-            self.tell(now, news.node(), &full_in);
+            self.tell_of(now, news.node(), &full_in);
         } else {
-            self.tell(now, news.node(), &news);
+            self.tell_of(now, news.node(), &news);
         }
     }
 
@@ -106,10 +115,7 @@ impl<R: Runtime> Operator for Telling<R> {
         if !is_told(self.level, news.is_detail()) {
             return;
         }
-        match news.node() {
-            Some(node) => self.tell(now, node.value(), &news),
-            None => self.tell_all(now, &news),
-        }
+        self.tell_of(now, news.node(), &news);
     }
 }
 

@@ -2,10 +2,12 @@
 ghost use Rattle.std.specs.Prelude.{◌≡◌, false, IfOk};
 
 use crate::file_disk::FileDisk;
+use crate::header::{is_older, renew_header};
 use crate::open_fault::OpenFault;
 use crate::system_file::SystemFile;
-use journal_store::JournalStore;
+use journal_store::{Disk, JournalStore};
 use raft_log::Log;
+use stable_store::StoreFault;
 use std::alloc::Global;
 use std::fs::{File, Files};
 use std::io;
@@ -24,8 +26,9 @@ pub fn may_be_new<B: Wire>(journal: &FileJournal<B>) -> io::Result<bool> {
 }
 
 /// The store in the journal of a path, which is made where it is not there, or has at most 9 bytes and is
-/// refused, and locked until the store is dropped. Full blocks of entries that another log has at the same places
-/// are one value in memory with it.
+/// refused, and locked until the store is dropped. A journal that is headed by the older version is headed by the
+/// newer one from then on, once all of it was read. Full blocks of entries that another log has at the same places
+/// are one value in memory with it. Where it fails, a file that it made is removed.
 pub fn open_journal<B: Wire, R: Files<File = File>>(
     rt: &R,
     alloc: Global,
@@ -35,5 +38,39 @@ pub fn open_journal<B: Wire, R: Files<File = File>>(
     ensures { IfOk result (λ j. j.broken ≡ false) }
 {
     let disk = FileDisk::open(rt, alloc, path)?;
-    Ok(JournalStore::adopt_or_make(alloc, disk, beside)?)
+    let made = match disk.made(alloc, path) {
+        Ok(made) => made,
+        Err(error) => {
+            disk.remove_made(rt, path);
+            return Err(OpenFault::System(error));
+        }
+    };
+    let last_error = disk.last_error().map_err(|_| StoreFault::Memory)?;
+    match adopt(alloc, disk, beside) {
+        Ok(journal) => Ok(journal),
+        Err(fault) => {
+            if let Some(made) = made {
+                let _ = made.remove(rt);
+            }
+            Err(OpenFault::of_store(fault, last_error.get()))
+        }
+    }
+}
+
+/// The store on a disk, whose header is that of the newer version once all of it was read.
+fn adopt<B: Wire, D: Disk>(
+    alloc: Global,
+    disk: D,
+    beside: &Log<B>,
+) -> Result<JournalStore<B, D>, StoreFault>
+    ensures { IfOk result (λ j. j.broken ≡ false) }
+{
+    let mut disk = disk;
+    if !is_older(alloc, &mut disk)? {
+        return JournalStore::adopt_or_make(alloc, disk, beside);
+    }
+    let whole = JournalStore::adopt_or_make(alloc, disk, beside)?;
+    let mut disk = whole.into_disk();
+    renew_header(alloc, &mut disk)?;
+    JournalStore::adopt_or_make(alloc, disk, beside)
 }

@@ -1,16 +1,19 @@
 //! Why a call of a file failed last.
-ghost use Rattle.std.specs.Prelude.{◌≡◌};
+ghost use Rattle.std.specs.Prelude.{◌≡◌, ◌≢◌};
 
 use std::alloc::{AllocError, Global};
 use std::io;
 use std::sync::Arc;
 use std::sync::atomic::{AtomicU32, Ordering};
 
+/// In place of a code: a call failed, and the system told no code.
+const UNTOLD: u32 = u32::MAX;
+
 /// Why a call of a file failed last, for whoever tells an operator of it. Another thread may change it at any
 /// time, so that no clause says what it is.
 #[derive(Drop)]
 pub struct LastError {
-    /// The code of the system's error, or 0.
+    /// The code of the system's error, or `UNTOLD`; 0 where no call has failed.
     code: Arc<AtomicU32, Global>,
 }
 
@@ -37,14 +40,28 @@ impl LastError {
         }
     }
 
+    /// Whether a call failed, also one of which the system told no error.
+    pub fn is_met(&self) -> bool {
+        self.code.load(Ordering::SeqCst) != 0
+    }
+
     /// What a call answers is noted, and answered.
     pub(crate) fn note<T>(&self, answer: io::Result<T>) -> io::Result<T>
         ensures { result ≡ answer }
     {
         if let Err(error) = &answer {
-            let code = u32::try_from(error.raw_os_error().unwrap_or(0));
-            self.code.store(code.unwrap_or(0), Ordering::SeqCst);
+            self.code.store(code_of(error), Ordering::SeqCst);
         }
         answer
+    }
+}
+
+/// The code by which an error is noted, which is not 0.
+fn code_of(error: &io::Error) -> u32
+    ensures { result ≢ 0 }
+{
+    match u32::try_from(error.raw_os_error().unwrap_or(0)) {
+        Ok(0) | Err(_) => UNTOLD,
+        Ok(code) => code,
     }
 }

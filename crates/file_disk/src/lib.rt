@@ -8,14 +8,20 @@
 
 mod disk_file;
 mod file_disk;
+mod file_id;
+mod header;
 mod journal;
 mod last_error;
+mod made_file;
 mod open_fault;
 mod system_file;
 
 pub use disk_file::DiskFile;
 pub use file_disk::FileDisk;
+pub use file_id::FileId;
+pub use header::{renew_header, renewed_journals_are_read_alike};
 pub use journal::{FileJournal, may_be_new, open_journal};
 pub use last_error::LastError;
+pub use made_file::MadeFile;
 pub use open_fault::OpenFault;
 pub use system_file::SystemFile;

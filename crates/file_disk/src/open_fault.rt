@@ -1,5 +1,6 @@
 ghost use Rattle.std.specs.Prelude.{◌≡◌};
-ghost use Rattle.file_disk.specs.declared.open_fault.OpenFault.TheVariants.{Store};
+ghost use Rattle.file_disk.specs.Faults.{of_store};
+ghost use Rattle.file_disk.specs.declared.open_fault.OpenFault.TheVariants.{Store, System};
 
 use stable_store::StoreFault;
 use std::io;
@@ -20,6 +21,16 @@ pub enum OpenFault {
 }
 
 impl OpenFault {
+    /// A store is not opened. Where its device failed, this is the system's error, if it told one.
+    pub fn of_store(fault: StoreFault, last_error: Option<io::Error>) -> OpenFault
+        ensures { result ≡ of_store System fault last_error }
+    {
+        match (fault, last_error) {
+            (StoreFault::Device, Some(error)) => OpenFault::System(error),
+            (fault, _) => OpenFault::Store(fault),
+        }
+    }
+
     /// Whether this is want of memory, also where the system tells it.
     pub fn is_memory(&self) -> bool {
         match self {

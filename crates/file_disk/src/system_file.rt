@@ -1,14 +1,16 @@
 //! A file of the system.
-ghost use Rattle.std.specs.Prelude.{◌≡◌, IfOk};
+ghost use Rattle.std.specs.Prelude.{◌≡◌, ◌&&◌, ◌==◌, not, IfOk};
 
 use crate::disk_file::DiskFile;
 use crate::file_disk::FileDisk;
+use crate::file_id::FileId;
 use crate::last_error::LastError;
+use crate::made_file::{MadeFile, remove_file};
 use crate::open_fault::OpenFault;
 use stable_store::StoreFault;
 use std::alloc::{AllocError, Global};
 use std::fs::{self, File, Files, OpenOptions, TryLockError};
-use std::io;
+use std::io::{self, ErrorKind};
 use std::os::fd::AsRawFd;
 use std::os::unix::fs::{FileExt, OpenOptionsExt};
 use std::path::Path;
@@ -21,6 +23,8 @@ const OWNERS: u32 = 0o600;
 pub struct SystemFile {
     file: File,
     last_error: LastError,
+    /// Whether it was made as it was opened, and had nothing in it when it was locked.
+    is_made: bool,
 }
 
 impl SystemFile {
@@ -61,17 +65,21 @@ impl DiskFile for SystemFile {
 impl FileDisk<SystemFile> {
     /// The file of a path, which is made where it is not there, and locked until the disk is dropped. Its
     /// folder is synced, so that a crash leaves the file there. `InUse` where it is open as a disk
-    /// already, in this program or another; `NotAFile` where the path names something else.
+    /// already, in this program or another; `NotAFile` where the path names something else. Where it
+    /// fails, a file that it made is removed.
     pub fn open<R: Files<File = File>>(rt: &R, alloc: Global, path: &str) -> Result<Self, OpenFault>
         ensures { IfOk result (λ d. d.failures ≡ 0) }
     {
+        let was_there = is_there(rt, path);
         let file = OpenOptions::new()
             .read(true)
             .write(true)
             .create(true)
             .mode(OWNERS)
             .open(rt, path)?;
-        Self::over(rt, alloc, path, file)
+        let file = locked(file)?;
+        let is_made = is_made(was_there, file.metadata()?.len());
+        over(rt, alloc, path, file, is_made)
     }
 
     /// The file of a path that is there, locked until the disk is dropped, as `open` says. None is made: an error of
@@ -84,37 +92,101 @@ impl FileDisk<SystemFile> {
         ensures { IfOk result (λ d. d.failures ≡ 0) }
     {
         let file = OpenOptions::new().read(true).write(true).open(rt, path)?;
-        Self::over(rt, alloc, path, file)
-    }
-
-    /// A file that was opened at a path, locked.
-    fn over<R: Files<File = File>>(
-        rt: &R,
-        alloc: Global,
-        path: &str,
-        file: File,
-    ) -> Result<Self, OpenFault>
-        ensures { IfOk result (λ d. d.failures ≡ 0) }
-    {
-        let mut file = file;
-        // what is printed to a standard stream that was closed must not land in the file
-        if file.as_raw_fd() <= 2 {
-            file = file.try_clone()?;
-        }
-        if !file.metadata()?.is_file() {
-            return Err(OpenFault::NotAFile);
-        }
-        lock(&file)?;
-        file.sync_all()?;
-        sync_folder(rt, path)?;
-        let last_error = LastError::none(alloc).map_err(|_| OpenFault::Store(StoreFault::Memory))?;
-        Ok(FileDisk::new(SystemFile { file, last_error }))
+        over(rt, alloc, path, locked(file)?, false)
     }
 
     /// Why a call of its file failed last, now and later on.
     pub fn last_error(&self) -> Result<LastError, AllocError> {
         self.file.last_error.share()
     }
+
+    /// Which file it is.
+    pub fn file_id(&self) -> io::Result<FileId> {
+        FileId::of(&self.file.file)
+    }
+
+    /// The file is gone from this path, if it was made as the disk was opened there.
+    pub fn remove_made<R: Files>(&self, rt: &R, path: &str) {
+        if self.file.is_made {
+            let _ = remove_file(rt, path, &self.file.file);
+        }
+    }
+
+    /// The file, if it was made as the disk was opened at this path, so that it may be removed again.
+    pub fn made(&self, alloc: Global, path: &str) -> io::Result<Option<MadeFile>> {
+        if !self.file.is_made {
+            return Ok(None);
+        }
+        Ok(Some(MadeFile::new(alloc, &self.file.file, path)?))
+    }
+}
+
+/// Whether something lies at a path, also a link that leads nowhere. Where the system does not tell that nothing does,
+/// it counts as there.
+fn is_there<R: Files>(rt: &R, path: &str) -> bool {
+    match fs::symlink_metadata(rt, path) {
+        Ok(_) => true,
+        Err(error) => error.kind() != ErrorKind::NotFound,
+    }
+}
+
+/// Whether a file was made as it was opened. One that another program made at the same moment, and saved something
+/// in, was not.
+fn is_made(was_there: bool, len: u64) -> bool
+    ensures { result ≡ (not was_there && len == 0) }
+{
+    !was_there && len == 0
+}
+
+/// A file that was opened, locked.
+fn locked(file: File) -> Result<File, OpenFault> {
+    let mut file = file;
+    // what is printed to a standard stream that was closed must not land in the file
+    if file.as_raw_fd() <= 2 {
+        file = file.try_clone()?;
+    }
+    if !file.metadata()?.is_file() {
+        return Err(OpenFault::NotAFile);
+    }
+    lock(&file)?;
+    Ok(file)
+}
+
+/// A disk over a file that was opened at a path, and locked. Where it fails, the file is removed if it was made.
+fn over<R: Files<File = File>>(
+    rt: &R,
+    alloc: Global,
+    path: &str,
+    file: File,
+    is_made: bool,
+) -> Result<FileDisk<SystemFile>, OpenFault>
+    ensures { IfOk result (λ d. d.failures ≡ 0) }
+{
+    match settle(rt, alloc, path, &file) {
+        Ok(last_error) => Ok(FileDisk::new(SystemFile {
+            file,
+            last_error,
+            is_made,
+        })),
+        Err(fault) => {
+            if is_made {
+                let _ = remove_file(rt, path, &file);
+            }
+            Err(fault)
+        }
+    }
+}
+
+/// A crash leaves a file at its path.
+fn settle<R: Files<File = File>>(
+    rt: &R,
+    alloc: Global,
+    path: &str,
+    file: &File,
+) -> Result<LastError, OpenFault> {
+    file.sync_all()?;
+    sync_folder(rt, path)?;
+    LastError::none(alloc).map_err(|_| OpenFault::Store(StoreFault::Memory))
 }
 
 /// The lock ends with the file's last handle, or with the program.

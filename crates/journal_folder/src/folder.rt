@@ -9,15 +9,23 @@ use std::{fs, io};
 const OWNERS: u32 = 0o700;
 
 /// The folder of a path is there, one that is made where it is not. The folder around it is synced,
-/// so that a crash leaves it there.
-pub fn make_folder<R: Files<File = File>>(rt: &R, path: &str) -> io::Result<()> {
+/// so that a crash leaves it there. Whether it was made; where it fails, none was.
+pub fn make_folder<R: Files<File = File>>(rt: &R, path: &str) -> io::Result<bool> {
     match DirBuilder::new().mode(OWNERS).create(rt, path) {
-        Ok(()) => {}
-        Err(error) => if error.kind() != ErrorKind::AlreadyExists {
-            return Err(error);
-        },
+        Ok(()) => {
+            if let Err(error) = sync_around(rt, path) {
+                // nothing lies in it yet
+                let _ = fs::remove_dir(rt, path);
+                return Err(error);
+            }
+            Ok(true)
+        }
+        Err(error) if error.kind() == ErrorKind::AlreadyExists => {
+            sync_around(rt, path)?;
+            Ok(false)
+        }
+        Err(error) => Err(error),
     }
-    sync_around(rt, path)
 }
 
 /// Syncs the folder in which a path lies, so that a crash leaves the names in it.

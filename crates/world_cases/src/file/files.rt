@@ -115,9 +115,9 @@ fn a_short_file_becomes_a_journal_and_a_longer_one_stays(rt: HostRuntime) -> Res
     check_bytes(&rt, &fs::read(&rt, path)?, b"RBSTOR02\0");
     check_text(&rt, &opened(&rt, path, b"RBSTOR01\x01")?, "boot 0");
     check_bytes(&rt, &fs::read(&rt, path)?, b"RBSTOR02\0");
-    // an empty journal of before clients had names is none to be made anew
+    // a journal of before clients had names is of the newer version once it was read
     check_text(&rt, &opened(&rt, path, b"RBSTOR01\0")?, "boot 0");
-    check_bytes(&rt, &fs::read(&rt, path)?, b"RBSTOR01\0");
+    check_bytes(&rt, &fs::read(&rt, path)?, b"RBSTOR02\0");
     let damaged = "the journal cannot be read: the store is damaged at byte 8";
     check_text(&rt, &opened(&rt, path, b"RBSTOR01\x01\0")?, damaged);
     check_bytes(&rt, &fs::read(&rt, path)?, b"RBSTOR01\x01\0");

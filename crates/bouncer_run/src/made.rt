@@ -1,0 +1,54 @@
+//! What a start makes, which is gone again where the start is refused.
+ghost use Rattle.std.specs.Prelude.{◌≡◌, ◌++◌, ◌∷◌, [], OnOk};
+
+use crate::system::System;
+use file_disk::MadeFile;
+use std::alloc::{AllocError, Global};
+use std::fs;
+
+/// The folder and the files that a start made. The files are held open and locked, so that nobody else saves
+/// anything in them.
+#[derive(Drop)]
+pub struct Made {
+    folder: Option<String>,
+    files: Vec<MadeFile>,
+}
+
+impl Made {
+    /// Nothing was made.
+    pub fn nothing(alloc: Global) -> Made
+        ensures { result.files.items ≡ [] }
+    {
+        Made {
+            folder: None,
+            files: Vec::new(alloc),
+        }
+    }
+
+    /// The folder of this path was made.
+    pub fn add_folder(&mut self, alloc: Global, path: &str) -> Result<(), AllocError>
+        ensures { self.new.files ≡ self.old.files }
+    {
+        self.folder = Some(String::from_str(alloc, path)?);
+        Ok(())
+    }
+
+    /// This file was made too.
+    pub fn add(&mut self, file: MadeFile) -> Result<(), AllocError>
+        ensures { OnOk result (self.new.files.items ≡ self.old.files.items ++ file ∷ []) }
+    {
+        self.files.push(file)?;
+        Ok(())
+    }
+
+    /// The start is refused: what it made is gone. What somebody else put in the folder stays, and so does the
+    /// folder then.
+    pub fn take_back<R: System>(&self, rt: &R) {
+        for file in &self.files {
+            let _ = file.remove(rt);
+        }
+        if let Some(folder) = &self.folder {
+            let _ = fs::remove_dir(rt, folder.as_str());
+        }
+    }
+}

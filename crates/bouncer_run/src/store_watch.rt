@@ -1,0 +1,91 @@
+//! Whether the paths of the journals still lead to them.
+ghost use Rattle.std.specs.Prelude.{◌≡◌};
+ghost use Rattle.std.specs.IoError.{error_kind};
+ghost use Rattle.bouncer_run.specs.Watches.{IsAway, is_missing};
+
+use bouncer_tower::TowerBody;
+use file_disk::{FileId, FileJournal};
+use raft_log::NodeId;
+use run_plan::journal_path;
+use std::alloc::Global;
+use std::fs::Files;
+use std::io::{self, ErrorKind};
+
+/// How long after one look at the paths the next is due, in milliseconds: a folder that was moved by mistake may be
+/// moved back within that time, and a second program that made it anew has its session soon after.
+const LOOK_EVERY: u64 = 1_000;
+
+/// How many nodes there may be.
+const MOST_NODES: u8 = 7;
+
+/// A journal that is open, and its path.
+#[derive(Drop)]
+struct Place {
+    path: String,
+    file: FileId,
+}
+
+/// The journals of a program that runs, and their paths. Each journal is locked, but a lock goes with the file: where
+/// no path leads to its journal, another program may run over what lies there. Where one still does, that program is
+/// refused, and this one goes on as with a disk that is lost.
+#[derive(Drop)]
+pub struct StoreWatch {
+    places: Vec<Place>,
+    /// When the next look is due, in milliseconds.
+    due: u64,
+}
+
+impl StoreWatch {
+    /// Of these journals, node 1's first, in a folder. A look is due at once.
+    pub fn of(
+        alloc: Global,
+        folder: &str,
+        journals: &[FileJournal<TowerBody>],
+    ) -> io::Result<StoreWatch> {
+        let mut places = Vec::new(alloc);
+        for index in 0..MOST_NODES {
+            let Some(journal) = journals.get(index as usize) else {
+                break;
+            };
+            let path = journal_path(alloc, folder, NodeId::new(index + 1))?;
+            let file = journal.disk().file_id()?;
+            places.push(Place { path, file })?;
+        }
+        Ok(StoreWatch { places, due: 0 })
+    }
+
+    /// Whether a look is due, and finds none of the journals at its path. The names of files that are open are kept in
+    /// memory by the system, so that a look waits for no disk.
+    pub fn look<R: Files>(&mut self, rt: &R, ms: u64) -> bool {
+        if ms < self.due {
+            return false;
+        }
+        self.due = ms.saturating_add(LOOK_EVERY);
+        self.places.iter().all(|place| place.is_away(rt))
+    }
+}
+
+impl Place {
+    /// Whether the journal lies at its path no more.
+    fn is_away<R: Files>(&self, rt: &R) -> bool {
+        is_away(self.file, &FileId::at(rt, self.path.as_str()))
+    }
+}
+
+/// Whether a journal lies at its path no more, where a look at the path gave this: another file, or that nothing is
+/// there. Any other error tells nothing of that.
+fn is_away(opened: FileId, found: &io::Result<FileId>) -> bool
+    ensures { IsAway error_kind opened found.now result }
+{
+    match found {
+        Ok(file) => *file != opened,
+        Err(error) => is_missing(error.kind()),
+    }
+}
+
+/// Whether an error of this kind tells that nothing lies at a path.
+fn is_missing(kind: ErrorKind) -> bool
+    ensures { result ≡ is_missing kind }
+{
+    matches!(kind, ErrorKind::NotFound | ErrorKind::NotADirectory)
+}

@@ -1,0 +1,36 @@
+//! Files that were made, and may be removed again.
+use crate::file_id::FileId;
+use std::alloc::Global;
+use std::fs::{self, File, Files};
+use std::io;
+
+/// A file that was made, held open until this is dropped: its lock is held too, so that nobody else saves
+/// anything in it meanwhile.
+#[derive(Drop)]
+pub struct MadeFile {
+    file: File,
+    path: String,
+}
+
+impl MadeFile {
+    /// A file that was made at a path.
+    pub fn new(alloc: Global, file: &File, path: &str) -> io::Result<MadeFile> {
+        Ok(MadeFile {
+            file: file.try_clone()?,
+            path: String::from_str(alloc, path)?,
+        })
+    }
+
+    /// The file is gone from its path. Another file that lies there by now stays.
+    pub fn remove<R: Files>(&self, rt: &R) -> io::Result<()> {
+        remove_file(rt, self.path.as_str(), &self.file)
+    }
+}
+
+/// A file that is open is gone from its path. Another file that lies there by now stays.
+pub fn remove_file<R: Files>(rt: &R, path: &str, file: &File) -> io::Result<()> {
+    if FileId::at(rt, path)? == FileId::of(file)? {
+        fs::remove_file(rt, path)?;
+    }
+    Ok(())
+}
