@@ -32,12 +32,13 @@ use Rattle.driver.specs.Filling.{TellsLevelIf, WatchesFor}
 use Rattle.driver.specs.Retiring.{with_seen}
 use Rattle.driver.specs.Hearing.{turned_away, turned_away_news}
 use Rattle.driver.specs.Links.{Connects, Receives, notes_of, send_some}
-use Rattle.driver.specs.Nicks.{IsGreeted, RenamesBy, RenamesIf, is_renamed, nick_in}
+use Rattle.driver.specs.Nicks.{IsGreeted, IsWarned, RenamesBy, RenamesIf, is_renamed, nick_in}
+use Rattle.driver.specs.Clients.{is_leaving}
 use Rattle.driver.specs.Rosters.{AreOthersSame, client_at, is_attached_in}
 use Rattle.driver.specs.Sessions.{TakesIf, TellsAllOf, TellsIf, opened_of}
 use Rattle.driver.specs.Filling.{is_left_out}
 use Rattle.driver.specs.Telling.{Ordered, ordered}
-use Rattle.driver.proofs.Adding.{Adds, adds_both, all_written_add, named_adds, nothing_adds, one_adds}
+use Rattle.driver.proofs.Adding.{Adds, adds_both, all_written_add, named_adds, nothing_adds, one_adds, written_adds}
 use Rattle.driver.proofs.Keeping.{Keeps, Sound, keeps_both, orders_keep, same_keeps}
 use Rattle.driver.proofs.Monitors.{changed_same, ids_kept, look_at}
 use Rattle.driver.proofs.Growing.{AllAre, AllGood, Good, by_number, one_grows}
@@ -106,9 +107,16 @@ connect_keeps n now node old new sound c =
 
 -- A client's bytes come.
 
-pub greeted_adds : (P : Order → Type 0) (was : Bool) (clients : Clients) (number : ℕ) (nick : List ℕ) (before after : Ordered) → AllGood P clients → IsGreeted was (client_at clients number) nick before after → Adds P before after
-greeted_adds P true clients number nick before after good none = nothing_adds P before after none
-greeted_adds P false clients number nick before after good named = named_adds P clients number (client_at clients number) nick before after refl good named
+warned_adds : (P : Order → Type 0) (short : Bool) (clients : Clients) (number : ℕ) (nick : List ℕ) (before after : Ordered) → AllGood P clients → IsWarned short (client_at clients number) nick before after → Adds P before after
+warned_adds P false clients number nick before after good none = nothing_adds P before after none
+warned_adds P true clients number nick before after good warned = written_adds P clients number (client_at clients number) _ before after refl good warned
+
+pub greeted_adds : (P : Order → Type 0) (was short : Bool) (clients : Clients) (number : ℕ) (nick : List ℕ) (before after : Ordered) → AllGood P clients → IsGreeted was short (client_at clients number) nick before after → Adds P before after
+greeted_adds P true short clients number nick before after good none = nothing_adds P before after none
+greeted_adds P false short clients number nick before after good g =
+    adds_both P before g.named after
+    (named_adds P clients number (client_at clients number) nick before g.named refl good g.names)
+    (warned_adds P short clients number nick g.named after good g.warns)
 
 pub speaks_by : (n : ℕ) (bytes : List ℕ) (now : ℕ) (at : Moment) (number : ℕ) (found : Option Client) (old new : Driver) → client_at old.clients number ≡ found → Sound n old → Speaks bytes now at number old new → Keeps n old new
 speaks_by n bytes now at number None old new is sound s =
@@ -120,7 +128,7 @@ speaks_by n bytes now at number (Some c) old new is sound s =
     one_grows (NoClaim n) number _ _ (told_of old) behind c is is sound.good s.others s.comes.served
     (λ gs calls client stands h. reads_own (is_leaving c) bytes now at gs calls c client old.orders s.comes.told refl stands h)
     in
-    let greeted = greeted_adds (NoClaim n) (is_attached_in (client_at old.clients number)) new.clients number (nick_in old) s.comes.told new.orders g.good s.comes.greeted in
+    let greeted = greeted_adds (NoClaim n) (is_attached_in (client_at old.clients number)) old.is_short new.clients number (nick_in old) s.comes.told new.orders g.good s.comes.greeted in
     let all = adds_both (NoClaim n) old.orders s.comes.told new.orders (record { told = g.told; orders = g.orders; all = g.all }) greeted in
     grows_keep n old new sound (ap (λ (driver : Driver). driver.monitors) s.rest) (record { told = all.told; orders = all.orders; all = all.all; good = g.good })
 

@@ -27,9 +27,11 @@ use Rattle.driver.specs.Crowds.{told as crowd}
 use Rattle.driver.specs.Driving.{orders_of, told_of}
 use Rattle.driver.specs.Filling.{TellsLevelIf, WatchesFor, is_left_out}
 use Rattle.driver.specs.Retiring.{with_seen}
-use Rattle.driver.specs.Hearing.{turned_away, turned_away_news}
+use Rattle.driver.specs.Hearing.{boot_up, turned_away, turned_away_news}
 use Rattle.driver.specs.Links.{Receives, send_some}
 use Rattle.driver.specs.Nicks.{nick_in}
+use Rattle.driver.specs.Clients.{is_leaving}
+use Rattle.driver.specs.Links.{status_in}
 use Rattle.driver.specs.Rosters.{AreOthersSame, client_at, is_attached_in}
 use Rattle.driver.specs.Sessions.{TakesIf, TellsAllOf, TellsIf, opened_of}
 use Rattle.driver.specs.Telling.{Ordered, ordered}
@@ -125,7 +127,7 @@ speaks_stay n down bytes now at number (Some c) old new is steady s =
     one_grows (Plain n down) number _ _ (told_of old) behind c is is steady.good s.others s.comes.served
     (λ gs calls client stands h. reads_own (is_leaving c) bytes now at gs calls c client old.orders s.comes.told refl stands h)
     in
-    let greeted = greeted_adds (Plain n down) (is_attached_in (client_at old.clients number)) new.clients number (nick_in old) s.comes.told new.orders g.good s.comes.greeted in
+    let greeted = greeted_adds (Plain n down) (is_attached_in (client_at old.clients number)) old.is_short new.clients number (nick_in old) s.comes.told new.orders g.good s.comes.greeted in
     let all = adds_both (Plain n down) old.orders s.comes.told new.orders (record { told = g.told; orders = g.orders; all = g.all }) greeted in
     grows_stay n down old new steady (ap (λ (driver : Driver). driver.monitors) s.rest) (record { told = all.told; orders = all.orders; all = all.all; good = g.good })
 

@@ -15,7 +15,7 @@ use Rattle.driver.specs.declared.news.News.TheVariants as news
 use Rattle.driver.specs.declared.order.Order.{Order}
 use Rattle.driver.specs.declared.order.Order.TheVariants as order
 use Rattle.driver.specs.Driving.{changed_at, orders_of}
-use Rattle.driver.specs.Hearing.{answers_news, down_behind, down_news, elected_news, heard_behind, heard_news, is_elected, is_none, stood_behind, stood_news, told_behind, up_behind, up_news, was_up}
+use Rattle.driver.specs.Hearing.{answers_news, begins_run, down_behind, down_news, elected_news, heard_behind, heard_news, is_elected, is_none, stood_behind, stood_news, told_behind, up_behind, up_news, was_up}
 use Rattle.driver.specs.Reports.{Hears, Stands}
 use Rattle.driver.specs.Telling.{ordered, told_to}
 use Rattle.driver.specs.Waking.{awake, slept, waited_longer}
@@ -23,7 +23,7 @@ use Rattle.driver.proofs.Adding.{nothing_adds, passes_grow}
 use Rattle.driver.proofs.Monitors.{Ids, Look, ids_changed, ids_kept, mapped_same}
 use Rattle.driver.proofs.Growing.{AllAre, AllGood, all_append}
 use Rattle.driver.proofs.Reporting.{heard_look}
-use Rattle.driver.proofs.Restarts.{Follows, Plain, follows_all}
+use Rattle.driver.proofs.Restarts.{follows_both, Follows, Plain, follows_all}
 use Rattle.driver.proofs.Staying.{StandsAs, Stays, Steady, as_kept, grows_stay, is_down_so, stays_both}
 
 -- What was ordered leads to how the node stands now.
@@ -101,8 +101,8 @@ down_other n down id cause (Some since) apart = tt
 
 stood_other : (n : ℕ) (down : Bool) (d : NodeMonitor) (status : Status) (cause : Option Cause) → nat_eq d.id n ≡ false → AllAre (Plain n down) (stood_news d status cause)
 stood_other n down d status None apart =
-    all_append (Plain n down) (answers_news d.id d.presence.is_hanging) (up_news d.id status.boot (was_up d.status))
-    (answers_plain n down d.id d.presence.is_hanging)
+    all_append (Plain n down) (answers_news d.id (d.presence.is_hanging && begins_run d.status status)) (up_news d.id status.boot (was_up d.status))
+    (answers_plain n down d.id (d.presence.is_hanging && begins_run d.status status))
     (up_other n down d.id status.boot (was_up d.status) apart)
 stood_other n down d status (Some cause) apart = down_other n down d.id cause d.down apart
 
@@ -179,26 +179,26 @@ down_own n down id cause (Some since) own is = sym is
 
 pub stood_own : (n : ℕ) (down : Bool) (d : NodeMonitor) (status : Status) (cause : Option Cause) → nat_eq d.id n ≡ true → StandsAs down (Some d) → Follows n down (stood_news d status cause) (is_some cause)
 stood_own n down d status None own (is, so) =
-    follows_both n down down false (answers_news d.id d.presence.is_hanging) (up_news d.id status.boot (was_up d.status))
-    (follows_all n down (answers_news d.id d.presence.is_hanging) (answers_plain n down d.id d.presence.is_hanging))
+    follows_both n down down false (answers_news d.id (d.presence.is_hanging && begins_run d.status status)) (up_news d.id status.boot (was_up d.status))
+    (follows_all n down (answers_news d.id (d.presence.is_hanging && begins_run d.status status)) (answers_plain n down d.id (d.presence.is_hanging && begins_run d.status status)))
     (up_own n down d.id status.boot (was_up d.status) own (λ up. sym so ∙ was_up_so d.status up))
 stood_own n down d status (Some cause) own (is, so) = down_own n down d.id cause d.down own is
 
-up_stands : (d : NodeMonitor) (now : ℕ) (up : Bool) → is_some (up_behind d now up).down ≡ false
-up_stands d now true = refl
-up_stands d now false = refl
+up_stands : (d : NodeMonitor) (now : ℕ) (new up : Bool) → is_some (up_behind d now new up).down ≡ false
+up_stands d now new true = refl
+up_stands d now new false = refl
 
 down_stands : (d : NodeMonitor) (now : ℕ) (down : Option Outage) → d.down ≡ down → is_some (down_behind d now down).down ≡ true
 down_stands d now None is = refl
 down_stands d now (Some since) is = ap (λ (down : Option Outage). is_some down) is
 
-stood_stands : (d : NodeMonitor) (now : ℕ) (up : Bool) (cause : Option Cause) → is_some (stood_behind d now up cause).down ≡ is_some cause
-stood_stands d now up None = up_stands d now up
-stood_stands d now up (Some cause) = down_stands d now d.down refl
+stood_stands : (d : NodeMonitor) (now : ℕ) (new up : Bool) (cause : Option Cause) → is_some (stood_behind d now new up cause).down ≡ is_some cause
+stood_stands d now new up None = up_stands d now new up
+stood_stands d now new up (Some cause) = down_stands d now d.down refl
 
 -- the monitor behind a report knows what it told
 pub heard_stands : (d : NodeMonitor) (now told : ℕ) (status : Status) (progress : Progress) → StandsAs (is_some status.down) (Some (heard_behind d now told status progress))
 heard_stands d now told status progress = (
-  stood_stands (told_behind d now told status progress) now (was_up d.status) status.down,
+  stood_stands (told_behind d now told status progress) now (begins_run d.status status) (was_up d.status) status.down,
   ap (λ (x : Look). is_down_so x.status) (heard_look d now told status progress),
 )

@@ -3,7 +3,7 @@ use Rattle.std.proofs.Common.{◌≡◌, ◌∙◌, ◌++◌, ℕ, Bool, true, f
 use Rattle.std.specs.Prelude.{flat_map, if◌then◌else◌, is_some, nat_eq}
 use Rattle.std.specs.Global.{Vec}
 use Rattle.std.specs.List.{list_any}
-use Rattle.std.proofs.lemmas.Bool.{same_eq}
+use Rattle.driver.proofs.Claiming.{same_eq}
 use Rattle.std.proofs.lemmas.List.{append_assoc, append-nil}
 use Rattle.std.proofs.lemmas.List.Folds.{list_any-append}
 use Rattle.std.proofs.lemmas.Grind.{flat_map-append}
@@ -17,6 +17,7 @@ use Rattle.client_gate.specs.Gates.{GateEffect, Given, given_effect, last_reques
 use Rattle.driver.specs.declared.client.Asked.{Asked}
 use Rattle.driver.specs.declared.client.Client.{Client}
 use Rattle.driver.specs.declared.order.Order.{Order}
+use Rattle.driver.specs.declared.order.Order.TheVariants.{Write}
 use Rattle.driver.specs.declared.timer.Timer.{Timer}
 use Rattle.driver.specs.Asking.{HearsNode, anew_if, held_if, is_stuck, may_be_lost, now_asked}
 use Rattle.driver.specs.Clients.{asked_all, asks_of, has_left, is_cut, is_leaving, is_some_asked, leaves_since, parting_unless, passed, write_some, written}
@@ -109,6 +110,11 @@ leaving_so false leaving since is = ap (λ (o : Option Timer). is_some o) is
 gone_so : (gone : Bool) (leaving : Option Timer) → gone ≡ true → (gone || is_some leaving) ≡ true
 gone_so true leaving is = refl
 gone_so false leaving is = absurd (cc is)
+
+-- nothing is both so and not so
+not_both : (b : Bool) (P : Type 0) → b ≡ true → b ≡ false → P
+not_both true P is other = absurd (cc other)
+not_both false P is other = absurd (cc is)
 
 -- A client that is gone stays so.
 
@@ -224,7 +230,7 @@ if_same false xs is = absurd (cc is)
 some_writes : (client : ℕ) (bytes : Vec ℕ) (items : List ℕ) → bytes.items ≡ items → written_to client (write_some client bytes items) ≡ items
 some_writes client bytes [] is = refl
 some_writes client bytes (byte ∷ more) is =
-    append-nil (bytes_to client _) ∙ if_same (nat_eq client client) bytes.items (same_eq client) ∙ is
+    append-nil (bytes_to client (Write client bytes)) ∙ if_same (nat_eq client client) bytes.items (same_eq client) ∙ is
 
 some_closes : (client : ℕ) (bytes : Vec ℕ) (items : List ℕ) → list_any (closes client) (write_some client bytes items) ≡ false
 some_closes client bytes [] = refl
@@ -323,7 +329,7 @@ effect_there : (e : GateEffect) (nick : List ℕ) (now : ℕ) (at : Moment) (s :
 effect_there e nick now at s calls since old told before orders remains here is h =
     ⊎_elim
     (λ p. as_old s since _ old _ told before orders refl (effect_by p.fed.close e now at s calls since _ told before orders remains here is p refl))
-    (λ p. absurd (cc (parted_gone s _ at _ told before orders p, remains)))
+    (λ p. not_both told.is_gone (There s since (given_effect s e).reply old before told orders) (parted_gone s _ at _ told before orders p) remains)
     h
 
 -- whether a client was gone that is not

@@ -161,7 +161,7 @@ reads_own false bytes now at s calls old new before after is stands h =
     (λ p. renamed s old _ new before after refl (cut_own s calls at _ new before after p))
     (h.hears is)
 
-effect_own : (e : GateEffect) (nick : List ℕ) (now : ℕ) (at : Moment) (s : Settings) (calls : List Call) (old new : Client) (before after : Ordered) → HearsEffect e nick now at s calls old before new after → Owns s old before new after
+pub effect_own : (e : GateEffect) (nick : List ℕ) (now : ℕ) (at : Moment) (s : Settings) (calls : List Call) (old new : Client) (before after : Ordered) → HearsEffect e nick now at s calls old before new after → Owns s old before new after
 effect_own e nick now at s calls old new before after h =
     ⊎_elim
     (λ p. renamed s old _ new before after refl (passed_own s (Hear e ∷ calls) (given_effect s e) now at _ new before after p))

@@ -23,7 +23,7 @@ use Rattle.driver.specs.declared.news.News.TheVariants.{Elected}
 use Rattle.driver.specs.declared.settings.Settings.{Settings}
 use Rattle.driver.specs.Driving.{Ticks, orders_of, round_of, told_of}
 use Rattle.driver.specs.Retiring.{fresh, retirement_at}
-use Rattle.driver.specs.Hearing.{answers_news, down_behind, down_news, elected_news, heard_behind, heard_news, is_elected, progressed, settled, settles, stood_behind, stood_news, told_behind, up_behind, up_news, was_up}
+use Rattle.driver.specs.Hearing.{answers_news, begins_run, down_behind, down_news, elected_news, heard_behind, heard_news, is_elected, progressed, settled, settles, stood_behind, stood_news, told_behind, up_behind, up_news, was_up}
 use Rattle.driver.specs.Links.{is_silent}
 use Rattle.driver.specs.Reports.{BeginsIf, Hears, Stands, WordsBy, WordsIf, heard_at, lost_at}
 use Rattle.driver.specs.Rounds.{Round, SpreadsAll, SpreadsBy, ask_orders, retired, retirement_due, retirement_told}
@@ -43,13 +43,13 @@ pub down_look : (d : NodeMonitor) (now : ℕ) (down : Option Outage) → look (d
 down_look d now None = refl
 down_look d now (Some since) = refl
 
-pub up_look : (d : NodeMonitor) (now : ℕ) (up : Bool) → look (up_behind d now up) ≡ look d
-up_look d now true = refl
-up_look d now false = refl
+pub up_look : (d : NodeMonitor) (now : ℕ) (new up : Bool) → look (up_behind d now new up) ≡ look d
+up_look d now new true = refl
+up_look d now new false = refl
 
-pub stood_look : (d : NodeMonitor) (now : ℕ) (up : Bool) (down : Option Cause) → look (stood_behind d now up down) ≡ look d
-stood_look d now up None = up_look d now up
-stood_look d now up (Some cause) = down_look d now d.down
+pub stood_look : (d : NodeMonitor) (now : ℕ) (new up : Bool) (down : Option Cause) → look (stood_behind d now new up down) ≡ look d
+stood_look d now new up None = up_look d now new up
+stood_look d now new up (Some cause) = down_look d now d.down
 
 -- a node that does not tell that it has applied all leaves its last claim unsettled
 pub unsettled_by : (claim : Claimed) (done : Bool) (status : Status) → claim.is_settled ≡ false → nat_eq status.applied status.last ≡ false → (claim.is_settled || (done && nat_eq status.applied status.last)) ≡ false
@@ -57,7 +57,7 @@ unsettled_by claim true status is apart = ap (λ (b : Bool). b || nat_eq status.
 unsettled_by claim false status is apart = ap (λ (b : Bool). b || false) is
 
 pub heard_look : (d : NodeMonitor) (now told : ℕ) (status : Status) (progress : Progress) → look (heard_behind d now told status progress) ≡ record { id = d.id; claimed = settled d.claimed status (progressed d.progress told progress).done; status = Some status }
-heard_look d now told status progress = stood_look (told_behind d now told status progress) now (was_up d.status) status.down
+heard_look d now told status progress = stood_look (told_behind d now told status progress) now (begins_run d.status status) (was_up d.status) status.down
 
 pub waits_heard_by : (n : ℕ) (line : Line) (old new : Driver) (now : ℕ) (counts : NodeMonitor → ℕ) (status : Status) (progress : Progress) (found : Option NodeMonitor) → nat_eq status.applied status.last ≡ false → (w : Waits n line old) → look_in found ≡ Some w.at → look_at new.monitors (n - 1) ≡ look_in (option_map (λ d. heard_behind d now (counts d) status progress) found) → Waits n line new
 waits_heard_by n line old new now counts status progress None apart w is changed = absurd (cc is)
@@ -117,8 +117,8 @@ down_quiet n id cause (Some since) = tt
 
 pub stood_quiet : (n : ℕ) (d : NodeMonitor) (status : Status) (down : Option Cause) → AllAre (NoClaim n) (stood_news d status down)
 stood_quiet n d status None =
-    all_append (NoClaim n) (answers_news d.id d.presence.is_hanging) (up_news d.id status.boot (was_up d.status))
-    (answers_quiet n d.id d.presence.is_hanging)
+    all_append (NoClaim n) (answers_news d.id (d.presence.is_hanging && begins_run d.status status)) (up_news d.id status.boot (was_up d.status))
+    (answers_quiet n d.id (d.presence.is_hanging && begins_run d.status status))
     (up_quiet n d.id status.boot (was_up d.status))
 stood_quiet n d status (Some cause) = down_quiet n d.id cause d.down
 

@@ -11,7 +11,8 @@ use Rattle.driver.specs.declared.node_monitor.NodeMonitor.{NodeMonitor}
 use Rattle.driver.specs.declared.node_monitor.standing.Outage.{Outage}
 use Rattle.driver.specs.declared.order.Order.{Order}
 use Rattle.driver.specs.declared.order.Order.TheVariants as order
-use Rattle.driver.specs.Absences.{HangNodes, HangsIf, TellsGroupIf, WatchesBy, WatchesNodes, begins_in, group_news, hanging, hangs_news, hastened, is_new, is_short, shortened}
+use Rattle.driver.specs.Absences.{CutsBy, HangNodes, HangsIf, TellsGroupIf, WatchesNodes, begins_in, goes_on, group_news, hang_limit, hanging, hangs_news, hastened, hastened_if, is_new, is_short, shortened}
+use Rattle.driver.specs.Monitors.{is_over}
 use Rattle.driver.specs.Crowds.{told}
 use Rattle.driver.specs.Driving.{Dismisses, changed_at, orders_at, orders_of, told_of}
 use Rattle.driver.specs.Telling.{Ordered, ordered}
@@ -42,30 +43,36 @@ shortened_down : (down : Option Outage) → is_some (shortened down) ≡ is_some
 shortened_down None = refl
 shortened_down (Some outage) = refl
 
-hastened_stay : (n : ℕ) (down : Bool) (old new : Driver) → Steady n down old → new ≡ record old { monitors = map hastened old.monitors } → Stays n down old new
-hastened_stay n down old new steady is = record {
+hastened_as : (n : ℕ) (down short : Bool) (monitors : List NodeMonitor) → StandsAs down (slice_get monitors (n - 1)) → StandsAs down (slice_get (hastened_if short monitors) (n - 1))
+hastened_as n down false monitors at = at
+hastened_as n down true monitors at =
+    subst (λ (found : Option NodeMonitor). StandsAs down found) (sym (slice_get-map hastened monitors (n - 1)))
+    (as_kept down hastened (slice_get monitors (n - 1)) (λ d. (shortened_down d.down, refl)) at)
+
+hastened_same : (short : Bool) (monitors : List NodeMonitor) (j : ℕ) → look_at (hastened_if short monitors) j ≡ look_at monitors j
+hastened_same false monitors j = refl
+hastened_same true monitors j = mapped_same hastened (λ d. refl) monitors j
+
+hastened_stay : (n : ℕ) (down short : Bool) (old new : Driver) → Steady n down old → new ≡ record old { monitors = hastened_if short old.monitors } → Stays n down old new
+hastened_stay n down short old new steady is = record {
   adds = nothing_adds (Plain n down) old.orders new.orders (ap (λ (driver : Driver). driver.orders) is);
   steady =
       subst (λ (driver : Driver). Steady n down driver) (sym is)
       (record {
         good = steady.good;
-        ids = ids_kept old.monitors (map hastened old.monitors) (λ j. mapped_same hastened (λ d. refl) old.monitors j) steady.ids;
-        at =
-            subst (λ (found : Option NodeMonitor). StandsAs down found) (sym (slice_get-map hastened old.monitors (n - 1)))
-            (as_kept down hastened (slice_get old.monitors (n - 1)) (λ d. (shortened_down d.down, refl)) steady.at);
+        ids = ids_kept old.monitors (hastened_if short old.monitors) (hastened_same short old.monitors) steady.ids;
+        at = hastened_as n down short old.monitors steady.at;
       });
 }
 
-hastened_keep : (n : ℕ) (old new : Driver) → Sound n old → new ≡ record old { monitors = map hastened old.monitors } → Keeps n old new
-hastened_keep n old new sound is =
-    let same = λ (j : ℕ). mapped_same hastened (λ d. refl) old.monitors j in
-    record {
-      adds = nothing_adds (NoClaim n) old.orders new.orders (ap (λ (driver : Driver). driver.orders) is);
-      sound =
-          subst (λ (driver : Driver). Sound n driver) (sym is)
-          (record { good = sound.good; ids = ids_kept old.monitors (map hastened old.monitors) same sound.ids });
-      same = ap (λ (driver : Driver). look_at driver.monitors (n - 1)) is ∙ same (n - 1);
-    }
+hastened_keep : (n : ℕ) (short : Bool) (old new : Driver) → Sound n old → new ≡ record old { monitors = hastened_if short old.monitors } → Keeps n old new
+hastened_keep n short old new sound is = record {
+  adds = nothing_adds (NoClaim n) old.orders new.orders (ap (λ (driver : Driver). driver.orders) is);
+  sound =
+      subst (λ (driver : Driver). Sound n driver) (sym is)
+      (record { good = sound.good; ids = ids_kept old.monitors (hastened_if short old.monitors) (hastened_same short old.monitors) sound.ids });
+  same = ap (λ (driver : Driver). look_at driver.monitors (n - 1)) is ∙ hastened_same short old.monitors (n - 1);
+}
 
 -- Clients of a node that hangs are cut off.
 
@@ -79,9 +86,9 @@ unfolding AllAre
 hangs_quiet n None = tt
 hangs_quiet n (Some d) = (refl, tt)
 
-hang_stays : (n now node : ℕ) (down hangs : Bool) (old new : Driver) → Steady n down old → HangsIf hangs now node old new → Stays n down old new
-hang_stays n now node down false old new steady same = same_stays n down old new steady same
-hang_stays n now node down true old new steady h =
+hang_stays : (n now node : ℕ) (down : Bool) (hangs : Option ℕ) (old new : Driver) → Steady n down old → HangsIf hangs now node old new → Stays n down old new
+hang_stays n now node down None old new steady same = same_stays n down old new steady same
+hang_stays n now node down (Some boot) old new steady h =
     let news = orders_at hangs_news old.monitors node in
     let said = ordered old.orders news in
     let first : Adds (Plain n down) old.orders said = record { told = news; orders = refl; all = hangs_plain n down (slice_get old.monitors (node - 1)) } in
@@ -90,28 +97,28 @@ hang_stays n now node down true old new steady h =
       adds = adds_both (Plain n down) old.orders said new.orders first (record { told = g.told; orders = g.orders; all = g.all });
       steady = record {
         good = g.good;
-        ids = ids_kept old.monitors new.monitors (λ j. ap (λ (monitors : List NodeMonitor). look_at monitors j) h.monitors ∙ changed_same hanging (λ d. refl) old.monitors node j) steady.ids;
+        ids = ids_kept old.monitors new.monitors (λ j. ap (λ (monitors : List NodeMonitor). look_at monitors j) h.monitors ∙ changed_same (hanging boot) (λ d. refl) old.monitors node j) steady.ids;
         at =
             subst (λ (monitors : List NodeMonitor). StandsAs down (slice_get monitors (n - 1))) (sym h.monitors)
-            (changed_as n node down hanging old.monitors (λ d. (refl, refl)) steady.at);
+            (changed_as n node down (hanging boot) old.monitors (λ d. (refl, refl)) steady.at);
       };
     }
 
-hang_keeps : (n now node : ℕ) (hangs : Bool) (old new : Driver) → Sound n old → HangsIf hangs now node old new → Keeps n old new
-hang_keeps n now node false old new sound same = same_keeps n old new sound same
-hang_keeps n now node true old new sound h =
+hang_keeps : (n now node : ℕ) (hangs : Option ℕ) (old new : Driver) → Sound n old → HangsIf hangs now node old new → Keeps n old new
+hang_keeps n now node None old new sound same = same_keeps n old new sound same
+hang_keeps n now node (Some boot) old new sound h =
     let news = orders_at hangs_news old.monitors node in
     let said = ordered old.orders news in
     let first : Adds (NoClaim n) old.orders said = record { told = news; orders = refl; all = hangs_quiet n (slice_get old.monitors (node - 1)) } in
     let g = cuts_grow (NoClaim n) absence.Hanging node (keys old.clients.all) (told old.clients said) (told_of new) sound.good h.cut in
-    let same = λ (j : ℕ). ap (λ (monitors : List NodeMonitor). look_at monitors j) h.monitors ∙ changed_same hanging (λ d. refl) old.monitors node j in
+    let same = λ (j : ℕ). ap (λ (monitors : List NodeMonitor). look_at monitors j) h.monitors ∙ changed_same (hanging boot) (λ d. refl) old.monitors node j in
     record {
       adds = adds_both (NoClaim n) old.orders said new.orders first (record { told = g.told; orders = g.orders; all = g.all });
       sound = record { good = g.good; ids = ids_kept old.monitors new.monitors same sound.ids };
       same = same (n - 1);
     }
 
-abbrev pub begins_at : Driver → ℕ → ℕ → Bool
+abbrev pub begins_at : Driver → ℕ → ℕ → Option ℕ
 begins_at driver now node = begins_in driver.settings.timeout_ms now (slice_get driver.monitors (node - 1))
 
 hang_all_stay : (n count now node : ℕ) (down : Bool) (old new : Driver) → Steady n down old → HangNodes count now node old new → Stays n down old new
@@ -130,13 +137,19 @@ hang_all_keep n (suc count) now node old new sound (behind, first, more) =
 
 -- The nodes are looked at, and people are told.
 
-watched_stay : (n now : ℕ) (down short : Bool) (old new : Driver) → Steady n down old → WatchesBy short now old new → Stays n down old new
-watched_stay n now down true old new steady is = hastened_stay n down old new steady is
-watched_stay n now down false old new steady all = hang_all_stay n 7 now 1 down old new steady all
+cuts_stay : (n now : ℕ) (down going long : Bool) (old new : Driver) → Steady n down old → CutsBy going long now old new → Stays n down old new
+cuts_stay n now down false long old new steady is =
+    orders_stay n down old new steady (ap (λ (driver : Driver). driver.monitors) is) (ap (λ (driver : Driver). driver.clients) is)
+    (nothing_adds (Plain n down) old.orders new.orders (ap (λ (driver : Driver). driver.orders) is))
+cuts_stay n now down true false old new steady same = same_stays n down old new steady same
+cuts_stay n now down true true old new steady all = hang_all_stay n 7 now 1 down old new steady all
 
-watched_keep : (n now : ℕ) (short : Bool) (old new : Driver) → Sound n old → WatchesBy short now old new → Keeps n old new
-watched_keep n now true old new sound is = hastened_keep n old new sound is
-watched_keep n now false old new sound all = hang_all_keep n 7 now 1 old new sound all
+cuts_keep : (n now : ℕ) (going long : Bool) (old new : Driver) → Sound n old → CutsBy going long now old new → Keeps n old new
+cuts_keep n now false long old new sound is =
+    orders_keep n old new sound (ap (λ (driver : Driver). driver.monitors) is) (ap (λ (driver : Driver). driver.clients) is)
+    (nothing_adds (NoClaim n) old.orders new.orders (ap (λ (driver : Driver). driver.orders) is))
+cuts_keep n now true false old new sound same = same_keeps n old new sound same
+cuts_keep n now true true old new sound all = hang_all_keep n 7 now 1 old new sound all
 
 group_plain : (n : ℕ) (down short : Bool) → Plain n down (order.Log (group_news short))
 group_plain n down true = (tt, refl)
@@ -158,21 +171,28 @@ told_keep n true short old new sound t =
     (one_adds (NoClaim n) (order.Log (group_news short)) old.orders _ refl refl)
     (all_written_add (NoClaim n) (keys old.clients.all) old.clients _ _ new.orders sound.good t.written))
 
+abbrev pub has_gone_on : Driver → ℕ → Bool
+has_gone_on driver now = is_over driver.going_on (hang_limit driver.settings.timeout_ms) now
+
 pub nodes_stay : (n now : ℕ) (down : Bool) (old new : Driver) → Steady n down old → WatchesNodes now old new → Stays n down old new
 nodes_stay n now down old new steady w =
-    let first = watched_stay n now down (is_short old now) old w.seen steady w.watches in
-    stays_both n down old w.seen new first (told_stay n down (is_new (is_short old now) w.seen.is_short) (is_short old now) w.seen new first.steady w.tells)
+    let first = hastened_stay n down (is_short old now) old w.hastens steady w.is_hastened in
+    let next = cuts_stay n now down (goes_on w.hastens now) (has_gone_on w.hastens now) w.hastens w.seen first.steady w.cuts in
+    let last = told_stay n down (is_new (is_short old now) w.seen.is_short) (is_short old now) w.seen new next.steady w.tells in
+    stays_both n down old w.seen new (stays_both n down old w.hastens w.seen first next) last
 
 pub nodes_keep : (n now : ℕ) (old new : Driver) → Sound n old → WatchesNodes now old new → Keeps n old new
 nodes_keep n now old new sound w =
-    let first = watched_keep n now (is_short old now) old w.seen sound w.watches in
-    keeps_both n old w.seen new first (told_keep n (is_new (is_short old now) w.seen.is_short) (is_short old now) w.seen new first.sound w.tells)
+    let first = hastened_keep n (is_short old now) old w.hastens sound w.is_hastened in
+    let next = cuts_keep n now (goes_on w.hastens now) (has_gone_on w.hastens now) w.hastens w.seen first.sound w.cuts in
+    let last = told_keep n (is_new (is_short old now) w.seen.is_short) (is_short old now) w.seen new next.sound w.tells in
+    keeps_both n old w.seen new (keeps_both n old w.hastens w.seen first next) last
 
 -- The connection to the server stays.
 
-hang_link : (hangs : Bool) (now node : ℕ) (old new : Driver) → HangsIf hangs now node old new → new.link ≡ old.link
-hang_link false now node old new same = ap (λ (driver : Driver). driver.link) same
-hang_link true now node old new h = ap (λ (driver : Driver). driver.link) h.rest
+hang_link : (hangs : Option ℕ) (now node : ℕ) (old new : Driver) → HangsIf hangs now node old new → new.link ≡ old.link
+hang_link None now node old new same = ap (λ (driver : Driver). driver.link) same
+hang_link (Some boot) now node old new h = ap (λ (driver : Driver). driver.link) h.rest
 
 hang_all_link : (count now node : ℕ) (old new : Driver) → HangNodes count now node old new → new.link ≡ old.link
 unfolding HangNodes
@@ -180,9 +200,10 @@ hang_all_link zero now node old new same = ap (λ (driver : Driver). driver.link
 hang_all_link (suc count) now node old new (behind, first, more) =
     hang_all_link count now (node + 1) behind new more ∙ hang_link (begins_at old now node) now node old behind first
 
-watched_link : (now : ℕ) (short : Bool) (old new : Driver) → WatchesBy short now old new → new.link ≡ old.link
-watched_link now true old new is = ap (λ (driver : Driver). driver.link) is
-watched_link now false old new all = hang_all_link 7 now 1 old new all
+cuts_link : (now : ℕ) (going long : Bool) (old new : Driver) → CutsBy going long now old new → new.link ≡ old.link
+cuts_link now false long old new is = ap (λ (driver : Driver). driver.link) is
+cuts_link now true false old new same = ap (λ (driver : Driver). driver.link) same
+cuts_link now true true old new all = hang_all_link 7 now 1 old new all
 
 told_link : (tells short : Bool) (old new : Driver) → TellsGroupIf tells short old new → new.link ≡ old.link
 told_link false short old new same = ap (λ (driver : Driver). driver.link) same
@@ -190,4 +211,6 @@ told_link true short old new t = ap (λ (driver : Driver). driver.link) t.rest
 
 pub nodes_link : (now : ℕ) (old new : Driver) → WatchesNodes now old new → new.link ≡ old.link
 nodes_link now old new w =
-    told_link (is_new (is_short old now) w.seen.is_short) (is_short old now) w.seen new w.tells ∙ watched_link now (is_short old now) old w.seen w.watches
+    told_link (is_new (is_short old now) w.seen.is_short) (is_short old now) w.seen new w.tells
+    ∙ cuts_link now (goes_on w.hastens now) (has_gone_on w.hastens now) w.hastens w.seen w.cuts
+    ∙ ap (λ (driver : Driver). driver.link) w.is_hastened

@@ -1,5 +1,5 @@
 -- A node that serves nobody, since it is down or answers nothing, and a group too few of whose nodes are up.
-use Rattle.std.specs.Prelude.{◌≡◌, ℕ, zero, suc, ◌+◌, ◌-◌, ◌*◌, ◌/◌, ◌&&◌, ◌||◌, Bool, true, false, not, is_some, max, min, map, take, nat_lt, codes, if◌then◌else◌, List, [], ◌∷◌, Option, Some, None, slice_get, slice_set}
+use Rattle.std.specs.Prelude.{◌≡◌, ℕ, zero, suc, ◌+◌, ◌-◌, ◌*◌, ◌/◌, ◌&&◌, ◌||◌, Bool, true, false, not, is_some, max, min, map, take, nat_lt, if◌then◌else◌, List, [], ◌∷◌, Option, Some, None, slice_get, slice_set}
 use Rattle.std.specs.BTreeMap.{keys}
 use Rattle.driver.specs.declared.absence.Absence.TheVariants as absence
 use Rattle.driver.specs.declared.driver.Driver.{Driver}
@@ -14,32 +14,38 @@ use Rattle.driver.specs.declared.settings.Settings.{Settings}
 use Rattle.driver.specs.Crowds.{CutEach, told}
 use Rattle.driver.specs.Driving.{changed_at, orders_at, told_of}
 use Rattle.driver.specs.Hearing.{boot_up}
-use Rattle.driver.specs.Monitors.{is_over}
-use Rattle.driver.specs.Nicks.{AllAreWritten, nick_in, notice}
-use Rattle.driver.specs.Retiring.{retirement_at}
+use Rattle.driver.specs.Monitors.{at, is_over}
+use Rattle.driver.specs.Nicks.{AllAreWritten, group_words, nick_in, notice}
+use Rattle.driver.specs.Retiring.{retirement_at, with_seen}
 use Rattle.driver.specs.Rounds.{retired}
 use Rattle.driver.specs.Telling.{ordered}
-use Rattle.driver.specs.declared.node_monitor.hanging.TheConstants.{HANGS_AFTER, SHORT_WAIT, TIMEOUTS}
+use Rattle.driver.specs.declared.node_monitor.hanging.TheConstants.{HANGS_AFTER, QUIET_AFTER, SHORT_WAIT, TIMEOUTS}
 
--- a node has answered nothing for 5 seconds, or two timeouts where these are longer
-abbrev pub is_silent : ℕ → ℕ → NodeMonitor → Bool
-is_silent timeout now monitor = is_over monitor.presence.last_report (max HANGS_AFTER (TIMEOUTS * timeout)) now
+-- after how long without an answer a node hangs: 5 seconds, or two timeouts where these are longer
+abbrev pub hang_limit : ℕ → ℕ
+hang_limit timeout = max HANGS_AFTER (TIMEOUTS * timeout)
+
+-- how long a node may answer nothing that goes on: 2 seconds, or a timeout where that is longer
+abbrev pub quiet_limit : ℕ → ℕ
+quiet_limit timeout = max QUIET_AFTER timeout
 
 -- a node serves nobody at this moment: it is down, or has answered nothing for so long
 abbrev pub is_absent : ℕ → ℕ → NodeMonitor → Bool
-is_absent timeout now monitor = is_some monitor.down || is_silent timeout now monitor
+is_absent limit now monitor = is_some monitor.down || is_over monitor.presence.last_report limit now
 
--- a node that was up when it was last heard of has answered nothing for so long, and its clients were not told
-abbrev pub begins_to_hang : ℕ → ℕ → NodeMonitor → Bool
+-- the run in which a node begins to hang: it was up in it when it was last heard of, has answered nothing for too long since, and its
+-- clients were not told
+abbrev pub begins_to_hang : ℕ → ℕ → NodeMonitor → Option ℕ
 begins_to_hang timeout now monitor =
-    is_some (boot_up monitor.status) && not monitor.presence.is_hanging && is_silent timeout now monitor
+    if monitor.presence.is_hanging || not (is_absent (hang_limit timeout) now monitor) then None else boot_up monitor.status
 
--- A node whose clients were told that it hangs. An operator, who is told so, is told of no client that is turned away.
-abbrev pub hanging : NodeMonitor → NodeMonitor
-hanging monitor = record monitor {
+-- A node whose clients were told that it hangs in this run, which is one of those that are over. An operator, who is told so, is told of
+-- no client that is turned away.
+abbrev pub hanging : ℕ → NodeMonitor → NodeMonitor
+hanging boot monitor = with_seen boot (record monitor {
   presence = record monitor.presence { is_hanging = true };
   visitors = record monitor.visitors { has_turned_away = true };
-}
+})
 
 -- its clients were told so, if there is one
 abbrev pub is_hanging_in : Option NodeMonitor → Bool
@@ -59,20 +65,27 @@ shortened (Some outage) = Some (record outage { wait_ms = min outage.wait_ms SHO
 abbrev pub hastened : NodeMonitor → NodeMonitor
 hastened monitor = record monitor { down = shortened monitor.down }
 
--- how many nodes serve clients at this moment
+-- how many nodes serve clients at this moment, by such a limit of silence
 unfoldable pub serving : ℕ → ℕ → List NodeMonitor → ℕ
-serving timeout now [] = 0
-serving timeout now (monitor ∷ more) = (if is_absent timeout now monitor then 0 else 1) + serving timeout now more
+serving limit now [] = 0
+serving limit now (monitor ∷ more) = (if is_absent limit now monitor then 0 else 1) + serving limit now more
 
--- fewer nodes than a majority serve clients
+-- more than half of the nodes serve clients
+abbrev pub has_majority : ℕ → Driver → ℕ → Bool
+has_majority limit driver now =
+    nat_lt (driver.settings.size / 2) (serving limit now (take driver.settings.size driver.monitors))
+
+-- too few nodes are up: others are down, or hang
 abbrev pub is_short : Driver → ℕ → Bool
-is_short driver now =
-    let size = driver.settings.size in
-    nat_lt (serving driver.settings.timeout_ms now (take size driver.monitors)) (size / 2 + 1)
+is_short driver now = not (has_majority (hang_limit driver.settings.timeout_ms) driver now)
 
--- a node begins to hang, if there is one
-abbrev pub begins_in : ℕ → ℕ → Option NodeMonitor → Bool
-begins_in timeout now None = false
+-- a majority goes on at this moment
+abbrev pub goes_on : Driver → ℕ → Bool
+goes_on driver now = has_majority (quiet_limit driver.settings.timeout_ms) driver now
+
+-- the run in which a node begins to hang, if there is one
+abbrev pub begins_in : ℕ → ℕ → Option NodeMonitor → Option ℕ
+begins_in timeout now None = None
 begins_in timeout now (Some monitor) = begins_to_hang timeout now monitor
 
 -- an operator is told that a node hangs
@@ -85,8 +98,8 @@ retired_in settings now None all = all
 retired_in settings now (Some monitor) all = slice_set all (monitor.id - 1) (retired settings now monitor (retirement_at all monitor.id))
 
 -- A node hangs: an operator is told, its run is retired, its clients are told so, and they are cut off.
-pub record HangsNode (now node : ℕ) (old new : Driver) : Type 0 where
-  pub monitors : new.monitors ≡ changed_at hanging old.monitors node
+pub record HangsNode (now node boot : ℕ) (old new : Driver) : Type 0 where
+  pub monitors : new.monitors ≡ changed_at (hanging boot) old.monitors node
   pub retirements : new.retirements.all ≡ retired_in old.settings now (slice_get new.monitors (node - 1)) old.retirements.all
   pub cut :
       CutEach absence.Hanging node (keys old.clients.all)
@@ -95,9 +108,9 @@ pub record HangsNode (now node : ℕ) (old new : Driver) : Type 0 where
   pub rest : new ≡ record old { monitors = new.monitors; retirements = new.retirements; clients = new.clients; orders = new.orders }
 
 -- where a node begins to hang; else nothing changes
-abbrev pub HangsIf : Bool → ℕ → ℕ → Driver → Driver → Type 0
-HangsIf false now node old new = new ≡ old
-HangsIf true now node old new = HangsNode now node old new
+abbrev pub HangsIf : Option ℕ → ℕ → ℕ → Driver → Driver → Type 0
+HangsIf None now node old new = new ≡ old
+HangsIf (Some boot) now node old new = HangsNode now node boot old new
 
 -- Nodes are looked at in turn, so many from this one on.
 unfoldable pub HangNodes : ℕ → ℕ → ℕ → Driver → Driver → Type 0
@@ -107,17 +120,19 @@ HangNodes (suc count) now node old new =
     × HangsIf (begins_in old.settings.timeout_ms now (slice_get old.monitors (node - 1))) now node old behind
     × HangNodes count now (node + 1) behind new
 
--- where too few nodes are up, those that are down are started again soon; else clients of those that hang are cut off
-abbrev pub WatchesBy : Bool → ℕ → Driver → Driver → Type 0
-WatchesBy true now old new = new ≡ record old { monitors = map hastened old.monitors }
-WatchesBy false now old new = HangNodes 7 now 1 old new
+-- where too few nodes are up, those that are down are started again soon
+abbrev pub hastened_if : Bool → List NodeMonitor → List NodeMonitor
+hastened_if true monitors = map hastened monitors
+hastened_if false monitors = monitors
 
--- what people are told where too few nodes are up, and where enough are again
-abbrev pub group_words : Bool → List ℕ
-group_words true = codes "Nothing is shown or sent for now: too few nodes are up."
-group_words false = codes "Enough nodes are up again."
+-- Where a majority goes on, and has for as long as a node may be silent before it hangs, clients of those that hang are cut off; where none
+-- goes on, that time begins anew.
+abbrev pub CutsBy : Bool → Bool → ℕ → Driver → Driver → Type 0
+CutsBy false long now old new = new ≡ record old { going_on = at now }
+CutsBy true false now old new = new ≡ old
+CutsBy true true now old new = HangNodes 7 now 1 old new
 
--- what an operator is told then
+-- what an operator is told where too few nodes are up, and where enough are again
 abbrev pub group_news : Bool → News
 group_news true = TooFew
 group_news false = Enough
@@ -139,6 +154,8 @@ TellsGroupIf true short old new = TellsGroup short old new
 
 -- The nodes are looked at: those that hang, and whether too few are up. People are told of it once.
 pub record WatchesNodes (now : ℕ) (old new : Driver) : Type 0 where
+  pub hastens : Driver
+  pub is_hastened : hastens ≡ record old { monitors = hastened_if (is_short old now) old.monitors }
   pub seen : Driver
-  pub watches : WatchesBy (is_short old now) now old seen
+  pub cuts : CutsBy (goes_on hastens now) (is_over hastens.going_on (hang_limit hastens.settings.timeout_ms) now) now hastens seen
   pub tells : TellsGroupIf (is_new (is_short old now) seen.is_short) (is_short old now) seen new

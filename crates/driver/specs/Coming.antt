@@ -7,8 +7,8 @@ use Rattle.driver.specs.Rosters.{Serves, client_at, is_attached_in}
 use Rattle.driver.specs.Serving.{Receives}
 use Rattle.driver.specs.Telling.{Ordered}
 
--- Bytes of a client came, and it takes them. Where it registered by them, and was greeted by another nick than the one in force, it is
--- told so.
+-- Bytes of a client came, and it takes them. Where it registered by them, it is told of the nick in force, where it was greeted by another,
+-- and that too few nodes are up, where people know that.
 pub record Comes (bytes : List ℕ) (now : ℕ) (at : Moment) (number : ℕ) (old new : Driver) : Type 0 where
   pub told : Ordered
   pub served :
@@ -16,4 +16,4 @@ pub record Comes (bytes : List ℕ) (now : ℕ) (at : Moment) (number : ℕ) (ol
       (λ c. client_at old.clients number ≡ Some c)
       (λ s calls c client. Receives bytes now at s calls c old.orders client told)
       number new.clients
-  pub greeted : IsGreeted (is_attached_in (client_at old.clients number)) (client_at new.clients number) (nick_in old) told new.orders
+  pub greeted : IsGreeted (is_attached_in (client_at old.clients number)) old.is_short (client_at new.clients number) (nick_in old) told new.orders

@@ -9,6 +9,7 @@ use Rattle.raft_log.specs.declared.role.Role.TheVariants.{Follower, Candidate, L
 use Rattle.raft_node.specs.declared.node_fault.Cause.{Cause}
 use Rattle.driver.specs.declared.node_monitor.standing.Claimed.{Claimed}
 use Rattle.driver.specs.declared.node_monitor.standing.Outage.{Outage}
+use Rattle.driver.specs.declared.node_monitor.standing.Presence.{Presence}
 use Rattle.driver.specs.declared.node_monitor.NodeMonitor.{NodeMonitor}
 use Rattle.driver.specs.declared.node_monitor.hearing.Heard.{Heard}
 use Rattle.driver.specs.declared.news.News.TheVariants.{Answers, Down, Elected, TurnedAway, Up}
@@ -63,7 +64,7 @@ down_behind monitor now None = record monitor {
 }
 down_behind monitor now (Some since) = monitor
 
--- an operator is told that a node answers again of which it was told that it hangs
+-- an operator is told that a node that hung answers again, in a run that began since
 abbrev pub answers_news : ℕ → Bool → List Order
 answers_news id false = []
 answers_news id true = Log (Answers id) ∷ []
@@ -73,18 +74,22 @@ abbrev pub up_news : ℕ → ℕ → Bool → List Order
 up_news id boot true = []
 up_news id boot false = Log (Up id boot) ∷ []
 
--- a node that came up waits for a leader from now on
-abbrev pub up_behind : NodeMonitor → ℕ → Bool → NodeMonitor
-up_behind monitor now true = record monitor {
+-- One that hung hangs until a new run of it began: the run that hung is over for the others.
+abbrev pub hangs_on : Bool → Presence → Bool
+hangs_on new presence = presence.is_hanging && not new
+
+-- a node that came up, in a run that is new or not, waits for a leader from now on
+abbrev pub up_behind : NodeMonitor → ℕ → Bool → Bool → NodeMonitor
+up_behind monitor now new true = record monitor {
   down = None;
-  presence = record monitor.presence { last_report = at now; is_hanging = false };
-  visitors = record monitor.visitors { has_turned_away = false };
+  presence = record monitor.presence { last_report = at now; is_hanging = hangs_on new monitor.presence };
+  visitors = record monitor.visitors { has_turned_away = hangs_on new monitor.presence };
 }
-up_behind monitor now false = record monitor {
+up_behind monitor now new false = record monitor {
   following = record monitor.following { last_leader_contact = at now };
   down = None;
-  presence = record { last_report = at now; up = at now; is_hanging = false };
-  visitors = record monitor.visitors { has_turned_away = false };
+  presence = record { last_report = at now; up = at now; is_hanging = hangs_on new monitor.presence };
+  visitors = record monitor.visitors { has_turned_away = hangs_on new monitor.presence };
 }
 
 -- a node of this role follows: it neither leads nor asks for votes
@@ -141,19 +146,19 @@ told_behind monitor now told status progress =
       claimed = settled monitor.claimed status (progressed monitor.progress told progress).done;
     }
 
--- the monitor of a node that is up, or is down for this cause, where it was up before or was not
-abbrev pub stood_behind : NodeMonitor → ℕ → Bool → Option Cause → NodeMonitor
-stood_behind monitor now up None = up_behind monitor now up
-stood_behind monitor now up (Some cause) = down_behind monitor now monitor.down
-
--- what is known of the node behind this word, where it was told so many notes
-abbrev pub heard_behind : NodeMonitor → ℕ → ℕ → Status → Progress → NodeMonitor
-heard_behind monitor now told status progress =
-    stood_behind (told_behind monitor now told status progress) now (was_up monitor.status) status.down
+-- the monitor of a node that is up, in a run that is new or not, or is down for this cause, where it was up before or was not
+abbrev pub stood_behind : NodeMonitor → ℕ → Bool → Bool → Option Cause → NodeMonitor
+stood_behind monitor now new up None = up_behind monitor now new up
+stood_behind monitor now new up (Some cause) = down_behind monitor now monitor.down
 
 -- a run of a node began: it is up, and was not before, or was up in another run
 abbrev pub begins_run : Option Status → Status → Bool
 begins_run before status = is_none status.down && (not (was_up before) || is_new_run before status)
+
+-- what is known of the node behind this word, where it was told so many notes
+abbrev pub heard_behind : NodeMonitor → ℕ → ℕ → Status → Progress → NodeMonitor
+heard_behind monitor now told status progress =
+    stood_behind (told_behind monitor now told status progress) now (begins_run monitor.status status) (was_up monitor.status) status.down
 
 -- what is new of it: a run of it began, and requests may be lost that were not known to be
 abbrev pub heard_of : NodeMonitor → ℕ → Status → Progress → Heard
@@ -164,7 +169,9 @@ heard_of monitor told status progress = record {
 
 -- an operator is told that a node answers again, that it is up, or that it is down, where that is new
 abbrev pub stood_news : NodeMonitor → Status → Option Cause → List Order
-stood_news monitor status None = answers_news monitor.id monitor.presence.is_hanging ++ up_news monitor.id status.boot (was_up monitor.status)
+stood_news monitor status None =
+    answers_news monitor.id (monitor.presence.is_hanging && begins_run monitor.status status)
+    ++ up_news monitor.id status.boot (was_up monitor.status)
 stood_news monitor status (Some cause) = down_news monitor.id cause monitor.down
 
 -- what an operator is told

@@ -83,10 +83,26 @@ abbrev pub IsNamedIn : Option Client → List ℕ → Ordered → Ordered → Ty
 IsNamedIn None nick before after = after ≡ before
 IsNamedIn (Some client) nick before after = IsNamed client nick before after
 
--- A client that had not registered before, and has now, is told of the nick in force where it was greeted by another.
-abbrev pub IsGreeted : Bool → Option Client → List ℕ → Ordered → Ordered → Type 0
-IsGreeted true found nick before after = after ≡ before
-IsGreeted false found nick before after = IsNamedIn found nick before after
+-- what people are told where too few nodes are up, and where enough are again
+abbrev pub group_words : Bool → List ℕ
+group_words true = codes "Nothing is shown or sent for now: too few nodes are up."
+group_words false = codes "Enough nodes are up again."
+
+-- a client is told that too few nodes are up, where that is so
+abbrev pub IsWarned : Bool → Option Client → List ℕ → Ordered → Ordered → Type 0
+IsWarned false found nick before after = after ≡ before
+IsWarned true found nick before after = IsWritten found (notice nick (group_words true)) before after
+
+-- A client registered: it is told of the nick in force where it was greeted by another, and that too few nodes are up, where that is so.
+pub record IsWelcomed (short : Bool) (found : Option Client) (nick : List ℕ) (before after : Ordered) : Type 0 where
+  pub named : Ordered
+  pub names : IsNamedIn found nick before named
+  pub warns : IsWarned short found nick named after
+
+-- the same of a client that had not registered before, and may have now
+abbrev pub IsGreeted : Bool → Bool → Option Client → List ℕ → Ordered → Ordered → Type 0
+IsGreeted true short found nick before after = after ≡ before
+IsGreeted false short found nick before after = IsWelcomed short found nick before after
 
 -- all clients are told of another nick where they are to be
 abbrev pub RenamesIf : Bool → Clients → List ℕ → Ordered → Ordered → Type 0

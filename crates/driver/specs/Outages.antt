@@ -8,14 +8,14 @@ use Rattle.driver.specs.declared.news.News.TheVariants.{Left}
 use Rattle.driver.specs.declared.order.Order.TheVariants.{Close, Log, Write}
 use Rattle.driver.specs.Telling.{Ordered, ordered}
 
--- why a node serves nobody, in words
+-- why a node serves nobody, in words, to the end of the line
 abbrev pub words_of : Absence → List ℕ
-words_of Down = codes " is down"
-words_of Hanging = codes " does not answer"
+words_of Down = codes " is down" ++ 13 ∷ 10 ∷ []
+words_of Hanging = codes " does not answer" ++ 13 ∷ 10 ∷ []
 
 -- the line that clients of a node get that serves nobody
 abbrev pub absence_line : Absence → ℕ → List ℕ
-absence_line why node = codes "ERROR :node " ++ (48 + node) ∷ words_of why ++ 13 ∷ 10 ∷ []
+absence_line why node = codes "ERROR :node " ++ (48 + node) ∷ words_of why
 
 -- a client whose connection stands is told why its node serves nobody, and then it is closed; nothing is asked of the node
 abbrev pub IsToldIf : Bool → Absence → Client → Ordered → Ordered → Type 0

@@ -12,13 +12,13 @@ pub enum Absence {
 }
 
 impl Absence {
-    /// What the node's clients are told, behind its name.
+    /// What the node's clients are told, behind its name, to the end of the line.
     pub fn words(self) -> &'static [u8]
         ensures { result.now ≡ words_of self }
     {
         match self {
-            Absence::Down => b" is down",
-            Absence::Hanging => b" does not answer",
+            Absence::Down => b" is down\r\n",
+            Absence::Hanging => b" does not answer\r\n",
         }
     }
 }

@@ -61,6 +61,8 @@ pub struct Driver {
     pace: Pace,
     /// Fewer nodes than a majority serve clients, as people were told last.
     is_short: bool,
+    /// Since when a majority of the nodes goes on, as far as is known.
+    going_on: Timer,
     /// When it last heard of a node, or was told that time passed.
     ran: Timer,
     orders: Orders,
@@ -85,6 +87,7 @@ impl Driver {
             level: Level::Roomy,
             pace,
             is_short: false,
+            going_on: Timer::from(now.ms),
             ran: Timer::from(now.ms),
             orders: Orders::new(alloc),
         }

@@ -20,6 +20,7 @@ use crate::orders::Orders;
 use crate::pace::Pace;
 use crate::settings::Settings;
 use crate::timer::Timer;
+pub use hanging::{hang_limit, quiet_limit};
 pub use hearing::Heard;
 use node_notes::{Note, Progress, Status};
 use raft_log::{BATCH_LIMIT, NodeId};

@@ -45,7 +45,6 @@ impl Client {
         let mut error = Vec::from_slice(self.alloc, b"ERROR :node ")?;
         error.push(b'0' + self.origin.node())?;
         error.extend_from_slice(why.words())?;
-        error.extend_from_slice(b"\r\n")?;
         orders.write(self.origin.client(), error)?;
         orders.close(self.origin.client())?;
         orders.log(News::Left(self.origin))?;

@@ -20,6 +20,18 @@ impl Clients {
         Ok(())
     }
 
+    /// The client of this number is written this, if there is one, it is attached and its connection stands.
+    pub fn tell(&self, number: u64, text: &[u8], orders: &mut Orders) -> Result<(), AllocError>
+        ensures told { OnOk result
+            (IsWritten (client_at self.now number) text.now orders.old orders.new) }
+        ensures nobody { client_at self.now number ≡ None → orders.new ≡ orders.old }
+    {
+        match self.all.get(&number) {
+            Some(_) => self.write_to(number, text, orders),
+            None => Ok(()),
+        }
+    }
+
     /// The client of this number is told of this nick, which is in force, where it was greeted by another.
     pub fn tell_nick(&self, number: u64, nick: &[u8], orders: &mut Orders) -> Result<(), AllocError>
         ensures told { OnOk result

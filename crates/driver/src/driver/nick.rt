@@ -2,12 +2,14 @@
 ghost use Rattle.std.specs.Prelude.{◌≡◌, IfOk, None, OnOk};
 ghost use Rattle.driver.specs.Opening.{joined_as};
 ghost use Rattle.driver.specs.Learning.{LearnsNick, nick_learnt};
+ghost use Rattle.driver.specs.Nicks.{IsWarned};
 ghost use Rattle.driver.specs.Nicks.{AllAreWritten, HearsNick, IsGreeted, RenamesIf, TakesNick, is_renamed, nick_by, nick_in, notice, renaming};
 ghost use Rattle.driver.specs.Rosters.{client_at};
 ghost use Rattle.irc_line.specs.Lines.{parameter};
 
 use crate::client::joined_as;
 use crate::driver::Driver;
+use crate::driver::watching::group_words;
 use crate::lines::renaming;
 use crate::order::TowerNote;
 use bouncer_tower::TowerEffect;
@@ -34,10 +36,11 @@ impl Driver {
         self.clients.write_all(line.as_slice(), &mut self.orders)
     }
 
-    /// A client that has just registered is told of the nick in force where it was greeted by another.
+    /// A client that has just registered is told of the nick in force where it was greeted by another, and that too
+    /// few nodes are up, where people were told so.
     pub(crate) fn greet(&mut self, was_attached: bool, number: u64) -> Result<(), AllocError>
-        ensures told { OnOk result (IsGreeted was_attached (client_at self.old.clients number)
-            (nick_in self.old) self.old.orders self.new.orders) }
+        ensures told { OnOk result (IsGreeted was_attached self.old.is_short
+            (client_at self.old.clients number) (nick_in self.old) self.old.orders self.new.orders) }
         ensures nobody { client_at self.old.clients number ≡ None → self.new ≡ self.old }
         ensures rest { self.new ≡ record self.old { orders = self.new.orders } }
     {
@@ -46,7 +49,23 @@ impl Driver {
         }
         let nick = nick_by(&self.given, &self.settings.nick);
         self.clients
-            .tell_nick(number, nick.as_bytes(), &mut self.orders)
+            .tell_nick(number, nick.as_bytes(), &mut self.orders)?;
+        self.warn(number)
+    }
+
+    /// A client is told that too few nodes are up, where people were told so, it is attached and its connection stands.
+    fn warn(&mut self, number: u64) -> Result<(), AllocError>
+        ensures told { OnOk result (IsWarned self.old.is_short
+            (client_at self.old.clients number) (nick_in self.old) self.old.orders self.new.orders) }
+        ensures nobody { client_at self.old.clients number ≡ None → self.new ≡ self.old }
+        ensures rest { self.new ≡ record self.old { orders = self.new.orders } }
+    {
+        if !self.is_short {
+            return Ok(());
+        }
+        let line = notice(self.alloc, self.nick().as_bytes(), group_words(true))?;
+        self.clients
+            .tell(number, line.as_slice(), &mut self.orders)
     }
 
     /// What came in a session may give another nick.

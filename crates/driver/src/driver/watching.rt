@@ -1,14 +1,17 @@
 //! Nodes that hang, and a group too few of whose nodes are up.
 ghost use Rattle.std.specs.Prelude.{◌≡◌, ◌≤◌, ◌-◌, OnOk, length, map, slice_get};
-ghost use Rattle.driver.specs.Absences.{HangNodes, HangsIf, TellsGroupIf, WatchesNodes};
-ghost use Rattle.driver.specs.Absences.{begins_in, group_news, group_words, hastened, is_hanging_in, is_new, is_short, serving};
+ghost use Rattle.driver.specs.Absences.{CutsBy, HangNodes, HangsIf, TellsGroupIf, WatchesNodes};
+ghost use Rattle.driver.specs.Absences.{begins_in, goes_on, group_news, hang_limit, has_majority, hastened};
+ghost use Rattle.driver.specs.Absences.{is_hanging_in, is_new, serving};
+ghost use Rattle.driver.specs.Monitors.{is_over};
+ghost use Rattle.driver.specs.Nicks.{group_words};
 
 use crate::absence::Absence;
 use crate::driver::Driver;
 use crate::news::News;
-use crate::node_monitor::{MOST_NODES, NodeMonitor};
+use crate::node_monitor::{MOST_NODES, NodeMonitor, hang_limit, quiet_limit};
 use crate::order::Now;
-use crate::settings::Settings;
+use crate::timer::Timer;
 use raft_log::NodeId;
 use std::alloc::AllocError;
 
@@ -19,27 +22,42 @@ const TOO_FEW: &[u8] = b"Nothing is shown or sent for now: too few nodes are up.
 const ENOUGH: &[u8] = b"Enough nodes are up again.";
 
 impl Driver {
-    /// Looks at the nodes. Where one hangs while a majority goes on, its clients are told so and closed, and
-    /// its run is retired. While fewer than a majority are up, those that are down are started again
-    /// within two seconds; clients and an operator are told when that begins, and when it is over.
+    /// Looks at the nodes. Where one hangs, and a majority has gone on for as long, its clients are told so and
+    /// closed, and its run is retired. While fewer than a majority are up, those that are down are started
+    /// again within two seconds; clients and an operator are told when that begins, and when it is over.
     pub fn watch_nodes(&mut self, now: &Now) -> Result<(), AllocError>
         ensures { OnOk result (WatchesNodes now.now.ms self.old self.new) }
     {
-        let is_short = self.is_short(now);
+        let is_short = !self.has_majority(now, hang_limit(&self.settings));
         if is_short {
             hasten_all(self.monitors.as_mut_slice());
-        } else {
-            self.cut_off_hanging(now)?;
         }
+        self.cut_off_by(now)?;
         self.tell_group(is_short)
     }
 
-    /// Whether fewer nodes than a majority serve clients.
-    fn is_short(&self, now: &Now) -> bool
-        ensures { result ≡ is_short self.now now.now.ms }
+    /// Whether more than half of the nodes serve clients, each of which may be silent for so many milliseconds.
+    fn has_majority(&self, now: &Now, limit: u64) -> bool
+        ensures { result ≡ has_majority limit self.now now.now.ms }
     {
         let size = self.settings.size.value() as usize;
-        serving(&self.monitors[..size], now, &self.settings) < size / 2 + 1
+        size / 2 < serving(&self.monitors[..size], now, limit)
+    }
+
+    /// Clients of nodes that hang are cut off, where a majority has gone on for as long as these are silent.
+    fn cut_off_by(&mut self, now: &Now) -> Result<(), AllocError>
+        ensures { OnOk result (CutsBy (goes_on self.old now.now.ms)
+            (is_over self.old.going_on (hang_limit self.old.settings.timeout_ms) now.now.ms)
+            now.now.ms self.old self.new) }
+    {
+        if !self.has_majority(now, quiet_limit(&self.settings)) {
+            self.going_on = Timer::from(now.ms);
+            return Ok(());
+        }
+        if !self.going_on.has_passed(hang_limit(&self.settings), now.ms) {
+            return Ok(());
+        }
+        self.cut_off_hanging(now)
     }
 
     /// Each node that begins to hang is found so.
@@ -58,10 +76,10 @@ impl Driver {
             (slice_get self.old.monitors (node - 1))) now.now.ms node self.old self.new) }
     {
         let monitor = &mut self.monitors[node.value() as usize - 1];
-        if !monitor.begins_to_hang(now, &self.settings) {
+        let Some(boot) = monitor.begins_to_hang(now, &self.settings) else {
             return Ok(());
-        }
-        monitor.hang(&mut self.orders)?;
+        };
+        monitor.hang(boot, &mut self.orders)?;
         self.retirements.retire_run(now, &self.settings, monitor);
         self.clients
             .cut_off(Absence::Hanging, node, &mut self.orders)
@@ -91,17 +109,17 @@ impl Driver {
     }
 }
 
-/// How many of these nodes serve clients.
+/// How many of these nodes serve clients, each of which may be silent for so many milliseconds.
 #[tactic(auto, unfolding(crate::specs::Absences::serving))]
-fn serving(monitors: &[NodeMonitor], now: &Now, settings: &Settings) -> usize
-    ensures count { result ≡ serving settings.now.timeout_ms now.now.ms monitors.now }
+fn serving(monitors: &[NodeMonitor], now: &Now, limit: u64) -> usize
+    ensures count { result ≡ serving limit now.now.ms monitors.now }
     ensures most { result ≤ length monitors.now }
 {
     match monitors {
         [] => 0,
         [monitor, rest @ ..] => {
-            let more = serving(rest, now, settings);
-            if monitor.is_absent(now, settings) {
+            let more = serving(rest, now, limit);
+            if monitor.is_absent(now, limit) {
                 more
             } else {
                 1 + more
@@ -138,7 +156,7 @@ fn group_news(is_short: bool) -> News
 }
 
 /// What clients are told then.
-fn group_words(is_short: bool) -> &'static [u8]
+pub fn group_words(is_short: bool) -> &'static [u8]
     ensures { result.now ≡ group_words is_short }
 {
     if is_short { TOO_FEW } else { ENOUGH }

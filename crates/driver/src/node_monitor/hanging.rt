@@ -2,7 +2,7 @@
 ghost use Rattle.std.specs.Prelude.{◌≡◌, ◌∷◌, [], OnOk};
 ghost use Rattle.driver.specs.declared.news.News.TheVariants.{Hangs};
 ghost use Rattle.driver.specs.declared.order.Order.TheVariants.{Log};
-ghost use Rattle.driver.specs.Absences.{begins_to_hang, boot_open, hanging, hastened, is_absent, is_silent};
+ghost use Rattle.driver.specs.Absences.{begins_to_hang, boot_open, hang_limit, hanging, hastened, is_absent, quiet_limit};
 ghost use Rattle.driver.specs.Telling.{ordered};
 
 use crate::news::News;
@@ -21,47 +21,60 @@ const HANGS_AFTER: u64 = 5_000;
 /// How many timeouts that is at least: nodes whose leader seldom sends have less to tell.
 const TIMEOUTS: u64 = 2;
 
+/// How long a node may answer nothing, in milliseconds, that goes on all the same: at least a timeout.
+// One that is silent for longer may hang as well, so that nobody is sent to it from another.
+const QUIET_AFTER: u64 = 2_000;
+
 /// How long a node that is down waits at most while too few nodes are up, in milliseconds.
 // Nothing can be agreed meanwhile, so that a try costs nothing that matters.
 const SHORT_WAIT: u32 = 2_000;
 
+/// After how long without an answer a node counts as one that hangs, in milliseconds.
+pub fn hang_limit(settings: &Settings) -> u64
+    ensures { result ≡ hang_limit settings.now.timeout_ms }
+{
+    HANGS_AFTER.max(TIMEOUTS * settings.timeout_ms as u64)
+}
+
+/// How long a node may answer nothing that goes on all the same, in milliseconds.
+pub fn quiet_limit(settings: &Settings) -> u64
+    ensures { result ≡ quiet_limit settings.now.timeout_ms }
+{
+    QUIET_AFTER.max(settings.timeout_ms as u64)
+}
+
 impl NodeMonitor {
-    /// Whether it serves nobody at this moment: it is down, or has answered nothing for so long that it
-    /// counts as one that hangs.
-    pub fn is_absent(&self, now: &Now, settings: &Settings) -> bool
-        ensures { result ≡ is_absent settings.now.timeout_ms now.now.ms self.now }
+    /// Whether it serves nobody at this moment: it is down, or has answered nothing for so many milliseconds.
+    pub fn is_absent(&self, now: &Now, limit: u64) -> bool
+        ensures { result ≡ is_absent limit now.now.ms self.now }
     {
-        self.down.is_some() || self.is_silent(now, settings)
+        self.down.is_some() || self.presence.last_report.has_passed(limit, now.ms)
     }
 
-    /// Whether it has answered nothing for so long.
-    fn is_silent(&self, now: &Now, settings: &Settings) -> bool
-        ensures { result ≡ is_silent settings.now.timeout_ms now.now.ms self.now }
-    {
-        let limit = HANGS_AFTER.max(TIMEOUTS * settings.timeout_ms as u64);
-        self.presence.last_report.has_passed(limit, now.ms)
-    }
-
-    /// Whether it hangs, and its clients were not told: it was up when it was last heard of.
-    pub fn begins_to_hang(&self, now: &Now, settings: &Settings) -> bool
+    /// The run in which it hangs, where it does and its clients were not told: it was up when it was last heard of.
+    pub fn begins_to_hang(&self, now: &Now, settings: &Settings) -> Option<Number>
         ensures { result ≡ begins_to_hang settings.now.timeout_ms now.now.ms self.now }
     {
-        self.boot().is_some() && !self.presence.is_hanging && self.is_silent(now, settings)
+        if self.presence.is_hanging || !self.is_absent(now, hang_limit(settings)) {
+            return None;
+        }
+        self.boot()
     }
 
-    /// It hangs: an operator is told, and it takes no clients until it answers.
-    pub fn hang(&mut self, orders: &mut Orders) -> Result<(), AllocError>
+    /// It hangs in this run: an operator is told, and it takes no clients until it begins another run.
+    pub fn hang(&mut self, boot: Number, orders: &mut Orders) -> Result<(), AllocError>
         ensures told { OnOk result
             (orders.new ≡ ordered orders.old (Log (Hangs self.old.id) ∷ [])) }
-        ensures monitor { self.new ≡ hanging self.old }
+        ensures monitor { self.new ≡ hanging boot self.old }
     {
         self.presence.is_hanging = true;
         // that it takes no clients is said by that
         self.visitors.has_turned_away = true;
+        self.see(boot);
         orders.log(News::Hangs(self.id))
     }
 
-    /// Whether its clients were told that it hangs, and it has not answered since.
+    /// Whether its clients were told that it hangs, and no run of it began since.
     pub fn is_hanging(&self) -> bool
         ensures { result ≡ self.now.presence.is_hanging }
     {

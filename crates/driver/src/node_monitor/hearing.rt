@@ -1,5 +1,5 @@
 //! What a node's worker tells of how the node stands.
-ghost use Rattle.std.specs.Prelude.{◌≡◌, ◌++◌, IfOk, OnOk, None, Some};
+ghost use Rattle.std.specs.Prelude.{◌≡◌, ◌++◌, ◌&&◌, IfOk, OnOk, None, Some};
 ghost use Rattle.driver.specs.Hearing.{answers_news, down_behind, down_news, elected_news, heard_behind, heard_news};
 ghost use Rattle.driver.specs.Hearing.{heard_of, is_new_run, is_raised, led_in, up_behind, up_news};
 ghost use Rattle.driver.specs.Hearing.{progressed, settled, waiting_behind, was_up};
@@ -57,7 +57,7 @@ impl NodeMonitor {
         self.claimed = settled(self.claimed, status, self.progress.done);
         match status.down {
             Some(cause) => self.hear_down(now, cause, orders)?,
-            None => self.hear_up(now, was_up, status.boot, orders)?,
+            None => self.hear_up(now, was_up, is_new, status.boot, orders)?,
         }
         let has_lost = lost < self.progress.lost;
         Ok(Heard { is_new, has_lost })
@@ -148,25 +148,29 @@ impl NodeMonitor {
         orders.log(News::Down(self.id, cause))
     }
 
-    /// It is up, and answers.
+    /// It is up. One that hung takes clients again in a new run alone, since the run that hung is over for the
+    /// others.
     fn hear_up(
         &mut self,
         now: &Now,
         was_up: bool,
+        is_new: bool,
         boot: Number,
         orders: &mut Orders,
     ) -> Result<(), AllocError>
         ensures told { OnOk result (orders.new ≡ ordered orders.old
-            (answers_news self.old.id self.old.presence.is_hanging ++ up_news self.old.id boot was_up)) }
-        ensures monitor { OnOk result (self.new ≡ up_behind self.old now.now.ms was_up) }
+            (answers_news self.old.id (self.old.presence.is_hanging && is_new)
+            ++ up_news self.old.id boot was_up)) }
+        ensures monitor { OnOk result
+            (self.new ≡ up_behind self.old now.now.ms is_new was_up) }
     {
         self.down = None;
         self.presence.last_report = Timer::from(now.ms);
-        self.visitors.has_turned_away = false;
-        if self.presence.is_hanging {
+        if self.presence.is_hanging && is_new {
             self.presence.is_hanging = false;
             orders.log(News::Answers(self.id))?;
         }
+        self.visitors.has_turned_away = self.presence.is_hanging;
         if !was_up {
             self.following.last_leader_contact = Timer::from(now.ms);
             self.presence.up = Timer::from(now.ms);

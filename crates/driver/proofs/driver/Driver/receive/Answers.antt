@@ -32,8 +32,8 @@ returns-clause-served c =
           clients c.in_ok-receive.ensures.served;
       greeted =
           subst
-          (λ (was : Bool). IsGreeted was (client_at new.clients number) (nick_in old) told new.orders)
+          (λ (was : Bool). IsGreeted was old.is_short (client_at new.clients number) (nick_in old) told new.orders)
           c.is_attached-was_attached.ensures
-          (subst (λ (clients : Clients). IsGreeted c.is_attached-was_attached.result (client_at clients number) (nick_in old) told new.orders) clients greeted);
+          (subst (λ (clients : Clients). IsGreeted c.is_attached-was_attached.result old.is_short (client_at clients number) (nick_in old) told new.orders) clients greeted);
     })
     c.greet.ensures.told
