@@ -168,12 +168,13 @@ class Bouncer:
                 client.close()
 
 
-def said(*words, folder=None):
-    """What the program answers to these words, in a folder, while its standard input is held open: the exit code, and the
-    lines of its output and of its errors."""
+def said(*words, folder=None, environment=None):
+    """What the program answers to these words, in a folder and an environment, while its standard input is held open: the exit
+    code, and the lines of its output and of its errors."""
     reading, writing = os.pipe()
+    room = {"cwd": folder, "env": {**os.environ, **(environment or {})}}
     try:
-        done = subprocess.run([PROGRAM, *words], stdin=reading, capture_output=True, timeout=LONGEST, text=True, cwd=folder)
+        done = subprocess.run([PROGRAM, *words], stdin=reading, capture_output=True, timeout=LONGEST, text=True, **room)
     finally:
         os.close(reading)
         os.close(writing)
