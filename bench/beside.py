@@ -195,4 +195,5 @@ def main():
         print(f"| {row[0][0]} | {' | '.join(figure for _, figure in row)} |")
 
 
-main()
+if __name__ == "__main__":
+    main()

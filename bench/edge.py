@@ -5,11 +5,15 @@ With three, five and seven nodes: how long 90 lines that are pasted at the leade
 how many requests and claims they are in the log; how long 50 clients that attach at once, spread over the nodes, wait until
 they are shown their channel, at rest and while the server says 200 lines a second. With three nodes: how many leaders and
 sessions a follower's syncs of 1.4 s cost, one every six seconds; and of the lines that clients say at all nodes while the
-nodes' journals fail at random, how many come to the server, and how many came twice.
+nodes' journals fail at random, how many come to the server, and how many came twice. Of the lines that a server says, 200 a
+second, while a client QUITs and comes back 30 times, at the nodes in turn, how many are seen by nobody: without a name and with
+one, also where each sync takes 4 ms longer, and at ZNC, where it is installed. How long it takes until a client of a node whose
+disk hangs is told so.
 """
 
 import os
 import shutil
+import subprocess
 import sys
 import tempfile
 import time
@@ -17,16 +21,23 @@ import time
 sys.path.insert(0, os.path.join(os.path.dirname(os.path.dirname(os.path.realpath(__file__))), "tests"))
 sys.dont_write_bytecode = True
 import journal
+from beside import ZNC
 from client import Client, Late, until
+from harness import Ports
 from people import Person, talk_while_journals_fail
 from shims import built
-from stand_in import Flood, running
+from stand_in import Flood, StandIn, flooded, running
 
 PASTED = 90
 CROWD = 50
 RATE = 200
 SLOW_SECONDS = 40
 FAULT_SECONDS = 45
+QUITS = 30
+STAY = 0.3  # seconds for which a client stays
+SYNC_MS = 4
+KEPT = 500
+HUNG_SECONDS = 30
 
 
 def paste(server, bouncer, node):
@@ -113,10 +124,99 @@ def faults(room):
     bouncer.end()
 
 
+class Znc:
+    """ZNC, which has one address, over the same server."""
+
+    def __init__(self, folder, server):
+        self.ports = Ports(1).numbers * 3
+        os.makedirs(f"{folder}/configs")
+        with open(f"{folder}/configs/znc.conf", "w") as config:
+            config.write(ZNC.format(port=self.ports[0], upstream=server.port, kept=KEPT))
+        who = {}
+        if os.geteuid() == 0:  # as root it waits for half a minute
+            subprocess.run(["chown", "-R", "nobody", folder], check=True)
+            who = {"user": "nobody"}
+        quiet = {"stdin": subprocess.DEVNULL, "stdout": subprocess.DEVNULL, "stderr": subprocess.DEVNULL}
+        self.program = subprocess.Popen(["znc", "--foreground", "--datadir", folder], cwd=folder, **quiet, **who)
+        until(server.is_joined, "ZNC's session")
+
+    def attach(self, node, password):
+        return Client(self.ports[0], "me", password)
+
+    def end(self):
+        self.program.kill()
+        self.program.wait()
+
+
+def quit_and_back(server, bouncer, password):
+    """Lines that are said while a client QUITs and comes back, and how many of them nobody saw."""
+    seen, flood = [], None
+    for turn in range(QUITS):
+        client = bouncer.attach(1 + turn % 3, password=password)
+        client.wait("#x")  # the end of a JOIN
+        flood = flood or Flood(server, RATE)
+        time.sleep(STAY)
+        client.say("QUIT")
+        client.wait_closed()
+        seen += flooded(client)
+    count = len(flood.stop())
+    client = bouncer.attach(1, password=password)
+    client.wait("#x")
+    server.say("the mark")
+    client.wait("the mark")
+    seen += flooded(client)
+    return f"of {count} lines {count - len(set(seen))} are seen by nobody, {len(seen) - len(set(seen))} twice"
+
+
+def quits(room):
+    slow = {"LD_PRELOAD": built(room, "slow_sync"), "SYNC_MS": str(SYNC_MS)}
+    for name, password in (("without a name", "pw"), ("with a name", "x@phone:pw")):
+        for more, environment in (("", {}), (f", each sync {SYNC_MS} ms longer", slow)):
+            folder = f"{name}{more}".replace(" ", "-").replace(",", "")
+            server, bouncer = running(room, folder, environment, chan_buffer_size=str(KEPT))
+            print(f"{QUITS} QUITs {name}{more}: {quit_and_back(server, bouncer, password)}", flush=True)
+            bouncer.end()
+            server.close()
+    if shutil.which("znc") is None:
+        print("ZNC is not installed")
+        return
+    server = StandIn()
+    znc = Znc(os.path.join(room, "znc"), server)
+    try:
+        print(f"ZNC, {QUITS} QUITs: {quit_and_back(server, znc, 'me/n:word')}", flush=True)
+    finally:
+        znc.end()
+        server.close()
+
+
+def hangs(room):
+    for role in ("the leader", "a follower"):
+        control = os.path.join(room, "hanging")
+        environment = {"LD_PRELOAD": built(room, "hang_sync"), "HANGING": control}
+        server, bouncer = running(room, role.replace(" ", "-"), environment)
+        node = bouncer.leader() if role == "the leader" else bouncer.followers()[0]
+        client = bouncer.attach(node)
+        client.wait("JOIN #x")
+        with open(control, "w") as file:
+            file.write(f"/node-{node}")
+        server.say("a line that is saved")
+        begun = time.monotonic()
+        try:
+            until(lambda: client.read() is not None and not client.is_open, "", HUNG_SECONDS)
+            told = f"{client.lines[-1]!r} after {time.monotonic() - begun:.1f} s"
+        except Late:
+            told = f"told nothing in {HUNG_SECONDS} s"
+        print(f"the disk of {role} hangs: a client there is {told}", flush=True)
+        os.unlink(control)
+        bouncer.end()
+        server.close()
+
+
 def main():
     room = tempfile.mkdtemp(prefix="hukbarg-")
+    os.chmod(room, 0o755)
     try:
-        for case in (bursts, slow_syncs, faults):
+        for case in (bursts, slow_syncs, faults, quits, hangs):
             if len(sys.argv) == 1 or case.__name__ in sys.argv[1:]:
                 case(room)
     except Late as late:

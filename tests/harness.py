@@ -6,6 +6,7 @@ import signal
 import socket
 import subprocess
 import tempfile
+import threading
 import time
 
 from client import Client, Late, until, LONGEST
@@ -14,6 +15,7 @@ TOP = os.path.dirname(os.path.dirname(os.path.realpath(__file__)))
 PROGRAM = os.environ.get("BOUNCER", "")  # else found by program_is_there
 STAYS = 0.5  # seconds after which a leader is taken to stay
 passed = failed = 0
+counting = threading.Lock()
 
 
 class TooLong(BaseException):
@@ -22,11 +24,12 @@ class TooLong(BaseException):
 
 def check(name, holds, shown=""):
     global passed, failed
-    if holds:
-        passed += 1
-    else:
-        failed += 1
-        print(f"failed: {name} {shown}", flush=True)
+    with counting:
+        if holds:
+            passed += 1
+        else:
+            failed += 1
+            print(f"failed: {name} {shown}", flush=True)
 
 
 def figures(name, text):
@@ -165,12 +168,13 @@ class Bouncer:
                 client.close()
 
 
-def said(*words, folder=None):
-    """What the program answers to these words, in a folder, while its standard input is held open: the exit code, and the
-    lines of its output and of its errors."""
+def said(*words, folder=None, environment=None):
+    """What the program answers to these words, in a folder and an environment, while its standard input is held open: the exit
+    code, and the lines of its output and of its errors."""
     reading, writing = os.pipe()
+    room = {"cwd": folder, "env": {**os.environ, **(environment or {})}}
     try:
-        done = subprocess.run([PROGRAM, *words], stdin=reading, capture_output=True, timeout=LONGEST, text=True, cwd=folder)
+        done = subprocess.run([PROGRAM, *words], stdin=reading, capture_output=True, timeout=LONGEST, text=True, **room)
     finally:
         os.close(reading)
         os.close(writing)
@@ -188,15 +192,29 @@ def program_is_there():
 
 def run_case(case, room):
     """Runs a case in this room. What it waited for in vain is a failure."""
-    global failed
     begun = time.monotonic()
     try:
         case(room)
     except (Late, OSError, subprocess.SubprocessError) as fault:
-        failed += 1
-        print(f"failed: {case.__name__}: {fault}", flush=True)
+        check(f"{case.__name__}: {fault}", False)
     if "TIMES" in os.environ:
         print(f"{case.__name__}: {time.monotonic() - begun:.1f} s", flush=True)
+
+
+def run_at_once(cases, room):
+    """Runs the cases at once, each in a thread of its own. A fault of a case's own is a failure, too."""
+
+    def guarded(case):
+        try:
+            run_case(case, room)
+        except Exception as fault:
+            check(f"{case.__name__}: {fault!r}", False)
+
+    threads = [threading.Thread(target=guarded, args=(case,), daemon=True) for case in cases]
+    for thread in threads:
+        thread.start()
+    for thread in threads:
+        thread.join()
 
 
 def note_children():
@@ -212,9 +230,9 @@ def note_children():
     return children
 
 
-def run_cases(cases, seconds):
-    """Runs the cases in a room of their own, at most for so many seconds, ends what they started, and tells how many
-    checks passed."""
+def run_cases(cases, seconds, at_once=False):
+    """Runs the cases in a room of their own, one after the other or all at once, at most for so many seconds, ends what they
+    started, and tells how many checks passed."""
     global failed
 
     def too_long(*_):
@@ -226,8 +244,11 @@ def run_cases(cases, seconds):
     signal.signal(signal.SIGALRM, too_long)
     signal.alarm(seconds)
     try:
-        for case in cases:
-            run_case(case, room)
+        if at_once:
+            run_at_once(cases, room)
+        else:
+            for case in cases:
+                run_case(case, room)
     except TooLong:
         failed += 1
         print(f"failed: this is cut off, since it takes more than {seconds} s", flush=True)

@@ -2,14 +2,17 @@
 
 import os
 import subprocess
+import threading
 
 FOLDER = os.path.dirname(os.path.realpath(__file__))
+building = threading.Lock()
 
 
 def built(room, name):
     """The library of this name, built in a room."""
     library = os.path.join(room, f"{name}.so")
-    if not os.path.exists(library):
-        source = os.path.join(FOLDER, f"{name}.c")
-        subprocess.run(["gcc", "-shared", "-fPIC", "-O2", "-o", library, source, "-ldl"], check=True)
+    with building:
+        if not os.path.exists(library):
+            source = os.path.join(FOLDER, f"{name}.c")
+            subprocess.run(["gcc", "-shared", "-fPIC", "-O2", "-o", library, source, "-ldl"], check=True)
     return library

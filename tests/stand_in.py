@@ -6,7 +6,7 @@ import socket
 import threading
 import time
 
-from client import PAUSE, until
+from client import PAUSE, bare, until
 from harness import Bouncer, Ports
 
 
@@ -22,6 +22,12 @@ def attached(bouncer, node):
     client = bouncer.attach(node)
     client.wait("JOIN #x")
     return client
+
+
+def flooded(client):
+    """The numbers of a flood's lines that a client was shown, played or as they came, in order."""
+    texts = [bare(text) for text in client.texts("#x")]
+    return [int(text.removeprefix("flood ")) for text in texts if text.startswith("flood ")]
 
 
 def say_all(client, texts):
