@@ -133,6 +133,7 @@ fn tick<O: Operator>(
     operator: &mut O,
 ) -> Result<(), LoopFault> {
     driver.tick(now)?;
+    driver.watch_nodes(now)?;
     driver.watch_log()?;
     sockets.tick(now, driver)?;
     if let Some(entries) = driver.log_length() {
