@@ -11,9 +11,10 @@ use std::alloc::Global;
 use std::fs::Files;
 use std::io::{self, ErrorKind};
 
-/// How long after one look at the paths the next is due, in milliseconds: a folder that was moved by mistake may be
-/// moved back within that time, and a second program that made it anew has its session soon after.
-const LOOK_EVERY: u64 = 1_000;
+/// How long after one look at the paths the next is due, in milliseconds: two looks in a row decide, so that a folder
+/// that was moved by mistake may be moved back at once, and a second program that made it anew has its session soon
+/// after.
+const LOOK_EVERY: u64 = 500;
 
 /// How many nodes there may be.
 const MOST_NODES: u8 = 7;
@@ -33,6 +34,8 @@ pub struct StoreWatch {
     places: Vec<Place>,
     /// When the next look is due, in milliseconds.
     due: u64,
+    /// The last look found none of the journals at its path.
+    was_away: bool,
 }
 
 impl StoreWatch {
@@ -51,17 +54,24 @@ impl StoreWatch {
             let file = journal.disk().file_id()?;
             places.push(Place { path, file })?;
         }
-        Ok(StoreWatch { places, due: 0 })
+        Ok(StoreWatch {
+            places,
+            due: 0,
+            was_away: false,
+        })
     }
 
-    /// Whether a look is due, and finds none of the journals at its path. The names of files that are open are kept in
-    /// memory by the system, so that a look waits for no disk.
+    /// Whether a look is due, and finds none of the journals at its path, as the look before it did. The names of files
+    /// that are open are kept in memory by the system, so that a look waits for no disk.
     pub fn look<R: Files>(&mut self, rt: &R, ms: u64) -> bool {
         if ms < self.due {
             return false;
         }
         self.due = ms.saturating_add(LOOK_EVERY);
-        self.places.iter().all(|place| place.is_away(rt))
+        let is_away = self.places.iter().all(|place| place.is_away(rt));
+        let is_gone = is_away && self.was_away;
+        self.was_away = is_away;
+        is_gone
     }
 }
 
