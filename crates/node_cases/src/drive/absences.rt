@@ -1,6 +1,6 @@
 //! What a driver orders where a node hangs, too few nodes are up, or clients are to leave, by stories.
 use crate::drive::story::{Step, follow};
-use crate::drive::telling::{down_in, standing};
+use crate::drive::telling::{down_in, in_run, standing};
 use raft_log::{NodeId, Role};
 use std::test::Fail;
 
@@ -63,8 +63,11 @@ fn clients_of_a_node_that_hangs_are_closed_while_others_go_on(
         Step::Watches(5_002),
         Step::Orders(""),
         Step::Stands(5_003, two, standing(Role::Follower, 0), 1),
+        Step::IsHanging(two, true),
+        Step::Connects(5_004, two, None),
+        Step::Stands(5_010, two, in_run(2), 2),
         Step::IsHanging(two, false),
-        Step::Connects(5_004, two, Some(2)),
+        Step::Connects(5_020, two, Some(2)),
     ];
     follow(&rt, rt.alloc(), &at_node(2), &story)
 }
