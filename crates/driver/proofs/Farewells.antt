@@ -1,15 +1,13 @@
 -- A client that leaves is shown all that it is shown, as long as its connection stands.
-use Rattle.std.proofs.Common.{◌≡◌, ◌∙◌, ◌++◌, ℕ, Bool, true, false, not, ◌&&◌, ◌||◌, List, [], ◌∷◌, Option, Some, None, refl, sym, ap, subst, ⊎_elim}
-use Rattle.std.specs.Prelude.{flat_map, if◌then◌else◌, is_some, nat_eq}
+use Rattle.std.proofs.Common.{◌≡◌, ◌∙◌, ◌++◌, ℕ, Bool, true, false, not, ◌&&◌, ◌||◌, List, [], ◌∷◌, Option, Some, refl, sym, ap, subst, ⊎_elim}
+use Rattle.std.specs.Prelude.{if◌then◌else◌, is_some, nat_eq}
 use Rattle.std.specs.Global.{Vec}
 use Rattle.std.specs.List.{list_any}
 use Rattle.driver.proofs.Claiming.{same_eq}
 use Rattle.std.proofs.lemmas.List.{append_assoc, append-nil}
-use Rattle.std.proofs.lemmas.List.Folds.{list_any-append}
 use Rattle.std.proofs.lemmas.Grind.{flat_map-append}
 use Rattle.wire_bytes.specs.declared.moment.Moment.{Moment}
 use Rattle.wire_bytes.specs.declared.origin.Origin.{Origin}
-use Rattle.client_gate.specs.declared.fed.Fed.{Fed}
 use Rattle.client_gate.specs.declared.request.Request.{Request}
 use Rattle.client_gate.specs.declared.settings.Settings.{Settings}
 use Rattle.client_gate.specs.Calls.{Call, Hear, Stands, gate}
@@ -19,14 +17,14 @@ use Rattle.driver.specs.declared.client.Client.{Client}
 use Rattle.driver.specs.declared.order.Order.{Order}
 use Rattle.driver.specs.declared.order.Order.TheVariants.{Write}
 use Rattle.driver.specs.declared.timer.Timer.{Timer}
-use Rattle.driver.specs.Asking.{HearsNode, anew_if, held_if, is_stuck, may_be_lost, now_asked}
-use Rattle.driver.specs.Clients.{asked_all, asks_of, has_left, is_cut, is_leaving, is_some_asked, leaves_since, parting_unless, passed, write_some, written}
+use Rattle.driver.specs.Asking.{anew_if, held_if, is_stuck, may_be_lost, now_asked}
+use Rattle.driver.specs.Clients.{asked_all, asks_of, is_cut, is_leaving, is_some_asked, leaves_since, parting_unless, passed, write_some, written}
 use Rattle.driver.specs.Crowds.{Ticks}
 use Rattle.driver.specs.Farewells.{LeaversAreShownAll, WritesJust, all_shown, bytes_to, closes, shown_by, written_to}
-use Rattle.driver.specs.Leaving.{IsDismissed, is_late, is_overdue}
+use Rattle.driver.specs.Leaving.{is_late, is_overdue}
 use Rattle.driver.specs.Once.{Dismissed, Event, Goes, HappenAll, Happening, Happens, Learns, Speaks, Waits, Words}
-use Rattle.driver.specs.Serving.{HasPassed, Hears, HearsEffect, IsLost, IsParted, PartsIf, Receives, is_done}
-use Rattle.driver.specs.Silence.{IsKept, IsPing, held_back, is_silent, is_too_slow, waited}
+use Rattle.driver.specs.Serving.{HasPassed, HearsEffect, IsParted, PartsIf, is_done}
+use Rattle.driver.specs.Silence.{IsKept, IsPing, is_silent, waited}
 use Rattle.driver.specs.Telling.{Ordered, ordered}
 use Rattle.driver.proofs.Asking.{hear_asks_none}
 use Rattle.driver.proofs.Owning.{effect_own, event_own}

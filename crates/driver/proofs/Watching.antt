@@ -1,25 +1,23 @@
 -- Nodes that hang, a group that is too small, and clients that are to leave: what is ordered, and how nodes stand behind it.
-use Rattle.std.proofs.Common.{◌≡◌, ◌∙◌, ℕ, zero, suc, ◌+◌, ◌-◌, Bool, true, false, List, [], ◌∷◌, Option, Some, None, refl, sym, ap, subst, map, slice_get}
+use Rattle.std.proofs.Common.{◌≡◌, ◌∙◌, ℕ, zero, suc, ◌+◌, ◌-◌, Bool, true, false, List, [], ◌∷◌, Option, Some, None, refl, sym, ap, subst, slice_get}
 use Rattle.std.specs.Prelude.{is_some}
 use Rattle.std.specs.BTreeMap.{keys}
 use Rattle.std.proofs.lemmas.Option.{slice_get-map}
 use Rattle.wire_bytes.specs.declared.moment.Moment.{Moment}
 use Rattle.driver.specs.declared.absence.Absence.TheVariants as absence
 use Rattle.driver.specs.declared.driver.Driver.{Driver}
-use Rattle.driver.specs.declared.link.Link.{Link}
 use Rattle.driver.specs.declared.node_monitor.NodeMonitor.{NodeMonitor}
 use Rattle.driver.specs.declared.node_monitor.standing.Outage.{Outage}
-use Rattle.driver.specs.declared.order.Order.{Order}
 use Rattle.driver.specs.declared.order.Order.TheVariants as order
 use Rattle.driver.specs.Absences.{CutsBy, HangNodes, HangsIf, TellsGroupIf, WatchesNodes, begins_in, goes_on, group_news, hang_limit, hanging, hangs_news, hastened, hastened_if, is_new, is_short, shortened}
 use Rattle.driver.specs.Monitors.{is_over}
 use Rattle.driver.specs.Crowds.{told}
-use Rattle.driver.specs.Driving.{Dismisses, changed_at, orders_at, orders_of, told_of}
-use Rattle.driver.specs.Telling.{Ordered, ordered}
+use Rattle.driver.specs.Driving.{Dismisses, orders_at, orders_of, told_of}
+use Rattle.driver.specs.Telling.{ordered}
 use Rattle.driver.proofs.Adding.{Adds, adds_both, all_written_add, nothing_adds, one_adds}
-use Rattle.driver.proofs.Growing.{AllAre, AllGood, Grows, cuts_grow, dismisses_grow}
+use Rattle.driver.proofs.Growing.{AllAre, cuts_grow, dismisses_grow}
 use Rattle.driver.proofs.Keeping.{Keeps, Sound, keeps_both, orders_keep, same_keeps}
-use Rattle.driver.proofs.Monitors.{Ids, changed_same, ids_kept, look, look_at, mapped_same}
+use Rattle.driver.proofs.Monitors.{changed_same, ids_kept, look_at, mapped_same}
 use Rattle.driver.proofs.Quiet.{NoClaim}
 use Rattle.driver.proofs.Reporting.{grows_keep}
 use Rattle.driver.proofs.Restarts.{Plain}

@@ -1,5 +1,5 @@
 -- A node that serves nobody, since it is down or answers nothing, and a group too few of whose nodes are up.
-use Rattle.std.specs.Prelude.{◌≡◌, ℕ, zero, suc, ◌+◌, ◌-◌, ◌*◌, ◌/◌, ◌&&◌, ◌||◌, Bool, true, false, not, is_some, max, min, map, take, nat_lt, if◌then◌else◌, List, [], ◌∷◌, Option, Some, None, slice_get, slice_set}
+use Rattle.std.specs.Prelude.{◌≡◌, ℕ, zero, suc, ◌+◌, ◌-◌, ◌*◌, ◌/◌, ◌||◌, Bool, true, false, not, is_some, max, min, map, take, nat_lt, if◌then◌else◌, List, [], ◌∷◌, Option, Some, None, slice_get, slice_set}
 use Rattle.std.specs.BTreeMap.{keys}
 use Rattle.driver.specs.declared.absence.Absence.TheVariants as absence
 use Rattle.driver.specs.declared.driver.Driver.{Driver}

@@ -1,5 +1,5 @@
 -- What a client that leaves is shown, and why its connection is closed.
-use Rattle.std.specs.Prelude.{◌≡◌, ℕ, Bool, true, false, nat_eq, if◌then◌else◌, flat_map, List, [], Some}
+use Rattle.std.specs.Prelude.{◌≡◌, ℕ, Bool, false, nat_eq, if◌then◌else◌, flat_map, List, [], Some}
 use Rattle.std.specs.List.{list_any}
 use Rattle.client_gate.specs.declared.settings.Settings.{Settings}
 use Rattle.client_gate.specs.Calls.{Call, Stands}

@@ -113,7 +113,10 @@ impl fmt::Display for News {
             News::Up(_, boot) => write!(f, "up, run {}", boot.value()),
             News::Hangs(_) => write!(f, "does not answer: its clients are closed"),
             News::Answers(_) => write!(f, "answers again"),
-            News::TooFew => write!(f, "too few nodes are up: nothing is shown or sent until more are"),
+            News::TooFew => write!(
+                f,
+                "too few nodes are up: nothing is shown or sent until more are"
+            ),
             News::Enough => write!(f, "enough nodes are up again"),
             News::TurnedAway(_) => write!(f, "client turned away: the node is down"),
             News::LogFills(_, Level::Full) => {

@@ -191,9 +191,9 @@ impl NodeMonitor {
         let silence = DEAD * settings.timeout_ms as u64;
         match (self.down, self.status) {
             (Some(_), Some(status)) => Some(self.greatest_seen(status.boot)),
-            _ if self.presence.is_hanging
-                || self.presence.last_report.has_passed(silence, now.ms) =>
-            {
+            _
+                if self.presence.is_hanging
+                    || self.presence.last_report.has_passed(silence, now.ms) => {
                 self.visitors.greatest_boot
             }
             _ => None,

@@ -1,5 +1,5 @@
 //! The retirements of all nodes.
-ghost use Rattle.std.specs.Prelude.{◌≡◌, ◌-◌, OnOk, Some, map, slice_get};
+ghost use Rattle.std.specs.Prelude.{◌≡◌, ◌-◌, OnOk, map, slice_get};
 ghost use Rattle.driver.specs.Absences.{retired_in};
 ghost use Rattle.driver.specs.Monitors.{told};
 ghost use Rattle.driver.specs.Driving.{orders_at, tick_orders, ticked};
@@ -59,10 +59,19 @@ impl Retirements {
     }
 
     /// The runs of this node that are over are retired: that is asked for once a node leads.
-    pub fn retire_run(&mut self, now: &Now, settings: &Settings, monitor: &NodeMonitor)
-        ensures { self.new ≡ record self.old
-            { all = retired_in settings.now now.now.ms (Some monitor.now) self.old.all } }
+    pub fn retire_run(
+        &mut self,
+        now: &Now,
+        settings: &Settings,
+        monitors: &[NodeMonitor; MOST_NODES],
+        node: NodeId,
+    )
+        ensures { self.new ≡ record self.old {
+          all = retired_in settings.now now.now.ms
+              (slice_get monitors.now (node - 1)) self.old.all;
+        } }
     {
+        let monitor = &monitors[node.value() as usize - 1];
         let place = &mut self.all[monitor.id().value() as usize - 1];
         retire(place, now, settings, monitor);
     }

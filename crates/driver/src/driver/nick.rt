@@ -64,8 +64,7 @@ impl Driver {
             return Ok(());
         }
         let line = notice(self.alloc, self.nick().as_bytes(), group_words(true))?;
-        self.clients
-            .tell(number, line.as_slice(), &mut self.orders)
+        self.clients.tell(number, line.as_slice(), &mut self.orders)
     }
 
     /// What came in a session may give another nick.

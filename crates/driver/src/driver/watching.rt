@@ -1,8 +1,11 @@
 //! Nodes that hang, and a group too few of whose nodes are up.
 ghost use Rattle.std.specs.Prelude.{◌≡◌, ◌≤◌, ◌-◌, OnOk, length, map, slice_get};
-ghost use Rattle.driver.specs.Absences.{CutsBy, HangNodes, HangsIf, TellsGroupIf, WatchesNodes};
-ghost use Rattle.driver.specs.Absences.{begins_in, goes_on, group_news, hang_limit, has_majority, hastened};
-ghost use Rattle.driver.specs.Absences.{is_hanging_in, is_new, serving};
+ghost use Rattle.driver.specs.Absences.{CutsBy, HangNodes, HangsIf, HangsNode, TellsGroup, TellsGroupIf, WatchesNodes};
+ghost use Rattle.driver.specs.Absences.{begins_in, goes_on, group_news, hang_limit, hanging, hangs_news};
+ghost use Rattle.driver.specs.Absences.{has_majority, hastened, hastened_if, is_hanging_in, is_new, is_short};
+ghost use Rattle.driver.specs.Absences.{retired_in, serving};
+ghost use Rattle.driver.specs.Driving.{changed_at, orders_at};
+ghost use Rattle.driver.specs.Telling.{ordered};
 ghost use Rattle.driver.specs.Monitors.{is_over};
 ghost use Rattle.driver.specs.Nicks.{group_words};
 
@@ -14,6 +17,7 @@ use crate::order::Now;
 use crate::timer::Timer;
 use raft_log::NodeId;
 use std::alloc::AllocError;
+use wire_bytes::Number;
 
 /// What clients are told where too few nodes are up.
 const TOO_FEW: &[u8] = b"Nothing is shown or sent for now: too few nodes are up.";
@@ -28,12 +32,27 @@ impl Driver {
     pub fn watch_nodes(&mut self, now: &Now) -> Result<(), AllocError>
         ensures { OnOk result (WatchesNodes now.now.ms self.old self.new) }
     {
-        let is_short = !self.has_majority(now, hang_limit(&self.settings));
+        let is_short = self.is_short(now);
+        self.hasten_if(is_short);
+        self.cut_off_by(now)?;
+        self.tell_group(is_short)
+    }
+
+    /// Whether too few nodes are up: others are down, or hang.
+    fn is_short(&self, now: &Now) -> bool
+        ensures { result ≡ is_short self.now now.now.ms }
+    {
+        !self.has_majority(now, hang_limit(&self.settings))
+    }
+
+    /// Where too few nodes are up, those that are down are started again soon.
+    fn hasten_if(&mut self, is_short: bool)
+        ensures { self.new ≡ record self.old
+            { monitors = hastened_if is_short self.old.monitors } }
+    {
         if is_short {
             hasten_all(self.monitors.as_mut_slice());
         }
-        self.cut_off_by(now)?;
-        self.tell_group(is_short)
     }
 
     /// Whether more than half of the nodes serve clients, each of which may be silent for so many milliseconds.
@@ -75,14 +94,51 @@ impl Driver {
         ensures { OnOk result (HangsIf (begins_in self.old.settings.timeout_ms now.now.ms
             (slice_get self.old.monitors (node - 1))) now.now.ms node self.old self.new) }
     {
-        let monitor = &mut self.monitors[node.value() as usize - 1];
-        let Some(boot) = monitor.begins_to_hang(now, &self.settings) else {
-            return Ok(());
-        };
-        monitor.hang(boot, &mut self.orders)?;
-        self.retirements.retire_run(now, &self.settings, monitor);
+        match self.begins_to_hang(now, node) {
+            Some(boot) => self.hang(now, node, boot),
+            None => Ok(()),
+        }
+    }
+
+    /// The run in which a node begins to hang, if it does.
+    fn begins_to_hang(&self, now: &Now, node: NodeId) -> Option<Number>
+        ensures { result ≡ begins_in self.now.settings.timeout_ms now.now.ms
+            (slice_get self.now.monitors (node - 1)) }
+    {
+        let monitor = self.monitors.get(node.value() as usize - 1)?;
+        monitor.begins_to_hang(now, &self.settings)
+    }
+
+    /// A node hangs in this run: its clients are told so and closed, and the run is retired.
+    fn hang(&mut self, now: &Now, node: NodeId, boot: Number) -> Result<(), AllocError>
+        ensures { OnOk result (HangsNode now.now.ms node boot self.old self.new) }
+    {
+        self.note_hanging(node, boot)?;
+        self.retire_hanging(now, node);
         self.clients
             .cut_off(Absence::Hanging, node, &mut self.orders)
+    }
+
+    /// That a node hangs in this run is known, and an operator is told.
+    fn note_hanging(&mut self, node: NodeId, boot: Number) -> Result<(), AllocError>
+        ensures monitors { OnOk result
+            (self.new.monitors ≡ changed_at (hanging boot) self.old.monitors node) }
+        ensures told { OnOk result (self.new.orders
+            ≡ ordered self.old.orders (orders_at hangs_news self.old.monitors node)) }
+        ensures rest { self.new ≡ record self.old
+            { monitors = self.new.monitors; orders = self.new.orders } }
+    {
+        self.monitors[node.value() as usize - 1].hang(boot, &mut self.orders)
+    }
+
+    /// The runs of a node that are over are retired.
+    fn retire_hanging(&mut self, now: &Now, node: NodeId)
+        ensures retired { self.new.retirements.all ≡ retired_in self.old.settings now.now.ms
+            (slice_get self.old.monitors (node - 1)) self.old.retirements.all }
+        ensures rest { self.new ≡ record self.old { retirements = self.new.retirements } }
+    {
+        self.retirements
+            .retire_run(now, &self.settings, &self.monitors, node);
     }
 
     /// People are told whether too few nodes are up, where that is new.
@@ -93,6 +149,13 @@ impl Driver {
         if !is_new(is_short, self.is_short) {
             return Ok(());
         }
+        self.tell_change(is_short)
+    }
+
+    /// People are told that too few nodes are up, or enough again.
+    fn tell_change(&mut self, is_short: bool) -> Result<(), AllocError>
+        ensures { OnOk result (TellsGroup is_short self.old self.new) }
+    {
         self.is_short = is_short;
         self.orders.log(group_news(is_short))?;
         self.notice(group_words(is_short))
@@ -148,11 +211,7 @@ fn is_new(is_short: bool, known: bool) -> bool
 fn group_news(is_short: bool) -> News
     ensures { result ≡ group_news is_short }
 {
-    if is_short {
-        News::TooFew
-    } else {
-        News::Enough
-    }
+    if is_short { News::TooFew } else { News::Enough }
 }
 
 /// What clients are told then.

@@ -43,9 +43,7 @@ fn a_client_that_quits_is_closed_five_seconds_later_where_its_leave_is_not_done(
 }
 
 #[test]
-fn clients_of_a_node_that_hangs_are_closed_while_others_go_on(
-    rt: HostRuntime,
-) -> Result<(), Fail> {
+fn clients_of_a_node_that_hangs_are_closed_while_others_go_on(rt: HostRuntime) -> Result<(), Fail> {
     let (one, two, three) = (NodeId::new(1), NodeId::new(2), NodeId::new(3));
     let story = [
         Step::Stands(4_000, one, standing(Role::Leader, 0), 0),
