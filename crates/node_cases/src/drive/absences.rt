@@ -46,6 +46,7 @@ fn a_client_that_quits_is_closed_five_seconds_later_where_its_leave_is_not_done(
 fn clients_of_a_node_that_hangs_are_closed_while_others_go_on(rt: HostRuntime) -> Result<(), Fail> {
     let (one, two, three) = (NodeId::new(1), NodeId::new(2), NodeId::new(3));
     let story = [
+        Step::Passes(0, 8),
         Step::Stands(4_000, one, standing(Role::Leader, 0), 0),
         Step::Stands(4_000, three, standing(Role::Follower, 0), 0),
         Step::Ordered,
