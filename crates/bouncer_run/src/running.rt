@@ -62,7 +62,7 @@ impl<U: Upstream + Send + 'static> Running<U> {
         ) {
             Ok(nodes) => Ok(Running { nodes }),
             Err(fault) => {
-                let _ = tell_why(rt, config, fault, errors);
+                let _ = tell_why(rt, config, &fault, errors);
                 Err(fault_of_cluster(fault))
             }
         }
@@ -90,7 +90,7 @@ impl<U: Upstream> Nodes for Running<U> {
 fn tell_why<R: System>(
     rt: &R,
     config: &Config,
-    fault: ClusterFault,
+    fault: &ClusterFault,
     errors: &JournalErrors,
 ) -> Result<(), AllocError> {
     let store = config.store.as_str();
