@@ -201,14 +201,16 @@ def run_case(case, room):
         print(f"{case.__name__}: {time.monotonic() - begun:.1f} s", flush=True)
 
 
-def run_at_once(cases, room):
-    """Runs the cases at once, each in a thread of its own. A fault of a case's own is a failure, too."""
+def run_at_once(cases, room, most):
+    """Runs the cases, at most so many at once, each in a thread of its own. A fault of a case's own is a failure, too."""
+    turns = threading.Semaphore(most)
 
     def guarded(case):
-        try:
-            run_case(case, room)
-        except Exception as fault:
-            check(f"{case.__name__}: {fault!r}", False)
+        with turns:
+            try:
+                run_case(case, room)
+            except Exception as fault:
+                check(f"{case.__name__}: {fault!r}", False)
 
     threads = [threading.Thread(target=guarded, args=(case,), daemon=True) for case in cases]
     for thread in threads:
@@ -230,9 +232,9 @@ def note_children():
     return children
 
 
-def run_cases(cases, seconds, at_once=False):
-    """Runs the cases in a room of their own, one after the other or all at once, at most for so many seconds, ends what they
-    started, and tells how many checks passed."""
+def run_cases(cases, seconds, at_once=1):
+    """Runs the cases in a room of their own, so many at once, at most for so many seconds, ends what they started, and tells how
+    many checks passed."""
     global failed
 
     def too_long(*_):
@@ -244,8 +246,8 @@ def run_cases(cases, seconds, at_once=False):
     signal.signal(signal.SIGALRM, too_long)
     signal.alarm(seconds)
     try:
-        if at_once:
-            run_at_once(cases, room)
+        if at_once > 1:
+            run_at_once(cases, room, at_once)
         else:
             for case in cases:
                 run_case(case, room)
