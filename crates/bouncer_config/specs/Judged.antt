@@ -7,7 +7,7 @@ use Rattle.bouncer_config.specs.KeyTexts.{limits_of}
 use Rattle.bouncer_config.specs.Texts.{is_path}
 use Rattle.bouncer_config.specs.Found.{value_at, text_at, text_in, number_in, level_in, input_end_in, channels_in, AreOptions}
 use Rattle.bouncer_config.specs.Wrong.{Listens, first_unknown}
-use Rattle.bouncer_config.specs.declared.key.Key.TheVariants.{Nick, Password, UpstreamPassword, Store, Record, Channels, BeatMs, TimeoutMs, FloodBurst, FloodMs, Log, Input}
+use Rattle.bouncer_config.specs.declared.key.Key.TheVariants.{Nick, Password, UpstreamPassword, Store, Record, Channels, BeatMs, TimeoutMs, FloodBurst, FloodMs, Log, Input, RenewAt}
 use Rattle.bouncer_config.specs.declared.config.Config.{Config}
 
 -- a setup is that of the table's nick, channels and options
@@ -36,3 +36,4 @@ pub record IsConfig (table : Members) (c : Config) : Type 0 where
   pub flood : number_in (limits_of FloodMs) (value_at FloodMs table) ≡ Some c.flood_ms
   pub log : level_in (value_at Log table) ≡ Some c.log
   pub input : input_end_in (value_at Input table) ≡ Some c.input_end
+  pub renew_at : number_in (limits_of RenewAt) (value_at RenewAt table) ≡ Some c.renew_at

@@ -1,8 +1,9 @@
 -- The keys of a configuration: the words under which they stand, and what their values are.
 use Rattle.std.specs.Prelude.{ℕ, List, codes}
 use Rattle.buffer_commands.specs.Settings.{query_limit, size_limit}
+use Rattle.raft_log.specs.Logs.{entry_limit}
 use Rattle.bouncer_config.specs.declared.key.Key.{Key}
-use Rattle.bouncer_config.specs.declared.key.Key.TheVariants.{Nick, Password, Upstream, UpstreamPassword, Listen, Store, Record, Channels, ChanBufferSize, QueryBufferSize, MaxQueryBuffers, OffsetMinutes, AutoClearChanBuffer, AutoClearQueryBuffer, MultiClients, BeatMs, TimeoutMs, FloodBurst, FloodMs, Log, Input}
+use Rattle.bouncer_config.specs.declared.key.Key.TheVariants.{Nick, Password, Upstream, UpstreamPassword, Listen, Store, Record, Channels, ChanBufferSize, QueryBufferSize, MaxQueryBuffers, OffsetMinutes, AutoClearChanBuffer, AutoClearQueryBuffer, MultiClients, BeatMs, TimeoutMs, FloodBurst, FloodMs, Log, Input, RenewAt}
 use Rattle.bouncer_config.specs.declared.key.Kind.{Kind}
 use Rattle.bouncer_config.specs.declared.key.Kind.TheVariants.{Text, Texts, Number, Truth}
 use Rattle.bouncer_config.specs.declared.key.Limits.{Limits}
@@ -30,6 +31,7 @@ key_text FloodBurst = codes "flood_burst"
 key_text FloodMs = codes "flood_ms"
 key_text Log = codes "log"
 key_text Input = codes "input"
+key_text RenewAt = codes "renew_at"
 
 -- what the value of a key is to be
 abbrev pub kind_of : Key → Kind
@@ -61,4 +63,5 @@ limits_of BeatMs = between 10 10000 100
 limits_of TimeoutMs = between 50 60000 1000
 limits_of FloodBurst = between 1 100 5
 limits_of FloodMs = between 0 60000 2000
+limits_of RenewAt = between 0 entry_limit 0
 limits_of _ = between 0 0 0

@@ -27,3 +27,4 @@ pub record IsPlaced (file : List ℕ) (was is : Config) : Type 0 where
   pub flood : is.flood_ms ≡ was.flood_ms
   pub log : is.log ≡ was.log
   pub input_end : is.input_end ≡ was.input_end
+  pub renew_at : is.renew_at ≡ was.renew_at

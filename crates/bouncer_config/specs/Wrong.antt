@@ -11,7 +11,7 @@ use Rattle.bouncer_config.specs.KeyTexts.{key_text, kind_of, limits_of}
 use Rattle.bouncer_config.specs.Texts.{is_password, is_path, address_of, input_end_of, level_of}
 use Rattle.bouncer_config.specs.Found.{value_at, within, above_least, item_count, ports_after, are_different, names_after, channels_in, AreOptions, text_at}
 use Rattle.bouncer_config.specs.declared.key.Key.{Key}
-use Rattle.bouncer_config.specs.declared.key.Key.TheVariants.{Nick, Password, Upstream, UpstreamPassword, Listen, Store, Record, Channels, ChanBufferSize, QueryBufferSize, MaxQueryBuffers, OffsetMinutes, AutoClearChanBuffer, AutoClearQueryBuffer, MultiClients, BeatMs, TimeoutMs, FloodBurst, FloodMs, Log, Input}
+use Rattle.bouncer_config.specs.declared.key.Key.TheVariants.{Nick, Password, Upstream, UpstreamPassword, Listen, Store, Record, Channels, ChanBufferSize, QueryBufferSize, MaxQueryBuffers, OffsetMinutes, AutoClearChanBuffer, AutoClearQueryBuffer, MultiClients, BeatMs, TimeoutMs, FloodBurst, FloodMs, Log, Input, RenewAt}
 use Rattle.bouncer_config.specs.declared.key.Kind.{Kind}
 use Rattle.bouncer_config.specs.declared.key.Kind.TheVariants.{Text, Texts, Number, Truth}
 use Rattle.buffer_commands.specs.Settings.{channel_limit}
@@ -20,7 +20,7 @@ use Rattle.bouncer_config.specs.declared.problem.Problem.TheVariants.{Memory, No
 
 -- every key
 abbrev pub all_keys : List Key
-all_keys = Nick ∷ Password ∷ Upstream ∷ UpstreamPassword ∷ Listen ∷ Store ∷ Record ∷ Channels ∷ ChanBufferSize ∷ QueryBufferSize ∷ MaxQueryBuffers ∷ OffsetMinutes ∷ AutoClearChanBuffer ∷ AutoClearQueryBuffer ∷ MultiClients ∷ BeatMs ∷ TimeoutMs ∷ FloodBurst ∷ FloodMs ∷ Log ∷ Input ∷ []
+all_keys = Nick ∷ Password ∷ Upstream ∷ UpstreamPassword ∷ Listen ∷ Store ∷ Record ∷ Channels ∷ ChanBufferSize ∷ QueryBufferSize ∷ MaxQueryBuffers ∷ OffsetMinutes ∷ AutoClearChanBuffer ∷ AutoClearQueryBuffer ∷ MultiClients ∷ BeatMs ∷ TimeoutMs ∷ FloodBurst ∷ FloodMs ∷ Log ∷ Input ∷ RenewAt ∷ []
 
 -- some key has this name
 abbrev pub is_known : List ℕ → Bool

@@ -1,13 +1,13 @@
-ghost use Rattle.std.specs.Prelude.{◌≡◌, ◌==◌, not, Some, IfOk, IfErr, IfSome, IsTrue, option_map, option_and_then, string_bytes};
-ghost use Rattle.std.specs.List.{list_all};
+ghost use Rattle.std.specs.Prelude.{◌≡◌, Some, IfOk, IfErr, option_and_then};
 ghost use Rattle.toml.specs.View.{table_view};
 ghost use Rattle.bouncer_config.specs.KeyTexts.{kind_of, limits_of};
-ghost use Rattle.bouncer_config.specs.Texts.{address_of, is_path};
+ghost use Rattle.bouncer_config.specs.Texts.{address_of};
 ghost use Rattle.bouncer_config.specs.Found.{AreOptions, input_end_in, level_in, number_in, text_at, text_in, value_at};
 ghost use Rattle.bouncer_config.specs.Judged.{IsConfig, IsSetup};
 ghost use Rattle.bouncer_config.specs.Wrong.{IsProblem, Listens};
 
 use crate::address::Address;
+use crate::disk_paths::read_paths;
 use crate::input_end::InputEnd;
 use crate::key::Key;
 use crate::lists::{channels, listen};
@@ -51,6 +51,8 @@ pub struct Config {
     pub log: LogLevel,
     /// What the end of standard input does.
     pub input_end: InputEnd,
+    /// A start over a log of more entries than this begins it anew; 0 is never. At most 1,000,000.
+    pub renew_at: u32,
 }
 
 impl Config {
@@ -80,6 +82,7 @@ impl Config {
             flood_ms: pace.flood_ms,
             log: pace.log,
             input_end: input_end(table)?,
+            renew_at: number(table, Key::RenewAt)?,
         })
     }
 }
@@ -115,29 +118,6 @@ fn read_links(alloc: Global, table: &Table) -> Result<Links, Problem>
     })
 }
 
-/// What is written on the disk.
-#[derive(Drop)]
-struct Paths {
-    store: String,
-    record: Option<String>,
-}
-
-/// What is written on the disk.
-fn read_paths(alloc: Global, table: &Table) -> Result<Paths, Problem>
-    ensures store { IfOk result (λ p.
-        text_at Key.Store (table_view table.now) ≡ Some (string_bytes p.store)) }
-    ensures store_path { IfOk result (λ p. IsTrue (is_path (string_bytes p.store))) }
-    ensures record_text { IfOk result (λ p. text_in (value_at Key.Record (table_view table.now))
-        ≡ Some (option_map string_bytes p.record)) }
-    ensures record_path { IfOk result (λ p.
-        IfSome p.record (λ path. IsTrue (is_path (string_bytes path)))) }
-    ensures err { IfErr result (IsProblem (table_view table.now)) }
-{
-    let store = store(alloc, table)?;
-    let record = record(alloc, table)?;
-    Ok(Paths { store, record })
-}
-
 /// How often a bouncer does what it does, and how much it tells.
 #[derive(Clone, Copy)]
 struct Pace {
@@ -163,10 +143,10 @@ fn read_pace(table: &Table) -> Result<Pace, Problem>
     ensures err { IfErr result (IsProblem (table_view table.now)) }
 {
     Ok(Pace {
-        beat_ms: number(table, Key::BeatMs)?,
-        timeout_ms: number(table, Key::TimeoutMs)?,
-        flood_burst: number(table, Key::FloodBurst)?,
-        flood_ms: number(table, Key::FloodMs)?,
+        beat_ms: number(table, Key::BeatMs)? as u16,
+        timeout_ms: number(table, Key::TimeoutMs)? as u16,
+        flood_burst: number(table, Key::FloodBurst)? as u16,
+        flood_ms: number(table, Key::FloodMs)? as u16,
         log: log(table)?,
     })
 }
@@ -189,8 +169,8 @@ fn options(table: &Table) -> Result<Options, Problem>
     ensures err { IfErr result (IsProblem (table_view table.now)) }
 {
     Ok(Options {
-        channel_size: number(table, Key::ChanBufferSize)?,
-        query_size: number(table, Key::QueryBufferSize)?,
+        channel_size: number(table, Key::ChanBufferSize)? as u16,
+        query_size: number(table, Key::QueryBufferSize)? as u16,
         most_queries: number(table, Key::MaxQueryBuffers)? as u8,
         clears_channels: truth(table, Key::AutoClearChanBuffer)?,
         clears_queries: truth(table, Key::AutoClearQueryBuffer)?,
@@ -251,49 +231,4 @@ fn upstream_password(alloc: Global, table: &Table) -> Result<Option<Password>, P
         Some(password) => Ok(Some(password)),
         None => Err(Problem::Refused(Key::UpstreamPassword)),
     }
-}
-
-/// Whether none of these bytes is NUL.
-fn is_without_nul(bytes: &[u8]) -> bool
-    ensures { result ≡ list_all (λ b. not (b == 0)) bytes.now }
-{
-    bytes.iter().all(|byte| *byte != 0)
-}
-
-/// Whether a text is a path: at least one byte, and none of them NUL.
-fn is_a_path(text: &[u8]) -> bool
-    ensures { result ≡ is_path text.now }
-{
-    1 <= text.len() && is_without_nul(text)
-}
-
-/// The path of the folder of the journals.
-fn store(alloc: Global, table: &Table) -> Result<String, Problem>
-    ensures ok { IfOk result (λ s.
-        text_at Key.Store (table_view table.now) ≡ Some (string_bytes s)) }
-    ensures path { IfOk result (λ s. IsTrue (is_path (string_bytes s))) }
-    ensures err { IfErr result (IsProblem (table_view table.now)) }
-{
-    let path = needed_text(table, Key::Store)?;
-    if !is_a_path(path.as_bytes()) {
-        return Err(Problem::Refused(Key::Store));
-    }
-    Ok(String::from_str(alloc, path)?)
-}
-
-/// The path of the record, if one is written.
-fn record(alloc: Global, table: &Table) -> Result<Option<String>, Problem>
-    ensures ok { IfOk result (λ s. text_in (value_at Key.Record (table_view table.now))
-        ≡ Some (option_map string_bytes s)) }
-    ensures path { IfOk result (λ s. IfSome s (λ path. IsTrue (is_path (string_bytes path)))) }
-    ensures err { IfErr result (IsProblem (table_view table.now)) }
-{
-    let path = match text(table, Key::Record)? {
-        Some(path) => path,
-        None => return Ok(None),
-    };
-    if !is_a_path(path.as_bytes()) {
-        return Err(Problem::Refused(Key::Record));
-    }
-    Ok(Some(String::from_str(alloc, path)?))
 }

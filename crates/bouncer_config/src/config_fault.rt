@@ -91,6 +91,7 @@ fn rule_text(key: Key) -> &'static str {
         Key::FloodMs => "needs 0 to 60000",
         Key::Log => "needs quiet, info or debug",
         Key::Input => "needs stop or ignore",
+        Key::RenewAt => "needs 0 to 1000000",
         _ => "needs true or false",
     }
 }

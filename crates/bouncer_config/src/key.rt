@@ -2,6 +2,7 @@ ghost use Rattle.std.specs.Prelude.{◌≡◌};
 ghost use Rattle.bouncer_config.specs.KeyTexts.{key_text, kind_of, limits_of};
 
 use buffer_commands::{MOST_LINES, MOST_QUERIES};
+use raft_log::ENTRY_LIMIT;
 
 /// A key of the configuration.
 #[derive(Clone, Copy, Debug, PartialEq, Eq)]
@@ -27,6 +28,7 @@ pub enum Key {
     FloodMs,
     Log,
     Input,
+    RenewAt,
 }
 
 /// What the value of a key is.
@@ -41,13 +43,13 @@ pub enum Kind {
 /// The least and the most that a number may be, and what it is where it is not given.
 #[derive(Clone, Copy, Debug, PartialEq, Eq)]
 pub struct Limits {
-    pub least: u16,
-    pub most: u16,
-    pub usual: u16,
+    pub least: u32,
+    pub most: u32,
+    pub usual: u32,
 }
 
 impl Limits {
-    fn new(least: u16, most: u16, usual: u16) -> Limits
+    fn new(least: u32, most: u32, usual: u32) -> Limits
         ensures { result ≡ record { least = least; most = most; usual = usual } }
     {
         Limits { least, most, usual }
@@ -81,6 +83,7 @@ impl Key {
             Key::FloodMs => "flood_ms",
             Key::Log => "log",
             Key::Input => "input",
+            Key::RenewAt => "renew_at",
         }
     }
 
@@ -104,14 +107,16 @@ impl Key {
     {
         match self {
             // what is kept lies in the memory of each node, and is played whole
-            Key::ChanBufferSize | Key::QueryBufferSize => Limits::new(0, MOST_LINES, 50),
-            Key::MaxQueryBuffers => Limits::new(1, MOST_QUERIES as u16, 50),
+            Key::ChanBufferSize | Key::QueryBufferSize => Limits::new(0, MOST_LINES as u32, 50),
+            Key::MaxQueryBuffers => Limits::new(1, MOST_QUERIES as u32, 50),
             // without a leader nothing is agreed, and nobody should wait more than a minute
             Key::BeatMs => Limits::new(10, 10_000, 100),
             Key::TimeoutMs => Limits::new(50, 60_000, 1_000),
             // as most servers take them: a few lines at once, then one in two seconds
             Key::FloodBurst => Limits::new(1, 100, 5),
             Key::FloodMs => Limits::new(0, 60_000, 2_000),
+            // no log has more entries
+            Key::RenewAt => Limits::new(0, ENTRY_LIMIT as u32, 0),
             _ => Limits::new(0, 0, 0),
         }
     }

@@ -6,6 +6,7 @@
 mod address;
 mod config;
 mod config_fault;
+mod disk_paths;
 mod input_end;
 mod key;
 mod lines;

@@ -61,18 +61,18 @@ pub(crate) fn text(table: &Table, key: Key) -> Result<Option<&str>, Problem>
 }
 
 /// This number, where it is within limits.
-fn number_within(number: i64, limits: Limits) -> Option<u16>
+fn number_within(number: i64, limits: Limits) -> Option<u32>
     ensures value { result ≡ within limits number }
     ensures most { IfSome result (λ n. n ≤ limits.most) }
 {
-    match u16::try_from(number) {
+    match u32::try_from(number) {
         Ok(number) if limits.least <= number && number <= limits.most => Some(number),
         _ => None,
     }
 }
 
 /// The number of a key, or what it is by default.
-pub(crate) fn number(table: &Table, key: Key) -> Result<u16, Problem>
+pub(crate) fn number(table: &Table, key: Key) -> Result<u32, Problem>
     requires kind { kind_of key ≡ Kind.Number }
     requires natural { key ≢ Key.OffsetMinutes }
     requires usual { (limits_of key).usual ≤ (limits_of key).most }

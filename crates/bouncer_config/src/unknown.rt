@@ -10,7 +10,7 @@ use std::alloc::Global;
 use toml::Table;
 
 /// Every key.
-pub(crate) const ALL_KEYS: [Key; 21] = [
+pub(crate) const ALL_KEYS: [Key; 22] = [
     Key::Nick,
     Key::Password,
     Key::Upstream,
@@ -32,6 +32,7 @@ pub(crate) const ALL_KEYS: [Key; 21] = [
     Key::FloodMs,
     Key::Log,
     Key::Input,
+    Key::RenewAt,
 ];
 
 /// Whether some key has this name.

@@ -27,6 +27,7 @@ timeout_ms = 60000
 flood_burst = 100
 flood_ms = 0
 log = \"debug\"
+renew_at = 1000000
 ";
 
 const LEAST: &[u8] = b"
@@ -47,6 +48,7 @@ fn has_values(config: &Config) -> bool {
         && config.flood_burst == 100
         && config.flood_ms == 0
         && config.log == LogLevel::Debug
+        && config.renew_at == 1_000_000
 }
 
 /// Whether these are the texts that may be left out, of the configuration with every key.
@@ -82,6 +84,7 @@ fn is_usual(config: &Config) -> bool {
         && config.flood_burst == 5
         && config.flood_ms == 2_000
         && config.log == LogLevel::Info
+        && config.renew_at == 0
         && config.setup.channels().is_empty()
         && config.setup.offset().above_least() == 1439
 }
