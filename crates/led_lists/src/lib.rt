@@ -1,0 +1,12 @@
+//! Lists of bodies that one leader brings, in one run of node 1 with nobody disturbing it.
+//! Stands under renewal and store_life.
+//! Promises that the fold of a list tells whether it is such a list, and stands behind all its bodies.
+#![tactic(auto)]
+
+mod claiming;
+mod fold;
+mod leading;
+mod may_bring;
+
+pub use fold::fold_led;
+pub use leading::Leading;
