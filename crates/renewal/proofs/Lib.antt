@@ -4,3 +4,8 @@ pub mod Tests
 pub mod Settled
 pub mod Entries
 pub mod Comes
+pub mod Merging
+pub mod LastLive
+pub mod Outcomes
+pub mod Changes
+pub mod Staying

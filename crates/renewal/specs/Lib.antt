@@ -1,3 +1,4 @@
 pub mod Renewed
+pub mod Moved
 pub mod Bounds
 pub mod Lists

@@ -1,9 +1,11 @@
 -- The lists of bodies that are begun anew. A history has each body with its place, the newest first.
-use Rattle.std.specs.Prelude.{◌≡◌, ℕ, ◌+◌, ◌≤◌, Bool, true, false, ◌==◌, List, [], ◌∷◌, ◌++◌, length, map, drop}
+use Rattle.std.specs.Prelude.{◌≡◌, ℕ, ◌+◌, ◌≤◌, ◌<◌, Bool, true, false, if◌then◌else◌, is_some, ◌==◌, List, [], ◌∷◌, ◌++◌, length, map, drop, filter}
 use Rattle.std.specs.List.{list_all}
 use Rattle.irc_line.specs.Lines.{Parts}
 use Rattle.wire_bytes.specs.declared.origin.Origin.{Origin}
 use Rattle.wire_bytes.specs.declared.session_id.SessionId.{SessionId}
+use Rattle.irc_line.specs.Keys.{is_in}
+use Rattle.buffer_targets.specs.Targets.{ChannelLines, channel_names}
 use Rattle.machine_laws.specs.Origins.{same_origin}
 use Rattle.machine_laws.specs.Runs.{History, came_at, run}
 use Rattle.buffer_commands.specs.Settings.{Settings}
@@ -12,12 +14,14 @@ use Rattle.session_fence.specs.declared.command.FenceCommand.TheVariants as fenc
 use Rattle.upstream_claim.specs.declared.command.ClaimsCommand.TheVariants as claims
 use Rattle.request_once.specs.declared.body.Body.TheVariants as body
 use Rattle.buffer_machine.specs.Buffers.{joined}
+use Rattle.buffer_machine.specs.Crowd.{attached, floor, ids, is_id_in}
 use Rattle.buffer_machine.specs.Held.{commands, held}
 use Rattle.raft_log.specs.declared.entry.Entry.{Entry}
-use Rattle.bouncer_tower.specs.Bodies.{Claimed, Sessioned, TowerBody, claimed, outgoing, plain}
+use Rattle.bouncer_tower.specs.Bodies.{Claimed, Sessioned, TowerBody, claimed, outgoing, plain, session}
 use Rattle.bouncer_tower.specs.Hosting.{of_buffers}
+use Rattle.led_lists.specs.Led.{IsLed}
 use Rattle.renewal.specs.Bounds.{lines_counted, most_bodies, targets_counted}
-use Rattle.renewal.specs.Renewed.{Renewed}
+use Rattle.renewal.specs.Moved.{moved}
 
 -- the bodies by which the runs of these nodes below their floors are gone with all their clients, each a node and its floor, and no
 -- session is in force
@@ -55,16 +59,56 @@ is_brought term client (body.Asked o n at a) = same_origin client o
 is_brought term client (body.Inner c) = is_claim_brought term c
 is_brought term client (body.Mark m) = false
 
--- A list of bodies is begun anew by another: it leaves the same behind, with the same lines waiting to go upstream. The new one has bodies
--- alone of kinds that nodes bring, of one term and one client
-pub record BegunAnew (s : Settings) (term : ℕ) (client : Origin) (old : History TowerBody) (new : List TowerBody) : Type 0 where
-  pub renewed : Renewed s (commands (plain old)) (commands (plain (run new)))
-  pub waits : waiting s (run new) ≡ waiting s old
-  pub brought : list_all (is_brought term client) new ≡ true
+-- the part of a history up to the last body after which a session was in force, nothing where none ever was
+abbrev pub last_live : History TowerBody → History TowerBody
+last_live [] = []
+last_live (x ∷ earlier) = if is_some (session (x ∷ earlier)) then x ∷ earlier else last_live earlier
 
--- so many bodies may begin this list anew, where there are so many nodes
-abbrev pub most : Settings → History TowerBody → ℕ → ℕ
-most s old nodes = most_bodies (held s (commands (plain old))) (length s.channels + length (waiting s old) + nodes)
+-- whether the own nick was in the channel of a key when a session was last in force
+abbrev pub was_joined : Settings → History TowerBody → List ℕ → Bool
+was_joined s h c = joined s (commands (plain (last_live h))) c
+
+-- these are the channels that the own nick was in when a session was last in force
+abbrev pub AreNoted : Settings → History TowerBody → List (List ℕ) → Type 0
+AreNoted s h names = (c : List ℕ) → is_in c names ≡ was_joined s h c
+
+-- they are, unless a session is in force
+abbrev pub WereNoted : Settings → History TowerBody → List (List ℕ) → Type 0
+WereNoted s h names = is_some (session h) ≡ false → AreNoted s h names
+
+-- the names of the channels that are joined
+abbrev pub joined_names : List ChannelLines → List (List ℕ)
+joined_names cs = channel_names (filter (λ c. c.joined) cs)
+
+-- a session may end by a body: by one that opens another or that shuts it
+abbrev pub may_end_below : Sessioned → Bool
+may_end_below (fence.Opened id) = true
+may_end_below (fence.Shut id) = true
+may_end_below _ = false
+
+abbrev pub may_end_of : Claimed → Bool
+may_end_of (claims.Inner c) = may_end_below c
+may_end_of (claims.Claim id n) = false
+
+abbrev pub may_end : TowerBody → Bool
+may_end (body.Inner c) = may_end_of c
+may_end _ = false
+
+-- A list of bodies under one setup is begun anew by another under a second setup, by the names of clients that are forgotten and by which
+-- channels the own nick was in: what is held is moved, nobody is attached and no channel joined, the floors are the same, and the same lines
+-- wait to go upstream. The new list has bodies alone of kinds that nodes bring, of one term and one client, and one leader brings it
+pub record BegunAnew (s t : Settings) (forgotten : List (List ℕ)) (was : List ℕ → Bool) (term : ℕ) (client : Origin) (old : History TowerBody) (new : List TowerBody) : Type 0 where
+  pub gone : attached s (commands (plain old)) ≡ []
+  pub nobody : attached t (commands (plain (run new))) ≡ []
+  pub floors : (node : ℕ) → node < 8 → floor (commands (plain (run new))) node ≡ floor (commands (plain old)) node
+  pub holding : held t (commands (plain (run new))) ≡ moved s t forgotten was (held s (commands (plain old)))
+  pub waits : waiting t (run new) ≡ waiting s old
+  pub brought : list_all (is_brought term client) new ≡ true
+  pub led : IsLed t term client new
+
+-- so many bodies may begin a list of one setup anew under a second one, where there are so many nodes
+abbrev pub most : Settings → Settings → History TowerBody → ℕ → ℕ
+most s t old nodes = most_bodies (held s (commands (plain old))) (length t.channels + length (waiting s old) + nodes)
 
 -- Logs
 
@@ -90,13 +134,22 @@ abbrev pub client_of : List ℕ → Origin
 client_of [] = (1, 1, 1)
 client_of (boot ∷ boots) = (1, boot + 1, 1)
 
--- A log is begun anew by another, where these are the greatest run of each node and the greatest term: with all clients of these runs gone
--- and no channel joined, its bodies are begun anew by the other's, of which there are no more than there may be; all entries of the other
--- are of the next term
-pub record IsRenewal (s : Settings) (boots : List ℕ) (term : ℕ) (old new : List (Entry TowerBody)) : Type 0 where
-  pub begun : BegunAnew s (term + 1) (client_of boots) (settled (floors_of boots) (run (bodies_of old))) (bodies_of new)
-  pub parted : (c : List ℕ) → joined s (commands (plain (settled (floors_of boots) (run (bodies_of old))))) c ≡ false
-  pub few : length new ≤ most s (settled (floors_of boots) (run (bodies_of old))) (length boots)
+-- a log's bodies with all clients of the runs up to these gone, and no channel joined
+abbrev pub settled_log : List ℕ → List (Entry TowerBody) → History TowerBody
+settled_log boots old = settled (floors_of boots) (run (bodies_of old))
+
+-- each of these names is that of a client of a list
+abbrev pub are_known : Settings → History TowerBody → List (List ℕ) → Bool
+are_known s h names = list_all (λ id. is_id_in id (ids s (commands (plain h)))) names
+
+-- A log of one setup is begun anew by another of a second setup, without the names of clients that are forgotten, where these are the
+-- greatest run of each node and the greatest term: with all clients of these runs gone and no channel joined, its bodies are begun anew by
+-- the other's, of which there are no more than there may be; all entries of the other are of the next term
+pub record IsRenewal (s t : Settings) (forgotten : List (List ℕ)) (boots : List ℕ) (term : ℕ) (old new : List (Entry TowerBody)) : Type 0 where
+  pub begun : BegunAnew s t forgotten (was_joined s (run (bodies_of old))) (term + 1) (client_of boots) (settled_log boots old) (bodies_of new)
+  pub known : are_known s (settled_log boots old) forgotten ≡ true
+  pub parted : (c : List ℕ) → joined s (commands (plain (settled_log boots old))) c ≡ false
+  pub few : length new ≤ most s t (settled_log boots old) (length boots)
   pub terms : new ≡ map (entry_of (term + 1)) (bodies_of new)
 
 -- what is held behind a history, counted in targets and in lines that are kept of them

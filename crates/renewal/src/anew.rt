@@ -1,25 +1,28 @@
 //! A list begun anew.
-ghost use Rattle.std.specs.Prelude.{◌≡◌, ◌≤◌, List, length, IfOk, IsTrue, OnOk};
+ghost use Rattle.std.specs.Prelude.{◌≡◌, ◌≢◌, ◌≤◌, List, length, false, true, IfErr, IfOk, IsTrue, OnOk};
+ghost use Rattle.irc_line.specs.Keys.{is_in};
 ghost use Rattle.machine_laws.specs.Runs.{History, came_at, run};
 ghost use Rattle.buffer_commands.specs.Settings.{Settings};
-ghost use Rattle.buffer_machine.specs.Held.{commands};
 ghost use Rattle.buffer_machine.specs.Machine.{Stands};
 ghost use Rattle.bouncer_tower.specs.Bodies.{TowerBody, plain};
 ghost use Rattle.bouncer_tower.specs.Hosting.{of_buffers};
-ghost use Rattle.renewal.specs.Lists.{BegunAnew, most, settled, settling, waiting};
-ghost use Rattle.renewal.specs.Renewed.{Renewed};
+ghost use Rattle.led_lists.specs.Led.{IsLed};
+ghost use Rattle.renewal.specs.Lists.{BegunAnew, are_known, most, settled, settling, waiting};
 
 use crate::bound::most_bodies;
 use crate::brought::are_brought;
+use crate::change::{Change, are_known};
 use crate::draft::Start;
 use crate::fault::RenewalFault;
+use crate::moved::is_moved_machine;
 use crate::proposal::propose;
-use crate::same::{are_same_waiting, is_same_machine};
+use crate::same::are_same_waiting;
 use bouncer_tower::{Layers, TowerBody};
-use buffer_commands::{Command, Setup};
+use buffer_commands::Command;
 use buffer_machine::BufferMachine;
-use irc_line::Line;
-use machine_laws::{ApplyFault, Machine, run_all};
+use irc_line::{Line, Name};
+use led_lists::fold_led;
+use machine_laws::{ApplyFault, Machine};
 use request_once::Body;
 use session_fence::FenceCommand;
 use std::alloc::{AllocError, Global};
@@ -28,27 +31,44 @@ use upstream_claim::ClaimsCommand;
 use wire_bytes::Number;
 
 /// A list of bodies that leaves behind what the layers do, once the runs of these nodes below their floors are gone
-/// and no session is in force. After it the layers stand so, or are to be thrown away. `NotTheSame` where no such
-/// list is found, `TooLong` where it would have too many bodies: nothing is lost then, since nothing was written.
+/// and no session is in force, as it is moved to another setup. After it the layers stand so, or are to be thrown
+/// away. `UnknownName` where no client has a name that is to be forgotten, `NotTheSame` where no such list is found,
+/// `TooLong` where it would have too many bodies: nothing is lost then, since nothing was written.
 pub fn begun_anew(
     alloc: Global,
-    setup: &Setup,
+    change: &Change,
     layers: &mut Layers,
     start: &Start,
     floors: &[(u8, Number)],
 ) -> Result<Vec<TowerBody>, RenewalFault>
-    ensures few { (old : History TowerBody) → ⟦<Layers as Machine>⟧.stands layers.old setup.now old
-        → IfOk result (λ v. length v.items ≤
-        most setup.now (settled floors.now old) (length floors.now)) }
-    ensures anew { (old : History TowerBody) → ⟦<Layers as Machine>⟧.stands layers.old setup.now old
-        → IfOk result (λ v. BegunAnew setup.now start.now.term start.now.client
+    ensures few { (old : History TowerBody)
+        → ⟦<Layers as Machine>⟧.stands layers.old change.now.from.now old
+        → IfOk result (λ v. length v.items ≤ most change.now.from.now change.now.to.now
+        (settled floors.now old) (length floors.now)) }
+    ensures anew { (old : History TowerBody)
+        → ⟦<Layers as Machine>⟧.stands layers.old change.now.from.now old
+        → IfOk result (λ v. BegunAnew change.now.from.now change.now.to.now change.now.forgotten.now
+        (λ key. is_in key change.now.joined.now) start.now.term start.now.client
         (settled floors.now old) v.items) }
-    ensures settled { (old : History TowerBody) → ⟦<Layers as Machine>⟧.stands layers.old setup.now old
-        → OnOk result (⟦<Layers as Machine>⟧.stands layers.new setup.now (settled floors.now old)) }
+    ensures known { (old : History TowerBody)
+        → ⟦<Layers as Machine>⟧.stands layers.old change.now.from.now old
+        → OnOk result (are_known change.now.from.now (settled floors.now old)
+        change.now.forgotten.now ≡ true) }
+    ensures unknown { (old : History TowerBody)
+        → ⟦<Layers as Machine>⟧.stands layers.old change.now.from.now old
+        → IfErr result (λ e. e ≡ RenewalFault.UnknownName → are_known change.now.from.now
+        (settled floors.now old) change.now.forgotten.now ≡ false) }
+    ensures settled { (old : History TowerBody)
+        → ⟦<Layers as Machine>⟧.stands layers.old change.now.from.now old
+        → OnOk result (⟦<Layers as Machine>⟧.stands layers.new change.now.from.now
+        (settled floors.now old)) }
 {
     settle(alloc, layers, floors)?;
-    let bodies = same_list(alloc, setup, layers, start, floors)?;
-    let most = room(setup, layers, floors);
+    if !knows(layers, change.forgotten) {
+        return Err(RenewalFault::UnknownName);
+    }
+    let bodies = moved_list(alloc, change, layers, start, floors)?;
+    let most = room(change, layers, floors);
     if bodies.len() > most {
         return Err(RenewalFault::TooLong);
     }
@@ -68,12 +88,22 @@ fn settle(alloc: Global, layers: &mut Layers, floors: &[(u8, Number)]) -> Result
     }
 }
 
-/// At most so many bodies begin anew what the layers leave behind.
-fn room(setup: &Setup, layers: &Layers, floors: &[(u8, Number)]) -> usize
-    ensures { (old : History TowerBody) → ⟦<Layers as Machine>⟧.stands layers.now setup.now old
-        → result ≤ most setup.now old (length floors.now) }
+/// Whether all names that are to be forgotten are those of clients.
+fn knows(layers: &Layers, forgotten: &[Name]) -> bool
+    ensures { (s : Settings) (h : History TowerBody)
+        → ⟦<Layers as Machine>⟧.stands layers.now s h → result ≡ are_known s h forgotten.now }
 {
-    let others = setup
+    are_known(forgotten, buffers_of(layers).ids())
+}
+
+/// At most so many bodies begin anew what the layers leave behind.
+fn room(change: &Change, layers: &Layers, floors: &[(u8, Number)]) -> usize
+    ensures { (old : History TowerBody)
+        → ⟦<Layers as Machine>⟧.stands layers.now change.now.from.now old
+        → result ≤ most change.now.from.now change.now.to.now old (length floors.now) }
+{
+    let others = change
+        .to
         .channels()
         .len()
         .saturating_add(waiting_of(layers).len())
@@ -81,21 +111,26 @@ fn room(setup: &Setup, layers: &Layers, floors: &[(u8, Number)]) -> usize
     most_bodies(buffers_of(layers), others)
 }
 
-/// A list of bodies that leaves behind what the layers do.
-fn same_list(
+/// A list of bodies that leaves behind what the layers do, as it is moved.
+fn moved_list(
     alloc: Global,
-    setup: &Setup,
+    change: &Change,
     layers: &Layers,
     start: &Start,
     floors: &[(u8, Number)],
 ) -> Result<Vec<TowerBody>, RenewalFault>
-    ensures { (old : History TowerBody) → ⟦<Layers as Machine>⟧.stands layers.now setup.now old
-        → IfOk result (λ v. BegunAnew setup.now start.now.term start.now.client old v.items) }
+    ensures anew { (old : History TowerBody)
+        → ⟦<Layers as Machine>⟧.stands layers.now change.now.from.now old
+        → IfOk result (λ v. BegunAnew change.now.from.now change.now.to.now change.now.forgotten.now
+        (λ key. is_in key change.now.joined.now) start.now.term start.now.client old v.items) }
+    ensures fault { IfErr result (λ e. e ≢ RenewalFault.UnknownName) }
 {
     let (buffers, waiting) = (buffers_of(layers), waiting_of(layers));
-    let bodies = propose(alloc, setup, buffers, waiting, start, floors)?;
-    let anew = folded(alloc, setup, &bodies)?;
-    if is_begun_anew(layers, &anew, &bodies, start) {
+    let bodies = propose(alloc, change, buffers, waiting, start, floors)?;
+    let Some(anew) = fold_led(alloc, change.to, &bodies, start.term, start.client)? else {
+        return Err(RenewalFault::NotTheSame);
+    };
+    if is_begun_anew(alloc, change, layers, &anew, &bodies, start)? {
         Ok(bodies)
     } else {
         Err(RenewalFault::NotTheSame)
@@ -161,52 +196,39 @@ fn waiting_of(layers: &Layers) -> &VecDeque<Line>
     layers.machine().waiting()
 }
 
-/// Layers to which these bodies alone came.
-fn folded(alloc: Global, setup: &Setup, bodies: &[TowerBody]) -> Result<Layers, AllocError>
-    ensures { IfOk result
-        (λ l. ⟦<Layers as Machine>⟧.stands l setup.now (run bodies.now)) }
-{
-    let Ok(mut layers) = Layers::start(alloc, setup) else {
-        return Err(AllocError);
-    };
-    match run_all(alloc, &mut layers, bodies) {
-        Ok(_) => Ok(layers),
-        Err(_) => Err(AllocError),
-    }
-}
-
-/// Whether these bodies, to which alone the new layers came, begin anew what the old ones leave behind.
-fn is_begun_anew(old: &Layers, new: &Layers, bodies: &[TowerBody], start: &Start) -> bool
-    ensures { (s : Settings) (before : History TowerBody)
-        → ⟦<Layers as Machine>⟧.stands old.now s before
-        → ⟦<Layers as Machine>⟧.stands new.now s (run bodies.now) → IsTrue result
-        → BegunAnew s start.now.term start.now.client before bodies.now }
+/// Whether these bodies, to which alone the new layers came and that one leader brings, begin anew what the old ones
+/// leave behind.
+fn is_begun_anew(
+    alloc: Global,
+    change: &Change,
+    old: &Layers,
+    new: &Layers,
+    bodies: &[TowerBody],
+    start: &Start,
+) -> Result<bool, AllocError>
+    ensures { (before : History TowerBody)
+        → ⟦<Layers as Machine>⟧.stands old.now change.now.from.now before
+        → ⟦<Layers as Machine>⟧.stands new.now change.now.to.now (run bodies.now)
+        → IsLed change.now.to.now start.now.term start.now.client bodies.now
+        → IfOk result (λ begun. IsTrue begun → BegunAnew change.now.from.now change.now.to.now
+        change.now.forgotten.now (λ key. is_in key change.now.joined.now)
+        start.now.term start.now.client before bodies.now) }
 {
     if !are_brought(bodies, start) {
-        return false;
+        return Ok(false);
     }
-    if !leave_same(old, new) {
-        return false;
+    if !wait_same(old, new) {
+        return Ok(false);
     }
-    wait_same(old, new)
-}
-
-/// Whether the layers leave the same behind, with nobody attached.
-fn leave_same(old: &Layers, new: &Layers) -> bool
-    ensures { (s : Settings) (before after : History TowerBody)
-        → ⟦<Layers as Machine>⟧.stands old.now s before
-        → ⟦<Layers as Machine>⟧.stands new.now s after
-        → IsTrue result → Renewed s (commands (plain before)) (commands (plain after)) }
-{
-    is_same_machine(buffers_of(old), buffers_of(new))
+    is_moved_machine(alloc, buffers_of(old), buffers_of(new), change)
 }
 
 /// Whether the same lines wait to go upstream.
 fn wait_same(old: &Layers, new: &Layers) -> bool
-    ensures { (s : Settings) (before after : History TowerBody)
+    ensures { (s t : Settings) (before after : History TowerBody)
         → ⟦<Layers as Machine>⟧.stands old.now s before
-        → ⟦<Layers as Machine>⟧.stands new.now s after
-        → IsTrue result → waiting s after ≡ waiting s before }
+        → ⟦<Layers as Machine>⟧.stands new.now t after
+        → IsTrue result → waiting t after ≡ waiting s before }
 {
     are_same_waiting(waiting_of(old), waiting_of(new))
 }

@@ -1,7 +1,7 @@
 //! A list of bodies in the making: those that a leader of one term brings for one client.
 ghost use Rattle.std.specs.Prelude.{◌≡◌, ◌≤◌, ◌^◌, IfOk};
 
-use crate::fault::RenewalFault;
+use crate::fault::ProposalFault;
 use bouncer_tower::TowerBody;
 use buffer_commands::{Action, Command, WireLine};
 use irc_line::{Line, LineFault, Name, is_same, is_same_name};
@@ -39,11 +39,11 @@ pub struct Draft {
 }
 
 /// A number, where it is within its limit.
-fn number(value: u64) -> Result<Number, RenewalFault>
+fn number(value: u64) -> Result<Number, ProposalFault>
     ensures { IfOk result (λ n. n ≡ value) }
 {
     if value > MOST {
-        return Err(RenewalFault::Spent);
+        return Err(ProposalFault::Spent);
     }
     Ok(Number::new(value))
 }
@@ -77,32 +77,32 @@ impl Draft {
         self.bodies
     }
 
-    fn add(&mut self, body: TowerBody) -> Result<(), RenewalFault> {
+    fn add(&mut self, body: TowerBody) -> Result<(), ProposalFault> {
         match self.bodies.push(body) {
             Ok(()) => Ok(()),
-            Err(_) => Err(RenewalFault::Memory),
+            Err(_) => Err(ProposalFault::Memory),
         }
     }
 
     fn add_of_session(
         &mut self,
         command: FenceCommand<Command, WireLine>,
-    ) -> Result<(), RenewalFault> {
+    ) -> Result<(), ProposalFault> {
         self.add(Body::Inner(ClaimsCommand::Inner(command)))
     }
 
-    fn session(&self) -> Result<SessionId, RenewalFault> {
+    fn session(&self) -> Result<SessionId, ProposalFault> {
         let attempt = number(self.sessions)?;
         Ok(SessionId::new(self.term.value(), attempt.value()))
     }
 
     /// What a new leader appends first.
-    pub fn blank(&mut self) -> Result<(), RenewalFault> {
+    pub fn blank(&mut self) -> Result<(), ProposalFault> {
         self.add(Body::Blank)
     }
 
     /// The next session is opened.
-    pub fn open(&mut self) -> Result<(), RenewalFault> {
+    pub fn open(&mut self) -> Result<(), ProposalFault> {
         self.sessions = self.sessions.saturating_add(1);
         self.heard = 0;
         let session = self.session()?;
@@ -110,31 +110,31 @@ impl Draft {
     }
 
     /// The session is shut: the own nick is in no channel.
-    pub fn shut(&mut self) -> Result<(), RenewalFault> {
+    pub fn shut(&mut self) -> Result<(), ProposalFault> {
         let session = self.session()?;
         self.add_of_session(FenceCommand::Shut(session))
     }
 
     /// A line comes from upstream at a moment.
-    pub fn hear(&mut self, at: Moment, line: WireLine) -> Result<(), RenewalFault> {
+    pub fn hear(&mut self, at: Moment, line: WireLine) -> Result<(), ProposalFault> {
         self.heard = self.heard.saturating_add(1);
         let (session, place) = (self.session()?, number(self.heard)?);
         self.add_of_session(FenceCommand::Heard(session, place, at, line))
     }
 
     /// A line of these bytes comes from upstream.
-    pub fn hear_bytes(&mut self, bytes: &[u8]) -> Result<(), RenewalFault> {
+    pub fn hear_bytes(&mut self, bytes: &[u8]) -> Result<(), ProposalFault> {
         let line = match Line::parse(self.alloc, bytes) {
             Ok(line) => line,
-            Err(LineFault::Memory) => return Err(RenewalFault::Memory),
-            Err(_) => return Err(RenewalFault::NotTheSame),
+            Err(LineFault::Memory) => return Err(ProposalFault::Memory),
+            Err(_) => return Err(ProposalFault::NotTheSame),
         };
-        let line = WireLine::from_line(line).ok_or(RenewalFault::NotTheSame)?;
+        let line = WireLine::from_line(line).ok_or(ProposalFault::NotTheSame)?;
         self.hear(no_moment(), line)
     }
 
     /// The server gives the own nick another name, unless it has it.
-    pub fn be(&mut self, nick: &[u8]) -> Result<(), RenewalFault> {
+    pub fn be(&mut self, nick: &[u8]) -> Result<(), ProposalFault> {
         if is_same(&self.nick, nick) {
             return Ok(());
         }
@@ -146,7 +146,7 @@ impl Draft {
     }
 
     /// The own nick is one that answers to a name.
-    pub fn answer_to(&mut self, nick: &[u8]) -> Result<(), RenewalFault> {
+    pub fn answer_to(&mut self, nick: &[u8]) -> Result<(), ProposalFault> {
         if is_same_name(&self.nick, nick) {
             return Ok(());
         }
@@ -154,18 +154,18 @@ impl Draft {
     }
 
     /// The client asks for something at a moment.
-    pub fn ask_at(&mut self, at: Moment, action: Action) -> Result<(), RenewalFault> {
+    pub fn ask_at(&mut self, at: Moment, action: Action) -> Result<(), ProposalFault> {
         self.asked = self.asked.saturating_add(1);
         let (client, place) = (self.client, number(self.asked)?);
         self.add(Body::Asked(client, place, at, action))
     }
 
-    pub fn ask(&mut self, action: Action) -> Result<(), RenewalFault> {
+    pub fn ask(&mut self, action: Action) -> Result<(), ProposalFault> {
         self.ask_at(no_moment(), action)
     }
 
     /// The session takes the line that the client sent, so that no later one does.
-    pub fn claim(&mut self) -> Result<(), RenewalFault> {
+    pub fn claim(&mut self) -> Result<(), ProposalFault> {
         self.sent = self.sent.saturating_add(1);
         let (session, place) = (self.session()?, number(self.sent)?);
         self.add(Body::Inner(ClaimsCommand::Claim(session, place)))
@@ -176,24 +176,24 @@ impl Draft {
     }
 
     /// The client attaches without a name.
-    pub fn attach(&mut self) -> Result<(), RenewalFault> {
+    pub fn attach(&mut self) -> Result<(), ProposalFault> {
         self.attached = true;
         self.ask(Action::Attach(None))
     }
 
-    pub fn leave(&mut self) -> Result<(), RenewalFault> {
+    pub fn leave(&mut self) -> Result<(), ProposalFault> {
         self.attached = false;
         self.ask(Action::Leave)
     }
 
     /// The client attaches by a name, and leaves: the name has seen all that is shown.
-    pub fn look_in(&mut self, id: &Name) -> Result<(), RenewalFault> {
+    pub fn look_in(&mut self, id: &Name) -> Result<(), ProposalFault> {
         self.ask(Action::Attach(Some(id.copy(self.alloc)?)))?;
         self.ask(Action::Leave)
     }
 
     /// The runs of a node below this one are gone.
-    pub fn gone(&mut self, node: u8, floor: Number) -> Result<(), RenewalFault> {
+    pub fn gone(&mut self, node: u8, floor: Number) -> Result<(), ProposalFault> {
         self.add_of_session(FenceCommand::Inner(Command::NodeGone(node, floor)))
     }
 }

@@ -1,6 +1,5 @@
 //! Why a list is not begun anew.
-ghost use Rattle.std.specs.Prelude.{◌≡◌};
-ghost use Rattle.renewal.specs.declared.fault.RenewalFault.TheVariants.{Memory};
+ghost use Rattle.std.specs.Prelude.{◌≡◌, ◌≢◌};
 
 use std::alloc::AllocError;
 use thiserror::Error;
@@ -14,6 +13,13 @@ pub enum RenewalFault {
     /// The new list would have too many bodies.
     #[error("the new log would be too long: nothing was changed; keep the folder, and report it")]
     TooLong,
+    /// No client has a name that is to be forgotten.
+    #[error("no client has that name: nothing was changed; 'bouncer check' lists the names of clients")]
+    UnknownName,
+    /// A line that a client said is longer than one from upstream. Where playing empties channels, and no client has
+    /// a name, a channel that clients are shown keeps no such line.
+    #[error("a channel keeps a line that is too long for this change: nothing was changed; keep clears_channels and the names of clients as they are, or clear the channel first")]
+    LongLine,
     /// Numbers would pass their limit.
     #[error("no numbers are left: nothing was changed")]
     Spent,
@@ -23,9 +29,46 @@ pub enum RenewalFault {
 }
 
 impl From<AllocError> for RenewalFault {
+    ghost use Rattle.renewal.specs.declared.fault.RenewalFault.TheVariants.{Memory};
+
     ghost from_gives = { λ _ e. e ≡ Memory };
 
     fn from(_error: AllocError) -> Self {
         RenewalFault::Memory
+    }
+}
+
+/// Why no list is proposed.
+#[derive(Clone, Copy, Debug, Drop, PartialEq, Eq)]
+pub enum ProposalFault {
+    /// What is held is not brought about by any list.
+    NotTheSame,
+    LongLine,
+    Spent,
+    Memory,
+}
+
+impl From<AllocError> for ProposalFault {
+    ghost use Rattle.renewal.specs.declared.fault.ProposalFault.TheVariants.{Memory};
+
+    ghost from_gives = { λ _ e. e ≡ Memory };
+
+    fn from(_error: AllocError) -> Self {
+        ProposalFault::Memory
+    }
+}
+
+impl From<ProposalFault> for RenewalFault {
+    ghost use Rattle.renewal.specs.declared.fault.RenewalFault.TheVariants.{UnknownName};
+
+    ghost from_gives = { λ _ e. e ≢ UnknownName };
+
+    fn from(fault: ProposalFault) -> Self {
+        match fault {
+            ProposalFault::NotTheSame => RenewalFault::NotTheSame,
+            ProposalFault::LongLine => RenewalFault::LongLine,
+            ProposalFault::Spent => RenewalFault::Spent,
+            ProposalFault::Memory => RenewalFault::Memory,
+        }
     }
 }

@@ -1,10 +1,11 @@
 //! What is kept, brought about again where no client ever gave a name: attaching empties what it plays, so the
 //! client comes once, before the lines.
+use crate::change::{Change, Sizes, channel_sizes, query_sizes};
 use crate::draft::Draft;
-use crate::fault::RenewalFault;
-use crate::saying::{keep_line, keep_told, send_again};
+use crate::fault::ProposalFault;
+use crate::kept::Kept;
+use crate::saying::{hear_line, keep_line, keep_told, send_again};
 use buffer_commands::{Action, BufferSize, ChannelName, MOST_LINES, Setup};
-use buffer_machine::BufferMachine;
 use buffer_targets::{Channel, Target};
 use irc_line::Line;
 use std::collections::VecDeque;
@@ -13,47 +14,47 @@ use std::collections::VecDeque;
 /// name is known.
 pub fn keep_all(
     draft: &mut Draft,
-    setup: &Setup,
-    buffers: &BufferMachine,
+    change: &Change,
+    kept: &Kept,
     waiting: &VecDeque<Line>,
-) -> Result<(), RenewalFault> {
+) -> Result<(), ProposalFault> {
     draft.attach()?;
-    set_sizes(draft, buffers)?;
-    detach(draft, buffers.channels(), false)?;
-    keep_channels(draft, setup, buffers.channels(), true)?;
+    set_sizes(draft, change, kept)?;
+    detach(draft, &kept.channels, false)?;
+    keep_attended(draft, change.to, &kept.channels)?;
     send_again(draft, waiting)?;
     draft.leave()?;
-    keep_channels(draft, setup, buffers.channels(), false)?;
-    for query in buffers.queries() {
+    keep_unattended(draft, change.to, &kept.channels)?;
+    for query in kept.queries {
         keep_query(draft, query)?;
     }
     Ok(())
 }
 
 /// The attached client lets go what the queries were made with, and gives each target its size.
-pub fn set_sizes(draft: &mut Draft, buffers: &BufferMachine) -> Result<(), RenewalFault> {
+pub fn set_sizes(draft: &mut Draft, change: &Change, kept: &Kept) -> Result<(), ProposalFault> {
     draft.ask(Action::ClearQueries)?;
-    for query in buffers.queries() {
-        set_size(draft, query)?;
+    for query in kept.queries {
+        set_size(draft, query, query_sizes(change))?;
     }
-    for channel in buffers.channels() {
-        set_size(draft, channel.target())?;
+    for channel in kept.channels.iter().copied() {
+        set_size(draft, channel.target(), channel_sizes(change))?;
     }
     Ok(())
 }
 
-fn set_size(draft: &mut Draft, target: &Target) -> Result<(), RenewalFault> {
-    let size = target.lines().size();
+fn set_size(draft: &mut Draft, target: &Target, sizes: Sizes) -> Result<(), ProposalFault> {
+    let size = sizes.moved(target.lines().size());
     if size > MOST_LINES as usize {
-        return Err(RenewalFault::NotTheSame);
+        return Err(ProposalFault::NotTheSame);
     }
     let name = target.name().copy(draft.allocator())?;
     draft.ask(Action::SetBuffer(name, BufferSize::new(size as u16)))
 }
 
 /// The attached client detaches channels: all, or those that are to be.
-pub fn detach(draft: &mut Draft, channels: &[Channel], all: bool) -> Result<(), RenewalFault> {
-    for channel in channels {
+pub fn detach(draft: &mut Draft, channels: &[&Channel], all: bool) -> Result<(), ProposalFault> {
+    for channel in channels.iter().copied() {
         if all || channel.is_detached() {
             let name = channel_name(draft, channel)?;
             draft.ask(Action::Detach(name))?;
@@ -62,28 +63,45 @@ pub fn detach(draft: &mut Draft, channels: &[Channel], all: bool) -> Result<(), 
     Ok(())
 }
 
-pub fn channel_name(draft: &Draft, channel: &Channel) -> Result<ChannelName, RenewalFault> {
+pub fn channel_name(draft: &Draft, channel: &Channel) -> Result<ChannelName, ProposalFault> {
     let name = channel.target().name().copy(draft.allocator())?;
-    ChannelName::from_name(name).ok_or(RenewalFault::NotTheSame)
+    ChannelName::from_name(name).ok_or(ProposalFault::NotTheSame)
 }
 
-/// The lines of the channels that keep what comes while a client is attached, or of all others.
-fn keep_channels(
+/// Whether a channel keeps what comes while a client is attached.
+fn is_attended(channel: &Channel, setup: &Setup) -> bool {
+    channel.is_detached() || !setup.clears_channels()
+}
+
+/// The lines of the channels that keep what comes while a client is attached.
+fn keep_attended(
     draft: &mut Draft,
     setup: &Setup,
-    channels: &[Channel],
-    attended: bool,
-) -> Result<(), RenewalFault> {
-    for channel in channels {
-        let keeps = channel.is_detached() || !setup.clears_channels();
-        if keeps == attended {
+    channels: &[&Channel],
+) -> Result<(), ProposalFault> {
+    for channel in channels.iter().copied() {
+        if is_attended(channel, setup) {
             keep_channel(draft, channel.target())?;
         }
     }
     Ok(())
 }
 
-fn keep_channel(draft: &mut Draft, target: &Target) -> Result<(), RenewalFault> {
+/// The lines of all others, while none is.
+fn keep_unattended(
+    draft: &mut Draft,
+    setup: &Setup,
+    channels: &[&Channel],
+) -> Result<(), ProposalFault> {
+    for channel in channels.iter().copied() {
+        if !is_attended(channel, setup) {
+            keep_heard(draft, channel.target())?;
+        }
+    }
+    Ok(())
+}
+
+fn keep_channel(draft: &mut Draft, target: &Target) -> Result<(), ProposalFault> {
     for place in 0..target.lines().count() {
         if let Some(kept) = target.lines().line(place) {
             keep_line(draft, kept)?;
@@ -92,7 +110,17 @@ fn keep_channel(draft: &mut Draft, target: &Target) -> Result<(), RenewalFault> 
     Ok(())
 }
 
-fn keep_query(draft: &mut Draft, target: &Target) -> Result<(), RenewalFault> {
+/// A client that said a line would empty what it is played.
+fn keep_heard(draft: &mut Draft, target: &Target) -> Result<(), ProposalFault> {
+    for place in 0..target.lines().count() {
+        if let Some(kept) = target.lines().line(place) {
+            hear_line(draft, kept)?;
+        }
+    }
+    Ok(())
+}
+
+fn keep_query(draft: &mut Draft, target: &Target) -> Result<(), ProposalFault> {
     keep_between(draft, target, 0, target.lines().count())
 }
 
@@ -102,7 +130,7 @@ pub fn keep_between(
     target: &Target,
     from: usize,
     to: usize,
-) -> Result<(), RenewalFault> {
+) -> Result<(), ProposalFault> {
     for place in from..to {
         if let Some(kept) = target.lines().line(place) {
             keep_told(draft, kept)?;

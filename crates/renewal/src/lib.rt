@@ -1,21 +1,27 @@
-//! A full list of bodies begun anew: a short list that leaves the same behind for everybody who may attach.
+//! A list of bodies begun anew: a short list that leaves the same behind, as far as another setup lets.
 //! Stands under journal_folder.
-//! Promises that whatever comes behind the new list brings about the same as behind the old one.
+//! Promises that under the same setup, whatever comes behind the new list brings about the same as behind the old one.
 #![tactic(auto)]
 
 mod anew;
 mod bound;
 mod brought;
+mod change;
 mod draft;
 mod fault;
 mod keeping;
+mod kept;
 mod laws;
 mod logs;
 mod marking;
+mod moved;
+mod noting;
 mod proposal;
 mod same;
 mod saying;
 
 pub use fault::RenewalFault;
-pub use laws::what_is_held_the_same_is_renewed;
+pub use laws::{
+    the_same_setup_means_the_same, what_a_change_keeps, what_is_held_the_same_is_renewed,
+};
 pub use logs::{Renewal, renewed};

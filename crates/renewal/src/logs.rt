@@ -1,18 +1,21 @@
 //! A log begun anew.
-ghost use Rattle.std.specs.Prelude.{◌≡◌, ◌≤◌, ◌+◌, ◌++◌, ◌∷◌, [], length, map, IfOk, OnOk};
-ghost use Rattle.machine_laws.specs.Runs.{History, run};
+ghost use Rattle.std.specs.Prelude.{◌≡◌, ◌≢◌, ◌≤◌, ◌+◌, ◌++◌, ◌∷◌, [], length, map, false, IfErr, IfOk, OnOk};
+ghost use Rattle.machine_laws.specs.Runs.{History};
 ghost use Rattle.buffer_commands.specs.Settings.{Settings};
 ghost use Rattle.bouncer_tower.specs.Bodies.{TowerBody};
 ghost use Rattle.raft_log.specs.declared.entry.Entry.{Entry};
-ghost use Rattle.renewal.specs.Lists.{AreCounted, IsRenewal, bodies_of, client_of, entry_of, floors_from, floors_of, settled};
+ghost use Rattle.renewal.specs.Lists.{AreCounted, IsRenewal, are_known, client_of, entry_of, floors_from, floors_of, settled_log};
 
 use crate::anew::{begun_anew, buffers_of};
 use crate::bound::{kept_in_channels, kept_in_queries};
+use crate::change::Change;
 use crate::draft::Start;
 use crate::fault::RenewalFault;
+use crate::noting::folded_log;
 use bouncer_tower::{Layers, Tower, TowerBody};
 use buffer_commands::Setup;
-use machine_laws::{ApplyFault, Hosted, Machine};
+use irc_line::Name;
+use machine_laws::{Hosted, Machine};
 use raft_log::{Entry, Log, LoggedBody};
 use std::alloc::{AllocError, Global};
 use wire_bytes::{Copied, Number, Origin, Wire};
@@ -26,24 +29,37 @@ pub struct Renewal {
     pub lines: u64,
 }
 
-/// A log that leaves behind what this one does, once all clients of the runs that there were are gone and no session
-/// is in force. `boots` are the greatest run of each node, node 1's first, and `term` is the greatest term. The new
-/// log is of one run more of each node, and of the term behind: the next start of each has to have a run behind that.
+/// A log under the setup `to` that leaves behind what this one does under `from`, once all clients of the runs that
+/// there were are gone and no session is in force. `forgotten` are names of clients that go with what they have seen.
+/// `boots` are the greatest run of each node, node 1's first, of as many as the larger of the two groups has, and
+/// `term` is the greatest term. The new log is of one run more of each node, and of the term behind: the next start of
+/// each has to have a run behind that.
 pub fn renewed(
     alloc: Global,
-    setup: &Setup,
+    from: &Setup,
+    to: &Setup,
+    forgotten: &[Name],
     log: &Log<TowerBody>,
     boots: &[Number],
     term: Number,
 ) -> Result<Renewal, RenewalFault>
-    ensures begun { IfOk result (λ r. IsRenewal setup.now boots.now term log.now r.log) }
-    ensures counted { IfOk result (λ r. AreCounted setup.now
-        (settled (floors_of boots.now) (run (bodies_of log.now))) r.targets r.lines) }
+    ensures begun { IfOk result (λ r. IsRenewal from.now to.now forgotten.now boots.now term
+        log.now r.log) }
+    ensures counted { IfOk result (λ r. AreCounted from.now
+        (settled_log boots.now log.now) r.targets r.lines) }
+    ensures unknown { IfErr result (λ e. e ≡ RenewalFault.UnknownName
+        → are_known from.now (settled_log boots.now log.now) forgotten.now ≡ false) }
 {
     let start = start_of(boots, term)?;
     let floors = floors_of(alloc, boots)?;
-    let mut layers = folded_log(alloc, setup, log)?;
-    let bodies = begun_anew(alloc, setup, &mut layers, &start, &floors)?;
+    let (mut layers, joined) = folded_log(alloc, from, log)?;
+    let change = Change {
+        from,
+        to,
+        forgotten,
+        joined: &joined,
+    };
+    let bodies = begun_anew(alloc, &change, &mut layers, &start, &floors)?;
     let (targets, lines) = counted(&layers);
     let anew = logged::<Tower>(alloc, &bodies, start.term)?;
     Ok(Renewal {
@@ -68,7 +84,8 @@ fn counted(layers: &Layers) -> (u64, u64)
 /// A number behind this one by so many.
 fn behind(number: Number, by: u64) -> Result<Number, RenewalFault>
     requires { by ≤ 2 }
-    ensures { IfOk result (λ n. n ≡ number + by) }
+    ensures next { IfOk result (λ n. n ≡ number + by) }
+    ensures fault { IfErr result (λ e. e ≡ RenewalFault.Spent) }
 {
     if number.value() + by > 1 << 60 {
         return Err(RenewalFault::Spent);
@@ -80,6 +97,7 @@ fn behind(number: Number, by: u64) -> Result<Number, RenewalFault>
 fn start_of(boots: &[Number], term: Number) -> Result<Start, RenewalFault>
     ensures term { IfOk result (λ s. s.term ≡ term + 1) }
     ensures client { IfOk result (λ s. s.client ≡ client_of boots.now) }
+    ensures fault { IfErr result (λ e. e ≡ RenewalFault.Spent) }
 {
     let [boot, ..] = boots else {
         return Err(RenewalFault::Spent);
@@ -93,7 +111,8 @@ fn start_of(boots: &[Number], term: Number) -> Result<Start, RenewalFault>
 
 /// The floor of each node, behind the run of the renewal.
 fn floors_of(alloc: Global, boots: &[Number]) -> Result<Vec<(u8, Number)>, RenewalFault>
-    ensures { IfOk result (λ v. v.items ≡ floors_of boots.now) }
+    ensures floors { IfOk result (λ v. v.items ≡ floors_of boots.now) }
+    ensures fault { IfErr result (λ e. e ≢ RenewalFault.UnknownName) }
 {
     if boots.len() > 7 {
         return Err(RenewalFault::Spent);
@@ -110,7 +129,9 @@ fn push_floors(
     boots: &[Number],
 ) -> Result<(), RenewalFault>
     requires { node + length boots.now ≤ 8 }
-    ensures { OnOk result (floors.new.items ≡ floors.old.items ++ floors_from node boots.now) }
+    ensures floors { OnOk result
+        (floors.new.items ≡ floors.old.items ++ floors_from node boots.now) }
+    ensures fault { IfErr result (λ e. e ≢ RenewalFault.UnknownName) }
 {
     match boots {
         [] => Ok(()),
@@ -128,41 +149,14 @@ fn push_floor(floors: &mut Vec<(u8, Number)>, node: u8, floor: Number) -> Result
     Ok(())
 }
 
-/// Layers to which the bodies of a log came.
-fn folded_log(alloc: Global, setup: &Setup, log: &Log<TowerBody>) -> Result<Layers, RenewalFault>
-    ensures { IfOk result (λ l. ⟦<Layers as Machine>⟧.stands l setup.now
-        (run (map (λ e. e.body) log.now))) }
-{
-    let Ok(mut layers) = Layers::start(alloc, setup) else {
-        return Err(RenewalFault::Memory);
-    };
-    match apply_all(&mut layers, log) {
-        Ok(()) => Ok(layers),
-        Err(_) => Err(RenewalFault::Memory),
-    }
-}
-
-/// Applies the bodies of a log, the first at place 1, to a machine to which nothing came. After an error the machine
-/// is to be thrown away.
-#[tactic(auto, using(crate::proofs::Comes::run_more))]
-fn apply_all<M: Machine>(machine: &mut M, log: &Log<M::Command>) -> Result<(), ApplyFault>
-    ensures { (s : M.Setup) → M.stands machine.old s []
-        → OnOk result (M.stands machine.new s (run (map (λ e. e.body) log.now))) }
-{
-    for applied in 0..log.len().value() {
-        let place = Number::new(applied + 1);
-        machine.apply(place.value(), log.body(place).get())?;
-    }
-    Ok(())
-}
-
 /// A log of these bodies, all of one term.
 fn logged<M: Hosted>(
     alloc: Global,
     bodies: &[M::Command],
     term: Number,
 ) -> Result<Log<M::Command>, RenewalFault>
-    ensures { IfOk result (λ l. l ≡ map (entry_of term) bodies.now) }
+    ensures log { IfOk result (λ l. l ≡ map (entry_of term) bodies.now) }
+    ensures fault { IfErr result (λ e. e ≢ RenewalFault.UnknownName) }
 {
     let mut log = Log::new(alloc);
     for body in bodies {
@@ -178,7 +172,8 @@ fn push_copy<M: Hosted>(
     body: &M::Command,
     term: Number,
 ) -> Result<(), RenewalFault>
-    ensures { OnOk result (log.new ≡ log.old ++ entry_of term body.now ∷ []) }
+    ensures log { OnOk result (log.new ≡ log.old ++ entry_of term body.now ∷ []) }
+    ensures fault { IfErr result (λ e. e ≢ RenewalFault.UnknownName) }
 {
     if log.is_full() {
         return Err(RenewalFault::TooLong);

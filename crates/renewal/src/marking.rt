@@ -1,12 +1,13 @@
 //! What is kept, and what each name has seen of it, brought about again where clients gave names. Nothing is emptied
 //! by being played then, so that clients may come and go between the lines. All channels but one are detached, so
 //! that a name that attaches sees that one, and the queries.
+use crate::change::Change;
 use crate::draft::Draft;
-use crate::fault::RenewalFault;
+use crate::fault::ProposalFault;
 use crate::keeping::{channel_name, detach, keep_between, set_sizes};
+use crate::kept::Kept;
 use crate::saying::{keep_line, send_again};
 use buffer_commands::Action;
-use buffer_machine::BufferMachine;
 use buffer_targets::{Channel, Target};
 use irc_line::{Line, Name};
 use std::alloc::{AllocError, Global};
@@ -16,19 +17,20 @@ use std::collections::VecDeque;
 /// come last: before them nothing of them can be seen. Lines wait again.
 pub fn keep_marked(
     draft: &mut Draft,
-    buffers: &BufferMachine,
+    change: &Change,
+    kept: &Kept,
     waiting: &VecDeque<Line>,
-) -> Result<(), RenewalFault> {
+) -> Result<(), ProposalFault> {
     draft.attach()?;
-    set_sizes(draft, buffers)?;
-    detach(draft, buffers.channels(), true)?;
+    set_sizes(draft, change, kept)?;
+    detach(draft, &kept.channels, true)?;
     draft.leave()?;
-    for channel in buffers.channels() {
-        keep_seen(draft, channel, buffers.ids())?;
+    for channel in kept.channels.iter().copied() {
+        keep_seen(draft, channel, &kept.ids)?;
     }
-    keep_queries(draft, buffers.queries(), buffers.ids())?;
+    keep_queries(draft, kept.queries, &kept.ids)?;
     draft.attach()?;
-    for channel in buffers.channels() {
+    for channel in kept.channels.iter().copied() {
         if !channel.is_detached() {
             reattach(draft, channel)?;
         }
@@ -38,7 +40,7 @@ pub fn keep_marked(
 }
 
 /// The attached client attaches a channel again, and the session takes the JOIN that it sends.
-fn reattach(draft: &mut Draft, channel: &Channel) -> Result<(), RenewalFault> {
+fn reattach(draft: &mut Draft, channel: &Channel) -> Result<(), ProposalFault> {
     let name = channel_name(draft, channel)?;
     draft.ask(Action::Reattach(name))?;
     draft.claim()
@@ -53,9 +55,13 @@ fn seen_of(target: &Target, reader: usize) -> usize {
 }
 
 /// The lines of a channel, between which names look in. The channel is detached before and after.
-fn keep_seen(draft: &mut Draft, channel: &Channel, ids: &[Name]) -> Result<(), RenewalFault> {
+fn keep_seen(
+    draft: &mut Draft,
+    channel: &Channel,
+    ids: &[(usize, &Name)],
+) -> Result<(), ProposalFault> {
     let target = channel.target();
-    let marked = is_seen(target, ids.len());
+    let marked = is_seen(target, ids);
     if marked {
         draft.attach()?;
         reattach(draft, channel)?;
@@ -77,8 +83,8 @@ fn keep_seen(draft: &mut Draft, channel: &Channel, ids: &[Name]) -> Result<(), R
 }
 
 /// Whether some reader has seen a line of a target.
-fn is_seen(target: &Target, readers: usize) -> bool {
-    for reader in 0..readers {
+fn is_seen(target: &Target, ids: &[(usize, &Name)]) -> bool {
+    for (reader, _) in ids.iter().copied() {
         if seen_of(target, reader) > 0 {
             return true;
         }
@@ -90,12 +96,12 @@ fn is_seen(target: &Target, readers: usize) -> bool {
 fn look_in(
     draft: &mut Draft,
     target: &Target,
-    ids: &[Name],
+    ids: &[(usize, &Name)],
     count: usize,
-) -> Result<(), RenewalFault> {
-    for reader in 0..ids.len() {
+) -> Result<(), ProposalFault> {
+    for (reader, id) in ids.iter().copied() {
         if seen_of(target, reader) == count {
-            draft.look_in(&ids[reader])?;
+            draft.look_in(id)?;
         }
     }
     Ok(())
@@ -103,27 +109,34 @@ fn look_in(
 
 /// The lines of the queries, between which names look in: a name sees all queries at once, so what one has seen of
 /// them begins what another has, or the other way round.
-fn keep_queries(draft: &mut Draft, queries: &[Target], ids: &[Name]) -> Result<(), RenewalFault> {
-    let order = in_order(draft.allocator(), queries, ids.len())?;
+fn keep_queries(
+    draft: &mut Draft,
+    queries: &[Target],
+    ids: &[(usize, &Name)],
+) -> Result<(), ProposalFault> {
+    let order = in_order(draft.allocator(), queries, ids)?;
     let mut kept = vec![in draft.allocator(); 0usize; queries.len()]?;
-    for (seen, reader) in order.iter().copied() {
-        if seen > 0 && reader < ids.len() {
+    for (seen, place) in order.iter().copied() {
+        if seen > 0 && place < ids.len() {
+            let (reader, id) = ids[place];
             keep_up_to(draft, queries, &mut kept, Some(reader))?;
-            draft.look_in(&ids[reader])?;
+            draft.look_in(id)?;
         }
     }
     keep_up_to(draft, queries, &mut kept, None)
 }
 
-/// The readers, each behind how many lines of all queries it has seen, in the order of these numbers.
+/// The places of the names, each behind how many lines of all queries its reader has seen, in the order of these
+/// numbers.
 fn in_order(
     alloc: Global,
     queries: &[Target],
-    readers: usize,
+    ids: &[(usize, &Name)],
 ) -> Result<Vec<(usize, usize)>, AllocError> {
     let mut order = Vec::new(alloc);
-    for reader in 0..readers {
-        order.push((seen_in_all(queries, reader), reader))?;
+    for place in 0..ids.len() {
+        let (reader, _) = ids[place];
+        order.push((seen_in_all(queries, reader), place))?;
     }
     order.sort()?;
     Ok(order)
@@ -144,7 +157,7 @@ fn keep_up_to(
     queries: &[Target],
     kept: &mut [usize],
     reader: Option<usize>,
-) -> Result<(), RenewalFault> {
+) -> Result<(), ProposalFault> {
     for place in 0..queries.len() {
         if place < kept.len() {
             let query = &queries[place];

@@ -1,10 +1,11 @@
 //! A new list of bodies for what the buffers hold. It need not be believed: what it leaves behind is compared.
+use crate::change::{Change, added, is_among};
 use crate::draft::{Draft, Start};
-use crate::fault::RenewalFault;
+use crate::fault::ProposalFault;
 use crate::keeping::keep_all;
+use crate::kept::Kept;
 use crate::marking::keep_marked;
 use bouncer_tower::TowerBody;
-use buffer_commands::Setup;
 use buffer_machine::BufferMachine;
 use buffer_targets::{Channel, Target};
 use irc_line::{Line, Name};
@@ -15,32 +16,37 @@ use wire_bytes::Number;
 /// The own nick while the list is made. No line is of a nick that has a `!`, which the own one may have.
 const NICK: &[u8] = b"me";
 
-/// Bodies that are to bring new buffers of this setup to what these hold, with these lines waiting. Each node of the floors has its runs below
-/// its floor gone.
+/// Bodies that are to bring new buffers of the new setup to what these hold, as it is moved, with these lines waiting.
+/// Each node of the floors has its runs below its floor gone.
 pub fn propose(
     alloc: Global,
-    setup: &Setup,
+    change: &Change,
     buffers: &BufferMachine,
     waiting: &VecDeque<Line>,
     start: &Start,
     floors: &[(u8, Number)],
-) -> Result<Vec<TowerBody>, RenewalFault> {
+) -> Result<Vec<TowerBody>, ProposalFault> {
+    let kept = Kept::of(alloc, buffers, change)?;
     let mut draft = Draft::new(alloc, start);
     draft.blank()?;
     draft.open()?;
     draft.be(NICK)?;
-    part(&mut draft, setup.channels())?;
-    for id in buffers.ids() {
+    part(
+        &mut draft,
+        &added(alloc, buffers.channels(), change)?,
+        change,
+    )?;
+    for (_, id) in kept.ids.iter().copied() {
         draft.look_in(id)?;
     }
-    make_queries(&mut draft, buffers.queries())?;
-    join(&mut draft, buffers.channels())?;
+    make_queries(&mut draft, kept.queries)?;
+    join(&mut draft, &kept.channels)?;
     draft.shut()?;
     draft.open()?;
-    if buffers.ids().is_empty() {
-        keep_all(&mut draft, setup, buffers, waiting)?;
+    if kept.ids.is_empty() {
+        keep_all(&mut draft, change, &kept, waiting)?;
     } else {
-        keep_marked(&mut draft, buffers, waiting)?;
+        keep_marked(&mut draft, change, &kept, waiting)?;
     }
     draft.be(buffers.nick().as_bytes())?;
     draft.shut()?;
@@ -50,18 +56,20 @@ pub fn propose(
     Ok(draft.into_bodies())
 }
 
-/// The channels that stand at the start go.
-fn part(draft: &mut Draft, channels: &[Name]) -> Result<(), RenewalFault> {
-    for channel in channels {
-        let mut line = Vec::from_slice(draft.allocator(), b":me PART ")?;
-        line.extend_from_slice(channel.as_bytes())?;
-        draft.hear_bytes(&line)?;
+/// The channels that stand at the start go, but for the new ones.
+fn part(draft: &mut Draft, added: &[Name], change: &Change) -> Result<(), ProposalFault> {
+    for channel in change.to.channels() {
+        if !is_among(channel, added) {
+            let mut line = Vec::from_slice(draft.allocator(), b":me PART ")?;
+            line.extend_from_slice(channel.as_bytes())?;
+            draft.hear_bytes(&line)?;
+        }
     }
     Ok(())
 }
 
 /// A line for each query, by the spelling under which it was made.
-fn make_queries(draft: &mut Draft, queries: &[Target]) -> Result<(), RenewalFault> {
+fn make_queries(draft: &mut Draft, queries: &[Target]) -> Result<(), ProposalFault> {
     for query in queries {
         let mut line = Vec::from_slice(draft.allocator(), b":")?;
         line.extend_from_slice(query.name().as_bytes())?;
@@ -72,8 +80,8 @@ fn make_queries(draft: &mut Draft, queries: &[Target]) -> Result<(), RenewalFaul
 }
 
 /// The channels are made, by their spellings.
-fn join(draft: &mut Draft, channels: &[Channel]) -> Result<(), RenewalFault> {
-    for channel in channels {
+fn join(draft: &mut Draft, channels: &[&Channel]) -> Result<(), ProposalFault> {
+    for channel in channels.iter().copied() {
         let mut line = Vec::from_slice(draft.allocator(), b":me JOIN ")?;
         line.extend_from_slice(channel.target().name().as_bytes())?;
         draft.hear_bytes(&line)?;

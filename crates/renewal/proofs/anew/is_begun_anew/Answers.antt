@@ -1,11 +1,24 @@
-use Rattle.std.proofs.Common.{◌∙◌, sym}
+use Rattle.std.proofs.Common.{◌∙◌, ap, sym}
 use Rattle.machine_laws.specs.Runs.{run}
+use Rattle.bouncer_tower.specs.Bodies.{plain}
+use Rattle.renewal.proofs.Outcomes.{if_true}
 use Rattle.renewal.proofs.Tests.{from_true}
 use Rattle.renewal.proofs.anew.is_begun_anew.Goals as goal
 
 pub returns : goal.returns
-returns c = λ s before so sn e. record {
-  renewed = c.leave_same.ensures s before (run c.args.bodies.now) so sn (from_true c.leave_same.result c.if-not-leave_same.false);
-  waits = c.wait_same.ensures s before (run c.args.bodies.now) so sn e;
-  brought = sym c.are_brought.ensures ∙ c.if-not-are_brought.false;
-}
+returns c = λ before so sn led.
+    let old = c.buffers_of.ensures c.args.change.now.from.now before so in
+    let new = c.buffers_of-2.ensures c.args.change.now.to.now (run c.args.bodies.now) sn in
+    if_true _ _ _ _ c.is_moved_machine.result
+    (λ holding gone floors. record {
+      gone = gone;
+      nobody = ap (λ h. h.clients) holding;
+      floors = floors;
+      holding = holding;
+      waits = c.wait_same.ensures c.args.change.now.from.now c.args.change.now.to.now before (run c.args.bodies.now) so sn (from_true c.wait_same.result c.if-not-wait_same.false);
+      led = led;
+      brought = sym c.are_brought.ensures ∙ c.if-not-are_brought.false;
+    })
+    (c.is_moved_machine.ensures.holding (plain before) (plain (run c.args.bodies.now)) old new)
+    (c.is_moved_machine.ensures.gone (plain before) old)
+    (c.is_moved_machine.ensures.floors (plain before) (plain (run c.args.bodies.now)) old new)

@@ -9,5 +9,5 @@ use Rattle.renewal.proofs.same.are_same_floors.Given as goal
 
 abbrev pub invariant-loop-node : goal.invariant-loop-node
 invariant-loop-node l =
-    (s : Settings) (old new : History Command) → Stands l.a s old → Stands l.b s new
+    (s t : Settings) (old new : History Command) → Stands l.a s old → Stands l.b t new
     → (node : ℕ) → node < l.node → floor (commands new) node ≡ floor (commands old) node
