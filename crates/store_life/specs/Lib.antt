@@ -1,0 +1,4 @@
+pub mod Renewed
+pub mod Openings
+pub mod Periods
+pub mod Running

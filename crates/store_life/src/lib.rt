@@ -1,0 +1,19 @@
+//! What becomes of stores that are begun anew with a list of bodies that one leader brings.
+//! Promises that some list of events leaves what such stores hold, so that all promises of the bouncer hold of the nodes
+//! that run over them; and that no line is handed upstream twice in the life of a store.
+#![tactic(auto)]
+
+mod laws;
+mod life;
+mod nodes;
+
+pub use laws::{
+    begun_anew_is_left_by_events, begun_anew_keeps_the_promises, begun_anew_stores_are_openings,
+};
+pub use life::{
+    each_period_hands_its_own_lines, no_line_is_handed_twice, waiting_lines_go_on,
+    what_is_agreed_is_kept,
+};
+pub use nodes::{
+    no_node_hands_a_line_again, running_nodes_make_a_period, views_are_of_their_period,
+};

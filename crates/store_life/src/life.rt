@@ -1,0 +1,28 @@
+//! What holds over the life of a store, through all its periods.
+ghost use Rattle.store_life.specs.Periods.{AgreedIsChosen, BegunIsAgreed, EachHandsItsLines};
+ghost use Rattle.store_life.specs.Periods.{NoneHandedTwice, SerialsGoOn, WaitingLinesGoOn};
+
+/// Nothing that was agreed is lost: what is agreed in a period begins the log that is chosen at its end, and what is agreed
+/// over stores that were begun anew begins with what they were begun with.
+pub fn what_is_agreed_is_kept()
+    ensures chosen { AgreedIsChosen }
+    ensures begun { BegunIsAgreed }
+{}
+
+/// The lines that a period hands upstream are numbered above those that were claimed when it began, each once, and each is
+/// claimed in the log that is chosen at its end: it is none of those that wait behind that.
+pub fn each_period_hands_its_own_lines()
+    ensures { EachHandsItsLines }
+{}
+
+/// The lines that wait behind the chosen log of a period are, one by one, those that wait where the next begins. Each has
+/// the same serial in both.
+pub fn waiting_lines_go_on()
+    ensures lines { WaitingLinesGoOn }
+    ensures serials { SerialsGoOn }
+{}
+
+/// No line is handed upstream twice in the life of a store, whatever was begun anew or set otherwise between its periods.
+pub fn no_line_is_handed_twice()
+    ensures { NoneHandedTwice }
+{}
