@@ -1,8 +1,0 @@
-use Rattle.std.proofs.Common.{map, take}
-use Rattle.machine_laws.specs.Runs.{run}
-use Rattle.renewal.proofs.Comes.{Comes}
-use Rattle.renewal.proofs.logs.apply_all.Given as goal
-
-abbrev pub invariant-loop-applied : goal.invariant-loop-applied
-invariant-loop-applied g l =
-    Comes g.M.Machine.stands l.fn.machine l.machine (run (map (λ e. e.body) (take l.applied l.log)))

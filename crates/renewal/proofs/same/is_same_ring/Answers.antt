@@ -1,8 +1,0 @@
-use Rattle.std.proofs.Common.{◌∙◌, sym}
-use Rattle.renewal.proofs.Tests.{from_true, more_same}
-use Rattle.renewal.proofs.same.is_same_ring.Goals as goal
-
-pub loop-place-preserved : goal.loop-place-preserved
-loop-place-preserved c =
-    more_same c.args.b.now.lines c.args.a.now.lines c.loop-place.place c.loop-place.invariant
-    (sym c.line-in-loop-place.ensures ∙ (c.is_same_kept.ensures (from_true c.is_same_kept.result c.if-not-is_same_kept.false) ∙ c.line.ensures))
