@@ -65,6 +65,7 @@ pub begun_was : (s t : Settings) (forgotten : List (List ℕ)) (p q : List ℕ �
 begun_was s t forgotten p q term client old new f b = record {
   gone = b.gone;
   nobody = b.nobody;
+  unjoined = b.unjoined;
   floors = b.floors;
   holding = b.holding ∙ moved_was s t forgotten p q f (held s (commands (plain old)));
   waits = b.waits;

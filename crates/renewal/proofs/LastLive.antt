@@ -109,7 +109,7 @@ known_by : (b j : Bool) → (b ≡ false → j ≡ false) → (b && j) ≡ j
 known_by true j f = refl
 known_by false j f = sym (f refl)
 
-in-held : (s : Settings) (h : List Command) (k : List ℕ) → is_in k (joined_names (held s h).channels) ≡ joined s h k
+pub in-held : (s : Settings) (h : List Command) (k : List ℕ) → is_in k (joined_names (held s h).channels) ≡ joined s h k
 in-held s h k = in-joined s h k (channels s h) ∙ known_by (is_in k (channels s h)) (joined s h k) (joined-unknown s h k)
 
 -- ---- when a session was last in force

@@ -9,3 +9,4 @@ pub mod LastLive
 pub mod Outcomes
 pub mod Changes
 pub mod Staying
+pub mod Unjoined

@@ -100,6 +100,7 @@ may_end _ = false
 pub record BegunAnew (s t : Settings) (forgotten : List (List ℕ)) (was : List ℕ → Bool) (term : ℕ) (client : Origin) (old : History TowerBody) (new : List TowerBody) : Type 0 where
   pub gone : attached s (commands (plain old)) ≡ []
   pub nobody : attached t (commands (plain (run new))) ≡ []
+  pub unjoined : (c : List ℕ) → joined t (commands (plain (run new))) c ≡ false
   pub floors : (node : ℕ) → node < 8 → floor (commands (plain (run new))) node ≡ floor (commands (plain old)) node
   pub holding : held t (commands (plain (run new))) ≡ moved s t forgotten was (held s (commands (plain old)))
   pub waits : waiting t (run new) ≡ waiting s old

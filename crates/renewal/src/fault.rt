@@ -16,9 +16,9 @@ pub enum RenewalFault {
     /// No client has a name that is to be forgotten.
     #[error("no client has that name: nothing was changed; 'bouncer check' lists the names of clients")]
     UnknownName,
-    /// A line that a client said is longer than one from upstream. Where playing empties channels, and no client has
-    /// a name, a channel that clients are shown keeps no such line.
-    #[error("a channel keeps a line that is too long for this change: nothing was changed; keep clears_channels and the names of clients as they are, or clear the channel first")]
+    /// A channel keeps a line that a client said and that is longer than one from upstream. Where playing empties
+    /// channels and no client has a name, a channel that clients are shown keeps no such line.
+    #[error("a channel keeps a line too long for this change: nothing was changed; leave auto_clear_chan_buffer and the names of clients as they are, or clear that channel first")]
     LongLine,
     /// Numbers would pass their limit.
     #[error("no numbers are left: nothing was changed")]

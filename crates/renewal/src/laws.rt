@@ -24,8 +24,8 @@ pub fn what_is_held_the_same_is_renewed()
 /// Under the same setup, where no name is forgotten, the log that is begun anew leaves behind what the old one does:
 /// whatever comes next brings about the same.
 pub fn the_same_setup_means_the_same()
-    ensures { (s : Settings) (boots : List ℕ) (term : ℕ) (old new : List (Entry TowerBody)) → IsSound s
-        → IsRenewal s s [] boots term old new → Renewed s
+    ensures { (s : Settings) (boots : List ℕ) (term : ℕ) (old new : List (Entry TowerBody))
+        → IsSound s → IsRenewal s s [] boots term old new → Renewed s
         (commands (plain (settled_log boots old))) (commands (plain (run (bodies_of new)))) }
 {}
 
@@ -42,7 +42,8 @@ pub fn what_a_change_keeps()
         (key : List ℕ) → has_channel key (moved s t forgotten was h).channels
         ≡ ((has_channel key h.channels
         && (not (is_in key s.channels) || (is_in key t.channels || was key)))
-        || (is_in key t.channels && (not (is_in key s.channels) && not (has_channel key h.channels)))) }
+        || (is_in key t.channels
+        && (not (is_in key s.channels) && not (has_channel key h.channels)))) }
     ensures lines { (old new : ℕ) (gone : List Bool) (x : TargetLines)
         → (target_moved old new gone x).lines.lines
         ≡ newest (size_moved old new x.lines.size) x.lines.lines }

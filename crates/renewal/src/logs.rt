@@ -20,7 +20,7 @@ use raft_log::{Entry, Log, LoggedBody};
 use std::alloc::{AllocError, Global};
 use wire_bytes::{Copied, Number, Origin, Wire};
 
-/// A log begun anew, and how much is kept in it.
+/// A log begun anew, and how much the old one kept.
 #[derive(Drop)]
 pub struct Renewal {
     /// All of its entries are of the term behind the greatest that there was.

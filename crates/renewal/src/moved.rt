@@ -77,7 +77,8 @@ fn are_moved_channels(
     new: &[Channel],
 ) -> bool
     ensures { IsTrue result → new.now ≡ merged change.now.to.now.channel_size added.now
-        (map (channel_moved change.now.from.now.channel_size change.now.to.now.channel_size gone.now)
+        (map (channel_moved change.now.from.now.channel_size change.now.to.now.channel_size
+        gone.now)
         (filter (is_staying change.now.from.now change.now.to.now
         (λ key. is_in key change.now.joined.now)) old.now)) }
 {
