@@ -20,12 +20,12 @@ use Rattle.world_views.proofs.Histories.{run-append}
 use Rattle.store_life.proofs.Lists.{both_true, no_way, same_numbers}
 
 -- what passes a test
-all_passing : {A : Type 0} (P : A → Type 0) (k : A → Bool) (xs : List A) → ((x : A) → k x ≡ true → P x) → All P (filter k xs)
+pub all_passing : {A : Type 0} (P : A → Type 0) (k : A → Bool) (xs : List A) → ((x : A) → k x ≡ true → P x) → All P (filter k xs)
 all_passing P k [] f = tt
 all_passing P k (x ∷ xs) f =
     cond_both (k x) (x ∷ filter k xs) (filter k xs) (All P) (λ e. (f x e, all_passing P k xs f)) (λ e. all_passing P k xs f)
 
-all_join : {A : Type 0} (P : A → Type 0) (xs ys : List A) → All P xs → All P ys → All P (xs ++ ys)
+pub all_join : {A : Type 0} (P : A → Type 0) (xs ys : List A) → All P xs → All P ys → All P (xs ++ ys)
 all_join P [] ys a b = b
 all_join P (x ∷ xs) ys a b = (a.0, all_join P xs ys a.1 b)
 

@@ -27,7 +27,7 @@ use Rattle.agreement.specs.World.{Begins}
 use Rattle.world_run.proofs.Places.{came_append}
 use Rattle.led_lists.specs.declared.leading.Leading.{Leading}
 use Rattle.led_lists.specs.Led.{IsLed, are_led, behind, behind_session, is_blank, is_idle, is_live, is_next_claim, is_next_line, may_bring, may_bring_session, new_leader}
-use Rattle.store_life.specs.Periods.{settled}
+use Rattle.renewal.specs.Lists.{settled}
 use Rattle.store_life.proofs.Lists.{both_true, no_way}
 
 pub get_more : {A : Type 0} (xs ys : List A) (i : ℕ) (x : A) → slice_get xs i ≡ Some x → slice_get (xs ++ ys) i ≡ Some x

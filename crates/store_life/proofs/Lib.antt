@@ -19,3 +19,5 @@ pub mod Periods
 pub mod Lives
 pub mod Running
 pub mod Begins
+pub mod GoingOn
+pub mod Clients

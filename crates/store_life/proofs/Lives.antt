@@ -5,7 +5,8 @@ use Rattle.machine_laws.specs.Runs as machine
 use Rattle.bouncer_tower.specs.Bodies.{outgoing}
 use Rattle.raft_node.specs.Machine.{history}
 use Rattle.world_views.specs.Laws.{AllDiffer}
-use Rattle.store_life.specs.Periods.{HandsItsLines, IsLife, NoneHandedTwice, Period, SerialsGoOn, WaitingLinesGoOn, base_behind, claimed_after, claimed_before, handed_in, handed_over, serial, settled, settling}
+use Rattle.renewal.specs.Lists.{settled, settling}
+use Rattle.store_life.specs.Periods.{HandsItsLines, IsLife, NoneHandedTwice, Period, SerialsGoOn, WaitingLinesGoOn, base_behind, claimed_after, claimed_before, handed_in, handed_over, serial}
 use Rattle.store_life.proofs.Claims.{lines_stay_at, settled_claims}
 use Rattle.store_life.proofs.Opened.{made_at}
 use Rattle.store_life.proofs.Periods.{hands_its_lines}

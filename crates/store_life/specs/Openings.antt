@@ -5,7 +5,7 @@ use Rattle.bouncer_tower.specs.Bodies.{TowerBody}
 use Rattle.raft_log.specs.declared.entry.Entry.{Entry}
 use Rattle.raft_log.specs.Lists.{item}
 use Rattle.raft_log.specs.Node.{Node}
-use Rattle.raft_node.specs.Raft.{started}
+use Rattle.raft_node.specs.Starting.{begun}
 use Rattle.world_run.specs.World.{Event}
 use Rattle.world_views.specs.Views.{IsAt}
 use Rattle.world_views.specs.Own.{ViewOf}
@@ -14,12 +14,12 @@ use Rattle.world_views.specs.Merged.{PlacedOf}
 use Rattle.world_views.specs.Openings.{OpenedAfter, restarts}
 use Rattle.headline.specs.Tower.{tower}
 use Rattle.headline.specs.Running.{AreRunning}
-use Rattle.store_life.specs.Renewed.{IsAnew, Leaves, entries}
+use Rattle.store_life.specs.Renewed.{IsAnew, Leaves, begun_anew, entries}
 
--- the node was opened over a store with this run, this term, a vote for node 1 and this log: it is its next run, which knows nothing else
+-- the node was opened over a store that was begun anew with this run, this term and this log: it begins its next run by that
 abbrev pub IsOpenedAnew : {B : Type 0} → ℕ → ℕ → ℕ → List (Entry B) → Option (ℕ × Node B) → Type 0
 IsOpenedAnew size boot term log None = Unit {0}
-IsOpenedAnew size boot term log (Some b) = b.1 ≡ started size (suc boot) term (Some 1) log []
+IsOpenedAnew size boot term log (Some b) = b.1 ≡ begun size (begun_anew boot term log) []
 
 module _ (s : Settings) where
   -- each node that was opened was opened over such a store: that of its run

@@ -1,12 +1,9 @@
 -- The life of a store: periods, each over what was begun anew from what the one before left.
 use Rattle.std.specs.Prelude.{◌≡◌, ◌⊎◌, ◌<◌, ◌≤◌, ℕ, suc, ◌+◌, ◌-◌, List, [], ◌∷◌, ◌++◌, length, map, drop, Some, slice_get}
 use Rattle.irc_line.specs.Lines.{Parts}
-use Rattle.machine_laws.specs.Runs.{History, came_at}
 use Rattle.machine_laws.specs.Runs as machine
 use Rattle.buffer_commands.specs.Settings.{Settings}
-use Rattle.buffer_commands.specs.declared.command.Command.TheVariants as command
 use Rattle.bouncer_tower.specs.Bodies.{TowerBody, claimed, outgoing}
-use Rattle.bouncer_tower.specs.Hosting.{of_buffers}
 use Rattle.raft_log.specs.declared.entry.Entry.{Entry}
 use Rattle.raft_log.specs.Lists.{item}
 use Rattle.raft_log.specs.Node.{Node}
@@ -17,20 +14,8 @@ use Rattle.world_run.specs.World.{Event, agreed, hands, left_of, outs, run}
 use Rattle.world_views.specs.Laws.{AllDiffer}
 use Rattle.world_views.specs.Openings.{restarts}
 use Rattle.headline.specs.Tower.{tower}
+use Rattle.renewal.specs.Lists.{settled, waiting}
 use Rattle.store_life.specs.Renewed.{IsAnew, Leaves, entries}
-
--- the bodies by which the runs of these nodes below their floors are gone with all their clients, each a node and its floor, and no
--- session is in force
-abbrev pub settling : List (ℕ × ℕ) → List TowerBody
-settling floors = map (λ f. of_buffers (command.NodeGone f.0 f.1)) floors ++ of_buffers command.Down ∷ []
-
--- a history with these behind it
-abbrev pub settled : List (ℕ × ℕ) → History TowerBody → History TowerBody
-settled floors h = came_at 0 (settling floors) h
-
--- the lines that clients sent and that wait to go upstream, in their order
-abbrev pub waiting : Settings → History TowerBody → List Parts
-waiting s h = drop (length (claimed s h)) (outgoing s h)
 
 -- A period of a group over its stores: events that leave what the stores held when the nodes were opened, and what happened since.
 pub record Period : Type 0 where

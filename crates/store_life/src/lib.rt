@@ -6,14 +6,16 @@
 mod laws;
 mod life;
 mod nodes;
+mod renewals;
 
 pub use laws::{
     begun_anew_is_left_by_events, begun_anew_keeps_the_promises, begun_anew_stores_are_openings,
 };
 pub use life::{
-    each_period_hands_its_own_lines, no_line_is_handed_twice, waiting_lines_go_on,
-    what_is_agreed_is_kept,
+    each_period_hands_its_own_lines, no_client_is_told_in_two_periods, no_line_is_handed_twice,
+    waiting_lines_go_on, what_is_agreed_is_kept,
 };
 pub use nodes::{
     no_node_hands_a_line_again, running_nodes_make_a_period, views_are_of_their_period,
 };
+pub use renewals::{what_is_renewed_goes_on, what_is_renewed_is_begun_anew};

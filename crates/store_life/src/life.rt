@@ -1,4 +1,5 @@
 //! What holds over the life of a store, through all its periods.
+ghost use Rattle.store_life.specs.Clients.{NobodyToldInBoth, ToldInItsRun, ToldInNewRuns};
 ghost use Rattle.store_life.specs.Periods.{AgreedIsChosen, BegunIsAgreed, EachHandsItsLines};
 ghost use Rattle.store_life.specs.Periods.{NoneHandedTwice, SerialsGoOn, WaitingLinesGoOn};
 
@@ -25,4 +26,13 @@ pub fn waiting_lines_go_on()
 /// No line is handed upstream twice in the life of a store, whatever was begun anew or set otherwise between its periods.
 pub fn no_line_is_handed_twice()
     ensures { NoneHandedTwice }
+{}
+
+/// What goes to a client in a period goes to one of a run that its node had made by the end, and over stores that were begun
+/// anew to one of a run behind that of its store. So nobody is told something in two periods of which the later one's runs
+/// follow those of the other: no request is told to be done in both.
+pub fn no_client_is_told_in_two_periods()
+    ensures made { ToldInItsRun }
+    ensures new { ToldInNewRuns }
+    ensures apart { NobodyToldInBoth }
 {}
