@@ -38,15 +38,17 @@ some_nodes nodes g = ⊎_elim (λ e. omega arith) (λ more. ⊎_elim (λ e. omeg
 pub renewed_is_anew : RenewedIsAnew
 renewed_is_anew s t forgotten greatest term nodes old new r group le within few =
     let count : length (runs_behind nodes greatest) ≡ nodes = rw (length-take, length-map) (omega arith) in
-    let many : length (bodies_of new) ≡ length new = rw length-map refl in
-    (record {
-      group = subst IsGroupSize (sym count) group;
-      runs = λ i boot e. at_place nodes greatest i boot e;
-      above = omega arith;
-      within = within;
-      few = subst (λ (n : ℕ). n ≤ entry_limit) (sym many) few;
-      led = subst (λ (o : Origin). IsLed t (term + 1) o (bodies_of new)) (sym (same_client nodes greatest (some_nodes nodes group))) r.begun.led;
-    }, r.terms)
+    let many : length (bodies_of new) ≡ length new = rw length-map refl in (
+      record {
+        group = subst IsGroupSize (sym count) group;
+        runs = λ i boot e. at_place nodes greatest i boot e;
+        above = omega arith;
+        within = within;
+        few = subst (λ (n : ℕ). n ≤ entry_limit) (sym many) few;
+        led = subst (λ (o : Origin). IsLed t (term + 1) o (bodies_of new)) (sym (same_client nodes greatest (some_nodes nodes group))) r.begun.led;
+      },
+      r.terms,
+    )
 
 pub renewed_follows : RenewedFollows
 renewed_follows p q forgotten greatest term new r e = record {
