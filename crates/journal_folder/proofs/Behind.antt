@@ -1,31 +1,37 @@
 -- The runs and terms of new stores.
-use Rattle.std.proofs.Common.{◌≡◌, ℕ, ◌+◌, ◌≤◌, ◌<◌, max, suc, refl, List, [], ◌∷◌, sym, subst, arith}
+use Rattle.std.proofs.Common.{◌≡◌, ℕ, ◌+◌, ◌<◌, max, zero, suc, List, drop, take, sym, subst, arith}
 use Rattle.bouncer_tower.specs.Bodies.{TowerBody}
 use Rattle.raft_log.specs.declared.entry.Entry.{Entry}
 use Rattle.stable_store.specs.declared.saved.Saved.{Saved}
-use Rattle.journal_folder.specs.Counting.{boot_told, greatest_boots, greatest_term}
+use Rattle.journal_folder.specs.Counting.{all_boots, boot_told, greatest_boots, greatest_term, node_limit, own_boot}
 use Rattle.journal_folder.specs.Planning.{AreBehind, are_next}
 use Rattle.journal_folder.specs.Saving.{all_begun_anew}
 
-behind_max : (boot told : ℕ) → boot < max boot told + 1
-behind_max boot told = omega arith
+behind_own : (boot told : ℕ) → boot < max boot told + 1
+behind_own boot told = omega arith
 
--- stores of the runs behind these, in a term behind them all
-all_behind : (node top : ℕ) (owns group : List (Saved TowerBody)) (log : List (Entry TowerBody)) → greatest_term owns ≤ top
-    → AreBehind owns (all_begun_anew (are_next (greatest_boots node owns group)) (top + 1) log)
-all_behind node top [] group log h = refl
-all_behind node top (own ∷ owns) group log h = (
-  behind_max own.boot (boot_told node group),
-  omega (arith, h),
-  all_behind (suc node) top owns group log (omega (arith, h)),
+behind_told : (boot told : ℕ) → told < max boot told + 1
+behind_told boot told = omega arith
+
+behind_one : (n : ℕ) → n < n + 1
+behind_one n = omega arith
+
+-- stores of the runs behind the first of these, in a term behind them all
+all_behind : (node nodes m : ℕ) (owns group : List (Saved TowerBody)) (log : List (Entry TowerBody))
+    → AreBehind node owns group (all_begun_anew (are_next (take m (greatest_boots node nodes owns group))) (greatest_term group + 1) log)
+all_behind node nodes zero owns group log = tt
+all_behind node zero (suc m) owns group log = tt
+all_behind node (suc nodes) (suc m) owns group log = (
+  behind_own (own_boot owns) (boot_told node group),
+  behind_told (own_boot owns) (boot_told node group),
+  behind_one (greatest_term group),
+  all_behind (suc node) nodes m (drop 1 owns) group log,
 )
 
-self_le : (n : ℕ) → n ≤ n
-self_le n = omega arith
-
 -- those of a plan
-pub of_a_plan : (group : List (Saved TowerBody)) (log : List (Entry TowerBody)) (boots : List ℕ) (term : ℕ) → boots ≡ are_next (greatest_boots 1 group group) → term ≡ greatest_term group + 1
-    → AreBehind group (all_begun_anew boots term log)
-of_a_plan group log boots term runs next =
-    subst (λ (ns : List ℕ). AreBehind group (all_begun_anew ns term log)) (sym runs) (subst (λ (n : ℕ). AreBehind group (all_begun_anew (are_next (greatest_boots 1 group group)) n log)) (sym next)
-    (all_behind 1 (greatest_term group) group group log (self_le (greatest_term group))))
+pub of_a_plan : (nodes : ℕ) (group : List (Saved TowerBody)) (log : List (Entry TowerBody)) (boots : List ℕ) (term : ℕ) → boots ≡ are_next (take nodes (all_boots group)) → term ≡ greatest_term group + 1
+    → AreBehind 1 group group (all_begun_anew boots term log)
+of_a_plan nodes group log boots term runs next =
+    subst (λ (ns : List ℕ). AreBehind 1 group group (all_begun_anew ns term log)) (sym runs)
+    (subst (λ (n : ℕ). AreBehind 1 group group (all_begun_anew (are_next (take nodes (all_boots group))) n log)) (sym next)
+    (all_behind 1 node_limit nodes group group log))

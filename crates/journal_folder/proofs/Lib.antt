@@ -1,6 +1,9 @@
 pub mod Behind
 pub mod Blocks
+pub mod Boots
+pub mod Comes
 pub mod Covering
 pub mod Greatest
 pub mod GroupSaved
+pub mod Told
 pub mod UpToDate

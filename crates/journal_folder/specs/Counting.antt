@@ -1,9 +1,10 @@
 -- What the journals of a group tell: which log counts, and the greatest numbers that there were.
-use Rattle.std.specs.Prelude.{◌≡◌, ◌⊎◌, ℕ, suc, max, IsTrue, List, [], ◌∷◌, length}
+use Rattle.std.specs.Prelude.{◌≡◌, ◌⊎◌, ℕ, zero, suc, max, IsTrue, List, [], ◌∷◌, drop, length}
 use Rattle.bouncer_tower.specs.Bodies.{TowerBody}
 use Rattle.raft_log.specs.Logs.{last_term, up_to_date}
 use Rattle.stable_store.specs.declared.saved.Saved.{Saved}
 use Rattle.journal_folder.specs.Runs.{greatest_boot}
+use Rattle.journal_folder.specs.declared.counting.TheConstants.{MOST_NODES}
 
 module _ {B : Type 0} where
   -- the log of the first is at least as up to date as that of the second, as a voter compares them
@@ -25,12 +26,31 @@ module _ {B : Type 0} where
   greatest_term [] = 0
   greatest_term (saved ∷ group) = max saved.term (greatest_term group)
 
+  -- how many entries the longest log of a group has
+  abbrev pub most_entries : List (Saved B) → ℕ
+  most_entries [] = 0
+  most_entries (saved ∷ group) = max (length saved.log) (most_entries group)
+
 -- the greatest boot of a node that logs of a group tell of
 abbrev pub boot_told : ℕ → List (Saved TowerBody) → ℕ
 boot_told node [] = 0
 boot_told node (saved ∷ group) = max (greatest_boot node saved.log) (boot_told node group)
 
--- for each of these stores, of which the first is of this node, the greatest boot that it or a log of the group knows of its node
-abbrev pub greatest_boots : ℕ → List (Saved TowerBody) → List (Saved TowerBody) → List ℕ
-greatest_boots node [] group = []
-greatest_boots node (own ∷ others) group = max own.boot (boot_told node group) ∷ greatest_boots (suc node) others group
+-- the runs so far that the first of these stores says, 0 where there is none
+abbrev pub own_boot : List (Saved TowerBody) → ℕ
+own_boot [] = 0
+own_boot (own ∷ others) = own.boot
+
+-- for each of so many nodes, the first of which is this one and has the first of these stores, as far as there are some: the greatest boot
+-- that its own store or a log of the group tells of
+abbrev pub greatest_boots : ℕ → ℕ → List (Saved TowerBody) → List (Saved TowerBody) → List ℕ
+greatest_boots node zero owns group = []
+greatest_boots node (suc nodes) owns group = max (own_boot owns) (boot_told node group) ∷ greatest_boots (suc node) nodes (drop 1 owns) group
+
+-- how many nodes a group has at most
+abbrev pub node_limit : ℕ
+node_limit = MOST_NODES
+
+-- for each node that a group may have, the greatest boot that its own store or a log of this group tells of
+abbrev pub all_boots : List (Saved TowerBody) → List ℕ
+all_boots group = greatest_boots 1 node_limit group group

@@ -2,6 +2,9 @@ pub mod Beside
 pub mod Counting
 pub mod Faults
 pub mod Moved
+pub mod Naming
 pub mod Planning
 pub mod Runs
 pub mod Saving
+pub mod Settling
+pub mod Stores

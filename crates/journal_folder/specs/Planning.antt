@@ -1,10 +1,11 @@
 -- What a group is begun anew with.
-use Rattle.std.specs.Prelude.{◌≡◌, ◌⊎◌, ℕ, ◌+◌, ◌<◌, ◌^◌, List, [], ◌∷◌, length}
+use Rattle.std.specs.Prelude.{◌≡◌, ◌⊎◌, ℕ, suc, ◌+◌, ◌<◌, ◌^◌, List, [], ◌∷◌, drop, length, take}
 use Rattle.bouncer_tower.specs.Bodies.{TowerBody}
 use Rattle.buffer_commands.specs.Settings.{Settings}
 use Rattle.stable_store.specs.declared.saved.Saved.{Saved}
+use Rattle.store_setup.specs.declared.store_setup.StoreSetup.{StoreSetup}
 use Rattle.renewal.specs.Lists.{IsRenewal}
-use Rattle.journal_folder.specs.Counting.{IsMostUpToDate, IsOneOf, greatest_boots, greatest_term}
+use Rattle.journal_folder.specs.Counting.{IsMostUpToDate, IsOneOf, all_boots, boot_told, greatest_term, own_boot}
 use Rattle.journal_folder.specs.declared.planning.Plan.{Plan}
 use Rattle.journal_folder.specs.declared.renewed.Renewed.{Renewed}
 
@@ -13,43 +14,54 @@ abbrev pub are_next : List ℕ → List ℕ
 are_next [] = []
 are_next (n ∷ ns) = (n + 1) ∷ are_next ns
 
--- The log of one of these stores, than which none is more up to date, is begun anew by that of the plan; each node's run is the one behind
--- the greatest that its own store or a log tells of, and the term that behind the greatest one
-pub record IsPlan (s : Settings) (group : List (Saved TowerBody)) (plan : Plan) : Type 0 where
+-- The log of one of these stores, than which none is more up to date, is begun anew by that of the plan, from one setup to another, without
+-- these names of clients; the run of each of so many nodes is the one behind the greatest that its own store or a log tells of, and the term
+-- that behind the greatest one
+pub record IsPlan (s t : Settings) (nodes : ℕ) (forgotten : List (List ℕ)) (group : List (Saved TowerBody)) (plan : Plan) : Type 0 where
   pub chosen : Saved TowerBody
   pub one : IsOneOf chosen group
   pub most : IsMostUpToDate chosen group
   pub before : plan.before ≡ length chosen.log
-  pub renewal : IsRenewal s (greatest_boots 1 group group) (greatest_term group) chosen.log plan.renewal.log
-  pub boots : plan.boots.items ≡ are_next (greatest_boots 1 group group)
+  pub renewal : IsRenewal s t forgotten (all_boots group) (greatest_term group) chosen.log plan.renewal.log
+  pub boots : plan.boots.items ≡ are_next (take nodes (all_boots group))
   pub term : plan.term ≡ greatest_term group + 1
 
--- each of the new stores is of a later run and of a later term than the old one: no vote was given in that term
-abbrev pub AreBehind : List (Saved TowerBody) → List (Saved TowerBody) → Type 0
-AreBehind [] news = news ≡ []
-AreBehind (old ∷ olds) [] = ⊥
-AreBehind (old ∷ olds) (new ∷ news) = (old.boot < new.boot) × (old.term < new.term) × AreBehind olds news
+-- Each of the new stores, the first of which is of this node, is of a later run than its own old store, if it had one, and than any that a log
+-- of the group tells of; and of a later term than all old stores: no vote was given in that term
+abbrev pub AreBehind : ℕ → List (Saved TowerBody) → List (Saved TowerBody) → List (Saved TowerBody) → Type 0
+AreBehind node owns group [] = Unit {0}
+AreBehind node owns group (new ∷ news) =
+    (own_boot owns < new.boot) × (boot_told node group < new.boot) × (greatest_term group < new.term) × AreBehind (suc node) (drop 1 owns) group news
 
 -- one of these is the greatest number
 abbrev pub IsAnySpent : List ℕ → Type 0
 IsAnySpent [] = ⊥
 IsAnySpent (n ∷ ns) = (n ≡ 2 ^ 60) ⊎ IsAnySpent ns
 
--- the term of a group or the run of a node is the greatest number
-abbrev pub IsSpent : List (Saved TowerBody) → Type 0
-IsSpent group = (greatest_term group ≡ 2 ^ 60) ⊎ IsAnySpent (greatest_boots 1 group group)
+-- the term of a group or the run of one of so many nodes is the greatest number
+abbrev pub IsSpent : ℕ → List (Saved TowerBody) → Type 0
+IsSpent nodes group = (greatest_term group ≡ 2 ^ 60) ⊎ IsAnySpent (take nodes (all_boots group))
 
--- what is told of a renewal is of a plan of this group: how many entries its log had and has
-pub record IsTold (s : Settings) (group : List (Saved TowerBody)) (told : Renewed) : Type 0 where
-  pub plan : Plan
-  pub is : IsPlan s group plan
+-- what is told of a renewal is that of its plan: how many entries the log had and has, and how much is kept in it
+pub record Tells (plan : Plan) (told : Renewed) : Type 0 where
   pub before : told.before ≡ plan.before
   pub now : told.now ≡ length plan.renewal.log
   pub targets : told.targets ≡ plan.renewal.targets
   pub lines : told.lines ≡ plan.renewal.lines
 
--- of some group of so many nodes
-pub record IsToldOfSome (s : Settings) (nodes : ℕ) (told : Renewed) : Type 0 where
+-- that of a plan of this group
+pub record IsTold (s t : Settings) (forgotten : List (List ℕ)) (nodes : ℕ) (group : List (Saved TowerBody)) (told : Renewed) : Type 0 where
+  pub plan : Plan
+  pub is : IsPlan s t nodes forgotten group plan
+  pub tells : Tells plan told
+
+-- of some group of as many nodes as a store says, from the setup of the store
+pub record IsToldOf (store : StoreSetup) (t : Settings) (forgotten : List (List ℕ)) (nodes : ℕ) (told : Renewed) : Type 0 where
   pub group : List (Saved TowerBody)
-  pub count : length group ≡ nodes
-  pub of_it : IsTold s group told
+  pub count : length group ≡ store.nodes
+  pub of_it : IsTold store.setup t forgotten nodes group told
+
+-- of some store
+pub record IsToldOfSome (t : Settings) (forgotten : List (List ℕ)) (nodes : ℕ) (told : Renewed) : Type 0 where
+  pub store : StoreSetup
+  pub of_it : IsToldOf store t forgotten nodes told

@@ -1,7 +1,7 @@
 //! What the journals of a group tell: which log counts, and the greatest numbers that there were.
-ghost use Rattle.std.specs.Prelude.{◌≡◌, ◌⊎◌, ◌∷◌, ◌++◌, ◌≤◌, ◌+◌, IfOk, OnOk, length, max};
+ghost use Rattle.std.specs.Prelude.{◌≡◌, ◌⊎◌, ◌∷◌, ◌++◌, ◌≤◌, ◌+◌, IfOk, OnOk, drop, length, max};
 ghost use Rattle.journal_folder.specs.Counting.{IsAsUpToDate, IsMostUpToDate, IsOneOf};
-ghost use Rattle.journal_folder.specs.Counting.{boot_told, greatest_boots, greatest_term};
+ghost use Rattle.journal_folder.specs.Counting.{all_boots, boot_told, greatest_boots, greatest_term, most_entries, node_limit, own_boot};
 
 use crate::earlier_runs::greatest_boot;
 use bouncer_tower::TowerBody;
@@ -9,6 +9,10 @@ use raft_log::NodeId;
 use stable_store::Saved;
 use std::alloc::{AllocError, Global};
 use wire_bytes::{Number, Wire};
+
+/// How many nodes a group has at most.
+// an origin has no greater node
+const MOST_NODES: u8 = 7;
 
 /// The greatest numbers that the journals of a group tell of.
 #[derive(Drop)]
@@ -18,15 +22,15 @@ pub struct Numbers {
     pub term: Number,
 }
 
-/// The greatest numbers that the journals of a group tell of.
+/// The greatest numbers that the journals of a group tell of, of each node that a group may have: also of one that is
+/// not of this group, which may have been of an earlier one.
 pub fn greatest_of(alloc: Global, group: &[Saved<TowerBody>]) -> Result<Numbers, AllocError>
-    requires { length group.now ≤ 7 }
-    ensures boots { IfOk result (λ n. n.boots.items ≡ greatest_boots 1 group.now group.now) }
-    ensures count { IfOk result (λ n. length n.boots.items ≡ length group.now) }
+    ensures boots { IfOk result (λ n. n.boots.items ≡ all_boots group.now) }
+    ensures count { IfOk result (λ n. length n.boots.items ≡ node_limit) }
     ensures term { IfOk result (λ n. n.term ≡ greatest_term group.now) }
 {
     let mut boots = Vec::new(alloc);
-    push_boots(&mut boots, 1, group, group)?;
+    push_boots(&mut boots, 1, MOST_NODES, group, group)?;
     Ok(Numbers {
         boots,
         term: greatest_term(group),
@@ -46,6 +50,18 @@ pub fn most_up_to_date<'a, B: Wire>(first: &'a Saved<B>, others: &'a [Saved<B>])
     }
 }
 
+/// The one of a group whose log counts.
+pub fn most_up_to_date_of<B: Wire>(group: &[Saved<B>]) -> &Saved<B>
+    requires { 1 ≤ length group.now }
+    ensures most { IsMostUpToDate result.now group.now }
+    ensures one { IsOneOf result.now group.now }
+{
+    let [first, others @ ..] = group else {
+        unreachable!();
+    };
+    most_up_to_date(first, others)
+}
+
 /// The one of two whose log is more up to date.
 fn better<'a, B: Wire>(first: &'a Saved<B>, second: &'a Saved<B>) -> &'a Saved<B>
     ensures first { IsAsUpToDate result.now first.now }
@@ -60,27 +76,56 @@ fn better<'a, B: Wire>(first: &'a Saved<B>, second: &'a Saved<B>) -> &'a Saved<B
     }
 }
 
-/// The greatest run of each of these nodes, of which this is the first.
+/// The greatest run of each of so many nodes, the first of which is this one and has the first of these stores.
+#[tactic(auto, using(crate::proofs::Boots::one_more))]
 fn push_boots(
     boots: &mut Vec<Number>,
     node: u8,
+    nodes: u8,
     owns: &[Saved<TowerBody>],
     group: &[Saved<TowerBody>],
 ) -> Result<(), AllocError>
     requires first { 1 ≤ node }
-    requires last { node + length owns.now ≤ 8 }
+    requires last { node + nodes ≤ 8 }
     ensures boots { OnOk result (boots.new.items ≡ boots.old.items
-        ++ greatest_boots node owns.now group.now) }
-    ensures count { OnOk result (length boots.new.items
-        ≡ length boots.old.items + length owns.now) }
+        ++ greatest_boots node nodes owns.now group.now) }
+    ensures count { OnOk result (length boots.new.items ≡ length boots.old.items + nodes) }
+{
+    if nodes == 0 {
+        return Ok(());
+    }
+    let told = boot_told(NodeId::new(node), group);
+    boots.push(greater(own_boot(owns), told))?;
+    push_boots(boots, node + 1, nodes - 1, others_of(owns), group)
+}
+
+/// The runs so far that the first of these stores says, 0 where there is none.
+fn own_boot(owns: &[Saved<TowerBody>]) -> Number
+    ensures { result ≡ own_boot owns.now }
 {
     match owns {
-        [] => Ok(()),
-        [own, owns @ ..] => {
-            let told = boot_told(NodeId::new(node), group);
-            boots.push(greater(own.boot, told))?;
-            push_boots(boots, node + 1, owns, group)
-        }
+        [] => Number::new(0),
+        [own, ..] => own.boot,
+    }
+}
+
+/// The stores behind the first one.
+fn others_of(owns: &[Saved<TowerBody>]) -> &[Saved<TowerBody>]
+    ensures { result.now ≡ drop 1 owns.now }
+{
+    match owns {
+        [] => owns,
+        [_, others @ ..] => others,
+    }
+}
+
+/// How many entries the longest log of a group has.
+pub fn most_entries<B: Wire>(group: &[Saved<B>]) -> Number
+    ensures { result ≡ most_entries group.now }
+{
+    match group {
+        [] => Number::new(0),
+        [saved, group @ ..] => greater(saved.log.len(), most_entries(group)),
     }
 }
 

@@ -1,8 +1,9 @@
 //! Why a log is not begun anew.
-ghost use Rattle.std.specs.Prelude.{◌≡◌};
-ghost use Rattle.journal_folder.specs.Faults.{IsOfFiles};
+ghost use Rattle.std.specs.Prelude.{◌≡◌, IsTrue};
+ghost use Rattle.journal_folder.specs.Faults.{IsOfFiles, IsOfLists};
 ghost use Rattle.journal_folder.specs.declared.fault.RenewFault.TheVariants.{Memory, Renewal};
 
+use crate::changed_keys::ChangedKeys;
 use crate::folder_fault::FolderFault;
 use file_disk::OpenFault;
 use renewal::RenewalFault;
@@ -10,7 +11,9 @@ use stable_store::StoreFault;
 use std::alloc::AllocError;
 use std::io::ErrorKind;
 use std::{fmt, io};
+use store_setup::SetupFileFault;
 use thiserror::Error;
+use wire_bytes::Number;
 
 /// Why a log is not begun anew, and what to do.
 #[derive(Debug, Drop, Error)]
@@ -22,13 +25,30 @@ pub enum RenewFault {
     #[error("{0}: the folder of the journals needs a name of its own: move it into a folder, and say so in the configuration")]
     Unnamed(String),
     /// A folder or a new journal can't be made, written, renamed or synced.
-    #[error("{0}: {1}: is there room, and may it be written? Then renew again")]
+    #[error("{0}: {1}: is there room, and may it be written? Then try again")]
     System(String, io::Error),
-    #[error("{0}: too many old folders lie beside it: move them away, then renew again")]
+    #[error("{0}: {1}: may it be read? Then try again")]
+    Unread(String, io::Error),
+    /// A file does not say what the store is.
+    #[error("{0}: {1}")]
+    Setup(String, SetupFileFault),
+    /// Another program changes what the store is.
+    #[error("{0}: another program changed it just now: end that one first")]
+    Busy(String),
+    #[error("{0}: too many old folders lie beside it: move them away, then try again")]
     NoFreeName(String),
+    /// A name that is to be forgotten.
+    #[error("{0}: no client has that name, so nothing was changed: 'bouncer check' lists the names of clients")]
+    UnknownName(String),
     /// The log can't be begun anew.
     #[error("{0}")]
     Renewal(RenewalFault),
+    /// The log can't be begun anew, as it would have to be since the values of these keys changed.
+    #[error("{0} changed, and the log can't be begun anew for that: {1}; with the old values it goes on")]
+    Change(ChangedKeys, RenewalFault),
+    /// The new log would not be short enough.
+    #[error("the new log would still have {0} entries: set renew_at higher")]
+    StillLong(Number),
     /// Terms or runs have reached their limit.
     #[error("no terms or runs are left: move the folder of the journals away, and start the bouncer anew")]
     Spent,
@@ -44,14 +64,53 @@ impl RenewFault {
         RenewFault::Journal(Refused { path, fault })
     }
 
+    /// What the store is is not found in a file.
+    pub fn of_setup(path: String, fault: SetupFileFault) -> RenewFault
+        ensures { IsOfFiles result }
+    {
+        match fault {
+            SetupFileFault::Memory => RenewFault::Memory,
+            fault => RenewFault::Setup(path, fault),
+        }
+    }
+
+    /// The same of a log that is begun anew since the values of these keys changed.
+    pub fn for_change(self, keys: ChangedKeys) -> RenewFault
+        ensures { IsOfLists self → IsOfLists result }
+    {
+        match self {
+            RenewFault::Renewal(RenewalFault::Memory) => RenewFault::Memory,
+            RenewFault::Renewal(fault) => RenewFault::Change(keys, fault),
+            fault => fault,
+        }
+    }
+
+    /// Whether the log itself can't be begun anew, so that nothing was written.
+    pub fn is_of_log(&self) -> bool
+        ensures { IsTrue result → IsOfLists self.now }
+    {
+        match self {
+            RenewFault::Renewal(fault) => *fault != RenewalFault::Memory,
+            RenewFault::StillLong(_) | RenewFault::Spent => true,
+            _ => false,
+        }
+    }
+
     /// Whether this is want of memory, also where the system tells it.
     pub fn is_memory(&self) -> bool {
         match self {
             RenewFault::Memory | RenewFault::Renewal(RenewalFault::Memory) => true,
             RenewFault::Journal(refused) => refused.fault.is_memory(),
-            RenewFault::System(_, error) => error.kind() == ErrorKind::OutOfMemory,
+            RenewFault::System(_, error) | RenewFault::Unread(_, error) => {
+                error.kind() == ErrorKind::OutOfMemory
+            }
             RenewFault::Unnamed(_)
+            | RenewFault::Setup(_, _)
+            | RenewFault::Busy(_)
             | RenewFault::NoFreeName(_)
+            | RenewFault::UnknownName(_)
+            | RenewFault::Change(_, _)
+            | RenewFault::StillLong(_)
             | RenewFault::Renewal(_)
             | RenewFault::Spent => false,
         }
@@ -100,13 +159,13 @@ impl Refused {
         match &self.fault {
             OpenFault::InUse => "end the bouncer first",
             OpenFault::System(error) if error.kind() == ErrorKind::NotFound => {
-                "start the bouncer and end it, which makes what is missing, then renew"
+                "start the bouncer with the configuration that it ran with last, and end it, which makes what is missing; then try again"
             }
             OpenFault::NotAFile
             | OpenFault::Store(
                 StoreFault::NotAStore | StoreFault::Version | StoreFault::Damaged(_),
             ) => {
-                "if all others are whole, move it away, start the bouncer and end it, then renew"
+                "if all others are whole, move it away, start the bouncer with the configuration that it ran with last, and end it; then try again"
             }
             OpenFault::System(_) | OpenFault::Store(StoreFault::Device | StoreFault::Memory) => {
                 "nothing was changed"

@@ -1,36 +1,54 @@
-//! The folder of the journals of a bouncer's nodes: what they tell of earlier runs, and `bouncer renew`, which puts a
-//! folder in its place whose log is begun anew. Stands under bouncer_run and bouncer_app.
+//! The folder of the journals of a bouncer's nodes: what they tell of earlier runs, what the store in it is, and how a
+//! folder whose log is begun anew takes its place. Stands under bouncer_run and bouncer_app.
 //! A renewed folder is decided by its name alone, so that a program that is killed at any moment leaves either folder whole.
 //! Of the journals the log counts that a leader among all nodes would have; each new journal holds the renewed log,
-//! a term and a run that never were, and a vote for node 1.
+//! a term and a run that never were, and a vote for node 1. A log that came about under another setup or another number
+//! of nodes than the configuration's is begun anew before any node starts.
 #![tactic(auto)]
 
 mod adopting;
+mod changed_keys;
+mod coming;
 mod counting;
 mod earlier_runs;
 mod fault;
 mod folder;
 mod folder_fault;
+mod foretelling;
+mod held;
 mod locking;
 mod making;
 mod moved_away;
+mod naming;
+mod nodes;
 mod paths;
 mod placing;
 mod planning;
 mod renewed;
 mod renewing;
 mod saving;
+mod settled;
+mod settling;
+mod store;
+mod store_file;
 
 pub use adopting::adopt_from;
-pub use counting::{Numbers, greatest_of, most_up_to_date};
+pub use changed_keys::ChangedKeys;
+pub use coming::{Coming, Foretold};
+pub use counting::{Numbers, greatest_of, most_entries, most_up_to_date};
 pub use earlier_runs::{boot_in, greatest_boot};
 pub use fault::{Refused, RenewFault};
 pub use folder::{make_folder, sync_around};
 pub use folder_fault::FolderFault;
+pub use foretelling::foretold;
 pub use moved_away::{Earlier, earlier_of, give};
+pub use naming::{names_in, names_of};
 pub use paths::Paths;
 pub use placing::{decide, finish_renewal, put_in_place};
 pub use planning::{Plan, planned};
 pub use renewed::Renewed;
 pub use renewing::renew;
 pub use saving::{Unsaved, save_group, save_log};
+pub use settled::Settled;
+pub use settling::settle;
+pub use store::{Found, Next, next_of, store_of};

@@ -7,6 +7,7 @@ use crate::folder::make_folder;
 use crate::folder_fault::FolderFault;
 use crate::planning::Plan;
 use crate::saving::save_group;
+use crate::store_file::{Described, describe};
 use bouncer_tower::TowerBody;
 use file_disk::{FileJournal, OpenFault, open_journal};
 use raft_log::{Log, NodeId};
@@ -15,13 +16,15 @@ use stable_store::StoreFault;
 use std::fs;
 use std::fs::{File, Files};
 use std::io::ErrorKind;
+use store_setup::StoreSetup;
 
 /// New journals in a folder of their own, synced, each locked until it is dropped: of each node of a group, as it
-/// was planned. What lay in the folder is removed first.
+/// was planned. What lay in the folder is removed first. The store says what it is before a journal is made.
 pub fn make_journals<R: Files<File = File> + AllocGlobal>(
     rt: &R,
     folder: &str,
     plan: &Plan,
+    store: &StoreSetup,
 ) -> Result<Vec<FileJournal<TowerBody>>, RenewFault>
     requires { length plan.now.boots.items ≤ 7 }
     ensures count { IfOk result
@@ -33,7 +36,8 @@ pub fn make_journals<R: Files<File = File> + AllocGlobal>(
     if let Err(error) = make_folder(rt, folder) {
         return Err(RenewFault::from(FolderFault::of_system(alloc, folder, error)));
     }
-    let mut journals = open_journals(rt, folder, plan.boots.len() as u8)?;
+    let described = describe(rt, folder, store)?;
+    let mut journals = open_journals(rt, &described, plan.boots.len() as u8)?;
     match save_group(
         alloc,
         &mut journals,
@@ -49,10 +53,10 @@ pub fn make_journals<R: Files<File = File> + AllocGlobal>(
     }
 }
 
-/// New journals of so many nodes, node 1's first, each locked until it is dropped.
+/// New journals of so many nodes, node 1's first, each locked until it is dropped, of a store that says what it is.
 fn open_journals<R: Files<File = File> + AllocGlobal>(
     rt: &R,
-    folder: &str,
+    described: &Described,
     size: u8,
 ) -> Result<Vec<FileJournal<TowerBody>>, RenewFault>
     requires { size ≤ 7 }
@@ -62,7 +66,7 @@ fn open_journals<R: Files<File = File> + AllocGlobal>(
     let alloc = rt.alloc();
     let mut journals = Vec::new(alloc);
     for index in 0..size {
-        let path = journal_path(alloc, folder, NodeId::new(index + 1))?;
+        let path = journal_path(alloc, described.folder(), NodeId::new(index + 1))?;
         match open_journal(rt, alloc, path.as_str(), &Log::new(alloc)) {
             Ok(journal) => journals.push(journal).map_err(|_| RenewFault::Memory)?,
             Err(fault) => return Err(RenewFault::of_journal(path, fault)),

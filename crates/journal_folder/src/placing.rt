@@ -39,6 +39,17 @@ pub fn finish_renewal<R: Files<File = File> + AllocGlobal>(
     put_in_place(rt, &paths, &old)
 }
 
+/// The folder whose journals the next run uses: the renewed one, where a renewal was decided and is not finished.
+pub fn folder_in_use<R: Files + AllocGlobal>(rt: &R, folder: &str) -> Result<String, FolderFault> {
+    let alloc = rt.alloc();
+    if let Some(paths) = Paths::of(alloc, folder)? {
+        if is_decided(rt, &paths)? {
+            return Ok(paths.renewed);
+        }
+    }
+    Ok(String::from_str(alloc, folder)?)
+}
+
 /// Whether the renewed folder is to be used.
 fn is_decided<R: Files + AllocGlobal>(rt: &R, paths: &Paths) -> Result<bool, FolderFault> {
     let renewed = paths.renewed.as_str();

@@ -1,13 +1,15 @@
 //! What a group is begun anew with.
-ghost use Rattle.std.specs.Prelude.{◌≡◌, ◌⊎◌, ◌≤◌, ◌+◌, ◌++◌, ◌^◌, IfErr, IfOk, OnOk, length};
+ghost use Rattle.std.specs.Prelude.{◌≡◌, ◌⊎◌, ◌≤◌, ◌+◌, ◌++◌, ◌^◌, IfErr, IfOk, OnOk, length, take};
 ghost use Rattle.journal_folder.specs.Faults.{IsOfLists};
 ghost use Rattle.journal_folder.specs.Planning.{AreBehind, IsAnySpent, IsPlan, IsSpent, are_next};
 ghost use Rattle.journal_folder.specs.Saving.{all_begun_anew};
 
-use crate::counting::{greatest_of, most_up_to_date};
+use crate::counting::{greatest_of, most_up_to_date_of};
 use crate::fault::RenewFault;
 use bouncer_tower::TowerBody;
 use buffer_commands::Setup;
+use irc_line::Name;
+use raft_log::GroupSize;
 use renewal::{Renewal, renewed};
 use stable_store::Saved;
 use std::alloc::Global;
@@ -22,39 +24,84 @@ pub struct Plan {
     /// How many entries the log has that is begun anew.
     pub before: Number,
     pub renewal: Renewal,
-    /// A run of each node behind all of its runs, node 1's first.
+    /// A run of each node of the new group behind all of its runs, node 1's first.
     pub boots: Vec<Number>,
     /// The term behind all terms.
     pub term: Number,
 }
 
-/// What a group is begun anew with: the log that counts among all of its stores, node 1's first, begun anew, in the
-/// term behind the greatest one, and behind a run of each node that never was.
+impl Plan {
+    /// This plan, where its log has no more than so many entries.
+    pub fn within(self, entries: u64) -> Result<Plan, RenewFault>
+        ensures same { IfOk result (λ plan. plan ≡ self) }
+        ensures short { IfOk result (λ plan. length plan.renewal.log ≤ entries) }
+        ensures fault { IfErr result IsOfLists }
+    {
+        let now = self.renewal.log.len();
+        if now.value() > entries {
+            return Err(RenewFault::StillLong(now));
+        }
+        Ok(self)
+    }
+}
+
+/// What a group is begun anew with, from one setup to another, as a group of so many nodes: the log that counts among
+/// all of its stores, node 1's first, begun anew, in the term behind the greatest one, and behind a run of each node
+/// that never was, also in an earlier group.
 #[tactic(auto, using(crate::proofs::Behind::of_a_plan))]
-pub fn planned(alloc: Global, setup: &Setup, group: &[Saved<TowerBody>]) -> Result<Plan, RenewFault>
+pub fn planned(
+    alloc: Global,
+    from: &Setup,
+    to: &Setup,
+    nodes: GroupSize,
+    forgotten: &[Name],
+    group: &[Saved<TowerBody>],
+) -> Result<Plan, RenewFault>
     requires some { 1 ≤ length group.now }
     requires few { length group.now ≤ 7 }
-    ensures plan { IfOk result (λ plan. IsPlan setup.now group.now plan) }
-    ensures count { IfOk result (λ plan. length plan.boots.items ≡ length group.now) }
-    ensures behind { IfOk result (λ plan. AreBehind group.now
+    ensures plan { IfOk result (IsPlan from.now to.now nodes forgotten.now group.now) }
+    ensures count { IfOk result (λ plan. length plan.boots.items ≡ nodes) }
+    ensures behind { IfOk result (λ plan. AreBehind 1 group.now group.now
         (all_begun_anew plan.boots.items plan.term plan.renewal.log)) }
     ensures fault { IfErr result IsOfLists }
-    ensures spent { IfErr result (λ e. e ≡ RenewFault.Spent → IsSpent group.now) }
+    ensures spent { IfErr result (λ e. e ≡ RenewFault.Spent → IsSpent nodes group.now) }
 {
-    let [first, others @ ..] = group else {
-        unreachable!();
-    };
-    let log = &most_up_to_date(first, others).log;
+    let log = &most_up_to_date_of(group).log;
     let greatest = greatest_of(alloc, group)?;
     let term = behind(greatest.term)?;
-    let mut boots = Vec::new(alloc);
-    push_next(&mut boots, &greatest.boots)?;
+    let boots = next_boots(alloc, &greatest.boots, nodes)?;
     Ok(Plan {
         before: log.len(),
-        renewal: renewed(alloc, setup, log, &greatest.boots, greatest.term)?,
+        renewal: renewed(
+            alloc,
+            from,
+            to,
+            forgotten,
+            log,
+            &greatest.boots,
+            greatest.term,
+        )?,
         boots,
         term,
     })
+}
+
+/// The run of each of so many nodes behind its greatest one, which are these.
+fn next_boots(
+    alloc: Global,
+    greatest: &[Number],
+    nodes: GroupSize,
+) -> Result<Vec<Number>, RenewFault>
+    requires { 7 ≤ length greatest.now }
+    ensures next { IfOk result (λ v. v.items ≡ are_next (take nodes greatest.now)) }
+    ensures count { IfOk result (λ v. length v.items ≡ nodes) }
+    ensures fault { IfErr result (λ e. (e ≡ RenewFault.Memory)
+        ⊎ ((e ≡ RenewFault.Spent) × IsAnySpent (take nodes greatest.now))) }
+{
+    let (numbers, _) = greatest.split_at(nodes.value() as usize);
+    let mut boots = Vec::new(alloc);
+    push_next(&mut boots, numbers)?;
+    Ok(boots)
 }
 
 /// The number behind each of these.
@@ -77,7 +124,7 @@ fn push_next(next: &mut Vec<Number>, numbers: &[Number]) -> Result<(), RenewFaul
 }
 
 /// The number behind this one, where there is one.
-fn behind(number: Number) -> Result<Number, RenewFault>
+pub fn behind(number: Number) -> Result<Number, RenewFault>
     ensures next { IfOk result (λ n. n ≡ number + 1) }
     ensures spent { IfErr result (λ e. (e ≡ RenewFault.Spent) × (number ≡ 2 ^ 60)) }
 {

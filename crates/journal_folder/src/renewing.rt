@@ -1,31 +1,110 @@
-//! `bouncer renew`.
-ghost use Rattle.std.specs.Prelude.{◌⊎◌, ◌≤◌, IfErr, IfOk, IfSome, length, string_bytes};
+//! `bouncer renew`, and what a start does where a log came about under another setup.
+ghost use Rattle.std.specs.Prelude.{◌≡◌, ◌≤◌, [], IfErr, IfOk, IfSome, length, string_bytes};
 ghost use Rattle.raft_log.specs.Peers.{IsGroupSize};
 ghost use Rattle.journal_folder.specs.Beside.{IsOldName};
 ghost use Rattle.journal_folder.specs.Faults.{IsOfFiles, IsOfLists, IsUnnamedAt};
-ghost use Rattle.journal_folder.specs.Planning.{IsTold, IsToldOfSome};
+ghost use Rattle.journal_folder.specs.Planning.{IsPlan, IsToldOfSome, Tells};
 
-use crate::adopting::Group;
 use crate::fault::RenewFault;
+use crate::held::{Held, hold};
 use crate::making::{make_journals, remove};
+use crate::naming::first_unknown;
 use crate::paths::Paths;
 use crate::placing::{decide, finish_renewal, put_in_place};
-use crate::planning::planned;
+use crate::planning::{Plan, behind, planned};
 use crate::renewed::Renewed;
+use crate::store::size_of;
 use bouncer_config::Config;
-use buffer_commands::Setup;
+use bouncer_tower::TowerBody;
+use irc_line::Name;
+use stable_store::Saved;
+use std::alloc::Global;
 use std::fs::{File, Files};
+use store_setup::StoreSetup;
 
-/// Begins the log of a configuration's bouncer anew, which must not run. At any moment the old journals or the new
-/// ones are whole, and are those that the next run uses; the old ones are kept beside them. Where it fails, what
-/// was begun is finished by the next run, or was as if it had never been.
+/// Begins the log of a configuration's bouncer anew, which must not run: from the setup and the number of nodes that
+/// its store is of to the configuration's. `forgotten` are names of clients that go with what they have seen. At any
+/// moment the old journals or the new ones are whole, and are those that the next run uses; the old ones are kept
+/// beside them. Where it fails, what was begun is finished by the next run, or was as if it had never been.
 pub fn renew<R: Files<File = File> + AllocGlobal>(
     rt: &R,
     config: &Config,
+    forgotten: &[Name],
 ) -> Result<Renewed, RenewFault>
     requires { IsGroupSize (length config.now.listen.items) }
-    ensures told { IfOk result
-        (IsToldOfSome config.now.setup (length config.now.listen.items)) }
+    ensures told { IfOk result (IsToldOfSome config.now.setup forgotten.now
+        (length config.now.listen.items)) }
+    ensures old { IfOk result (λ told. IfSome told.old
+        (λ name. IsOldName (string_bytes config.now.store) (string_bytes name))) }
+    ensures unnamed { IfErr result (IsUnnamedAt (string_bytes config.now.store)) }
+{
+    let alloc = rt.alloc();
+    let folder = config.store.as_str();
+    if Paths::of(alloc, folder)?.is_none() {
+        return Err(RenewFault::Unnamed(String::from_str(alloc, folder)?));
+    }
+    finish_renewal(rt, folder)?;
+    let held = hold(rt, config)?;
+    let plan = plan_for(alloc, config, forgotten, &held.store, &held.group.saved)?;
+    carry_out(rt, config, &held, &plan)
+}
+
+/// What a store, with what stands in its journals, is begun anew with for a configuration.
+pub fn plan_for(
+    alloc: Global,
+    config: &Config,
+    forgotten: &[Name],
+    store: &StoreSetup,
+    group: &[Saved<TowerBody>],
+) -> Result<Plan, RenewFault>
+    requires nodes { IsGroupSize (length config.now.listen.items) }
+    requires some { 1 ≤ length group.now }
+    requires few { length group.now ≤ 7 }
+    ensures plan { IfOk result (IsPlan store.now.setup config.now.setup
+        (length config.now.listen.items) forgotten.now group.now) }
+    ensures boots { IfOk result
+        (λ plan. length plan.boots.items ≡ length config.now.listen.items) }
+    ensures fault { IfErr result IsOfLists }
+{
+    if let Some(name) = first_unknown(alloc, &store.setup, group, forgotten)? {
+        return Err(RenewFault::UnknownName(name));
+    }
+    let (nodes, to) = (size_of(config), &config.setup);
+    planned(alloc, &store.setup, to, nodes, forgotten, group)
+}
+
+/// The same where the new log has no more than so many entries, and no name is forgotten.
+pub fn short_plan(
+    alloc: Global,
+    config: &Config,
+    store: &StoreSetup,
+    group: &[Saved<TowerBody>],
+    entries: u64,
+) -> Result<Plan, RenewFault>
+    requires nodes { IsGroupSize (length config.now.listen.items) }
+    requires some { 1 ≤ length group.now }
+    requires few { length group.now ≤ 7 }
+    ensures plan { IfOk result (IsPlan store.now.setup config.now.setup
+        (length config.now.listen.items) [] group.now) }
+    ensures boots { IfOk result
+        (λ plan. length plan.boots.items ≡ length config.now.listen.items) }
+    ensures short { IfOk result (λ plan. length plan.renewal.log ≤ entries) }
+    ensures fault { IfErr result IsOfLists }
+{
+    plan_for(alloc, config, &[], store, group)?.within(entries)
+}
+
+/// The log of a store begun anew as it was planned for a configuration, in journals that take the place of the old
+/// ones, which are locked meanwhile.
+pub fn carry_out<R: Files<File = File> + AllocGlobal>(
+    rt: &R,
+    config: &Config,
+    held: &Held,
+    plan: &Plan,
+) -> Result<Renewed, RenewFault>
+    requires nodes { IsGroupSize (length config.now.listen.items) }
+    requires boots { length plan.now.boots.items ≡ length config.now.listen.items }
+    ensures told { IfOk result (Tells plan.now) }
     ensures old { IfOk result (λ told. IfSome told.old
         (λ name. IsOldName (string_bytes config.now.store) (string_bytes name))) }
     ensures unnamed { IfErr result (IsUnnamedAt (string_bytes config.now.store)) }
@@ -35,9 +114,9 @@ pub fn renew<R: Files<File = File> + AllocGlobal>(
     let Some(paths) = Paths::of(alloc, folder)? else {
         return Err(RenewFault::Unnamed(String::from_str(alloc, folder)?));
     };
-    finish_renewal(rt, folder)?;
-    let group = Group::adopt(rt, folder, config.listen.len() as u8)?;
-    let outcome = renew_group(rt, &config.setup, &paths, &group);
+    let renewals = behind(held.store.renewals)?;
+    let now = StoreSetup::of(alloc, size_of(config), renewals, &config.setup)?;
+    let outcome = replace(rt, &paths, held, plan, &now);
     if outcome.is_err() {
         // nobody uses what lies there
         let _ = remove(rt, paths.renewing.as_str());
@@ -45,24 +124,23 @@ pub fn renew<R: Files<File = File> + AllocGlobal>(
     outcome
 }
 
-/// The log of a group begun anew, in journals that take the place of the old ones, which are locked meanwhile.
-fn renew_group<R: Files<File = File> + AllocGlobal>(
+/// Journals as they were planned take the place of the old ones at these paths.
+fn replace<R: Files<File = File> + AllocGlobal>(
     rt: &R,
-    setup: &Setup,
     paths: &Paths,
-    group: &Group,
+    held: &Held,
+    plan: &Plan,
+    now: &StoreSetup,
 ) -> Result<Renewed, RenewFault>
-    requires some { 1 ≤ length group.now.saved.items }
-    requires few { length group.now.saved.items ≤ 7 }
-    ensures told { IfOk result (λ told. IsTold setup.now group.now.saved.items told) }
+    requires { length plan.now.boots.items ≤ 7 }
+    ensures told { IfOk result (Tells plan.now) }
     ensures old { IfOk result (λ told. IfSome told.old
         (λ name. IsOldName (string_bytes paths.now.folder) (string_bytes name))) }
-    ensures fault { IfErr result (λ e. IsOfFiles e ⊎ IsOfLists e) }
+    ensures fault { IfErr result IsOfFiles }
 {
-    let plan = planned(rt.alloc(), setup, &group.saved)?;
-    let _journals = make_journals(rt, paths.renewing.as_str(), &plan)?;
+    let _journals = make_journals(rt, paths.renewing.as_str(), plan, now)?;
     decide(rt, paths)?;
-    let old = put_in_place(rt, paths, &group.locks)?;
+    let old = put_in_place(rt, paths, &held.group.locks)?;
     Ok(Renewed {
         before: plan.before,
         now: plan.renewal.log.len(),

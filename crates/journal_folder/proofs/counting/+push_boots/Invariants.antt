@@ -1,6 +1,5 @@
-use Rattle.std.proofs.Common.{length}
 use Rattle.journal_folder.proofs.counting.+push_boots.Given as goal
 
 -- fewer are left
 abbrev pub decreases-push_boots : goal.decreases-push_boots
-decreases-push_boots l = length l.owns.now
+decreases-push_boots l = l.nodes

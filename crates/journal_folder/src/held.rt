@@ -1,0 +1,48 @@
+//! A store that no other program changes.
+ghost use Rattle.std.specs.Prelude.{◌≡◌, ◌≤◌, IfErr, IfOk, length};
+ghost use Rattle.journal_folder.specs.Faults.{IsOfFiles};
+
+use crate::adopting::Group;
+use crate::fault::RenewFault;
+use crate::store::{find, store_of};
+use crate::store_file::setup_path;
+use bouncer_config::Config;
+use std::fs::{File, Files};
+use store_setup::StoreSetup;
+
+/// A store, and what stands in its journals, which stay locked.
+#[derive(Drop)]
+pub struct Held {
+    pub store: StoreSetup,
+    pub group: Group,
+}
+
+/// The store in the folder of a configuration, each journal of which is there and sound. What it is is read once more
+/// behind the locks, since another program may have begun its log anew before.
+pub fn hold<R: Files<File = File> + AllocGlobal>(
+    rt: &R,
+    config: &Config,
+) -> Result<Held, RenewFault>
+    ensures count { IfOk result
+        (λ held. length held.group.saved.items ≡ held.store.nodes) }
+    ensures some { IfOk result (λ held. 1 ≤ length held.group.saved.items) }
+    ensures few { IfOk result (λ held. length held.group.saved.items ≤ 7) }
+    ensures fault { IfErr result IsOfFiles }
+{
+    let folder = config.store.as_str();
+    let nodes = store_in(rt, config)?.nodes;
+    let group = Group::adopt(rt, folder, nodes.value())?;
+    let store = store_in(rt, config)?;
+    if store.nodes.value() != nodes.value() {
+        return Err(RenewFault::Busy(setup_path(rt.alloc(), folder)?));
+    }
+    Ok(Held { store, group })
+}
+
+/// What the store in the folder of a configuration is taken to be.
+fn store_in<R: Files + AllocGlobal>(rt: &R, config: &Config) -> Result<StoreSetup, RenewFault>
+    ensures { IfErr result IsOfFiles }
+{
+    let found = find(rt, config.store.as_str())?;
+    Ok(store_of(rt.alloc(), found, &config.setup)?)
+}

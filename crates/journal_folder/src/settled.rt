@@ -1,0 +1,22 @@
+//! What a start did with a folder.
+use crate::changed_keys::ChangedKeys;
+use crate::fault::RenewFault;
+use crate::renewed::Renewed;
+use file_disk::MadeFile;
+
+/// What a start did with the store in its folder.
+#[derive(Drop)]
+pub enum Settled {
+    /// It is new, and this is the file in which it says what it is.
+    Made(MadeFile),
+    /// It is of before stores said what they are, and says so in this file from now on.
+    Described(MadeFile),
+    /// It goes on.
+    Same,
+    /// Its log came about under another setup or another number of nodes, and was begun anew.
+    Changed(ChangedKeys, Renewed),
+    /// Its log had more entries than it is to have, and was begun anew.
+    Long(Renewed),
+    /// Its log has more entries than it is to have, and can't be begun anew. It goes on as it was.
+    StaysLong(RenewFault),
+}

@@ -1,0 +1,145 @@
+//! The store in a folder: what it says of itself, or what it is taken to be.
+ghost use Rattle.std.specs.Prelude.{◌≡◌, ◌≤◌, IfErr, IfOk, length};
+ghost use Rattle.raft_log.specs.Peers.{IsGroupSize};
+ghost use Rattle.journal_folder.specs.Faults.{IsOfFiles};
+ghost use Rattle.journal_folder.specs.Stores.{IsNext, holding, next_of_before, store_of};
+
+use crate::fault::RenewFault;
+use crate::nodes::all_nodes;
+use crate::store_file::read_setup;
+use bouncer_config::Config;
+use buffer_commands::Setup;
+use raft_log::{GroupSize, NodeId};
+use run_plan::journal_path;
+use std::alloc::{AllocError, Global};
+use std::fs;
+use std::fs::Files;
+use store_setup::{StoreSetup, changed};
+use wire_bytes::Number;
+
+/// What lies in a folder.
+#[derive(Drop)]
+pub struct Found {
+    /// What the store says of itself, if it does.
+    pub store: Option<StoreSetup>,
+    /// The greatest number of a node whose journal lies there, 0 where none does.
+    pub journals: u8,
+}
+
+/// What a start does with a folder.
+#[derive(Clone, Copy, Debug, PartialEq, Eq)]
+pub enum Next {
+    /// It has no journal: its store is new.
+    Make,
+    /// Its store is of before stores said what they are, and has as many nodes as the configuration.
+    Describe,
+    /// Its store is of the configuration's setup and number of nodes.
+    GoOn,
+    /// Its log came about under another setup or another number of nodes.
+    BeginAnew,
+}
+
+/// How many nodes a configuration has.
+pub fn size_of(config: &Config) -> GroupSize
+    requires { IsGroupSize (length config.now.listen.items) }
+    ensures { result ≡ length config.now.listen.items }
+{
+    let Some(size) = GroupSize::new(config.listen.len() as u8) else {
+        unreachable!();
+    };
+    size
+}
+
+/// What lies in a folder.
+pub fn find<R: Files + AllocGlobal>(rt: &R, folder: &str) -> Result<Found, RenewFault>
+    ensures limit { IfOk result (λ found. found.journals ≤ 7) }
+    ensures fault { IfErr result IsOfFiles }
+{
+    let mut journals = 0u8;
+    for node in &all_nodes(rt.alloc())? {
+        if is_there(rt, folder, *node)? {
+            journals = node.value();
+        }
+    }
+    Ok(Found {
+        store: read_setup(rt, folder)?,
+        journals,
+    })
+}
+
+/// Whether a node's journal lies in a folder.
+pub fn is_there<R: Files + AllocGlobal>(
+    rt: &R,
+    folder: &str,
+    node: NodeId,
+) -> Result<bool, RenewFault>
+    ensures { IfErr result IsOfFiles }
+{
+    let path = journal_path(rt.alloc(), folder, node)?;
+    match fs::exists(rt, path.as_str()) {
+        Ok(is_there) => Ok(is_there),
+        Err(error) => Err(RenewFault::Unread(path, error)),
+    }
+}
+
+/// What a start does with what was found in the folder of a configuration that has this setup and so many nodes.
+pub fn next_of(
+    alloc: Global,
+    found: &Found,
+    setup: &Setup,
+    nodes: GroupSize,
+) -> Result<Next, AllocError>
+    requires { found.now.journals ≤ 7 }
+    ensures { IfOk result (IsNext found.now setup.now nodes) }
+{
+    if found.journals == 0 {
+        return Ok(Next::Make);
+    }
+    match &found.store {
+        None => Ok(next_of_before(found.journals, nodes)),
+        Some(store) => {
+            if changed(alloc, store, setup, nodes)?.is_empty() {
+                Ok(Next::GoOn)
+            } else {
+                Ok(Next::BeginAnew)
+            }
+        }
+    }
+}
+
+/// The same of a store that says nothing of itself.
+fn next_of_before(journals: u8, nodes: GroupSize) -> Next
+    requires { journals ≤ 7 }
+    ensures { result ≡ next_of_before journals nodes }
+{
+    if holding(journals) == nodes {
+        Next::Describe
+    } else {
+        Next::BeginAnew
+    }
+}
+
+/// What the store is taken to be that was found: what it says of itself; or of today's setup and of as many nodes as
+/// its journals ask for.
+pub fn store_of(alloc: Global, found: Found, setup: &Setup) -> Result<StoreSetup, AllocError>
+    requires { found.journals ≤ 7 }
+    ensures { IfOk result (λ store. store ≡ store_of found setup.now) }
+{
+    match found.store {
+        Some(store) => Ok(store),
+        None => StoreSetup::of(alloc, holding(found.journals), Number::new(0), setup),
+    }
+}
+
+/// The smallest group that has a node of this number.
+fn holding(number: u8) -> GroupSize
+    requires { number ≤ 7 }
+    ensures { result ≡ holding number }
+{
+    let size = match number {
+        0..=3 => 3,
+        4..=5 => 5,
+        _ => 7,
+    };
+    GroupSize::new(size).unwrap()
+}

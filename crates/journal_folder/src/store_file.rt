@@ -1,0 +1,159 @@
+//! The file in which a store says what it is.
+ghost use Rattle.std.specs.Prelude.{◌≡◌, IfErr, IfOk, string_bytes};
+ghost use Rattle.journal_folder.specs.Faults.{IsOfFiles};
+ghost use Rattle.journal_folder.specs.Stores.{setup_path};
+
+use crate::fault::RenewFault;
+use crate::folder::sync_around;
+use file_disk::{FileId, MadeFile};
+use std::alloc::{AllocError, Global};
+use std::fs;
+use std::fs::{File, Files, OpenOptions, TryLockError};
+use std::io::{self, ErrorKind, Write};
+use std::os::fd::AsRawFd;
+use std::os::unix::fs::OpenOptionsExt;
+use store_setup::{StoreSetup, read, spell};
+
+/// Nobody but its owner reads it: the nick and the channels stand in it.
+const OWNERS: u32 = 0o600;
+
+/// A folder whose store says what it is, and the file in which it does, open and locked.
+#[derive(Drop)]
+pub struct Described {
+    folder: String,
+    file: File,
+}
+
+impl Described {
+    /// The folder.
+    pub fn folder(&self) -> &str
+        ensures { result.now ≡ string_bytes self.now.folder }
+    {
+        self.folder.as_str()
+    }
+
+    /// The file, so that it may be removed again.
+    pub fn made(&self, alloc: Global) -> Result<MadeFile, RenewFault>
+        ensures { IfErr result IsOfFiles }
+    {
+        let path = setup_path(alloc, self.folder.as_str())?;
+        match MadeFile::new(alloc, &self.file, path.as_str()) {
+            Ok(made) => Ok(made),
+            Err(error) => Err(RenewFault::System(path, error)),
+        }
+    }
+}
+
+/// The path of the file in a folder.
+pub fn setup_path(alloc: Global, folder: &str) -> Result<String, AllocError>
+    ensures { IfOk result (λ path. string_bytes path ≡ setup_path folder.now) }
+{
+    format!(in alloc; "{folder}/setup")
+}
+
+/// What the store in a folder says of itself, if it does.
+pub fn read_setup<R: Files + AllocGlobal>(
+    rt: &R,
+    folder: &str,
+) -> Result<Option<StoreSetup>, RenewFault>
+    ensures { IfErr result IsOfFiles }
+{
+    let alloc = rt.alloc();
+    let path = setup_path(alloc, folder)?;
+    match fs::read(rt, path.as_str()) {
+        Ok(bytes) => match read(alloc, &bytes) {
+            Ok(store) => Ok(Some(store)),
+            Err(fault) => Err(RenewFault::of_setup(path, fault)),
+        },
+        Err(error) if error.kind() == ErrorKind::NotFound => Ok(None),
+        Err(error) => Err(RenewFault::Unread(path, error)),
+    }
+}
+
+/// The store in a folder says this of itself from here on. A crash leaves what it said before, or this.
+pub fn describe<R: Files<File = File> + AllocGlobal>(
+    rt: &R,
+    folder: &str,
+    store: &StoreSetup,
+) -> Result<Described, RenewFault>
+    ensures { IfErr result IsOfFiles }
+{
+    let alloc = rt.alloc();
+    let path = setup_path(alloc, folder)?;
+    let new = format!(in alloc; "{folder}/setup.new")?;
+    let bytes = spell(alloc, store)?;
+    let folder = String::from_str(alloc, folder)?;
+    match put_in_place(rt, new.as_str(), path.as_str(), &bytes) {
+        Ok(Some(file)) => Ok(Described { folder, file }),
+        Ok(None) => Err(RenewFault::Busy(path)),
+        Err(error) => {
+            // nobody uses what lies there
+            let _ = fs::remove_file(rt, new.as_str());
+            Err(RenewFault::System(path, error))
+        }
+    }
+}
+
+/// A new file of these bytes takes the place of what lies at a path, synced. None where another program is about
+/// that just now.
+fn put_in_place<R: Files<File = File>>(
+    rt: &R,
+    new: &str,
+    path: &str,
+    bytes: &[u8],
+) -> io::Result<Option<File>> {
+    let Some(mut file) = open_locked(rt, new)? else {
+        return Ok(None);
+    };
+    // a program that just now makes a store holds the lock until its start is done
+    if is_locked(rt, path)? {
+        return Ok(None);
+    }
+    file.set_len(0)?;
+    file.write_all(bytes)?;
+    file.sync_all()?;
+    fs::rename(rt, new, path)?;
+    if let Err(error) = sync_around(rt, path) {
+        // a crash may take it back, so nobody uses it
+        let _ = fs::remove_file(rt, path);
+        return Err(error);
+    }
+    Ok(Some(file))
+}
+
+/// The file of a path, which is made where it is not there, locked. None where another program has it, or has moved
+/// it away.
+fn open_locked<R: Files<File = File>>(rt: &R, path: &str) -> io::Result<Option<File>> {
+    let mut file = OpenOptions::new()
+        .write(true)
+        .create(true)
+        .mode(OWNERS)
+        .open(rt, path)?;
+    // what is printed to a standard stream that was closed must not land in the file
+    if file.as_raw_fd() <= 2 {
+        file = file.try_clone()?;
+    }
+    if try_lock(&file)? && FileId::at(rt, path)? == FileId::of(&file)? {
+        Ok(Some(file))
+    } else {
+        Ok(None)
+    }
+}
+
+/// Whether another program has the file of a path locked.
+fn is_locked<R: Files<File = File>>(rt: &R, path: &str) -> io::Result<bool> {
+    match fs::open(rt, path) {
+        Ok(file) => Ok(!try_lock(&file)?),
+        Err(error) if error.kind() == ErrorKind::NotFound => Ok(false),
+        Err(error) => Err(error),
+    }
+}
+
+/// Whether a file is locked now. It is not where another program has it locked.
+fn try_lock(file: &File) -> io::Result<bool> {
+    match file.try_lock() {
+        Ok(()) => Ok(true),
+        Err(TryLockError::WouldBlock) => Ok(false),
+        Err(TryLockError::Error(error)) => Err(error),
+    }
+}
