@@ -19,7 +19,8 @@ bouncer keeps you on IRC while you are away. Words, each with an example:
                   bouncer run examples/hukbarg.toml
   check CONFIG  says what run would do, and warns as it would; changes nothing
                   bouncer check examples/hukbarg.toml
-  renew CONFIG  begins a log anew that is full or nearly so; what was kept is kept
+  renew CONFIG  begins a log anew that is full or nearly so; what was kept is kept;
+                with --forget NAME behind it without the name of a client
                   bouncer renew examples/hukbarg.toml
   fold          shows what clients see of the commands on standard input
                   bouncer fold < examples/playback.hex

@@ -6,84 +6,28 @@
 
 mod help;
 mod show;
+mod words;
 
 use crate::help::{HELP, USAGE, VERSION, WAITING};
 use crate::show::show;
+use crate::words::{Task, asked};
 use bouncer_run::{Hands, RunFault, check, read, run};
 use fold_app::{FoldFault, fold};
 use irc_line::Name;
 use journal_folder::renew;
 use records::{ReplayFault, Verdict};
 use std::alloc::Global;
-use std::env::{Args, args};
+use std::env::args;
 use std::fmt::Display;
 use std::io::{ErrorKind, IsTerminal, Read, Write};
 use std::process::ExitCode;
 use std::rt::Runtime;
 use std::{fs, io};
 use whole_input::read_whole;
-use world_app::{RecordFault, draw, replay_record, size_of, world};
+use world_app::{RecordFault, draw, replay_record, world};
 
 /// The exit code where a record differs from a run of its events.
 const DIFFERS: u8 = 3;
-
-/// What the program is asked to do.
-#[derive(Drop)]
-enum Task {
-    Fold,
-    /// To run events over so many nodes.
-    World(u32),
-    /// To run what is recorded in the file of this path again.
-    Replay(String),
-    /// To draw the run that is recorded in the file of this path.
-    Draw(String),
-    /// To show the journal in the file of this path: all of it, or what concerns a target.
-    Show(String, Option<Name>),
-    /// To run the bouncer that the configuration in the file of this path says.
-    Run(String),
-    /// To say what that run would do.
-    Check(String),
-    /// To begin the log of that bouncer anew.
-    Renew(String),
-    Help,
-    Version,
-}
-
-/// What the words, the program's name first, ask for: a fold where none follows, or `fold` alone; the
-/// events of a world where `world` and a number follow; a record's where `replay` and a path do, and its picture
-/// where `draw` and a path do; a journal's chat where `show`, a path and a name or none do; a bouncer's run, a
-/// check of its configuration, or a new log, where `run`, `check` or `renew` and a path do.
-fn asked(words: Args) -> Option<Task> {
-    let mut words = words.skip(1);
-    let Some(word) = words.next() else {
-        return Some(Task::Fold);
-    };
-    let task = match word.as_str() {
-        "fold" => Task::Fold,
-        "world" => Task::World(size_of(words.next()?.as_str())?),
-        "replay" => Task::Replay(words.next()?),
-        "draw" => Task::Draw(words.next()?),
-        "show" => Task::Show(words.next()?, target_of(words.next())?),
-        "run" => Task::Run(words.next()?),
-        "check" => Task::Check(words.next()?),
-        "renew" => Task::Renew(words.next()?),
-        "help" | "--help" | "-h" => Task::Help,
-        "--version" => Task::Version,
-        _ => return None,
-    };
-    if words.next().is_some() {
-        return None;
-    }
-    Some(task)
-}
-
-/// The target that a word names, or none where there is no word. A word that is no name is refused.
-fn target_of(word: Option<String>) -> Option<Option<Name>> {
-    match word {
-        None => Some(None),
-        Some(word) => Some(Some(Name::from_bytes(word.into_bytes())?)),
-    }
-}
 
 /// Folds standard input. The exit code is 0, or 1 with the fault on standard error.
 fn run_fold(rt: &HostRuntime) -> ExitCode {
@@ -163,25 +107,28 @@ fn run_show(rt: &HostRuntime, path: &str, target: Option<&Name>) -> ExitCode {
 /// Says what a run over the configuration in a file would do. The exit code is 0, or 1 with the fault on
 /// standard error.
 fn run_check(rt: &HostRuntime, path: &str) -> ExitCode {
-    let plan = match check(rt, path) {
-        Ok(plan) => plan,
+    let checked = match check(rt, path) {
+        Ok(checked) => checked,
         Err(fault) => return failed(rt, fault),
     };
     let mut output = io::writer(rt);
-    if output.write_all(&plan).is_err() || output.flush().is_err() {
+    if output.write_all(&checked.plan).is_err() || output.flush().is_err() {
         return failed(rt, FoldFault::Write);
     }
-    ExitCode::SUCCESS
+    match &checked.store {
+        Some(store) => told(rt, store),
+        None => ExitCode::SUCCESS,
+    }
 }
 
-/// Begins the log of the bouncer of a configuration anew, and says what was done. The exit code is 0, or 1 with the
-/// fault on standard error, and a line before it that says why.
-fn run_renew(rt: &HostRuntime, path: &str) -> ExitCode {
+/// Begins the log of the bouncer of a configuration anew, without these names of clients, and says what was done. The
+/// exit code is 0, or 1 with the fault on standard error, and a line before it that says why.
+fn run_renew(rt: &HostRuntime, path: &str, forgotten: &[Name]) -> ExitCode {
     let config = match read(rt, path) {
         Ok(config) => config,
         Err(fault) => return failed(rt, fault),
     };
-    match renew(rt, &config) {
+    match renew(rt, &config, forgotten) {
         Ok(renewed) => told(rt, &renewed),
         Err(fault) => {
             let _ = eprintln!(rt; "{fault}");
@@ -219,21 +166,22 @@ fn usage(rt: &HostRuntime) -> ExitCode {
 
 fn main(rt: HostRuntime) -> ExitCode {
     match args(&rt) {
-        Ok(words) => match asked(words) {
-            Some(Task::Fold) => run_fold(&rt),
-            Some(Task::World(size)) => run_world(&rt, size),
-            Some(Task::Replay(path)) => run_replay(&rt, path.as_str()),
-            Some(Task::Draw(path)) => run_draw(&rt, path.as_str()),
-            Some(Task::Show(path, target)) => run_show(&rt, path.as_str(), target.as_ref()),
-            Some(Task::Run(path)) => match run(&rt, path.as_str(), rt.reader(), &Hands::new) {
+        Ok(words) => match asked(rt.alloc(), words) {
+            Ok(Some(Task::Fold)) => run_fold(&rt),
+            Ok(Some(Task::World(size))) => run_world(&rt, size),
+            Ok(Some(Task::Replay(path))) => run_replay(&rt, path.as_str()),
+            Ok(Some(Task::Draw(path))) => run_draw(&rt, path.as_str()),
+            Ok(Some(Task::Show(path, target))) => run_show(&rt, path.as_str(), target.as_ref()),
+            Ok(Some(Task::Run(path))) => match run(&rt, path.as_str(), rt.reader(), &Hands::new) {
                 Ok(()) => ExitCode::SUCCESS,
                 Err(fault) => failed(&rt, fault),
             },
-            Some(Task::Check(path)) => run_check(&rt, path.as_str()),
-            Some(Task::Renew(path)) => run_renew(&rt, path.as_str()),
-            Some(Task::Help) => told(&rt, &HELP),
-            Some(Task::Version) => told(&rt, &VERSION),
-            None => usage(&rt),
+            Ok(Some(Task::Check(path))) => run_check(&rt, path.as_str()),
+            Ok(Some(Task::Renew(path, forgotten))) => run_renew(&rt, path.as_str(), &forgotten),
+            Ok(Some(Task::Help)) => told(&rt, &HELP),
+            Ok(Some(Task::Version)) => told(&rt, &VERSION),
+            Ok(None) => usage(&rt),
+            Err(_) => failed(&rt, FoldFault::Memory),
         },
         Err(error) => if error.kind() == ErrorKind::OutOfMemory {
             failed(&rt, FoldFault::Memory)

@@ -1,6 +1,7 @@
 //! The journals of a bouncer's nodes.
 ghost use Rattle.std.specs.Prelude.{◌≡◌, false, length, IfErr, IfOk};
 ghost use Rattle.std.specs.List.{All};
+ghost use Rattle.raft_log.specs.Peers.{IsGroupSize};
 ghost use Rattle.bouncer_run.specs.Faults.{IsFaultOfOpening, IsOrMemory};
 
 use crate::made::Made;
@@ -9,21 +10,23 @@ use crate::system::System;
 use bouncer_config::Config;
 use bouncer_tower::TowerBody;
 use file_disk::{FileJournal, OpenFault, open_journal};
-use journal_folder::finish_renewal;
+use journal_folder::{Renewed, Settled, finish_renewal};
 use raft_log::{GroupSize, Log, NodeId};
 use run_plan::journal_path;
 use stable_store::StoreFault;
 
 /// A journal for each node, node 1's first, in the folder that the configuration names, which is
-/// made where it is not there. A renewal that was decided is finished first. The folder and the files that are made
-/// are noted. Where there are no journals, a line was written to standard error that names the folder or the file, and
-/// says why.
+/// made where it is not there. A renewal that was decided is finished first. Then the store is of the configuration's
+/// setup and number of nodes: its log is begun anew where it was of others. The folder and the files that are made are
+/// noted. Where there are no journals, a line was written to standard error that names the folder or the file, and says
+/// why.
 pub fn journals<R: System>(
     rt: &R,
     config: &Config,
     size: GroupSize,
     made: &mut Made,
 ) -> Result<Vec<FileJournal<TowerBody>>, RunFault>
+    requires { IsGroupSize (length config.now.listen.items) }
     ensures count { IfOk result (λ journals. length journals.items ≡ size) }
     ensures serve { IfOk result (λ journals. All (λ j. j.broken ≡ false) journals.items) }
     ensures fault { IfErr result (IsOrMemory RunFault.Store) }
@@ -32,6 +35,7 @@ pub fn journals<R: System>(
     let folder = config.store.as_str();
     make_folder(rt, folder, made)?;
     finish(rt, folder)?;
+    settle(rt, config, made)?;
     let mut journals: Vec<FileJournal<TowerBody>> = Vec::new(alloc);
     for index in 0..size.value() {
         let path = journal_path(alloc, folder, NodeId::new(index + 1))?;
@@ -117,5 +121,68 @@ fn finish<R: System>(rt: &R, folder: &str) -> Result<(), RunFault>
             let _ = eprintln!(rt; "{fault}");
             Err(RunFault::of_store(fault.is_memory()))
         }
+    }
+}
+
+/// The store is of a configuration: a new one is made so, and the log of another one is begun anew. What was done is
+/// told, but where it is new or goes on.
+fn settle<R: System>(rt: &R, config: &Config, made: &mut Made) -> Result<(), RunFault>
+    requires { IsGroupSize (length config.now.listen.items) }
+    ensures { IfErr result (IsOrMemory RunFault.Store) }
+{
+    match journal_folder::settle(rt, config, config.renew_at as u64) {
+        Ok(settled) => {
+            tell_settled(rt, config, &settled);
+            note(settled, made)
+        }
+        Err(fault) => {
+            let _ = eprintln!(rt; "{fault}");
+            Err(RunFault::of_store(fault.is_memory()))
+        }
+    }
+}
+
+/// The file that a start made, in which a store says of which setup it is, is noted.
+fn note(settled: Settled, made: &mut Made) -> Result<(), RunFault>
+    ensures { IfErr result (IsOrMemory RunFault.Store) }
+{
+    match settled {
+        Settled::Made(file) | Settled::Described(file) => Ok(made.add(file)?),
+        _ => Ok(()),
+    }
+}
+
+/// Says on standard error what was done with a store that was there.
+fn tell_settled<R: System>(rt: &R, config: &Config, settled: &Settled) {
+    let folder = config.store.as_str();
+    let _ = match settled {
+        Settled::Made(_) | Settled::Same => Ok(()),
+        Settled::Described(_) => eprintln!(rt;
+            "{folder}: it said nothing of its setup: it is taken to be of this one, as {folder}/setup says from now on"
+        ),
+        Settled::Changed(keys, renewed) => {
+            let (before, old) = (renewed.before.value(), old_of(renewed));
+            eprintln!(rt;
+                "{folder}: {keys} changed: the log of {before} entries was begun anew, and the old folder is {old}"
+            )
+        }
+        Settled::Long(renewed) => {
+            let (before, old) = (renewed.before.value(), old_of(renewed));
+            eprintln!(rt;
+                "{folder}: the log had {before} entries: it was begun anew, and the old folder is {old}"
+            )
+        }
+        Settled::StaysLong(fault) => {
+            let most = config.renew_at;
+            eprintln!(rt; "{folder}: the log has more than {most} entries, and goes on: {fault}")
+        }
+    };
+}
+
+/// Where the old folder of a renewal lies.
+fn old_of(renewed: &Renewed) -> &str {
+    match &renewed.old {
+        Some(old) => old.as_str(),
+        None => "none",
     }
 }

@@ -54,7 +54,7 @@ mod telling;
 mod turns;
 mod warnings;
 
-pub use checking::check;
+pub use checking::{Checked, check};
 pub use fault::fault_of_cluster;
 pub use hands::Hands;
 pub use program::run;

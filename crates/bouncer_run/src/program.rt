@@ -1,5 +1,6 @@
 //! The run of a bouncer.
-ghost use Rattle.std.specs.Prelude.{◌≡◌, ◌⊎◌, IfErr, IfOk};
+ghost use Rattle.std.specs.Prelude.{◌≡◌, ◌⊎◌, IfErr, IfOk, length};
+ghost use Rattle.raft_log.specs.Peers.{IsGroupSize};
 ghost use Rattle.bouncer_run.specs.Faults.{IsOrMemory};
 
 use crate::clock::{Clockwork, time_of_day};
@@ -78,7 +79,8 @@ fn start<
     input: Option<I>,
     hands: &F,
 ) -> Result<Started<R, U>, RunFault>
-    requires { F.IsAlwaysCallable hands.now }
+    requires callable { F.IsAlwaysCallable hands.now }
+    requires group { IsGroupSize (length config.now.listen.items) }
 {
     // it is dropped last, so that what was made is locked until it is gone
     let mut made = Made::nothing(rt.alloc());
@@ -110,7 +112,8 @@ impl<R: System, U: Upstream + Send + 'static> Started<R, U> {
         hands: &F,
         made: &mut Made,
     ) -> Result<Self, RunFault>
-        requires { F.IsAlwaysCallable hands.now }
+        requires callable { F.IsAlwaysCallable hands.now }
+        requires group { IsGroupSize (length config.now.listen.items) }
     {
         let alloc = rt.alloc();
         let mut journals = journals(rt, config, size, made)?;

@@ -1,0 +1,93 @@
+//! What the words behind the program's name ask for.
+use irc_line::Name;
+use std::alloc::{AllocError, Global};
+use std::env::Args;
+use std::iter::Skip;
+use world_app::size_of;
+
+/// What the program is asked to do.
+#[derive(Drop)]
+pub enum Task {
+    Fold,
+    /// To run events over so many nodes.
+    World(u32),
+    /// To run what is recorded in the file of this path again.
+    Replay(String),
+    /// To draw the run that is recorded in the file of this path.
+    Draw(String),
+    /// To show the journal in the file of this path: all of it, or what concerns a target.
+    Show(String, Option<Name>),
+    /// To run the bouncer that the configuration in the file of this path says.
+    Run(String),
+    /// To say what that run would do.
+    Check(String),
+    /// To begin the log of that bouncer anew, without these names of clients.
+    Renew(String, Vec<Name>),
+    Help,
+    Version,
+}
+
+/// What the words, the program's name first, ask for: a fold where none follows, or `fold` alone; the
+/// events of a world where `world` and a number follow; a record's where `replay` and a path do, and its picture
+/// where `draw` and a path do; a journal's chat where `show`, a path and a name or none do; a bouncer's run, a
+/// check of its configuration, or a new log, where `run`, `check` or `renew` and a path do.
+pub fn asked(alloc: Global, words: Args) -> Result<Option<Task>, AllocError> {
+    let mut words = words.skip(1);
+    match words.next() {
+        None => Ok(Some(Task::Fold)),
+        Some(word) if word.as_str() == "renew" => renewal(alloc, words),
+        Some(word) => Ok(task_of(word.as_str(), words)),
+    }
+}
+
+/// What a word asks for, with those that follow it.
+fn task_of(word: &str, mut words: Skip<Args>) -> Option<Task> {
+    let task = match word {
+        "fold" => Task::Fold,
+        "world" => Task::World(size_of(words.next()?.as_str())?),
+        "replay" => Task::Replay(words.next()?),
+        "draw" => Task::Draw(words.next()?),
+        "show" => Task::Show(words.next()?, target_of(words.next())?),
+        "run" => Task::Run(words.next()?),
+        "check" => Task::Check(words.next()?),
+        "help" | "--help" | "-h" => Task::Help,
+        "--version" => Task::Version,
+        _ => return None,
+    };
+    if words.next().is_some() {
+        return None;
+    }
+    Some(task)
+}
+
+/// A renewal, where a path follows, and behind it names of clients, each behind `--forget`.
+fn renewal(alloc: Global, mut words: Skip<Args>) -> Result<Option<Task>, AllocError> {
+    let Some(path) = words.next() else {
+        return Ok(None);
+    };
+    let mut forgotten = Vec::new(alloc);
+    let mut is_named = false;
+    for word in words {
+        if is_named {
+            let Some(name) = Name::from_bytes(word.into_bytes()) else {
+                return Ok(None);
+            };
+            forgotten.push(name)?;
+        } else if word.as_str() != "--forget" {
+            return Ok(None);
+        }
+        is_named = !is_named;
+    }
+    if is_named {
+        return Ok(None);
+    }
+    Ok(Some(Task::Renew(path, forgotten)))
+}
+
+/// The target that a word names, or none where there is no word. A word that is no name is refused.
+fn target_of(word: Option<String>) -> Option<Option<Name>> {
+    match word {
+        None => Some(None),
+        Some(word) => Some(Some(Name::from_bytes(word.into_bytes())?)),
+    }
+}
