@@ -9,6 +9,8 @@ _bouncer() {
             run | check | renew | replay | draw | show) compopt -o filenames && mapfile -t COMPREPLY < <(compgen -f -- "$word") ;;
             world) mapfile -t COMPREPLY < <(compgen -W '3 5 7' -- "$word") ;;
         esac
+    elif [ "${COMP_WORDS[1]}" = renew ] && [ $((COMP_CWORD % 2)) = 1 ]; then
+        mapfile -t COMPREPLY < <(compgen -W '--forget' -- "$word")
     fi
 }
 complete -F _bouncer bouncer

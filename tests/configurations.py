@@ -20,7 +20,7 @@ MOST = LEAST.replace(b'"me"', b'"' + b"n" * 64 + b'"').replace(b'"pass"', b'"' +
     [
         b"channels = [" + channels(100) + b"]",
         b"chan_buffer_size = 500\nquery_buffer_size = 500\nmax_query_buffers = 50",
-        b"offset_minutes = 1439\nbeat_ms = 10000\ntimeout_ms = 60000\nflood_burst = 100\nflood_ms = 60000",
+        b"offset_minutes = 1439\nbeat_ms = 10000\ntimeout_ms = 60000\nflood_burst = 100\nflood_ms = 60000\nrenew_at = 1000000",
         b'upstream_password = "' + b"u" * 64 + b'"\n',
     ]
 )
@@ -89,6 +89,8 @@ RANGES = [
     (b"timeout_ms = 60001", "6: timeout_ms: needs 50 to 60000"),
     (b"flood_burst = 0", "6: flood_burst: needs 1 to 100"),
     (b"flood_ms = 60001", "6: flood_ms: needs 0 to 60000"),
+    (b"renew_at = 1000001", "6: renew_at: needs 0 to 1000000"),
+    (b"renew_at = -1", "6: renew_at: needs 0 to 1000000"),
     (b'beat_ms = "100"', "6: beat_ms: needs a whole number"),
 ]
 
