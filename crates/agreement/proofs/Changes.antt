@@ -5,7 +5,7 @@ use Rattle.raft_log.specs.declared.entry.Entry.{Entry}
 use Rattle.raft_log.specs.Votes.{majority}
 use Rattle.agreement.specs.World.{Begins}
 use Rattle.agreement.proofs.Lists.{begins_self, begins_none, begins_trans, begins_length}
-use Rattle.agreement.proofs.Counts.{IsIn}
+use Rattle.agreement.specs.Laws.{IsIn}
 use Rattle.agreement.proofs.Ghost.{Ghost, Sound, Fact, GhostOk}
 use Rattle.agreement.proofs.Later.{Extends, Apart, fact_later, chosen_later, sound_later}
 

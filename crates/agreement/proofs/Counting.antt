@@ -76,7 +76,7 @@ module _ {B : Type 0} where
         by_owner : (o : Option ℕ) → g.owner s.term ≡ o → g.owner s.term ≡ None
         by_owner None e = e
         by_owner (Some d) e =
-            let meet = majorities_meet n (g.won s.term) s.voters (gok.won_length s.term d e) cand.voters_length (gok.won_majority s.term d e) maj in
+            let meet = majorities_meet n (g.won s.term) s.voters (gok.won_length s.term d e, gok.won_majority s.term d e) (cand.voters_length, maj) in
             let same : d ≡ i = cc (gok.won_votes s.term d meet.0 e meet.1, cand.voters_ok meet.0 meet.2) in
             absurd (cand.not_owner (subst (λ x. g.owner s.term ≡ Some x) same e))
 

@@ -3,11 +3,8 @@ use Rattle.std.proofs.Common.{cond, sym, count_by, one-add, ◌≡◌, ℕ, zero
 use Rattle.std.proofs.lemmas.Bool.{ltb-true}
 use Rattle.std.proofs.lemmas.List.Recursion.{is_count_by}
 use Rattle.raft_log.specs.Lists.{item_or}
-use Rattle.raft_log.specs.Votes.{tally, majority}
-
--- the node is in the set
-abbrev pub IsIn : List Bool → ℕ → Type 0
-IsIn vs v = item_or vs v false ≡ true
+use Rattle.raft_log.specs.Votes.{tally}
+use Rattle.agreement.specs.Laws.{IsIn, IsMajority}
 
 shared_place : (us vs : List Bool) → length us ≡ length vs → length us < tally us + tally vs → (v : ℕ) × (get_or us v false ≡ true) × (get_or vs v false ≡ true)
 shared_place [] [] e h = absurd (omega arith)
@@ -18,10 +15,12 @@ shared_place (true ∷ us) (false ∷ vs) e h = let r = shared_place us vs (omeg
 shared_place (false ∷ us) (true ∷ vs) e h = let r = shared_place us vs (omega arith) (omega arith) in (suc r.0, r.1, r.2)
 shared_place (false ∷ us) (false ∷ vs) e h = let r = shared_place us vs (omega arith) (omega arith) in (suc r.0, r.1, r.2)
 
-pub majorities_meet : (n : ℕ) (us vs : List Bool) → length us ≡ n → length vs ≡ n → majority n us ≡ true → majority n vs ≡ true → (v : ℕ) × IsIn us v × IsIn vs v
-majorities_meet n us vs ea eb ha hb =
-    let a = ltb-true n (tally us + tally us) ha in
-    let b = ltb-true n (tally vs + tally vs) hb in
+pub majorities_meet : (n : ℕ) (us vs : List Bool) → IsMajority n us → IsMajority n vs → (v : ℕ) × IsIn us v × IsIn vs v
+majorities_meet n us vs mu mv =
+    let ea : length us ≡ n = mu.0 in
+    let eb : length vs ≡ n = mv.0 in
+    let a = ltb-true n (tally us + tally us) mu.1 in
+    let b = ltb-true n (tally vs + tally vs) mv.1 in
     let r = shared_place us vs (omega arith) (omega arith) in
     (suc r.0, r.1, r.2)
 

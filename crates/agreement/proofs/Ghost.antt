@@ -11,7 +11,7 @@ use Rattle.raft_log.specs.Logs.{last_term}
 use Rattle.raft_log.specs.Votes.{majority}
 use Rattle.raft_log.specs.Lists.{item, item_or}
 use Rattle.agreement.specs.World.{Begins}
-use Rattle.agreement.proofs.Counts.{IsIn}
+use Rattle.agreement.specs.Laws.{IsIn}
 
 pub record Ghost (B : Type 0) : Type 0 where
   pub ballot : ℕ → ℕ → Option ℕ  -- node, term: for whom it voted

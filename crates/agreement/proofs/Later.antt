@@ -19,7 +19,7 @@ module _ {B : Type 0} where
   pub complete : (n : ℕ) (g : Ghost B) (ok : GhostOk n g) (p : List (Entry B)) (ch : Chosen n g p) (fuel x c : ℕ) → x ≤ fuel → ch.term < x → g.owner x ≡ Some c → Begins p (g.runs x c)
   complete n g ok p ch zero x c le lt own = absurd (omega arith)
   complete n g ok p ch (suc f) x c le lt own =
-      let m = majorities_meet n (g.won x) ch.who (ok.won_length x c own) ch.who_length (ok.won_majority x c own) ch.who_majority in
+      let m = majorities_meet n (g.won x) ch.who (ok.won_length x c own, ok.won_majority x c own) (ch.who_length, ch.who_majority) in
       let earlier : Carried g ch.term x p = record { by = λ u d tu ux ou. complete n g ok p ch f u d (omega arith) tu ou } in
       (ok.won_facts x c m.0 own m.1).holds ch.term p lt ch.of_ledger ch.ends (ch.who_acked m.0 m.2) earlier
 

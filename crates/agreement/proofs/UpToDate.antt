@@ -1,13 +1,13 @@
--- The log that is at least as up to date as each holds all that was committed.
-use Rattle.std.proofs.Common.{◌≡◌, ℕ, zero, suc, ◌<◌, ◌≤◌, Bool, true, ◌&&◌, ltb, leb, eqb, List, [], ◌∷◌, ⊎_elim, Option, Some, None, slice_get, length, take, refl, sym, subst, ◌∙◌, arith}
-use Rattle.std.proofs.lemmas.Bool.{and_parts, cases_lt, eqb-true, leb-true, ltb-true, or_cases}
+-- A log that is at least as up to date as those of a majority holds all that was committed.
+use Rattle.std.proofs.Common.{◌≡◌, ℕ, zero, suc, ◌<◌, ◌≤◌, Bool, true, ◌&&◌, ltb, leb, eqb, List, [], ◌∷◌, ⊎_elim, Option, Some, None, length, take, refl, sym, subst, ◌∙◌, arith}
+use Rattle.std.proofs.lemmas.Bool.{and_parts, eqb-true, leb-true, ltb-true, or_cases}
 use Rattle.raft_log.specs.Lists.{item}
 use Rattle.raft_log.specs.declared.entry.Entry.{Entry}
 use Rattle.raft_log.specs.Node.{Node}
 use Rattle.raft_log.specs.Logs.{last_term, up_to_date}
 use Rattle.agreement.specs.World.{Begins}
-use Rattle.agreement.specs.Laws.{IsMostUpToDate, UpToDateHolds, moment}
-use Rattle.agreement.proofs.Counts.{IsIn, majorities_meet}
+use Rattle.agreement.specs.Laws.{IsAsUpToDateAs, IsIn, IsMajority, UpToDateHolds, moment}
+use Rattle.agreement.proofs.Counts.{majorities_meet}
 use Rattle.agreement.proofs.Ghost.{Chosen, Ghost, GhostOk, Good, NodeOk}
 use Rattle.agreement.proofs.Holds.{Two, two_moments}
 use Rattle.agreement.proofs.Later.{complete}
@@ -54,27 +54,28 @@ module _ {B : Type 0} where
             begins_trans p other log mine
             (begins_shorter other log (g.ledger (last_term log)) (subst (λ x. Begins other (g.ledger x)) (sym e) other_rooted) rooted le)
 
-  -- what was chosen stands in it
-  chosen_in : (n : ℕ) (g : Ghost B) (w : List (Node B)) (good : Good n g w) (b : ℕ) (t : Node B) → item w b ≡ Some t → IsMostUpToDate w t.log
+  -- what was chosen stands in it: a node of the set is one of the majority that chose it
+  chosen_in : (n : ℕ) (g : Ghost B) (w : List (Node B)) (good : Good n g w) (b : ℕ) (t : Node B) (set : List Bool) → item w b ≡ Some t → IsMajority n set → IsAsUpToDateAs set w t.log
       → (p : List (Entry B)) → Chosen n g p → Begins p t.log
-  chosen_in n g w good b t at most p ch =
-      let m = majorities_meet n ch.who ch.who ch.who_length ch.who_length ch.who_majority ch.who_majority in
+  chosen_in n g w good b t set at enough most p ch =
+      let m = majorities_meet n ch.who set (ch.who_length, ch.who_majority) enough in
       let here = node_at w ch.who m.0 (ch.who_length ∙ sym good.size) m.1 in
       let ok : NodeOk n g m.0 here.0 = good.nodes m.0 here.0 here.1 in
       let mine : Begins p here.0.log =
       ok.keeps ch.term p ch.of_ledger (ch.who_acked m.0 m.1)
       (record { by = λ x d lt below own. complete n g good.ghost_ok p ch x x d (omega arith) lt own }) in
-      by_node n g good.ghost_ok t.log ((good.nodes b t at).log_ok.rooted t.log (begins_self t.log)) p ch here.0.log (ok.log_ok.rooted here.0.log (begins_self here.0.log)) mine (most m.0 here.0 here.1)
+      by_node n g good.ghost_ok t.log ((good.nodes b t at).log_ok.rooted t.log (begins_self t.log)) p ch here.0.log (ok.log_ok.rooted here.0.log (begins_self here.0.log)) mine (most m.0 here.0 m.2 here.1)
 
-  agreed_in : (n : ℕ) (g : Ghost B) (w : List (Node B)) (good : Good n g w) (b : ℕ) (t : Node B) → item w b ≡ Some t → IsMostUpToDate w t.log → Begins g.agreed t.log
-  agreed_in n g w good b t at most =
+  agreed_in : (n : ℕ) (g : Ghost B) (w : List (Node B)) (good : Good n g w) (b : ℕ) (t : Node B) (set : List Bool) → item w b ≡ Some t → IsMajority n set → IsAsUpToDateAs set w t.log
+      → Begins g.agreed t.log
+  agreed_in n g w good b t set at enough most =
       ⊎_elim
       (λ e. subst (λ z. Begins z t.log) (sym e) (begins_none t.log))
-      (λ ch. chosen_in n g w good b t at most g.agreed ch)
+      (λ ch. chosen_in n g w good b t set at enough most g.agreed ch)
       good.ghost_ok.agreed_ok
 
   pub up_to_date_holds : (blank : B) → UpToDateHolds B blank
-  up_to_date_holds blank size es j k a b s t le at_s at_t most =
+  up_to_date_holds blank size es j k a b s t set le at_s at_t enough most =
       let m : Two size (moment blank size es j) (moment blank size es k) = two_moments blank size es j k le in
       begins_trans (take s.commit s.log) m.first.agreed t.log (m.first_good.nodes a s at_s).commit_ok
-      (begins_trans m.first.agreed m.second.agreed t.log m.more.agreeds (agreed_in size m.second _ m.second_good b t at_t most))
+      (begins_trans m.first.agreed m.second.agreed t.log m.more.agreeds (agreed_in size m.second _ m.second_good b t set at_t enough most))

@@ -15,7 +15,7 @@ use Rattle.raft_node.proofs.ByMessage.{grants, on_request_vote}
 use Rattle.agreement.specs.World.{Begins}
 use Rattle.agreement.proofs.Lists.{begins_self, begins_trans, begins_shorter, begins_either, begins_nil, has_entry}
 use Rattle.raft_node.proofs.Items.{item-with_cases, item-replicate_same, length-with_item}
-use Rattle.agreement.proofs.Counts.{IsIn}
+use Rattle.agreement.specs.Laws.{IsIn}
 use Rattle.agreement.proofs.Ghost.{Ghost, Carried, Fact, GhostOk, RequestOk, RoleOk, NodeOk}
 use Rattle.agreement.proofs.Later.{Extends, sound_more, carried_back, all_later, held_more, held_later}
 use Rattle.agreement.proofs.Changes.{cast, cast_extends, cast_apart, cast_now, cast_runs, cast_later, cast_ok}

@@ -1,10 +1,11 @@
 -- What holds over every list of events, whatever the upper layers do: the paper of Raft, Figure 3 and section 5.4.
-use Rattle.std.specs.Prelude.{◌≡◌, ◌⊎◌, ◌<◌, ◌≤◌, ℕ, suc, true, false, List, [], ◌∷◌, ◌++◌, length, take, replicate, Option, None, Some, if◌then◌else◌, nat_lt}
+use Rattle.std.specs.Prelude.{◌≡◌, ◌⊎◌, ◌<◌, ◌≤◌, ℕ, suc, Bool, true, false, List, [], ◌∷◌, ◌++◌, length, take, replicate, Option, None, Some, if◌then◌else◌, nat_lt}
 use Rattle.raft_log.specs.declared.entry.Entry.{Entry}
 use Rattle.raft_log.specs.declared.role.Role.TheVariants.{Follower, Leader}
-use Rattle.raft_log.specs.Lists.{item}
+use Rattle.raft_log.specs.Lists.{item, item_or}
 use Rattle.raft_log.specs.Logs.{entry_limit, last_term, term_at, up_to_date}
 use Rattle.raft_log.specs.Node.{Node}
+use Rattle.raft_log.specs.Votes.{majority}
 use Rattle.agreement.specs.World.{Act, Stops, acted, own, Input, Timeout, Beat, Deliver, Ask, Lift, Idle, Event, Does, Restart, StopIn, happens, run, start, committed, Begins}
 
 module _ {B : Type 0} where
@@ -80,17 +81,26 @@ LeadersHold B blank =
     item (moment blank size es j) a ≡ Some s → item (moment blank size es k) b ≡ Some t →
     t.role ≡ Leader → s.term < t.term → Begins (take s.commit s.log) t.log
 
--- a log is at least as up to date as that of each node (section 5.4.1): it ends in a later term, or in the same and is no shorter
-abbrev pub IsMostUpToDate : {B : Type 0} → List (Node B) → List (Entry B) → Type 0
-IsMostUpToDate {B} w log =
-    (c : ℕ) (u : Node B) → item w c ≡ Some u → up_to_date (last_term log) (length log) (last_term u.log) (length u.log) ≡ true
+-- a node is in a set, which says of each node, node 1's first, whether it is in it
+abbrev pub IsIn : List Bool → ℕ → Type 0
+IsIn set node = item_or set node false ≡ true
 
--- what a node commits, then or earlier, stands in the log of a node that is at least as up to date as that of each
+-- more than half of the nodes of a group of so many are in this set
+abbrev pub IsMajority : ℕ → List Bool → Type 0
+IsMajority size set = (length set ≡ size) × (majority size set ≡ true)
+
+-- a log is at least as up to date as that of each node in this set (section 5.4.1): it ends in a later term, or in the same and is no shorter
+abbrev pub IsAsUpToDateAs : {B : Type 0} → List Bool → List (Node B) → List (Entry B) → Type 0
+IsAsUpToDateAs {B} set w log =
+    (c : ℕ) (u : Node B) → IsIn set c → item w c ≡ Some u →
+    up_to_date (last_term log) (length log) (last_term u.log) (length u.log) ≡ true
+
+-- what a node commits, then or earlier, stands in the log of a node that is at least as up to date as that of each node of some majority
 abbrev pub UpToDateHolds : (B : Type 0) → B → Type 0
 UpToDateHolds B blank =
-    (size : ℕ) (es : List (Event B)) (j k a b : ℕ) (s t : Node B) → j ≤ k →
+    (size : ℕ) (es : List (Event B)) (j k a b : ℕ) (s t : Node B) (set : List Bool) → j ≤ k →
     item (moment blank size es j) a ≡ Some s → item (moment blank size es k) b ≡ Some t →
-    IsMostUpToDate (moment blank size es k) t.log → Begins (take s.commit s.log) t.log
+    IsMajority size set → IsAsUpToDateAs set (moment blank size es k) t.log → Begins (take s.commit s.log) t.log
 
 module _ {B : Type 0} where
   -- the body, if any, as a list

@@ -18,8 +18,9 @@ pub fn the_nodes_agree<B>()
     ensures leaders_hold { (blank : B) → LeadersHold B blank }
 {}
 
-/// A node whose log is at least as up to date as that of each node holds all that any node committed: it is the log
-/// by which a group may go on where all stopped, or begin anew (section 5.4.1).
+/// A node's log that is at least as up to date as that of each node of a majority holds all that any node committed: a
+/// majority saved that, and any two majorities share a node. From this log a group may go on where all stopped, or begin
+/// anew, also where the stores outside that majority are lost (section 5.4.1).
 pub fn the_most_up_to_date_log_holds_all<B>()
     ensures { (blank : B) → UpToDateHolds B blank }
 {}

@@ -7,7 +7,7 @@ use Rattle.raft_log.specs.Lists.{item}
 use Rattle.raft_log.specs.Logs.{last_term, up_to_date}
 use Rattle.raft_log.specs.Node.{Node}
 use Rattle.stable_store.specs.declared.saved.Saved.{Saved}
-use Rattle.agreement.specs.Laws.{IsMostUpToDate}
+use Rattle.agreement.specs.Laws.{IsAsUpToDateAs, IsIn}
 use Rattle.world_run.specs.World.{Event}
 use Rattle.world_views.specs.Openings.{OpenedAfter, restarts}
 use Rattle.world_views.proofs.Openings.{held_stores, new_stores, world_length}
@@ -22,27 +22,29 @@ item_below : {A : Type 0} (xs : List A) (i : ℕ) (x : A) → item xs (suc i) �
 item_below xs i x e = below xs i x (got_back xs i x e)
 
 module _ (r : RunningPeriod) (h : HasHistory r) (c : IsChosen r) where
-  best_at : (i : ℕ) (u : Node TowerBody) → item (end_of (period_of r)) (suc i) ≡ Some u → up_to_date (last_term r.chosen) (length r.chosen) (last_term u.log) (length u.log) ≡ true
-  best_at i u e =
+  best_at : (i : ℕ) (u : Node TowerBody) → IsIn c.whole (suc i) → item (end_of (period_of r)) (suc i) ≡ Some u → up_to_date (last_term r.chosen) (length r.chosen) (last_term u.log) (length u.log) ≡ true
+  best_at i u in_it e =
       let long : length (end_of (period_of r)) ≡ length r.views = world_length (tower r.settings) (length r.views) (r.before ++ (r.earlier ++ recorded r)) in
       let lt : i < length (end_of (period_of r)) = item_below (end_of (period_of r)) i u e in
       let v = there r.views i (omega (arith, long, lt)) in
-      let o = c.opened i v.0 v.1 in
+      let o = c.opened i v.0 in_it v.1 in
       let x = nodes_end_as_viewed r h i v.0 o.0 v.1 o.1 in
       let same : x.0 ≡ u = cc (e, x.1) in
       let logs : u.log ≡ v.0.state.log = ap (λ (n : Node TowerBody). n.log) (sym same) ∙ ap (λ (y : Saved TowerBody). y.log) x.2 in
-      subst (λ (l : List (Entry TowerBody)). up_to_date (last_term r.chosen) (length r.chosen) (last_term l) (length l) ≡ true) (sym logs) (c.best i v.0 v.1)
+      subst (λ (l : List (Entry TowerBody)). up_to_date (last_term r.chosen) (length r.chosen) (last_term l) (length l) ≡ true) (sym logs) (c.best i v.0 in_it v.1)
 
-  best_of : IsMostUpToDate (end_of (period_of r)) r.chosen
-  best_of zero u e = absurd (cc e)
-  best_of (suc i) u e = best_at i u e
+  best_of : IsAsUpToDateAs c.whole (end_of (period_of r)) r.chosen
+  best_of zero u in_it e = absurd (cc e)
+  best_of (suc i) u in_it e = best_at i u in_it e
 
   is_period : WereNew (period_of r) ⊎ WereBegunAnew (period_of r) → IsPeriod (period_of r)
   is_period opening =
-      let o = c.opened c.place c.view c.there in
+      let o = c.opened c.place c.view c.is_whole c.there in
       let x = nodes_end_as_viewed r h c.place c.view o.0 c.there o.1 in
       record {
         opened = opening;
+        whole = c.whole;
+        enough = c.enough;
         node = suc c.place;
         last = x.0;
         there = x.1;

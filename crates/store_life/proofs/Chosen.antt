@@ -1,5 +1,5 @@
--- What is agreed begins a log that is at least as up to date as that of each node.
-use Rattle.std.proofs.Common.{◌≡◌, ℕ, zero, suc, ◌≤◌, nat_lt, List, [], ◌∷◌, ◌++◌, length, take, Option, Some, None, refl, sym, ap, subst, ◌∙◌, arith, append_assoc, length-append}
+-- What is agreed begins a log that is at least as up to date as that of each node of a majority.
+use Rattle.std.proofs.Common.{◌≡◌, ℕ, zero, suc, ◌≤◌, nat_lt, Bool, List, [], ◌∷◌, ◌++◌, length, take, Option, Some, None, refl, sym, ap, subst, ◌∙◌, arith, append_assoc, length-append}
 use Rattle.std.proofs.Math.Seq.{take-append_seam}
 use Rattle.std.proofs.lemmas.Bool.{cond_both}
 use Rattle.std.proofs.lemmas.List.{take_all}
@@ -7,7 +7,7 @@ use Rattle.raft_log.specs.declared.entry.Entry.{Entry}
 use Rattle.raft_log.specs.Lists.{item}
 use Rattle.raft_log.specs.Node.{Node}
 use Rattle.raft_node.specs.Machine.{Machine}
-use Rattle.agreement.specs.Laws.{IsMostUpToDate, longer, longest_now}
+use Rattle.agreement.specs.Laws.{IsAsUpToDateAs, IsMajority, longer, longest_now}
 use Rattle.agreement.specs.World.{Begins, committed, committed_of, start}
 use Rattle.agreement.proofs.Lists.{begins_none}
 use Rattle.world_run.specs.World.{Event, agreed, happens, longest_over, moment, run}
@@ -26,15 +26,15 @@ module _ {B : Type 0} where
   now_in [] l f = begins_none l
   now_in (s ∷ w) l f = longer_in (take s.commit s.log) (longest_now w) l (f 1) (now_in w l (behind_first s w l f))
 
-module _ (M : Machine) (size node : ℕ) (all : List (Event M)) (last : Node M.Body) (there : item (run M all (start size)) node ≡ Some last) (best : IsMostUpToDate (run M all (start size)) last.log) where
+module _ (M : Machine) (size node : ℕ) (all : List (Event M)) (last : Node M.Body) (there : item (run M all (start size)) node ≡ Some last) (set : List Bool) (enough : IsMajority size set) (best : IsAsUpToDateAs set (run M all (start size)) last.log) where
   now : moment M size all (length all) ≡ run M all (start size)
   now = ap (λ l. run M l (start size)) (take_all (length all) all (omega arith))
 
   there_now : item (moment M size all (length all)) node ≡ Some last
   there_now = ap (λ (w : List (Node M.Body)). item w node) now ∙ there
 
-  best_now : IsMostUpToDate (moment M size all (length all)) last.log
-  best_now = subst (λ (w : List (Node M.Body)). IsMostUpToDate w last.log) (sym now) best
+  best_now : IsAsUpToDateAs set (moment M size all (length all)) last.log
+  best_now = subst (λ (w : List (Node M.Body)). IsAsUpToDateAs set w last.log) (sym now) best
 
   module _ (done later : List (Event M)) (parts : done ++ later ≡ all) where
     then : moment M size all (length done) ≡ run M done (start size)
@@ -46,7 +46,7 @@ module _ (M : Machine) (size node : ℕ) (all : List (Event M)) (last : Node M.B
     committed_in : (a : ℕ) (o : Option (Node M.Body)) → item (run M done (start size)) a ≡ o → Begins (committed_of o) last.log
     committed_in a None e = begins_none last.log
     committed_in a (Some x) e =
-        up_to_date_holds M size all (length done) (length all) a node x last low (ap (λ (w : List (Node M.Body)). item w a) then ∙ e) there_now best_now
+        up_to_date_holds M size all (length done) (length all) a node x last set low (ap (λ (w : List (Node M.Body)). item w a) then ∙ e) there_now enough best_now
 
     each_in : (a : ℕ) → Begins (committed (run M done (start size)) a) last.log
     each_in a = committed_in a (item (run M done (start size)) a) refl

@@ -10,7 +10,7 @@ use Rattle.bouncer_tower.proofs.Handed.{claims_in_order}
 use Rattle.raft_log.specs.declared.entry.Entry.{Entry}
 use Rattle.raft_log.specs.Node.{Node}
 use Rattle.raft_node.specs.Machine.{history}
-use Rattle.agreement.specs.Laws.{IsMostUpToDate}
+use Rattle.agreement.specs.Laws.{IsAsUpToDateAs}
 use Rattle.agreement.specs.World.{Begins, start}
 use Rattle.world_run.specs.World.{Event, agreed, handed, left_of, outs, run}
 use Rattle.world_run.specs.World as world
@@ -36,9 +36,9 @@ some_below (y ∷ xs) (suc i) x e = let r = some_below xs i x e in omega arith
 
 pub agreed_is_chosen : AgreedIsChosen
 agreed_is_chosen p a =
-    let best : IsMostUpToDate (end_of p) a.last.log = subst (λ (l : List (Entry TowerBody)). IsMostUpToDate (end_of p) l) (sym a.log_is) a.best in
+    let best : IsAsUpToDateAs a.whole (end_of p) a.last.log = subst (λ (l : List (Entry TowerBody)). IsAsUpToDateAs a.whole (end_of p) l) (sym a.log_is) a.best in
     subst (λ (l : List (Entry TowerBody)). Begins (agreed (tower p.settings) p.size (p.before ++ p.events)) l) a.log_is
-    (agreed_in (tower p.settings) p.size a.node (p.before ++ p.events) a.last a.there best)
+    (agreed_in (tower p.settings) p.size a.node (p.before ++ p.events) a.last a.there a.whole a.enough best)
 
 pub begun_is_agreed : BegunIsAgreed
 begun_is_agreed p a es =

@@ -1,5 +1,5 @@
 -- The life of a store: periods, each over what was begun anew from what the one before left.
-use Rattle.std.specs.Prelude.{◌≡◌, ◌⊎◌, ◌<◌, ◌≤◌, ℕ, suc, ◌+◌, ◌-◌, List, [], ◌∷◌, ◌++◌, length, map, drop, Some, slice_get}
+use Rattle.std.specs.Prelude.{◌≡◌, ◌⊎◌, ◌<◌, ◌≤◌, ℕ, suc, ◌+◌, ◌-◌, Bool, List, [], ◌∷◌, ◌++◌, length, map, Some, slice_get}
 use Rattle.irc_line.specs.Lines.{Parts}
 use Rattle.machine_laws.specs.Runs as machine
 use Rattle.buffer_commands.specs.Settings.{Settings}
@@ -8,7 +8,7 @@ use Rattle.raft_log.specs.declared.entry.Entry.{Entry}
 use Rattle.raft_log.specs.Lists.{item}
 use Rattle.raft_log.specs.Node.{Node}
 use Rattle.raft_node.specs.Machine.{history}
-use Rattle.agreement.specs.Laws.{IsMostUpToDate}
+use Rattle.agreement.specs.Laws.{IsAsUpToDateAs, IsMajority}
 use Rattle.agreement.specs.World.{Begins, start}
 use Rattle.world_run.specs.World.{Event, agreed, hands, left_of, outs, run}
 use Rattle.world_views.specs.Laws.{AllDiffer}
@@ -48,16 +48,19 @@ pub record WereBegunAnew (p : Period) : Type 0 where
   pub leaves : Leaves p.settings left_by boots term p.begun
   pub restarted : p.before ≡ left_by ++ restarts (tower p.settings) (length boots)
 
--- A period is so opened, and the log that is chosen at its end is one of some node, at least as up to date as that of each.
+-- A period is so opened. At its end the stores of a majority are whole, and the others may be lost. The log that is chosen is one of some
+-- node, at least as up to date as that of each node whose store is whole.
 pub record IsPeriod (p : Period) : Type 0 where
   pub opened : WereNew p ⊎ WereBegunAnew p
+  pub whole : List Bool  -- the nodes whose stores are whole
+  pub enough : IsMajority p.size whole
   pub node : ℕ
   pub last : Node TowerBody
   pub there : item (end_of p) node ≡ Some last
   pub log_is : last.log ≡ p.chosen
-  pub best : IsMostUpToDate (end_of p) p.chosen
+  pub best : IsAsUpToDateAs whole (end_of p) p.chosen
 
--- what is agreed in a period begins the log that is chosen at its end
+-- what was agreed in a period, up to any moment, begins the log that is chosen at its end, whichever minority of the stores is lost
 abbrev pub AgreedIsChosen : Type 0
 AgreedIsChosen = (p : Period) → IsPeriod p → Begins (agreed (tower p.settings) p.size (p.before ++ p.events)) p.chosen
 

@@ -1,5 +1,5 @@
 -- The life of a store whose nodes run: periods with the views of all nodes.
-use Rattle.std.specs.Prelude.{◌≡◌, ◌⊎◌, ◌<◌, ◌++◌, true, ℕ, zero, suc, List, [], ◌∷◌, length, map, Some, slice_get}
+use Rattle.std.specs.Prelude.{◌≡◌, ◌⊎◌, ◌<◌, ◌++◌, Bool, true, ℕ, zero, suc, List, [], ◌∷◌, length, map, Some, slice_get}
 use Rattle.irc_line.specs.Lines.{Parts}
 use Rattle.buffer_commands.specs.Settings.{Settings}
 use Rattle.bouncer_tower.specs.Bodies.{TowerBody}
@@ -8,6 +8,7 @@ use Rattle.raft_log.specs.Lists.{item}
 use Rattle.raft_log.specs.Logs.{last_term, up_to_date}
 use Rattle.raft_log.specs.Node.{Node}
 use Rattle.raft_node.specs.Parts.{saved_by}
+use Rattle.agreement.specs.Laws.{IsIn, IsMajority}
 use Rattle.world_run.specs.World.{Event, handed}
 use Rattle.world_views.specs.Laws.{NoneInBoth}
 use Rattle.world_views.specs.Views.{IsAt, IsOpened}
@@ -106,14 +107,18 @@ abbrev pub ran : (s : Settings) → List (Event (tower s)) → List (Event (towe
 ran s before earlier views records begun chosen =
     record { settings = s; before = before; earlier = earlier; views = views; records = records; begun = begun; chosen = chosen }
 
--- All nodes ran, and the log that is chosen at the end is one of them, at least as up to date as that of each.
+-- At the end the stores of a majority are whole, and their nodes ran; the others may be lost. The log that is chosen is that of a node whose
+-- store is whole, at least as up to date as that of each of them.
 pub record IsChosen (r : RunningPeriod) : Type 0 where
+  pub whole : List Bool  -- the nodes whose stores are whole
+  pub enough : IsMajority (length r.views) whole
+  pub opened : (i : ℕ) (v : ViewOf (tower r.settings)) → IsIn whole (suc i) → IsAt r.views i v → IsOpened v
   pub place : ℕ
   pub view : ViewOf (tower r.settings)
   pub there : IsAt r.views place view
+  pub is_whole : IsIn whole (suc place)
   pub log_is : view.state.log ≡ r.chosen
-  pub opened : (i : ℕ) (v : ViewOf (tower r.settings)) → IsAt r.views i v → IsOpened v
-  pub best : (i : ℕ) (v : ViewOf (tower r.settings)) → IsAt r.views i v →
+  pub best : (i : ℕ) (v : ViewOf (tower r.settings)) → IsIn whole (suc i) → IsAt r.views i v →
       up_to_date (last_term r.chosen) (length r.chosen) (last_term v.state.log) (length v.state.log) ≡ true
 
 -- then it is a period of the group, where the stores were new or begun anew

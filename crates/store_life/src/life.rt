@@ -3,7 +3,8 @@ ghost use Rattle.store_life.specs.Clients.{NobodyToldInBoth, ToldInItsRun, ToldI
 ghost use Rattle.store_life.specs.Periods.{AgreedIsChosen, BegunIsAgreed, EachHandsItsLines};
 ghost use Rattle.store_life.specs.Periods.{NoneHandedTwice, SerialsGoOn, WaitingLinesGoOn};
 
-/// Nothing that was agreed is lost: what is agreed in a period begins the log that is chosen at its end, and what is agreed
+/// Nothing that was agreed is lost, whichever minority of the nodes loses its stores: what was agreed in a period, up to any
+/// moment, begins the log that is chosen at its end, which is at least as up to date as those of a majority. What is agreed
 /// over stores that were begun anew begins with what they were begun with.
 pub fn what_is_agreed_is_kept()
     ensures chosen { AgreedIsChosen }
@@ -23,7 +24,8 @@ pub fn waiting_lines_go_on()
     ensures serials { SerialsGoOn }
 {}
 
-/// No line is handed upstream twice in the life of a store, whatever was begun anew or set otherwise between its periods.
+/// No line is handed upstream twice in the life of a store, whatever was begun anew or set otherwise between its periods,
+/// and whichever minority of the nodes lost its stores.
 pub fn no_line_is_handed_twice()
     ensures { NoneHandedTwice }
 {}

@@ -6,7 +6,7 @@ ghost use Rattle.store_life.specs.Running.{ViewsHandOfTheirPeriod, ViewsHandOthe
 
 /// Nodes that run over honest stores make a period of a life: over new stores the first, over stores that were begun anew
 /// one that begins with these bodies; those that are opened over what a period left go on with it. Its end is by the
-/// views: the chosen log is at least as up to date as that of each.
+/// views of a majority whose stores are whole: the chosen log is of one of them, and at least as up to date as that of each.
 pub fn running_nodes_make_a_period()
     ensures new { (s : Settings) → NewRunBegins s }
     ensures anew { (s : Settings) → AnewRunBegins s }

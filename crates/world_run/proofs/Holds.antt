@@ -13,7 +13,7 @@ use Rattle.agreement.specs.Laws as core_laws
 use Rattle.agreement.proofs.Holds as core
 use Rattle.agreement.proofs.UpToDate as core_up
 use Rattle.agreement.proofs.Brought as brought
-use Rattle.agreement.specs.Laws.{IsAmong, EachIn, IsMostUpToDate}
+use Rattle.agreement.specs.Laws.{IsAmong, EachIn, IsAsUpToDateAs}
 use Rattle.agreement.proofs.Lists.{begins_either}
 use Rattle.raft_node.proofs.Items.{item_of_with, item_of_replicate}
 use Rattle.agreement.proofs.Ruled as ruled
@@ -167,6 +167,6 @@ module _ (M : Machine) where
   leaders_hold size es j k a b s t x y lead lt = core.leaders_hold M.blank size (lowered M es (start size)) j k a b s t (core_at size es j a s x) (core_at size es k b t y) lead lt
 
   pub up_to_date_holds : OverAll M UpToDateHolds
-  up_to_date_holds size es j k a b s t le x y most =
-      core_up.up_to_date_holds M.blank size (lowered M es (start size)) j k a b s t le (core_at size es j a s x) (core_at size es k b t y)
-      (subst (λ w. IsMostUpToDate w t.log) (sym (run_lowered M es (start size) k)) most)
+  up_to_date_holds size es j k a b s t set le x y enough most =
+      core_up.up_to_date_holds M.blank size (lowered M es (start size)) j k a b s t set le (core_at size es j a s x) (core_at size es k b t y) enough
+      (subst (λ w. IsAsUpToDateAs set w t.log) (sym (run_lowered M es (start size) k)) most)

@@ -13,7 +13,7 @@ use Rattle.node_steps.specs.Asking.{may_ask, new_session}
 use Rattle.raft_node.specs.Steps.{Out, Left, Looked, Refused, leaving, Act, Stops, turn, own}
 use Rattle.raft_node.specs.Sound.{IsSound}
 use Rattle.agreement.specs.World.{Begins, committed, start}
-use Rattle.agreement.specs.Laws.{IsMostUpToDate, LeadsAnew, StopSaves}
+use Rattle.agreement.specs.Laws.{IsAsUpToDateAs, IsMajority, LeadsAnew, StopSaves}
 use Rattle.world_run.specs.World.{Event, Does, Look, Apply, Ask, Brought, count, stepper, begins_run, moment, outputs, agreed, left}
 
 -- This holds of groups of every size, over every list of events.
@@ -141,12 +141,12 @@ module _ (M : Machine) where
       item (moment M size es j) a ≡ Some s → item (moment M size es k) b ≡ Some t →
       t.role ≡ Leader → s.term < t.term → Begins (take s.commit s.log) t.log
 
-  -- what a node commits, then or earlier, stands in the log of a node that is at least as up to date as that of each
+  -- what a node commits, then or earlier, stands in the log of a node that is at least as up to date as that of each node of some majority
   abbrev pub UpToDateHolds : ℕ → List (Event M) → Type 0
   UpToDateHolds size es =
-      (j k a b : ℕ) (s t : Node M.Body) → j ≤ k →
+      (j k a b : ℕ) (s t : Node M.Body) (set : List Bool) → j ≤ k →
       item (moment M size es j) a ≡ Some s → item (moment M size es k) b ≡ Some t →
-      IsMostUpToDate (moment M size es k) t.log → Begins (take s.commit s.log) t.log
+      IsMajority size set → IsAsUpToDateAs set (moment M size es k) t.log → Begins (take s.commit s.log) t.log
 
   -- an event that begins a new run of a node raises its boot
   abbrev pub NewRunNewBoot : ℕ → List (Event M) → Type 0

@@ -37,8 +37,9 @@ pub fn later_leaders_hold_what_is_committed<M: Hosted>()
     ensures { (s : M.Setup) → OverAll (⟦<M as Described>⟧.machine s) LeadersHold }
 {}
 
-/// A node whose log is at least as up to date as that of each node holds all that any node committed: a group that
-/// stopped may go on from that log, or begin anew from it. Raft's paper, section 5.4.1.
+/// A node's log that is at least as up to date as that of each node of a majority holds all that any node committed: a
+/// group that stopped may go on from that log, or begin anew from it, also where the stores outside that majority are lost.
+/// Raft's paper, section 5.4.1.
 pub fn the_most_up_to_date_log_holds_all<M: Hosted>()
     ensures { (s : M.Setup) → OverAll (⟦<M as Described>⟧.machine s) UpToDateHolds }
 {}
