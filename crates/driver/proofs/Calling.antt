@@ -114,9 +114,11 @@ warned_adds P true clients number nick before after good warned = written_adds P
 pub greeted_adds : (P : Order → Type 0) (was short : Bool) (clients : Clients) (number : ℕ) (nick : List ℕ) (before after : Ordered) → AllGood P clients → IsGreeted was short (client_at clients number) nick before after → Adds P before after
 greeted_adds P true short clients number nick before after good none = nothing_adds P before after none
 greeted_adds P false short clients number nick before after good g =
-    adds_both P before g.named after
+    adds_both P before g.ended after
+    (adds_both P before g.named g.ended
     (named_adds P clients number (client_at clients number) nick before g.named refl good g.names)
-    (warned_adds P short clients number nick g.named after good g.warns)
+    (written_adds P clients number (client_at clients number) _ g.named g.ended refl good g.ends))
+    (warned_adds P short clients number nick g.ended after good g.warns)
 
 pub speaks_by : (n : ℕ) (bytes : List ℕ) (now : ℕ) (at : Moment) (number : ℕ) (found : Option Client) (old new : Driver) → client_at old.clients number ≡ found → Sound n old → Speaks bytes now at number old new → Keeps n old new
 speaks_by n bytes now at number None old new is sound s =

@@ -8,7 +8,7 @@ use Rattle.driver.specs.Serving.{Receives}
 use Rattle.driver.specs.Telling.{Ordered}
 
 -- Bytes of a client came, and it takes them. Where it registered by them, it is told of the nick in force, where it was greeted by another,
--- and that too few nodes are up, where people know that.
+-- that there is no MOTD, and that too few nodes are up, where people know that.
 pub record Comes (bytes : List ℕ) (now : ℕ) (at : Moment) (number : ℕ) (old new : Driver) : Type 0 where
   pub told : Ordered
   pub served :

@@ -42,6 +42,10 @@ is_renamed was line = is_new_nick was line && has_command (codes "001") line && 
 abbrev pub renaming : List ℕ → List ℕ → List ℕ
 renaming was new = 58 ∷ was ++ codes " NICK " ++ new ++ 13 ∷ 10 ∷ []
 
+-- the line that tells a client of this nick that there is no message of the day (RFC 2812, 5.2: ERR_NOMOTD)
+abbrev pub no_motd : List ℕ → List ℕ
+no_motd nick = codes ":bouncer.local 422 " ++ nick ++ codes " :No message of the day" ++ 13 ∷ 10 ∷ []
+
 -- a line of `*status`, by which a client of this nick is told something
 abbrev pub notice : List ℕ → List ℕ → List ℕ
 notice nick text = codes ":*status!bouncer@local NOTICE " ++ nick ++ codes " :" ++ text ++ 13 ∷ 10 ∷ []
@@ -93,11 +97,14 @@ abbrev pub IsWarned : Bool → Option Client → List ℕ → Ordered → Ordere
 IsWarned false found nick before after = after ≡ before
 IsWarned true found nick before after = IsWritten found (notice nick (group_words true)) before after
 
--- A client registered: it is told of the nick in force where it was greeted by another, and that too few nodes are up, where that is so.
+-- A client registered: it is told of the nick in force where it was greeted by another, then that there is no MOTD, by which its welcome
+-- ends, and that too few nodes are up, where that is so.
 pub record IsWelcomed (short : Bool) (found : Option Client) (nick : List ℕ) (before after : Ordered) : Type 0 where
   pub named : Ordered
+  pub ended : Ordered
   pub names : IsNamedIn found nick before named
-  pub warns : IsWarned short found nick named after
+  pub ends : IsWritten found (no_motd nick) named ended
+  pub warns : IsWarned short found nick ended after
 
 -- the same of a client that had not registered before, and may have now
 abbrev pub IsGreeted : Bool → Bool → Option Client → List ℕ → Ordered → Ordered → Type 0

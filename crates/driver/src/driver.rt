@@ -195,8 +195,8 @@ impl Driver {
         Ok(())
     }
 
-    /// Bytes came from a client, however they are cut. Where it registered by them, and the nick in force is
-    /// another than the one that it was greeted by, it is told so.
+    /// Bytes came from a client, however they are cut. Where it registered by them, its welcome goes on: it is told
+    /// of the nick in force where it was greeted by another, and that there is no message of the day.
     pub fn receive(&mut self, now: &Now, number: u64, bytes: &[u8]) -> Result<(), AllocError>
         ensures others { AreOthersSame number self.old.clients self.new.clients }
         ensures nobody { client_at self.old.clients number ≡ None →

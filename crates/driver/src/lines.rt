@@ -1,7 +1,7 @@
 //! Lines that clients are told by the driver itself.
 ghost use Rattle.std.specs.Prelude.{◌≡◌, IfOk};
 ghost use Rattle.driver.specs.Kicks.{kick_line};
-ghost use Rattle.driver.specs.Nicks.{renaming};
+ghost use Rattle.driver.specs.Nicks.{no_motd, renaming};
 
 use std::alloc::{AllocError, Global};
 
@@ -13,6 +13,18 @@ pub fn renaming(alloc: Global, was: &[u8], new: &[u8]) -> Result<Vec<u8>, AllocE
     line.extend_from_slice(was)?;
     line.extend_from_slice(b" NICK ")?;
     line.extend_from_slice(new)?;
+    line.extend_from_slice(b"\r\n")?;
+    Ok(line)
+}
+
+/// The line that tells a client of this nick that there is no message of the day. Many programs take it for the
+/// end of their welcome, and join and send nothing before it.
+pub fn no_motd(alloc: Global, nick: &[u8]) -> Result<Vec<u8>, AllocError>
+    ensures { IfOk result (λ line. line.items ≡ no_motd nick.now) }
+{
+    let mut line = Vec::from_slice(alloc, b":bouncer.local 422 ")?;
+    line.extend_from_slice(nick)?;
+    line.extend_from_slice(b" :No message of the day")?;
     line.extend_from_slice(b"\r\n")?;
     Ok(line)
 }

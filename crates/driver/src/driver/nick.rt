@@ -10,7 +10,7 @@ ghost use Rattle.irc_line.specs.Lines.{parameter};
 use crate::client::joined_as;
 use crate::driver::Driver;
 use crate::driver::watching::group_words;
-use crate::lines::renaming;
+use crate::lines::{no_motd, renaming};
 use crate::order::TowerNote;
 use bouncer_tower::TowerEffect;
 use buffer_machine::is_new_nick;
@@ -36,8 +36,8 @@ impl Driver {
         self.clients.write_all(line.as_slice(), &mut self.orders)
     }
 
-    /// A client that has just registered is told of the nick in force where it was greeted by another, and that too
-    /// few nodes are up, where people were told so.
+    /// A client that has just registered is told of the nick in force where it was greeted by another, that there is
+    /// no message of the day, and that too few nodes are up, where people were told so.
     pub(crate) fn greet(&mut self, was_attached: bool, number: u64) -> Result<(), AllocError>
         ensures told { OnOk result (IsGreeted was_attached self.old.is_short
             (client_at self.old.clients number) (nick_in self.old) self.old.orders self.new.orders) }
@@ -50,6 +50,9 @@ impl Driver {
         let nick = nick_by(&self.given, &self.settings.nick);
         self.clients
             .tell_nick(number, nick.as_bytes(), &mut self.orders)?;
+        let motd = no_motd(self.alloc, nick.as_bytes())?;
+        self.clients
+            .tell(number, motd.as_slice(), &mut self.orders)?;
         self.warn(number)
     }
 
