@@ -25,6 +25,7 @@ use Rattle.driver.specs.Learning.{LearnsIf, LearnsNick, nick_learnt}
 use Rattle.driver.specs.Links.{SendsIf, is_session_of}
 use Rattle.driver.specs.Nicks.{AreWritten, IsNamedIn, IsWritten, IsWrittenIf, is_misnamed, is_reached, nick_in}
 use Rattle.driver.specs.Passing.{HearsOne, PassEach, Passes, PassesBy}
+use Rattle.driver.specs.Rewording.{reworded}
 use Rattle.driver.specs.Rosters.{AreOthersSame, client_at}
 use Rattle.driver.specs.Telling.{Ordered, ordered}
 use Rattle.driver.proofs.Growing.{AllAre, AllGood, Good, Grows, all_append, by_number, good_as, grows_both, one_grows, or_this, same_grows}
@@ -147,7 +148,7 @@ heard_by P now at nick origin effect (Some c) old new is good h = heard_of P now
 
 -- An effect passes.
 pub pass_by : (P : Order → Type 0) (class : Class Parts) (now : ℕ) (at : Moment) (stage : Stage) (nick : List ℕ) (node : ℕ) (effect : GateEffect) (old new : Told) → ((bytes : Vec ℕ) → P (Send bytes)) → AllGood P old.clients → PassesBy class now at stage nick node effect old new → Grows P old new
-pass_by P (To origin) now at stage nick node effect old new fits good h = heard_by P now at nick origin effect (client_at old.clients origin.2) old new refl good h
+pass_by P (To origin) now at stage nick node effect old new fits good h = heard_by P now at nick origin (reworded nick effect) (client_at old.clients origin.2) old new refl good h
 pass_by P (Rejoin session line) now at stage nick node effect old new fits good rejoins =
     rejoins_grow P (is_session_of stage node) line nick old new fits good rejoins
 pass_by P (Hand session number line) now at stage nick node effect old new fits good same =

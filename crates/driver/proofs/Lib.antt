@@ -8,6 +8,7 @@ mod Cutting
 mod Dialing
 mod Downtime
 mod Driving
+mod Endings
 mod Falling
 mod Farewells
 mod Growing

@@ -21,6 +21,7 @@ use Rattle.driver.specs.Driving.{told_of}
 use Rattle.driver.specs.Nicks.{nick_in}
 use Rattle.driver.specs.Once.{TellsOnly}
 use Rattle.driver.specs.Passing.{HearsOne, PassEach, PassesBy}
+use Rattle.driver.specs.Rewording.{reworded}
 use Rattle.driver.specs.Kicks.{KickEach, KicksClient, RejoinsIf}
 use Rattle.driver.specs.Links.{is_session_of}
 use Rattle.driver.specs.Opening.{closed, has_open}
@@ -123,7 +124,7 @@ rejoins_open true line nick old new r =
     (same_open r.kicked.clients new.clients r.clients)
 
 reaches_by : (n : ℕ) (class : Class Parts) (now : ℕ) (at : Moment) (stage : Stage) (nick : List ℕ) (node : ℕ) (effect : GateEffect) (old new : Told) → AllGood (NoClaim n) old.clients → PassesBy class now at stage nick node effect old new → ReachesBy class old new
-reaches_by n (To origin) now at stage nick node effect old new good h = reach_by n now at nick origin effect (client_at old.clients origin.2) old new refl good h
+reaches_by n (To origin) now at stage nick node effect old new good h = reach_by n now at nick origin (reworded nick effect) (client_at old.clients origin.2) old new refl good h
 reaches_by n (Rejoin session line) now at stage nick node effect old new good rejoins = rejoins_open (is_session_of stage node) line nick old new rejoins
 reaches_by n (Hand session number line) now at stage nick node effect old new good same = ap (λ (told : Told). told.clients) same
 reaches_by n Nowhere now at stage nick node effect old new good same = ap (λ (told : Told). told.clients) same

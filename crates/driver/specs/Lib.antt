@@ -14,6 +14,7 @@ pub mod Driving
 pub mod Farewells
 pub mod Filling
 pub mod Retiring
+pub mod Rewording
 pub mod Hearing
 pub mod Kicks
 pub mod Leading

@@ -16,6 +16,7 @@ use Rattle.driver.specs.Driving.{told_of}
 use Rattle.driver.specs.Kicks.{Rejoins}
 use Rattle.driver.specs.Learning.{LearnsNick}
 use Rattle.driver.specs.Nicks.{nick_in}
+use Rattle.driver.specs.Rewording.{reworded}
 use Rattle.driver.specs.Rosters.{AreOthersSame, Serves, client_at}
 use Rattle.driver.specs.Serving.{Hears}
 
@@ -33,9 +34,10 @@ pub record HearsOne (now : ℕ) (at : Moment) (nick : List ℕ) (origin : Origin
       (λ s calls c client. Hears effect nick now at s calls c old.orders client new.orders)
       origin.2 new.clients
 
--- An effect that joins anew goes to the server in a session of this node, one for a client to that client, and others nowhere.
+-- An effect that joins anew goes to the server in a session of this node, one for a client to that client, as it hears it, and others
+-- nowhere.
 abbrev pub PassesBy : Class Parts → ℕ → Moment → Stage → List ℕ → ℕ → GateEffect → Told → Told → Type 0
-PassesBy (To origin) now at stage nick node effect old new = HearsOne now at nick origin effect old new
+PassesBy (To origin) now at stage nick node effect old new = HearsOne now at nick origin (reworded nick effect) old new
 PassesBy (Rejoin session line) now at stage nick node effect old new =
     Rejoins stage node line nick old new
 PassesBy (Hand session number line) now at stage nick node effect old new = new ≡ old

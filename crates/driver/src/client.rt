@@ -28,7 +28,7 @@ use crate::timer::Timer;
 use bouncer_tower::TowerEffect;
 use client_gate::{ClientGate, Fed};
 use irc_line::Name;
-pub use joining::joined_as;
+pub use joining::{behind_space, joined_as};
 use raft_log::NodeId;
 use request_once::Answer;
 use std::alloc::{AllocError, Global};

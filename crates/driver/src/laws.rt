@@ -8,6 +8,7 @@ ghost use Rattle.driver.specs.Led.{IsOfLeaderHeard, IsOfLeaderTicked};
 ghost use Rattle.driver.specs.Once.{AsksOnce, AsksOwn};
 ghost use Rattle.driver.specs.Pacing.{IsPaced};
 ghost use Rattle.driver.specs.Reaching.{EffectsReach};
+ghost use Rattle.driver.specs.Rewording.{RewordsEndings};
 
 /// Over whatever happens to a client, as long as its node told of nothing lost that it was told of it, and
 /// nothing holds it up, each request that its gate numbers is told to its node once, and in order.
@@ -43,6 +44,12 @@ pub fn one_claim_waits()
 /// other, also none that has the same number.
 pub fn effects_reach_their_clients()
     ensures { EffectsReach }
+{}
+
+/// A line of the server by which it ends the session is told by a NOTICE of `*status` in its place, and any other line
+/// is shown as it came. Neither changes where an effect goes, nor what a gate makes of it.
+pub fn endings_are_reworded()
+    ensures { RewordsEndings }
 {}
 
 /// Over every list of calls of a driver, however its orders are taken, how many notes a node was told is how

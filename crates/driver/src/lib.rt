@@ -22,6 +22,7 @@ mod orders;
 mod pace;
 mod retirement;
 mod retirements;
+mod rewording;
 mod said;
 mod settings;
 mod timer;

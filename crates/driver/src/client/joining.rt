@@ -158,7 +158,7 @@ fn is_join(shown: &[u8]) -> bool
 }
 
 /// What stands behind the first space, if there is one.
-fn behind_space(bytes: &[u8]) -> &[u8]
+pub fn behind_space(bytes: &[u8]) -> &[u8]
     ensures { result.now ≡ behind_space bytes.now }
 {
     let mut rest = bytes;

@@ -1,7 +1,8 @@
 //! What a node's worker tells, and what comes of it.
 ghost use Rattle.std.specs.Prelude.{◌≡◌, ◌-◌, is_some, slice_get, IfOk, OnOk};
 ghost use Rattle.bouncer_tower.specs.Hosting.{class_of};
-ghost use Rattle.driver.specs.Passing.{PassEach, Passes, PassesBy};
+ghost use Rattle.driver.specs.Passing.{HearsOne, PassEach, Passes, PassesBy};
+ghost use Rattle.driver.specs.Rewording.{reworded};
 ghost use Rattle.driver.specs.Driving.{changed_at, orders_at, told_of};
 ghost use Rattle.driver.specs.Retiring.{fresh};
 ghost use Rattle.driver.specs.Rounds.{retirement_begun, retirement_told};
@@ -15,12 +16,13 @@ use crate::driver::Driver;
 use crate::driver::nick::nick_by;
 use crate::node_monitor::Heard;
 use crate::order::{Now, TowerReport};
+use crate::rewording::reworded;
 use bouncer_tower::{Tower, TowerEffect};
 use machine_laws::{Class, Hosted};
 use node_notes::{Progress, Report, Status};
 use raft_log::NodeId;
 use std::alloc::AllocError;
-use wire_bytes::Number;
+use wire_bytes::{Number, Origin};
 
 impl Driver {
     /// A node's worker told something.
@@ -128,15 +130,30 @@ impl Driver {
             { clients = self.new.clients; orders = self.new.orders } }
     {
         match <Tower as Hosted>::class(effect) {
-            Class::To(origin) => {
-                let nick = nick_by(&self.given, &self.settings.nick);
-                self.clients
-                    .hear(now, nick.as_bytes(), origin, effect, &mut self.orders)?
-            }
+            Class::To(origin) => self.tell_client(now, origin, effect)?,
             Class::Rejoin(_, line) => self.rejoin(node, line)?,
             Class::Hand(_, _, _) | Class::Nowhere => {}
         }
         Ok(())
+    }
+
+    /// An effect is for the client of this origin, which hears word that the server ends the session by a NOTICE.
+    fn tell_client(
+        &mut self,
+        now: &Now,
+        origin: Origin,
+        effect: &TowerEffect,
+    ) -> Result<(), AllocError>
+        ensures hears { OnOk result (HearsOne now.now.ms now.now.at (nick_in self.old) origin
+            (reworded (nick_in self.old) effect.now) (told_of self.old) (told_of self.new)) }
+        ensures rest { self.new ≡ record self.old
+            { clients = self.new.clients; orders = self.new.orders } }
+    {
+        let nick = nick_by(&self.given, &self.settings.nick).as_bytes();
+        let told = reworded(self.alloc, nick, effect)?;
+        let effect = told.as_ref().unwrap_or(effect);
+        self.clients
+            .hear(now, nick, origin, effect, &mut self.orders)
     }
 
     /// Where a run of a node began, its earlier runs are retired.
