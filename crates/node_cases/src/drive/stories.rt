@@ -82,7 +82,8 @@ fn a_client_registers_within_10_seconds_and_leaves_once(rt: HostRuntime) -> Resu
         Step::Sends(9_000, 2, b"PASS pw\r\nNICK n\r\nUSER u 0 * :r\r\n"),
         Step::Orders(
             "write@2 :bouncer.local 001 me :Welcome to the bouncer\r\n\
-                news@2 [client 2 attached] ask@2 ",
+                news@2 [client 2 attached] ask@2 \
+                write@2 :bouncer.local 422 me :No message of the day\r\n",
         ),
         Step::IsAttached(1, false),
         Step::IsAttached(2, true),
@@ -198,7 +199,8 @@ fn a_client_that_registers_is_told_of_a_nick_that_changed(rt: HostRuntime) -> Re
         Step::Sends(7, 1, b"PASS pw\r\nNICK n\r\nUSER u 0 * :r\r\n"),
         Step::Orders(
             "write@1 :bouncer.local 001 me :Welcome to the bouncer\r\n\
-                news@1 [client 1 attached] ask@1 write@1 :me NICK me2\r\n",
+                news@1 [client 1 attached] ask@1 write@1 :me NICK me2\r\n\
+                :bouncer.local 422 me2 :No message of the day\r\n",
         ),
     ];
     follow(&rt, rt.alloc(), &[], &story)

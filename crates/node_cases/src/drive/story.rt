@@ -1,5 +1,5 @@
 //! Stories: what a driver is told, step by step, and the orders that must come of it.
-use crate::drive::telling::{at, done, new_driver, refusal, report, told};
+use crate::drive::telling::{at, done, new_driver, refusal, report, showing, told};
 use driver::{Driver, Ending};
 use node_notes::{Progress, Status};
 use raft_log::NodeId;
@@ -16,6 +16,8 @@ pub enum Step<'a> {
     Tells(u64, NodeId, Status, Progress),
     /// The same, where a turn was refused.
     Refuses(u64, NodeId, Status, Progress),
+    /// A node, which follows, shows the client of this number this line of the server.
+    Shows(u64, NodeId, u64, &'a [u8]),
     /// Time passed.
     Ticks(u64),
     /// So many half seconds pass from then on, with a tick behind each.
@@ -94,6 +96,9 @@ fn follow_one(
         }
         Step::Refuses(ms, node, status, progress) => {
             driver.hear(&at(*ms), refusal(alloc, *node, *status, *progress))?
+        }
+        Step::Shows(ms, node, number, line) => {
+            driver.hear(&at(*ms), showing(alloc, *node, *number, line)?)?
         }
         Step::Ticks(ms) => driver.tick(&at(*ms))?,
         Step::Passes(ms, halves) => pass(driver, *ms, *halves)?,

@@ -1,13 +1,18 @@
 //! Drivers, how nodes stand, and orders as text.
+use buffer_commands::Effect;
+use buffer_lines::Shown;
 use driver::{Driver, News, Now, Order, Settings, TowerReport};
-use irc_line::Name;
+use irc_line::{Line, Name};
 use node_notes::{Note, Progress, Report, Status};
 use node_steps::Refusal;
 use raft_log::{GroupSize, NodeId, Role};
 use raft_node::{Cause, NodeFault};
+use request_once::Answer;
+use session_fence::FenceEffect;
 use std::alloc::Global;
 use std::test::Fail;
-use wire_bytes::{Moment, Number, SessionId};
+use upstream_claim::ClaimsEffect;
+use wire_bytes::{Moment, Number, Origin, SessionId};
 
 /// This moment, in milliseconds, at one time of day.
 pub fn at(ms: u64) -> Now {
@@ -143,6 +148,19 @@ pub fn refusal(alloc: Global, node: NodeId, status: Status, progress: Progress) 
         fault: Some(NodeFault::Refused(Refusal::NoLeader)),
         ..report(alloc, node, status, progress)
     }
+}
+
+/// A report of a node that follows, by which the client of this number, of its first run, is shown this line.
+pub fn showing(alloc: Global, node: NodeId, number: u64, line: &[u8]) -> Result<TowerReport, Fail> {
+    let origin = Origin::new(node.value(), 1, number.min(9));
+    let line = Line::parse(alloc, line)?;
+    let shown = FenceEffect::Inner(Effect::Show(origin, Shown::of_line(&line)?));
+    let mut effects = Vec::new(alloc);
+    effects.push(Answer::Effect(ClaimsEffect::Inner(shown)))?;
+    Ok(Report {
+        effects,
+        ..report(alloc, node, standing(Role::Follower, 0), done(0))
+    })
 }
 
 /// The orders given since last, each as a word, with a blank behind it.
