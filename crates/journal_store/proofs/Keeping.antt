@@ -2,7 +2,6 @@
 use Rattle.std.proofs.Common.{◌≡◌, ◌≤◌, inl, inr, ℕ, List, ◌++◌, length, Err, refl, sym, ◌∙◌, ap, subst, append_assoc}
 use Rattle.std.specs.Prelude.{IsErr}
 use Rattle.wire_bytes.specs.Fields.{Reading}
-use Rattle.stable_store.specs.declared.saved.Saved.{Saved}
 use Rattle.stable_store.specs.declared.store_fault.StoreFault.{StoreFault}
 use Rattle.stable_store.specs.Stores.{nothing_saved}
 use Rattle.journal_store.specs.Disks.{DiskState, Leaves, LeavesOnly, Runs, Within, now}
@@ -18,7 +17,7 @@ module _ {B : Type 0} (body : Reading B) where
   kept_adopted old new runs = record {
     added = runs.added;
     joined = runs.joined;
-    each = each_through (λ s. Within s (now old)) (Leaves (IsKept body (now old))) (λ s within file im. inl (within file im)) runs.added runs.each;
+    each = each_through (λ s. Within s (now old)) (Leaves (IsKept body (now old))) (λ s within file im. inl (within.leaves file im)) runs.added runs.each;
   }
 
   -- nor where a file becomes a new journal, but that

@@ -11,3 +11,6 @@ pub mod Standing
 pub mod Calls
 pub mod Overs
 pub mod Keeping
+pub mod Patching
+pub mod Covering
+pub mod Mending

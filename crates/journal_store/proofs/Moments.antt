@@ -1,5 +1,5 @@
 -- How a run of a disk's calls goes on.
-use Rattle.std.proofs.Common.{◌≡◌, ℕ, List, [], ◌∷◌, ◌++◌, refl, sym, ◌∙◌, ap, subst, arith, append_assoc}
+use Rattle.std.proofs.Common.{◌≡◌, inl, inr, ⊎_elim, ℕ, List, [], ◌∷◌, ◌++◌, refl, sym, ◌∙◌, ap, subst, arith, append_assoc}
 use Rattle.journal_store.specs.Disks.{DiskState, Within, Leaves, Each, Adds, Runs, LeavesOnly, IsImage, now, settled_at, writing}
 use Rattle.journal_store.specs.DiskLaws.{own_image}
 
@@ -20,7 +20,7 @@ pub goes_on : (P : List ℕ → Type 0) (bound : DiskState) (old mid new : List 
 goes_on P bound old mid new so_far call here = record {
   added = call.added ++ so_far.added;
   joined = call.joined ∙ (ap (λ (l : List DiskState). call.added ++ l) so_far.joined ∙ sym (append_assoc call.added so_far.added old));
-  each = each_joined (Leaves P) call.added so_far.added (each_through (λ s. Within s bound) (Leaves P) (λ s within file im. here file (within file im)) call.added call.each) so_far.each;
+  each = each_joined (Leaves P) call.added so_far.added (each_through (λ s. Within s bound) (Leaves P) (λ s within file im. here file (within.leaves file im)) call.added call.each) so_far.each;
 }
 
 -- the state at the end is one of them, or the one from before
@@ -32,11 +32,17 @@ ends P old new before call = subst (λ l. P (now l)) (sym call.joined) (of call.
     of (s ∷ added) h = h.0
 
 pub within_self : (s : DiskState) → Within s s
-within_self s file im = im
+within_self s = record { leaves = λ file im. im; risks = λ r h. h }
+
+pub within_both : (s mid bound : DiskState) → Within s mid → Within mid bound → Within s bound
+within_both s mid bound first second = record { leaves = λ file im. second.leaves file (first.leaves file im); risks = λ r h. second.risks r (first.risks r h) }
 
 -- a state's own images are there still while more is written
 pub while_writing : (at n : ℕ) (s : DiskState) → Within s (writing at n s)
-while_writing at n s file im = record { no_shorter = im.no_shorter; no_longer = omega (arith, im.no_longer); stays = λ i lt inside out. im.stays i lt inside out.1 }
+while_writing at n s = record {
+  leaves = λ file im. record { no_shorter = im.no_shorter; no_longer = omega (arith, im.no_longer); stays = λ i lt inside out left. im.stays i lt inside out.1 left };
+  risks = λ r h. ⊎_elim (λ w. inl (inr w)) (λ l. inr l) h;
+}
 
 pub within_now : (bound : DiskState) (old new : List DiskState) → Within (now old) bound → Runs bound old new → Within (now new) bound
 within_now bound old new = ends (λ s. Within s bound) old new
@@ -46,9 +52,5 @@ pub then_syncs : (bound : DiskState) (old mid new : List DiskState) → Within (
 then_syncs bound old mid new before write sync = record {
   added = sync.added ++ write.added;
   joined = sync.joined ∙ (ap (λ (l : List DiskState). sync.added ++ l) write.joined ∙ sym (append_assoc sync.added write.added old));
-  each = each_joined (λ s. Within s bound) sync.added write.added (each_through (λ s. Within s (now mid)) (λ s. Within s bound) (λ s within file im. within_now bound old mid before write file (within file im)) sync.added sync.each) write.each;
+  each = each_joined (λ s. Within s bound) sync.added write.added (each_through (λ s. Within s (now mid)) (λ s. Within s bound) (λ s within. within_both s (now mid) bound within (within_now bound old mid before write)) sync.added sync.each) write.each;
 }
-
--- what a disk is settled at after some calls could be left by a crash before them
-pub settled_from : (old new : List DiskState) (file : List ℕ) → Runs (now old) old new → now new ≡ settled_at file → IsImage (now old) file
-settled_from old new file runs settled = within_now (now old) old new (within_self (now old)) runs file (subst (λ (s : DiskState). IsImage s file) (sym settled) (own_image file))

@@ -1,7 +1,7 @@
 -- A write in memory: the new bytes are an image while the range is written.
-use Rattle.std.proofs.Common.{◌≡◌, ⊎_elim, ℕ, ◌+◌, ◌-◌, ◌<◌, ◌≤◌, List, [], ◌∷◌, ◌++◌, length, take, drop, get_or, Vec, refl, sym, ◌∙◌, ap, subst, arith, length-append}
+use Rattle.std.proofs.Common.{◌≡◌, ⊎_elim, ℕ, ◌+◌, ◌-◌, ◌<◌, ◌≤◌, List, [], ◌∷◌, ◌++◌, length, take, drop, get_or, Vec, refl, sym, ◌∙◌, ap, subst, arith, length-append, take-append-drop}
 use Rattle.std.specs.declared.alloc.Global.{Global}
-use Rattle.std.proofs.lemmas.List.{get_or-take, get_or-drop, length-take-le, length-drop, get_or-append-add}
+use Rattle.std.proofs.lemmas.List.{drop-drop, get_or-take, get_or-drop, length-take-le, length-drop, get_or-append-add}
 use Rattle.std.proofs.Math.ListN.{get_or-append}
 use Rattle.journal_store.specs.Disks.{DiskState, IsImage, settled_at, writing, written_over, Within}
 use Rattle.journal_store.specs.Pasts.{had}
@@ -33,10 +33,21 @@ module _ (old : List ℕ) (place : ℕ) (bytes : List ℕ) (within : place ≤ l
       ∙ (behind (i - (place + length bytes)) ∙ ap (λ (n : ℕ). get_or old n 0) (let e : place + length bytes + (i - (place + length bytes)) ≡ i = omega (arith, le) in e))
 
   pub over_within : Within (settled_at (written_over old place bytes)) (writing place (length bytes) (settled_at old))
-  over_within file im =
-      let same : file ≡ written_over old place bytes = settled_image (written_over old place bytes) file im in
-      subst (λ (l : List ℕ). IsImage (writing place (length bytes) (settled_at old)) l) (sym same) (record {
-        no_shorter = omega (arith, size, length-drop (place + length bytes) old);
-        no_longer = omega (arith, size, length-drop (place + length bytes) old);
-        stays = λ i lt below out. ⊎_elim (λ l. before i l) (λ r. after i r) out.0;
-      })
+  over_within = record {
+    leaves = λ file im.
+        let same : file ≡ written_over old place bytes = settled_image (written_over old place bytes) file im in
+        subst (λ (l : List ℕ). IsImage (writing place (length bytes) (settled_at old)) l) (sym same) (record {
+          no_shorter = omega (arith, size, length-drop (place + length bytes) old);
+          no_longer = omega (arith, size, length-drop (place + length bytes) old);
+          stays = λ i lt below out left. ⊎_elim (λ l. before i l) (λ r. after i r) out.0;
+        });
+    risks = λ r h. ⊎_elim (λ w. absurd w) (λ l. absurd l) h;
+  }
+
+-- bytes written over themselves
+pub over_same : (old : List ℕ) (place n : ℕ) → place + n ≤ length old → written_over old place (take n (drop place old)) ≡ old
+over_same old place n fits =
+    let front : length (take n (drop place old)) ≡ n = length-take-le n (drop place old) (omega (arith, fits, length-drop place old)) in
+    let back : drop (place + length (take n (drop place old))) old ≡ drop n (drop place old) = ap (λ (k : ℕ). drop (place + k) old) front ∙ sym (drop-drop n place old) in
+    ap (λ (l : List ℕ). take place old ++ (take n (drop place old) ++ l)) back
+    ∙ (ap (λ (l : List ℕ). take place old ++ l) (take-append-drop n (drop place old)) ∙ take-append-drop place old)

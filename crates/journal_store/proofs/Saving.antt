@@ -3,10 +3,12 @@ use Rattle.std.proofs.Common.{◌≡◌, ◌≢◌, inl, inr, ℕ, ◌+◌, ◌<
 use Rattle.std.specs.Int.{w32, to_be_bytes}
 use Rattle.std.proofs.lemmas.Bool.{cases_eq, le-ltb}
 use Rattle.std.proofs.lemmas.List.{take_at, drop_at, drop_more}
-use Rattle.journal_store.specs.Disks.{DiskState, IsImage, settled_at, writing, written_over, now, Runs, LeavesOnly, Gated}
+use Rattle.journal_store.specs.declared.known.Known.{Known}
+use Rattle.journal_store.specs.Disks.{DiskState, IsImage, Within, settled_at, writing, written_over, now, Runs, LeavesOnly, Gated}
 use Rattle.journal_store.specs.Journals.{Payload, scan, found, name, older_version, header, AtRest, StandsForOne, staged}
 use Rattle.journal_store.proofs.Torn.{torn_image}
-use Rattle.journal_store.proofs.Moments.{started, goes_on}
+use Rattle.journal_store.proofs.Moments.{started, goes_on, while_writing, within_now}
+use Rattle.journal_store.proofs.Patching.{rewritten}
 use Rattle.journal_store.proofs.Scanning.{Spells, opened, size_is}
 
 one_written : (l : List ℕ) (place : ℕ) → written_over l place (1 ∷ []) ≡ take place l ++ 1 ∷ drop (place + 1) l
@@ -26,13 +28,26 @@ module _ {S C : Type 0} (p : Payload S C) (start : S) where
         ap (take (place + 1)) (rest.file_is ∙ sym (append_assoc rest.front (0 ∷ []) rest.behind))
         ∙ take_at (rest.front ++ 0 ∷ []) rest.behind (place + 1) (omega (arith, length-append rest.front (0 ∷ []), rest.place_is))
 
+    -- what follows a closed gate counts for nothing
+    pub same_to_gate : (f : List ℕ) → take (place + 1) f ≡ take (place + 1) file → AtRest p start f s place
+    same_to_gate f same = record {
+      front = rest.front;
+      behind = drop (place + 1) f;
+      file_is = sym (take-append-drop (place + 1) f) ∙ (ap (λ (l : List ℕ). l ++ drop (place + 1) f) (same ∙ up_to_gate) ∙ append_assoc rest.front (0 ∷ []) (drop (place + 1) f));
+      place_is = rest.place_is;
+      leads = rest.leads;
+    }
+
     -- the closed gate stands in each outcome of the first write
+    pub first_rest : (n : ℕ) (f : List ℕ) → IsImage (writing (place + 1) n (settled_at file)) f → AtRest p start f s place
+    first_rest n f im = same_to_gate f (torn_image (place + 1) n file f (omega (arith, place_within)) im).before
+
     pub first_write : (n : ℕ) (f : List ℕ) → IsImage (writing (place + 1) n (settled_at file)) f → found p start f ≡ Ok s
-    first_write n f im =
-        let torn = torn_image (place + 1) n file f (omega (arith, place_within)) im in
-        let whole : f ≡ rest.front ++ 0 ∷ drop (place + 1) f =
-        sym (take-append-drop (place + 1) f) ∙ (ap (λ (l : List ℕ). l ++ drop (place + 1) f) (torn.before ∙ up_to_gate) ∙ append_assoc rest.front (0 ∷ []) (drop (place + 1) f)) in
-        ap (found p start) whole ∙ rest.leads 0 (drop (place + 1) f)
+    first_write n f im = stands f s place (first_rest n f im)
+
+    pub first_within : (n : ℕ) (old new : List DiskState) → now old ≡ settled_at file → Runs (writing (place + 1) n (now old)) old new → Within (now new) (writing (place + 1) n (settled_at file))
+    first_within n old new settled runs =
+        subst (λ (b : DiskState). Within (now new) (writing (place + 1) n b)) settled (within_now (writing (place + 1) n (now old)) old new (while_writing (place + 1) n (now old)) runs)
 
     module _ (c : C) (payload : List ℕ) (spells : Spells p s c payload) where
       abbrev pub size : ℕ
@@ -91,6 +106,18 @@ module _ {S C : Type 0} (p : Payload S C) (start : S) where
           sym (take-append-drop place f) ∙ (ap (λ (l : List ℕ). l ++ drop place f) (torn.before ∙ front_of 0) ∙ ap (λ (l : List ℕ). rest.front ++ l) behind) in
           subst (StandsForOne p start s (p.changed s c)) (sym whole) (either gate)
 
+      -- and the gate lies in it
+      pub second_long : (f : List ℕ) → IsImage (writing place 1 (settled_at (with_gate 0))) f → place < length f
+      second_long f im = omega (arith, im.no_shorter, gate_within 0)
+
+      -- also while the gate is written again
+      pub written_again : (mid new : List DiskState) → now mid ≡ settled_at (with_gate 0) → Runs (writing place 1 (now mid)) mid new → IsImage (now new) (now new).bytes
+          → (f : List ℕ) → IsImage (writing place 1 (now new)) f → IsImage (writing place 1 (settled_at (with_gate 0))) f
+      written_again mid new settled runs own f im =
+          let within : Within (now new) (writing place 1 (settled_at (with_gate 0))) =
+          subst (λ (b : DiskState). Within (now new) (writing place 1 b)) settled (within_now (writing place 1 (now mid)) mid new (while_writing place 1 (now mid)) runs) in
+          rewritten (now new) place 1 own (omega (arith, second_long (now new).bytes (within.leaves (now new).bytes own))) (settled_at (with_gate 0)) within f im
+
       -- the file once the second write is done
       pub second_done : written_over (with_gate 0) place (1 ∷ []) ≡ with_gate 1
       second_done =
@@ -118,16 +145,21 @@ module _ {S C : Type 0} (p : Payload S C) (start : S) where
     abbrev Either : List ℕ → Type 0
     Either = StandsForOne p start s (p.changed s c)
 
-    pub save_moments : (old new : List DiskState) → now old ≡ settled_at file → Gated place (staged payload) old new → LeavesOnly Either old new
-    save_moments old new settled calls =
+    abbrev staged_file : List ℕ
+    staged_file = with_gate file s place rest c payload spells 0
+
+    pub mid_is : (old mid : List DiskState) → now old ≡ settled_at file → now mid ≡ settled_at (written_over (now old).bytes (place + 1) (staged payload)) → now mid ≡ settled_at staged_file
+    mid_is old mid settled is = is ∙ (ap (λ (b : DiskState). settled_at (written_over b.bytes (place + 1) (staged payload))) settled ∙ ap settled_at (first_done file s place rest c payload spells))
+
+    pub save_moments : (old new : List DiskState) (known : Known) → now old ≡ settled_at file → Gated place (staged payload) old new known → LeavesOnly Either old new
+    save_moments old new known settled calls =
         let bounded : Runs (writing (place + 1) (length (staged payload)) (settled_at file)) old calls.mid = subst (λ (b : DiskState). Runs (writing (place + 1) (length (staged payload)) b) old calls.mid) settled calls.first in
         let staging : LeavesOnly Either old calls.mid = goes_on Either _ old old calls.mid (started Either old) bounded (λ f im. inl (first_write file s place rest (length (staged payload)) f im)) in
         elim calls.second [
-          | inl stopped ↦ subst (λ (l : List DiskState). LeavesOnly Either old l) (sym stopped) staging
+          | inl stopped ↦ subst (λ (l : List DiskState). LeavesOnly Either old l) (sym stopped.1) staging
           | inr went_on ↦
-              let is_staged : now calls.mid ≡ settled_at (with_gate file s place rest c payload spells 0) =
-              went_on.0 ∙ (ap (λ (b : DiskState). settled_at (written_over b.bytes (place + 1) (staged payload))) settled ∙ ap settled_at (first_done file s place rest c payload spells)) in
-              let opening : Runs (writing place 1 (settled_at (with_gate file s place rest c payload spells 0))) calls.mid new = subst (λ (b : DiskState). Runs (writing place 1 b) calls.mid new) is_staged went_on.1 in
+              let is_staged = mid_is old calls.mid settled went_on.1.0 in
+              let opening : Runs (writing place 1 (settled_at staged_file)) calls.mid new = subst (λ (b : DiskState). Runs (writing place 1 b) calls.mid new) is_staged went_on.1.1 in
               goes_on Either _ old calls.mid new staging opening (λ f im. second_write file s place rest c payload spells f im)
         ]
 

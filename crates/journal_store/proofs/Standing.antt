@@ -35,10 +35,6 @@ module _ {B : Type 0} (taken : Reading B) where
   pub after_save : (old new : List DiskState) (s t : Saved B) (place : ℕ) → IsSettled taken old s place → LeavesOnly (StandsForOne (payloads taken) nothing_saved s t) old new → Leaves (StandsForOne (payloads taken) nothing_saved s t) (now new)
   after_save old new s t place serves moments = ends (Leaves (StandsForOne (payloads taken) nothing_saved s t)) old new (serving old s t place serves) moments
 
--- what each image has it has still, as the disk is only read and synced
-pub still_leaves : (P : List ℕ → Type 0) (old new : List DiskState) → Runs (now old) old new → Leaves P (now old) → Leaves P (now new)
-still_leaves P old new runs each file im = each file (within_now (now old) old new (within_self (now old)) runs file im)
-
 none_short : number_to w32 payload_limit [] ≡ Err WireFault.Short
 unfolding number_to
 none_short = refl

@@ -9,14 +9,14 @@ pub record Torn (at n : ℕ) (old file : List ℕ) : Type 0 where
   pub no_shorter : length old ≤ length file
 
 pub settled_image : (old file : List ℕ) → IsImage (settled_at old) file → file ≡ old
-settled_image old file im = ext_get_or 0 file old (omega (arith, im.no_shorter, im.no_longer)) (λ i lt. im.stays i lt (omega (arith, lt, im.no_longer)) tt)
+settled_image old file im = ext_get_or 0 file old (omega (arith, im.no_shorter, im.no_longer)) (λ i lt. im.stays i lt (omega (arith, lt, im.no_longer)) tt tt)
 
 pub torn_image : (at n : ℕ) (old file : List ℕ) → at ≤ length old → IsImage (writing at n (settled_at old)) file → Torn at n old file
 torn_image at n old file within im = record {
   before = ext_get_or 0 (take at file) (take at old) (omega (arith, front file long, front old within))
-      (λ i lt. let small : i < at = omega (arith, lt, front file long) in get_or-take at file i 0 small ∙ (im.stays i (omega (arith, small, long)) (omega (arith, small, within)) (inl small, tt) ∙ sym (get_or-take at old i 0 small)));
+      (λ i lt. let small : i < at = omega (arith, lt, front file long) in get_or-take at file i 0 small ∙ (im.stays i (omega (arith, small, long)) (omega (arith, small, within)) (inl small, tt) tt ∙ sym (get_or-take at old i 0 small)));
   after = ext_get_or 0 (drop (at + n) file) (drop (at + n) old) (omega (arith, length-drop (at + n) file, length-drop (at + n) old, im.no_shorter, im.no_longer))
-      (λ i lt. get_or-drop (at + n) file i 0 ∙ (im.stays (at + n + i) (omega (arith, lt, length-drop (at + n) file)) (omega (arith, lt, length-drop (at + n) file, im.no_longer)) (inr (omega arith), tt) ∙ sym (get_or-drop (at + n) old i 0)));
+      (λ i lt. get_or-drop (at + n) file i 0 ∙ (im.stays (at + n + i) (omega (arith, lt, length-drop (at + n) file)) (omega (arith, lt, length-drop (at + n) file, im.no_longer)) (inr (omega arith), tt) tt ∙ sym (get_or-drop (at + n) old i 0)));
   no_shorter = im.no_shorter;
 }
   where

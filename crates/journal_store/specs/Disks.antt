@@ -1,16 +1,20 @@
 -- A disk as plain data: what a crash now may leave of its file, and what calls do to that.
-use Rattle.std.specs.Prelude.{◌≡◌, ℕ, ◌+◌, ◌<◌, ◌≤◌, ◌^◌, ◌⊎◌, max, List, [], ◌∷◌, ◌++◌, length, take, drop, get_or}
+use Rattle.std.specs.Prelude.{◌≡◌, ℕ, ◌+◌, ◌<◌, ◌≤◌, ◌^◌, ◌⊎◌, ◌&&◌, Bool, not, nat_le, max, min, List, [], ◌∷◌, ◌++◌, filter, length, take, drop, get_or}
+use Rattle.journal_store.specs.declared.known.Known.{Known}
+use Rattle.journal_store.specs.declared.known.Known.TheVariants.{ToGate, ButGate}
 
 -- so many bytes from a place on
 pub record Range : Type 0 where
   pub place : ℕ
   pub size : ℕ
 
--- What a read gives, and what is not synced: the ranges written since the last sync, where the file's end was then, and the least
--- and the greatest of the lengths that the file had since.
+-- What a read gives, and what may not be on the disk: the ranges written since the last call of sync, the ranges that a failed sync
+-- left and no write has covered since, where the file's end was when all was synced last, and the least and the greatest of the
+-- lengths that the file had since.
 pub record DiskState : Type 0 where
   pub bytes : List ℕ
   pub written : List Range
+  pub left : List Range
   pub settled : ℕ
   pub least : ℕ
   pub most : ℕ
@@ -20,25 +24,35 @@ abbrev pub IsOutside : ℕ → List Range → Type 0
 IsOutside i [] = Unit {0}
 IsOutside i (r ∷ ranges) = ((i < r.place) ⊎ (r.place + r.size ≤ i)) × IsOutside i ranges
 
--- A file that a crash now may leave. What lies in a range that was written since the last sync, or past the file's end of then, may
--- be anything; all else is as it is read; the length lies within those had since.
+-- A file that a crash now may leave. What lies in a range that was written since the last sync or that a failed one left, or past the
+-- file's end of when all was synced, may be anything; all else is as it is read; the length lies within those had since.
 pub record IsImage (s : DiskState) (file : List ℕ) : Type 0 where
   pub no_shorter : s.least ≤ length file
   pub no_longer : length file ≤ s.most
-  pub stays : (i : ℕ) → i < length file → i < s.settled → IsOutside i s.written → get_or file i 0 ≡ get_or s.bytes i 0
+  pub stays : (i : ℕ) → i < length file → i < s.settled → IsOutside i s.written → IsOutside i s.left → get_or file i 0 ≡ get_or s.bytes i 0
 
 -- all of the file is synced: a crash leaves what a read gives
 abbrev pub settled_at : List ℕ → DiskState
-settled_at bytes = record { bytes = bytes; written = []; settled = length bytes; least = length bytes; most = length bytes }
+settled_at bytes = record { bytes = bytes; written = []; left = []; settled = length bytes; least = length bytes; most = length bytes }
 
 -- so many bytes from a place on are being written
 abbrev pub writing : ℕ → ℕ → DiskState → DiskState
 writing place size s =
-    record { bytes = s.bytes; written = record { place = place; size = size } ∷ s.written; settled = s.settled; least = s.least; most = max s.most (place + size) }
+    record { bytes = s.bytes; written = record { place = place; size = size } ∷ s.written; left = s.left; settled = s.settled; least = s.least; most = max s.most (place + size) }
 
--- a crash in the one state leaves no file but those that it may leave in the other
-abbrev pub Within : DiskState → DiskState → Type 0
-Within s bound = (file : List ℕ) → IsImage s file → IsImage bound file
+-- this range is one of these
+abbrev pub IsOneOf : Range → List Range → Type 0
+IsOneOf r [] = ⊥
+IsOneOf r (x ∷ ranges) = (r ≡ x) ⊎ IsOneOf r ranges
+
+-- what lies in this range may not be on the disk
+abbrev pub IsAtRisk : Range → DiskState → Type 0
+IsAtRisk r s = IsOneOf r s.written ⊎ IsOneOf r s.left
+
+-- a crash in the one state leaves no file but those that it may leave in the other, and no other ranges are at risk
+pub record Within (s bound : DiskState) : Type 0 where
+  pub leaves : (file : List ℕ) → IsImage s file → IsImage bound file
+  pub risks : (r : Range) → IsAtRisk r s → IsAtRisk r bound
 
 -- each file that a crash in this state may leave is such
 abbrev pub Leaves : (List ℕ → Type 0) → DiskState → Type 0
@@ -60,7 +74,7 @@ pub record Adds (P : DiskState → Type 0) (old new : List DiskState) : Type 0 w
   pub joined : new ≡ added ++ old
   pub each : Each P added
 
--- at no moment since could a crash leave a file but those that it may leave in this state
+-- at no moment since could a crash leave a file but those that it may leave in this state, nor were other ranges at risk
 abbrev pub Runs : DiskState → List DiskState → List DiskState → Type 0
 Runs bound old new = Adds (λ s. Within s bound) old new
 
@@ -72,24 +86,47 @@ LeavesOnly P old new = Adds (Leaves P) old new
 abbrev pub written_over : List ℕ → ℕ → List ℕ → List ℕ
 written_over old place bytes = take place old ++ (bytes ++ drop (place + length bytes) old)
 
--- a read gives the bytes with these written over them; a file ends below 2^63
-abbrev pub IsWritten : ℕ → List ℕ → List DiskState → List DiskState → Type 0
-IsWritten place bytes old new = ((now new).bytes ≡ written_over (now old).bytes place bytes) × (place + length bytes < 2 ^ 63)
+-- A write of so many bytes from a place on does not cover a range: some of what the file has of it lies elsewhere. The file has this
+-- length after the write, and what would lie behind its end is on no disk.
+abbrev pub is_not_covered : ℕ → ℕ → ℕ → Range → Bool
+is_not_covered place size len r = not (nat_le place r.place && nat_le (min (r.place + r.size) len) (place + size))
 
--- what a read gives is synced
+-- the ranges that such a write does not cover
+abbrev pub not_covered : ℕ → ℕ → ℕ → List Range → List Range
+not_covered place size len ranges = filter (is_not_covered place size len) ranges
+
+-- A read gives the bytes with these written over them. A range that a failed sync left is written again where this write covers it,
+-- and is left still where it does not. A file ends below 2^63.
+pub record IsWritten (place : ℕ) (bytes : List ℕ) (old new : List DiskState) : Type 0 where
+  pub bytes_are : (now new).bytes ≡ written_over (now old).bytes place bytes
+  pub left_are : (now new).left ≡ not_covered place (length bytes) (length (now new).bytes) (now old).left
+  pub small : place + length bytes < 2 ^ 63
+
+-- after a sync that answers Ok, where a failed one left these ranges
+abbrev pub synced_but : List Range → DiskState → DiskState
+synced_but [] s = settled_at s.bytes
+synced_but (r ∷ left) s = record { bytes = s.bytes; written = []; left = r ∷ left; settled = s.settled; least = s.least; most = s.most }
+
+-- After a sync that answers Ok. What was written since the last call of sync is on the disk, and nothing older that a failed one left:
+-- a system may drop what it could not write, and go on to show it to whoever reads. Where nothing is left, all is on the disk.
+abbrev pub synced : DiskState → DiskState
+synced s = synced_but s.left s
+
+-- a sync made of the newest state what it makes
 abbrev pub IsSynced : List DiskState → List DiskState → Type 0
-IsSynced old new = now new ≡ settled_at (now old).bytes
+IsSynced old new = now new ≡ synced (now old)
 
 -- the same with bytes written over it
 abbrev pub IsPut : ℕ → List ℕ → List DiskState → List DiskState → Type 0
 IsPut place bytes old new = (now new ≡ settled_at (written_over (now old).bytes place bytes)) × (place + length bytes < 2 ^ 63)
 
 -- Four calls, of which each may fail, or stop, at any moment: bytes are written behind the one at this place and synced, and then
--- that one is written over and synced.
-pub record Gated (place : ℕ) (bytes : List ℕ) (old new : List DiskState) : Type 0 where
+-- that one is written over and synced. It is known up to which of the two syncs they came.
+pub record Gated (place : ℕ) (bytes : List ℕ) (old new : List DiskState) (known : Known) : Type 0 where
   pub mid : List DiskState
   pub first : Runs (writing (place + 1) (length bytes) (now old)) old mid
-  pub second : (new ≡ mid) ⊎ ((now mid ≡ settled_at (written_over (now old).bytes (place + 1) bytes)) × Runs (writing place 1 (now mid)) mid new)
+  pub second : ((known ≡ ToGate) × (new ≡ mid))
+      ⊎ ((known ≡ ButGate) × ((now mid ≡ settled_at (written_over (now old).bytes (place + 1) bytes)) × Runs (writing place 1 (now mid)) mid new))
 
 -- after all four: the bytes stand behind an open gate, and all is synced
 abbrev pub IsGated : ℕ → List ℕ → List DiskState → List DiskState → Type 0

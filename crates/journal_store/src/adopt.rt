@@ -1,9 +1,9 @@
 //! What a disk holds, read anew.
-ghost use Rattle.std.specs.Prelude.{◌≡◌, ◌≤◌, ◌⊎◌, IsTrue, IfOk, IfErr, OnOk};
+ghost use Rattle.std.specs.Prelude.{◌≡◌, ◌≤◌, ◌⊎◌, IsTrue, IfOk, IfErr, OnOk, []};
 ghost use Rattle.stable_store.specs.Stores.{HasRisen};
 ghost use Rattle.journal_store.specs.Disks.{now, settled_at, Runs};
 ghost use Rattle.journal_store.specs.Causes.{HasCause, IsMet};
-ghost use Rattle.journal_store.specs.Serving.{IsFound, IsRefused, IsSettled};
+ghost use Rattle.journal_store.specs.Serving.{IsRefusedAs, IsSettled, StandsFor};
 
 use crate::disk::Disk;
 use crate::disk_fault::DiskFault;
@@ -13,20 +13,34 @@ use stable_store::{Saved, StoreFault};
 use std::alloc::Global;
 use wire_bytes::Wire;
 
-/// Syncs a disk and reads what its file stands for, and where its closed gate lies.
+/// A disk of which no call failed may be adopted. Of what a failed one left off the disk the file tells nothing.
+pub fn check_unfailed<D: Disk>(disk: &D) -> Result<(), StoreFault>
+    ensures ok { OnOk result (D.failures disk.now ≡ 0) }
+    ensures settled { IsTrue (D.honest disk.now)
+        → OnOk result ((now (D.states disk.now)).left ≡ []) }
+    ensures err { IfErr result (λ e. e ≡ StoreFault.Device) }
+{
+    if disk.failures() != 0 {
+        return Err(StoreFault::Device);
+    }
+    Ok(())
+}
+
+/// Syncs a disk and reads what its file stands for, and where its closed gate lies. What is read is on the disk,
+/// where no failed sync left anything.
 pub fn read_anew<B: Wire, D: Disk>(
     alloc: Global,
     disk: &mut D,
 ) -> Result<(Saved<B>, usize), StoreFault>
     ensures runs { IsTrue (D.honest disk.old)
         → Runs (now (D.states disk.old)) (D.states disk.old) (D.states disk.new) }
-    ensures settled { IsTrue (D.honest disk.old)
+    ensures settled { IsTrue (D.honest disk.old) → (now (D.states disk.old)).left ≡ []
         → IfOk result (λ r. IsSettled B.taken (D.states disk.new) r.0 r.1) }
     ensures found { IsTrue (D.honest disk.old)
-        → IfOk result (λ r. IsFound B.taken (now (D.states disk.old)) r.0) }
+        → IfOk result (λ r. StandsFor B.taken r.0 (now (D.states disk.old)).bytes) }
     ensures fault { IsTrue (D.honest disk.old) → IfErr result
         (λ e. IsMet (D.failures disk.old) (D.failures disk.new) e
-        ⊎ IsRefused B.taken (now (D.states disk.old)) e) }
+        ⊎ IsRefusedAs B.taken (now (D.states disk.old)).bytes e) }
     ensures honest { D.honest disk.new ≡ D.honest disk.old }
     ensures counts { D.failures disk.old ≤ D.failures disk.new }
     ensures passed { OnOk result (D.failures disk.new ≡ D.failures disk.old) }
@@ -36,11 +50,11 @@ pub fn read_anew<B: Wire, D: Disk>(
     find(alloc, &file, &nothing)
 }
 
-/// Syncs a disk and reads its file.
+/// Syncs a disk and reads its file. What is read is on the disk, where no failed sync left anything.
 pub fn read_whole<D: Disk>(alloc: Global, disk: &mut D) -> Result<Vec<u8>, DiskFault>
     ensures runs { IsTrue (D.honest disk.old)
         → Runs (now (D.states disk.old)) (D.states disk.old) (D.states disk.new) }
-    ensures settled { IsTrue (D.honest disk.old)
+    ensures settled { IsTrue (D.honest disk.old) → (now (D.states disk.old)).left ≡ []
         → IfOk result (λ v. now (D.states disk.new) ≡ settled_at v.items) }
     ensures read { IsTrue (D.honest disk.old)
         → IfOk result (λ v. v.items ≡ (now (D.states disk.old)).bytes) }

@@ -1,16 +1,19 @@
 //! A record behind the last one of a journal.
-ghost use Rattle.std.specs.Prelude.{◌≡◌, ◌≤◌, ◌<◌, ◌^◌, ◌++◌, IsTrue, IfOk, IfErr, OnOk, drop, length};
+ghost use Rattle.std.specs.Prelude.{◌≡◌, ◌≤◌, ◌<◌, ◌^◌, ◌++◌, IsTrue, IfOk, IfErr, OnOk};
+ghost use Rattle.std.specs.Prelude.{true, drop, length};
 ghost use Rattle.std.specs.Int.{to_be_bytes, w32};
 ghost use Rattle.stable_store.specs.declared.saved.Saved.{Saved};
 ghost use Rattle.stable_store.specs.Changes.{spelled_change, FitsChange};
 ghost use Rattle.stable_store.specs.Stores.{changed, nothing_saved, MayFollow};
-ghost use Rattle.journal_store.specs.Disks.{now, LeavesOnly};
+ghost use Rattle.journal_store.specs.Disks.{now, Leaves, LeavesOnly};
 ghost use Rattle.journal_store.specs.Journals.{staged};
 ghost use Rattle.journal_store.specs.Causes.{HasCause, IsMet};
-ghost use Rattle.journal_store.specs.Serving.{IsBeforeOrAfter, IsNew, IsSettled};
+ghost use Rattle.journal_store.specs.Serving.{doubt_of, doubted, is_broken};
+ghost use Rattle.journal_store.specs.Serving.{IsBeforeOrAfter, IsNew, IsSettled, IsSound};
 
 use crate::disk::Disk;
 use crate::disk_fault::DiskFault;
+use crate::known::Known;
 use crate::put::{put, put_behind_gate};
 use stable_store::{Change, StoreFault};
 use std::alloc::{AllocError, Global};
@@ -59,10 +62,11 @@ fn record<B: Wire>(alloc: Global, change: &Change<B>) -> Result<Vec<u8>, AllocEr
 }
 
 /// Puts the record of a change behind the closed gate at a place, and opens the gate. Answers the place of
-/// the next gate.
+/// the next gate, and notes what is known of the gate at the place, and of what lies behind it.
 pub fn append<B: Wire, D: Disk>(
     alloc: Global,
     disk: &mut D,
+    known: &mut Known,
     place: usize,
     change: &Change<B>,
 ) -> Result<usize, StoreFault>
@@ -72,6 +76,14 @@ pub fn append<B: Wire, D: Disk>(
         → IsSettled B.taken (D.states disk.old) s place → MayFollow s change.now
         → LeavesOnly (IsBeforeOrAfter B.taken s change.now)
         (D.states disk.old) (D.states disk.new) }
+    ensures sound { IsTrue (D.honest disk.old) → (s : Saved B)
+        → IsSettled B.taken (D.states disk.old) s place → MayFollow s change.now
+        → IsSound B.taken (D.states disk.new) s place known.new }
+    ensures broken { is_broken known.new ≡ true }
+    ensures doubt { IsTrue (D.honest disk.old) → (s : Saved B)
+        → IsSettled B.taken (D.states disk.old) s place → MayFollow s change.now
+        → Leaves (IsBeforeOrAfter B.taken s change.now)
+        (doubted (doubt_of known.new place) (now (D.states disk.new))) }
     ensures settled { IsTrue (D.honest disk.old) → (s : Saved B)
         → IsSettled B.taken (D.states disk.old) s place → MayFollow s change.now
         → IfOk result (IsSettled B.taken (D.states disk.new) (changed s change.now)) }
@@ -80,7 +92,8 @@ pub fn append<B: Wire, D: Disk>(
     ensures passed { OnOk result (D.failures disk.new ≡ D.failures disk.old) }
     ensures honest { D.honest disk.new ≡ D.honest disk.old }
 {
+    *known = Known::ToGate;
     let bytes = record(alloc, change)?;
-    put_behind_gate(disk, place, &bytes)?;
+    put_behind_gate(disk, known, place, &bytes)?;
     Ok(place + bytes.len())
 }

@@ -1,6 +1,6 @@
 //! The laws of a disk with one file.
 ghost use Rattle.std.specs.Prelude.{◌≡◌, ◌≤◌, ◌<◌, ◌^◌, Bool, ℕ, List, IsTrue, IfOk, OnOk};
-ghost use Rattle.std.specs.Prelude.{length, take, drop};
+ghost use Rattle.std.specs.Prelude.{length, take, drop, []};
 ghost use Rattle.journal_store.specs.Disks.{DiskState, IsImage, IsSynced, IsWritten, Runs};
 ghost use Rattle.journal_store.specs.Disks.{now, writing};
 ghost use Rattle.journal_store.specs.Causes.{HasCause};
@@ -11,7 +11,9 @@ use std::alloc::Global;
 /// A disk with one file.
 ///
 /// Its laws hold where it is honest. A call that fails may have done any part of its work. What a crash
-/// may leave is known at each moment of a call, not at its end alone.
+/// may leave is known at each moment of a call, not at its end alone. A sync that fails may drop what it
+/// should have written, though a read gives it still: no later sync brings it back, but a write does
+/// that covers it.
 pub trait Disk: Drop {
     /// Whether it keeps what it is told, which no call changes.
     ghost honest: { Self → Bool };
@@ -51,7 +53,8 @@ pub trait Disk: Drop {
         ensures cause { HasCause (failures self.old) (failures self.new) result }
         ensures honest { honest self.new ≡ honest self.old };
 
-    /// After Ok a crash leaves what a read gives.
+    /// After Ok a crash leaves what was written since the last call of sync, and where no failed one left
+    /// anything, all that a read gives.
     fn sync(&mut self) -> Result<(), DiskFault>
         ensures runs { IsTrue (honest self.old)
             → Runs (now (states self.old)) (states self.old) (states self.new) }
@@ -60,9 +63,11 @@ pub trait Disk: Drop {
         ensures cause { HasCause (failures self.old) (failures self.new) result }
         ensures honest { honest self.new ≡ honest self.old };
 
-    /// How many calls failed.
+    /// How many calls failed. Where none did, no sync has left anything.
     fn failures(&self) -> u64
-        ensures { result ≡ failures self.now };
+        ensures count { result ≡ failures self.now }
+        ensures unfailed { IsTrue (honest self.now) → result ≡ 0
+            → (now (states self.now)).left ≡ [] };
 
     /// A crash may leave what a read gives.
     ghost reads_as: { (disk : Self) → IsTrue (honest disk)

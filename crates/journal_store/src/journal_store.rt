@@ -5,10 +5,12 @@ ghost use Rattle.journal_store.specs.Disks.{now, Leaves, LeavesOnly, Runs};
 ghost use Rattle.journal_store.specs.Opening.{IsKept, IsOpened, IsUnreadable};
 ghost use Rattle.journal_store.specs.Serving.{IsFound, IsNew, IsRefused, StandsFor};
 
-use crate::adopt::{read_anew, read_whole};
+use crate::adopt::{check_unfailed, read_anew, read_whole};
 use crate::append::{append, begin};
 use crate::disk::Disk;
 use crate::find::{find, follow, may_follow, nothing};
+use crate::known::Known;
+use crate::mend::mend;
 use raft_log::Log;
 use stable_store::{Change, Saved, Stable, StoreFault};
 use std::alloc::Global;
@@ -30,20 +32,25 @@ pub struct JournalStore<B: Wire, D: Disk> {
     saved: Saved<B>,
     /// The place of the closed gate.
     end: usize,
-    /// Whether an error was met that nothing has mended.
-    broken: bool,
+    /// What of the journal is known to be on the disk.
+    known: Known,
 }
 
 impl<B: Wire, D: Disk> Model for JournalStore<B, D> {
     ghost use Rattle.std.specs.Prelude.{IsTrue};
-    ghost use Rattle.journal_store.specs.Serving.{IsSound, Journal};
+    ghost use Rattle.journal_store.specs.Serving.{IsSound, Journal, doubt_of, is_broken};
 
     ghost Value = { Journal B D };
 
-    ghost view = { λ j. record { disk = j.disk; saved = j.saved; broken = j.broken } };
+    ghost view = { λ j. record {
+      disk = j.disk;
+      saved = j.saved;
+      broken = is_broken j.known;
+      doubt = doubt_of j.known j.end;
+    } };
 
     ghost invariant = { λ j. IsTrue (D.honest j.disk)
-        → IsSound B.taken (D.states j.disk) j.saved j.end j.broken };
+        → IsSound B.taken (D.states j.disk) j.saved j.end j.known };
 }
 
 impl<B: Wire, D: Disk> JournalStore<B, D> {
@@ -64,16 +71,18 @@ impl<B: Wire, D: Disk> JournalStore<B, D> {
             disk,
             saved: nothing(alloc),
             end: 8,
-            broken: false,
+            known: Known::All,
         })
     }
 
     /// A store of what the file of a disk stands for, once it is synced. `NotAStore`, `Version` and
-    /// `Damaged`, with the place of the gate, where that is found. Where it fails the disk is dropped.
+    /// `Damaged`, with the place of the gate, where that is found. `Device` where a call of the disk failed before:
+    /// what that left off the disk is not known from the file. Where it fails the disk is dropped.
     pub fn adopt(alloc: Global, disk: D) -> Result<Self, StoreFault>
         ensures found { IsTrue (D.honest disk)
             → IfOk result (λ j. IsFound B.taken (now (D.states disk)) j.saved) }
         ensures serves { IfOk result (λ j. j.broken ≡ false) }
+        ensures unfailed { IfOk result (λ _. D.failures disk ≡ 0) }
         ensures runs { IsTrue (D.honest disk) → IfOk result
             (λ j. Runs (now (D.states disk)) (D.states disk) (D.states j.disk)) }
         ensures fault { IsTrue (D.honest disk) → IfErr result
@@ -81,6 +90,7 @@ impl<B: Wire, D: Disk> JournalStore<B, D> {
             ⊎ IsRefused B.taken (now (D.states disk)) e)) }
         ensures honest { IfOk result (λ j. D.honest j.disk ≡ D.honest disk) }
     {
+        check_unfailed(&disk)?;
         let mut disk = disk;
         let (saved, end) = read_anew(alloc, &mut disk)?;
         Ok(JournalStore {
@@ -88,14 +98,14 @@ impl<B: Wire, D: Disk> JournalStore<B, D> {
             disk,
             saved,
             end,
-            broken: false,
+            known: Known::All,
         })
     }
 
     /// A store of what the file of a disk stands for, or a new one where the file is refused and has at most 9
-    /// bytes, in which nothing can be saved. So an empty journal is adopted, of whichever version it is. Where it
-    /// fails the disk is dropped. Full blocks of entries that another log has at the same places are one value in
-    /// memory with it.
+    /// bytes, in which nothing can be saved. So an empty journal is adopted, of whichever version it is. `Device`
+    /// where a call of the disk failed before, as `adopt` says. Where it fails the disk is dropped. Full blocks of
+    /// entries that another log has at the same places are one value in memory with it.
     pub fn adopt_or_make(alloc: Global, disk: D, beside: &Log<B>) -> Result<Self, StoreFault>
         ensures opened { IsTrue (D.honest disk)
             → IfOk result (λ j. IsOpened B.taken (now (D.states disk)) j.saved) }
@@ -103,11 +113,13 @@ impl<B: Wire, D: Disk> JournalStore<B, D> {
             (λ j. LeavesOnly (IsKept B.taken (now (D.states disk)))
             (D.states disk) (D.states j.disk)) }
         ensures serves { IfOk result (λ j. j.broken ≡ false) }
+        ensures unfailed { IfOk result (λ _. D.failures disk ≡ 0) }
         ensures fault { IsTrue (D.honest disk) → IfErr result
             (λ e. (e ≡ StoreFault.Device) ⊎ ((e ≡ StoreFault.Memory)
             ⊎ IsUnreadable B.taken (now (D.states disk)) e)) }
         ensures honest { IfOk result (λ j. D.honest j.disk ≡ D.honest disk) }
     {
+        check_unfailed(&disk)?;
         let mut disk = disk;
         let file = read_whole(alloc, &mut disk)?;
         match find(alloc, &file, beside) {
@@ -116,7 +128,7 @@ impl<B: Wire, D: Disk> JournalStore<B, D> {
                 disk,
                 saved,
                 end,
-                broken: false,
+                known: Known::All,
             }),
             Err(StoreFault::Memory) => Err(StoreFault::Memory),
             Err(fault) => if file.len() <= EMPTY_LEN {
@@ -156,8 +168,9 @@ impl<B: Wire, D: Disk> Stable<B> for JournalStore<B, D> {
     ghost use Rattle.std.specs.Prelude.{◌≡◌, false, true, IsTrue, IfErr, OnErr, OnOk};
     ghost use Rattle.stable_store.specs.Stores.{IsAllowed, IsDone, MayBecome, MayFollow, Serves};
     ghost use Rattle.stable_store.specs.Stores.{MayStandAfter, MayStandStill};
-    ghost use Rattle.journal_store.specs.Disks.{now, LeavesOnly, Runs};
-    ghost use Rattle.journal_store.specs.Serving.{condition, may_stand, IsBeforeOrAfter};
+    ghost use Rattle.journal_store.specs.Disks.{now, LeavesOnly};
+    ghost use Rattle.journal_store.specs.Serving.{condition, may_stand};
+    ghost use Rattle.journal_store.specs.Serving.{IsBeforeOrAfter, StandsForAny};
     ghost use Rattle.journal_store.specs.DiskLaws.{sure_of};
 
     ghost saved = { λ j. j.saved };
@@ -167,7 +180,7 @@ impl<B: Wire, D: Disk> Stable<B> for JournalStore<B, D> {
     ghost condition = { condition D.honest D.failures };
 
     fn read(&self) -> Result<Saved<B>, StoreFault> {
-        if self.broken {
+        if self.known.is_broken() {
             return Err(StoreFault::Device);
         }
         Ok(self.saved.copy(self.alloc)?)
@@ -196,21 +209,30 @@ impl<B: Wire, D: Disk> Stable<B> for JournalStore<B, D> {
             (condition D.honest D.failures self.new) }
     {
         // nothing is known of a disk that is not honest, so what an honest one implies is looked at
-        if self.broken || self.end >= END_LIMIT || !may_follow(&self.saved, change) {
+        if self.known.is_broken() || self.end >= END_LIMIT || !may_follow(&self.saved, change) {
             return Err(StoreFault::Device);
         }
-        self.broken = true;
-        self.end = append(self.alloc, &mut self.disk, self.end, change)?;
+        self.end = append(
+            self.alloc,
+            &mut self.disk,
+            &mut self.known,
+            self.end,
+            change,
+        )?;
+        // the new gate is on the disk, closed, and the change is still to be made in memory
+        self.known = Known::ToGate;
         follow(&mut self.saved, change)?;
-        self.broken = false;
+        self.known = Known::All;
         Ok(())
     }
 
-    /// Adopts its disk anew. What a crash may leave at any moment of the call it could leave before.
+    /// Writes again what a failed call may have left off the disk, as it is read, and reads the file anew once it is
+    /// synced. Whatever a crash leaves at any moment of the call stands for one of those that might have stood
+    /// before it.
     fn again(&mut self) -> Result<(), StoreFault>
-        ensures runs { IsTrue (D.honest self.old.disk)
-            → Runs (now (D.states self.old.disk)) (D.states self.old.disk)
-            (D.states self.new.disk) }
+        ensures any_moment { IsTrue (D.honest self.old.disk)
+            → LeavesOnly (StandsForAny B.taken (may_stand B.taken D.states self.old))
+            (D.states self.old.disk) (D.states self.new.disk) }
         ensures ok { IsTrue (D.honest self.old.disk)
             → OnOk result (may_stand B.taken D.states self.old self.new.saved) }
         ensures err { IsTrue (D.honest self.old.disk)
@@ -223,11 +245,12 @@ impl<B: Wire, D: Disk> Stable<B> for JournalStore<B, D> {
         ensures condition { MayBecome result (condition D.honest D.failures self.old)
             (condition D.honest D.failures self.new) }
     {
-        self.broken = true;
-        let (saved, end) = read_anew(self.alloc, &mut self.disk)?;
+        let known = self.known;
+        self.known = known.after_error();
+        let (saved, end) = mend(self.alloc, &mut self.disk, known, self.end)?;
         self.saved = saved;
         self.end = end;
-        self.broken = false;
+        self.known = Known::All;
         Ok(())
     }
 
@@ -235,5 +258,5 @@ impl<B: Wire, D: Disk> Stable<B> for JournalStore<B, D> {
         self.disk.failures()
     }
 
-    ghost sure = { λ j v c. sure_of B.taken (D.states j.disk) j.saved j.broken v c.1 };
+    ghost sure = { λ j v c. sure_of B.taken (D.states j.disk) j.saved j.broken j.doubt v c.1 };
 }

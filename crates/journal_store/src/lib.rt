@@ -12,8 +12,10 @@ mod disk;
 mod disk_fault;
 mod find;
 mod journal_store;
+mod known;
 mod laws;
 mod memory_disk;
+mod mend;
 mod put;
 
 pub use append::begin;

@@ -1,31 +1,28 @@
-use Rattle.std.proofs.Common.{rules, ◌≡◌, false, inl, inr, Bool, IsTrue, subst, sym, arith}
+use Rattle.std.proofs.Common.{rules, ◌≡◌, false, inl, inr, List, ℕ, Bool, IsTrue, subst, sym, arith}
 use Rattle.std.proofs.lemmas.Result.{IfOk-weaker}
 use Rattle.stable_store.specs.Stores.{nothing_saved}
-use Rattle.journal_store.specs.Disks.{LeavesOnly, now, settled_at}
+use Rattle.journal_store.specs.Disks.{IsImage, LeavesOnly, now, settled_at}
 use Rattle.journal_store.specs.Opening.{IsKept, IsOpened, IsToBeMade}
 use Rattle.journal_store.specs.Payloads.{payloads}
 use Rattle.journal_store.specs.Serving.{IsNew}
-use Rattle.journal_store.proofs.Calls.{settled_sound}
 use Rattle.journal_store.proofs.Keeping.{kept_adopted, kept_made, to_be_made}
-use Rattle.journal_store.proofs.Moments.{settled_from}
 use Rattle.journal_store.proofs.Saving.{place_within, stands}
 use Rattle.journal_store.proofs.journal_store.JournalStore.adopt_or_make.Goals as goal
 
 pub invariant_of-result : goal.invariant_of-result
 invariant_of-result g c = λ h.
     let before : IsTrue (g.D.Disk.honest c.args.disk) = subst (λ (b : Bool). IsTrue b) c.read_whole.ensures.honest h in
-    let whole = c.in_ok-file.ensures.settled before in
+    let whole = c.in_ok-file.ensures.settled before (c.in_ok-check_unfailed.ensures.settled before) in
     let settled : now (g.D.Disk.states c.read_whole.new.disk) ≡ settled_at c.deref.result.now = search (rules, whole) in
     let place = place_within (payloads g.B.Wire.taken) nothing_saved c.deref.result.now c.in-Ok.saved c.in-Ok.end c.in-Ok.ensures.ok in
-    settled_sound g.B.Wire.taken _ _ _ (record { file = c.deref.result.now; settled = settled; rest = c.in-Ok.ensures.ok; small = omega (arith, place, c.in_ok-file.file.small, c.deref.ensures.len) })
+    record { file = c.deref.result.now; settled = settled; rest = c.in-Ok.ensures.ok; small = omega (arith, place, c.in_ok-file.file.small, c.deref.ensures.len) }
 
 pub returns-in-Ok-clause-opened : goal.returns-in-Ok-clause-opened
 returns-in-Ok-clause-opened g c = λ h.
-    let whole = c.in_ok-file.ensures.settled h in
-    let settled : now (g.D.Disk.states c.read_whole.new.disk) ≡ settled_at c.deref.result.now = search (rules, whole) in
+    let same : c.deref.result.now ≡ (now (g.D.Disk.states c.args.disk)).bytes = search (rules, c.in_ok-file.ensures.read h) in
     inl (record {
       file = c.deref.result.now;
-      image = settled_from _ _ _ (c.read_whole.ensures.runs h) settled;
+      image = subst (λ (l : List ℕ). IsImage (now (g.D.Disk.states c.args.disk)) l) (sym same) (g.met.D.Disk.reads_as c.args.disk h);
       stands = stands (payloads g.B.Wire.taken) nothing_saved c.deref.result.now c.in-Ok.saved c.in-Ok.end c.in-Ok.ensures.ok;
     })
 
