@@ -1,17 +1,17 @@
 -- What one more call makes of a recorded disk.
-use Rattle.std.proofs.Common.{◌≡◌, inl, ⊎_elim, ℕ, suc, ◌+◌, ◌<◌, ◌≤◌, ◌^◌, Bool, true, false, List, [], ◌∷◌, ◌++◌, length, Result, Ok, Err, Vec, refl, ◌∙◌, ap, subst, arith}
-use Rattle.std.specs.Prelude.{if◌then◌else◌, OnOk}
+use Rattle.std.proofs.Common.{◌≡◌, inl, inr, ◌⊎◌, ⊎_elim, ℕ, suc, ◌+◌, ◌<◌, ◌≤◌, ◌^◌, Bool, true, false, List, [], ◌∷◌, ◌++◌, length, Result, Ok, Err, Vec, refl, sym, ◌∙◌, ap, subst, arith}
+use Rattle.std.specs.Prelude.{if◌then◌else◌, cond, OnOk}
 use Rattle.std.specs.declared.alloc.Global.{Global}
 use Rattle.journal_store.specs.declared.disk_fault.DiskFault.{DiskFault}
 use Rattle.journal_store.specs.declared.disk_fault.DiskFault.TheVariants.{Device, Memory}
 use Rattle.journal_store.specs.Causes.{HasCause}
-use Rattle.journal_store.specs.Disks.{DiskState, IsSynced, IsWritten, Runs, Within, now, settled_at, writing, written_over}
+use Rattle.journal_store.specs.Disks.{DiskState, IsOneOf, IsOutside, IsSynced, IsWritten, Range, Runs, Within, is_not_covered, not_covered, now, settled_at, synced_but, writing}
 use Rattle.journal_store.proofs.Overs.{after, before}
 use Rattle.journal_store.proofs.Moments.{within_self}
 use Rattle.fault_disks.specs.declared.call.Call.{Call}
 use Rattle.fault_disks.specs.declared.call.Call.TheVariants.{Write, Sync}
 use Rattle.fault_disks.specs.declared.call.Called.{Called}
-use Rattle.fault_disks.specs.Calls.{IsCalled, Recorded, failed, moments, moments_after, moments_from, recorded, written}
+use Rattle.fault_disks.specs.Calls.{IsCalled, Recorded, dropped, failed, moments, moments_after, moments_from, recorded, written}
 use Rattle.fault_disks.specs.CallLaws.{IsWithin, moments_within}
 
 moments_push : (states : List DiskState) (calls : List Called) (call : Call) (passed : Bool)
@@ -47,12 +47,33 @@ cause_of (Err Memory) call old new is =
     let same : failed new.calls ≡ failed old.calls = ap (λ (d : Recorded). failed d.calls) is in
     record { later = omega (arith, same); failed = λ e. absurd cc; lacked = λ e. same; passed = tt }
 
+-- a place outside of all ranges is outside of those that a write does not cover
+outside_more : (b : Bool) (i : ℕ) (r : Range) (more : List Range) → (i < r.place) ⊎ (r.place + r.size ≤ i) → IsOutside i more → IsOutside i (cond b (r ∷ more) more)
+outside_more true i r more first rest = (first, rest)
+outside_more false i r more first rest = rest
+
+outside_not_covered : (place n len i : ℕ) (ranges : List Range) → IsOutside i ranges → IsOutside i (not_covered place n len ranges)
+outside_not_covered place n len i [] out = tt
+outside_not_covered place n len i (r ∷ ranges) out = outside_more (is_not_covered place n len r) i r (not_covered place n len ranges) out.0 (outside_not_covered place n len i ranges out.1)
+
+-- and one of those is one of all
+one_of_more : (b : Bool) (q r : Range) (more ranges : List Range) → (IsOneOf q more → IsOneOf q ranges) → IsOneOf q (cond b (r ∷ more) more) → IsOneOf q (r ∷ ranges)
+one_of_more true q r more ranges rest h = ⊎_elim (λ a. inl a) (λ b. inr (rest b)) h
+one_of_more false q r more ranges rest h = inr (rest h)
+
+one_not_covered : (place n len : ℕ) (q : Range) (ranges : List Range) → IsOneOf q (not_covered place n len ranges) → IsOneOf q ranges
+one_not_covered place n len q [] h = h
+one_not_covered place n len q (r ∷ ranges) h = one_of_more (is_not_covered place n len r) q r (not_covered place n len ranges) ranges (one_not_covered place n len q ranges) h
+
 -- what is written over lies within what a write may leave
 written_within : (s : DiskState) (place : ℕ) (bytes : List ℕ) → place ≤ length s.bytes → Within (written place bytes s) (writing place (length bytes) s)
-written_within s place bytes within file im = record {
-  no_shorter = im.no_shorter;
-  no_longer = im.no_longer;
-  stays = λ i lt below out. im.stays i lt below out ∙ ⊎_elim (λ l. before s.bytes place bytes within i l) (λ r. after s.bytes place bytes within i r) out.0;
+written_within s place bytes within = record {
+  leaves = λ file im. record {
+    no_shorter = im.no_shorter;
+    no_longer = im.no_longer;
+    stays = λ i lt below out left. im.stays i lt below out (outside_not_covered place (length bytes) _ i s.left left) ∙ ⊎_elim (λ l. before s.bytes place bytes within i l) (λ r. after s.bytes place bytes within i r) out.0;
+  };
+  risks = λ r h. ⊎_elim (λ w. inl w) (λ l. inr (one_not_covered place (length bytes) _ r s.left l)) h;
 }
 
 one_added : (bound : DiskState) (old new : List DiskState) (s : DiskState) → new ≡ s ∷ old → Within s bound → Runs bound old new
@@ -75,16 +96,40 @@ write_runs (Err Memory) old new place v bytes same within is = none_added _ _ _ 
 pub write_written : (r : Result (Unit {0}) DiskFault) (old new : Recorded) (place : ℕ) (v : Vec ℕ Global) (bytes : List ℕ) → v.items ≡ bytes → place + length bytes < 2 ^ 63 → IsCalled r (Write place v) old new
     → OnOk r (IsWritten place bytes (moments old) (moments new))
 write_written (Ok x) old new place v bytes same small is =
-    (ap (λ (l : List DiskState). (now l).bytes) (moments_of old new (Write place v) true is.1) ∙ ap (written_over (now (moments old)).bytes place) same, small)
+    subst (λ (l : List ℕ). IsWritten place l (moments old) (moments new)) same (of (moments new) (moments_of old new (Write place v) true is.1))
+  where
+    of : (states : List DiskState) → states ≡ written place v.items (now (moments old)) ∷ moments old → IsWritten place v.items (moments old) states
+    of states e = subst (IsWritten place v.items (moments old)) (sym e) (record { bytes_are = refl; left_are = refl; small = omega (arith, small, ap length same) })
 write_written (Err e) old new place v bytes same small is = tt
 
-settled_within : (s : DiskState) → IsWithin s → Within (settled_at s.bytes) s
-settled_within s h file im = record { no_shorter = omega (arith, im.no_shorter, h.least); no_longer = omega (arith, im.no_longer, h.most); stays = λ i lt below out. im.stays i lt (omega (arith, lt, im.no_longer)) tt }
+synced_within : (left : List Range) (s : DiskState) → s.left ≡ left → IsWithin s → Within (synced_but left s) s
+synced_within [] s is h = record {
+  leaves = λ file im. record { no_shorter = omega (arith, im.no_shorter, h.least); no_longer = omega (arith, im.no_longer, h.most); stays = λ i lt below out kept. im.stays i lt (omega (arith, lt, im.no_longer)) tt tt };
+  risks = λ r h. ⊎_elim (λ w. absurd w) (λ l. absurd l) h;
+}
+synced_within (q ∷ left) s is h = record {
+  leaves = λ file im. record { no_shorter = im.no_shorter; no_longer = im.no_longer; stays = λ i lt below out kept. im.stays i lt below tt (subst (IsOutside i) is kept) };
+  risks = λ r h. ⊎_elim (λ w. absurd w) (λ l. inr (subst (IsOneOf r) (sym is) l)) h;
+}
+
+outside_both : (i : ℕ) (xs ys : List Range) → IsOutside i xs → IsOutside i ys → IsOutside i (xs ++ ys)
+outside_both i [] ys a b = b
+outside_both i (x ∷ xs) ys a b = (a.0, outside_both i xs ys a.1 b)
+
+one_of_both : (r : Range) (xs ys : List Range) → IsOneOf r (xs ++ ys) → IsOneOf r xs ⊎ IsOneOf r ys
+one_of_both r [] ys h = inr h
+one_of_both r (x ∷ xs) ys h = ⊎_elim (λ a. inl (inl a)) (λ more. ⊎_elim (λ a. inl (inr a)) (λ b. inr b) (one_of_both r xs ys more)) h
+
+dropped_within : (s : DiskState) → Within (dropped s) s
+dropped_within s = record {
+  leaves = λ file im. record { no_shorter = im.no_shorter; no_longer = im.no_longer; stays = λ i lt below out kept. im.stays i lt below tt (outside_both i s.written s.left out kept) };
+  risks = λ r h. ⊎_elim (λ w. absurd w) (λ l. one_of_both r s.written s.left l) h;
+}
 
 -- a sync, passed or not
 pub sync_runs : (r : Result (Unit {0}) DiskFault) (old new : Recorded) → IsCalled r Sync old new → Runs (now (moments old)) (moments old) (moments new)
-sync_runs (Ok x) old new is = one_added _ _ _ _ (moments_of old new Sync true is.1) (settled_within (now (moments old)) (moments_within old.first old.calls))
-sync_runs (Err Device) old new is = none_added _ _ _ (moments_of old new Sync false is.1)
+sync_runs (Ok x) old new is = one_added _ _ _ _ (moments_of old new Sync true is.1) (synced_within (now (moments old)).left (now (moments old)) refl (moments_within old.first old.calls))
+sync_runs (Err Device) old new is = one_added _ _ _ _ (moments_of old new Sync false is.1) (dropped_within (now (moments old)))
 sync_runs (Err Memory) old new is = none_added _ _ _ (ap moments is)
 
 pub sync_synced : (r : Result (Unit {0}) DiskFault) (old new : Recorded) → IsCalled r Sync old new → OnOk r (IsSynced (moments old) (moments new))

@@ -30,17 +30,17 @@ byte_at byte s i zero k lt = absurd (omega (arith, lt))
 byte_at byte s i (suc n) zero lt = ap (byte_left byte s) (let e : i ≡ i + 0 = omega arith in e)
 byte_at byte s i (suc n) (suc k) lt = byte_at byte s (suc i) n k (omega (arith, lt)) ∙ ap (byte_left byte s) (let e : suc i + k ≡ i + suc k = omega arith in e)
 
-kept : (byte : ℕ) (s : DiskState) (i : ℕ) → i < s.settled → IsOutside i s.written → byte_left byte s i ≡ get_or s.bytes i 0
-kept byte s i below out =
-    let both : (nat_lt i s.settled && is_outside i s.written) ≡ true = and_from _ _ (lt-ltb i s.settled below) (outside i s.written out) in
+kept : (byte : ℕ) (s : DiskState) (i : ℕ) → i < s.settled → IsOutside i s.written → IsOutside i s.left → byte_left byte s i ≡ get_or s.bytes i 0
+kept byte s i below out left =
+    let both : (nat_lt i s.settled && (is_outside i s.written && is_outside i s.left)) ≡ true = and_from _ _ (lt-ltb i s.settled below) (and_from _ _ (outside i s.written out) (outside i s.left left)) in
     rw both refl
 
 pub left_image : (unsynced : Unsynced) (s : DiskState) → IsWithin s → IsImage s (left_by unsynced s)
-left_image Kept s h = record { no_shorter = h.least; no_longer = h.most; stays = λ i lt below out. refl }
+left_image Kept s h = record { no_shorter = h.least; no_longer = h.most; stays = λ i lt below out left. refl }
 left_image (Overwritten byte) s h = record {
   no_shorter = omega (arith, h.least, h.most, size byte s 0 s.most);
   no_longer = omega (arith, size byte s 0 s.most);
-  stays = λ i lt below out. byte_at byte s 0 s.most i (omega (arith, lt, size byte s 0 s.most)) ∙ (ap (byte_left byte s) (let e : 0 + i ≡ i = omega arith in e) ∙ kept byte s i below out);
+  stays = λ i lt below out left. byte_at byte s 0 s.most i (omega (arith, lt, size byte s 0 s.most)) ∙ (ap (byte_left byte s) (let e : 0 + i ≡ i = omega arith in e) ∙ kept byte s i below out left);
 }
 
 -- one byte more of the file

@@ -1,19 +1,20 @@
 -- What the calls of a disk make of it, and which of them fail.
-use Rattle.std.specs.Prelude.{◌≡◌, ℕ, suc, ◌+◌, ◌==◌, Bool, true, false, not, max, nat_lt, if◌then◌else◌, List, [], ◌∷◌, ◌++◌, length, Result, Ok, Err}
-use Rattle.journal_store.specs.Disks.{DiskState, now, settled_at, writing, written_over}
+use Rattle.std.specs.Prelude.{◌≡◌, ℕ, suc, ◌+◌, ◌==◌, ◌&&◌, Bool, true, false, not, max, nat_lt, if◌then◌else◌, List, [], ◌∷◌, ◌++◌, length, Result, Ok, Err}
+use Rattle.journal_store.specs.Disks.{DiskState, not_covered, now, settled_at, synced, writing, written_over}
 use Rattle.journal_store.specs.declared.disk_fault.DiskFault.{DiskFault}
 use Rattle.journal_store.specs.declared.disk_fault.DiskFault.TheVariants.{Device, Memory}
 use Rattle.fault_disks.specs.declared.call.Call.{Call}
 use Rattle.fault_disks.specs.declared.call.Call.TheVariants.{Len, Read, Write, Sync}
 use Rattle.fault_disks.specs.declared.call.Called.{Called}
 use Rattle.fault_disks.specs.declared.fails.Fails.{Fails}
-use Rattle.fault_disks.specs.declared.fails.Fails.TheVariants.{Never, From, Once}
+use Rattle.fault_disks.specs.declared.fails.Fails.TheVariants.{Never, From, Once, Both}
 
 -- the call of this number passes
 abbrev pub passes : Fails → ℕ → Bool
 passes Never call = true
 passes (From first) call = nat_lt call first
 passes (Once one) call = not (call == one)
+passes (Both one other) call = not (call == one) && not (call == other)
 
 -- so many of these calls failed
 abbrev pub failed : List Called → ℕ
@@ -23,25 +24,36 @@ failed (c ∷ calls) = if c.passed then failed calls else suc (failed calls)
 -- the bytes are written over, and not synced
 abbrev pub written : ℕ → List ℕ → DiskState → DiskState
 written place bytes s =
-    record { bytes = written_over s.bytes place bytes; written = record { place = place; size = length bytes } ∷ s.written; settled = s.settled; least = s.least; most = max s.most (place + length bytes) }
+    let now = written_over s.bytes place bytes in
+    record {
+      bytes = now;
+      written = record { place = place; size = length bytes } ∷ s.written;
+      left = not_covered place (length bytes) (length now) s.left;
+      settled = s.settled;
+      least = s.least;
+      most = max s.most (place + length bytes);
+    }
+
+-- what was written is dropped, though it is read still
+abbrev pub dropped : DiskState → DiskState
+dropped s = record { bytes = s.bytes; written = []; left = s.written ++ s.left; settled = s.settled; least = s.least; most = s.most }
 
 -- The state after a call, where this is whether it passed. A write that fails changes nothing that is read, but a crash may leave
--- anything in its place; any other call that fails does nothing.
+-- anything in its place. A sync that fails drops what was written. Any other call that fails does nothing.
 abbrev pub state_after : Call → Bool → DiskState → DiskState
 state_after Len passed s = s
 state_after (Read place len) passed s = s
 state_after (Write place bytes) true s = written place bytes.items s
 state_after (Write place bytes) false s = writing place (length bytes.items) s
-state_after Sync true s = settled_at s.bytes
-state_after Sync false s = s
+state_after Sync true s = synced s
+state_after Sync false s = dropped s
 
 -- the same of the moments so far, the newest first
 abbrev pub moments_after : Call → Bool → List DiskState → List DiskState
 moments_after Len passed states = states
 moments_after (Read place len) passed states = states
 moments_after (Write place bytes) passed states = state_after (Write place bytes) passed (now states) ∷ states
-moments_after Sync true states = settled_at (now states).bytes ∷ states
-moments_after Sync false states = states
+moments_after Sync passed states = state_after Sync passed (now states) ∷ states
 
 -- the state after these calls, the first one first
 abbrev pub replayed : DiskState → List Called → DiskState

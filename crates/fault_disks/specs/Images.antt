@@ -11,7 +11,7 @@ is_outside i (r ∷ ranges) = (nat_lt i r.place || nat_le (r.place + r.size) i) 
 
 -- the byte at a place: as it is read where it is synced, else this one
 abbrev pub byte_left : ℕ → DiskState → ℕ → ℕ
-byte_left byte s i = if nat_lt i s.settled && is_outside i s.written then get_or s.bytes i 0 else byte
+byte_left byte s i = if nat_lt i s.settled && (is_outside i s.written && is_outside i s.left) then get_or s.bytes i 0 else byte
 
 -- so many of these from a place on
 abbrev pub bytes_left : ℕ → DiskState → ℕ → ℕ → List ℕ

@@ -41,7 +41,10 @@ fn overwritten(alloc: Global, state: &State, byte: u8) -> Result<Vec<u8>, AllocE
 fn byte_left(state: &State, byte: u8, place: usize) -> u8
     ensures { result ≡ byte_left byte state.now place }
 {
-    if place < state.settled && is_outside(place, &state.written) {
+    if place < state.settled
+        && is_outside(place, &state.written)
+        && is_outside(place, &state.left)
+    {
         match state.bytes.get(place) {
             Some(kept) => *kept,
             None => 0,

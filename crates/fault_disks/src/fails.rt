@@ -9,6 +9,8 @@ pub enum Fails {
     From(usize),
     /// This call alone.
     Once(usize),
+    /// These two calls.
+    Both(usize, usize),
 }
 
 impl Fails {
@@ -20,6 +22,7 @@ impl Fails {
             Fails::Never => true,
             Fails::From(first) => call < first,
             Fails::Once(one) => call != one,
+            Fails::Both(one, other) => call != one && call != other,
         }
     }
 }

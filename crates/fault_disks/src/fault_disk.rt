@@ -17,7 +17,9 @@ const LIMIT: usize = 1 << 62;
 
 /// A disk in memory that keeps a record of its calls and is what they made of its file. It is honest: a
 /// call that fails says so. A write that fails changes nothing that is read, but a crash may tear its
-/// place; any other call that fails does nothing. Each call goes over the whole record.
+/// place. A sync that fails drops what was written since the last one: it is read still, but a crash may
+/// leave anything there, also once a later sync passed, until a write covers it. Any other call that fails
+/// does nothing. Each call goes over the whole record.
 #[derive(Drop)]
 pub struct FaultDisk {
     alloc: Global,

@@ -1,10 +1,10 @@
 //! What a record of calls has made of a disk.
 ghost use Rattle.std.specs.Prelude.{◌≡◌, ◌+◌, ◌∷◌, length, if◌then◌else◌, IfOk, IfErr};
-ghost use Rattle.journal_store.specs.Disks.{settled_at, writing, written_over};
-ghost use Rattle.fault_disks.specs.Calls.{replayed, state_after, written};
+ghost use Rattle.journal_store.specs.Disks.{not_covered, settled_at, synced, writing, written_over};
+ghost use Rattle.fault_disks.specs.Calls.{dropped, replayed, state_after, written};
 
 use crate::call::{Call, Called};
-use crate::span::Span;
+use crate::span::{Span, not_covered, with_first};
 use journal_store::DiskFault;
 use std::alloc::{AllocError, Global};
 use std::marker::Model;
@@ -13,9 +13,11 @@ use std::marker::Model;
 #[derive(Drop)]
 pub struct State {
     pub bytes: Vec<u8>,
-    /// The spans written since the last sync, the newest first.
+    /// The spans written since the last call of sync, the newest first.
     pub written: Vec<Span>,
-    /// The file's end at the last sync.
+    /// The spans that a failed sync dropped, and that no write has covered since.
+    pub left: Vec<Span>,
+    /// The file's end when all was synced last.
     pub settled: usize,
     /// The least of the lengths since then.
     pub least: usize,
@@ -31,6 +33,7 @@ impl Model for State {
     ghost view = { λ s. record {
       bytes = s.bytes.items;
       written = s.written.items;
+      left = s.left.items;
       settled = s.settled;
       least = s.least;
       most = s.most;
@@ -46,6 +49,7 @@ impl State {
         State {
             bytes,
             written: Vec::new(alloc),
+            left: Vec::new(alloc),
             settled: len,
             least: len,
             most: len,
@@ -77,17 +81,34 @@ fn after(alloc: Global, state: State, called: &Called) -> Result<State, DiskFaul
             if called.passed {
                 Ok(sync(alloc, state))
             } else {
-                Ok(state)
+                Ok(drop_written(alloc, state)?)
             }
         }
     }
 }
 
-/// All is synced.
+/// All that was written is synced, and nothing that was dropped.
 fn sync(alloc: Global, state: State) -> State
-    ensures { result ≡ settled_at state.bytes }
+    ensures { result ≡ synced state }
 {
-    State::settled(alloc, state.bytes)
+    if state.left.is_empty() {
+        return State::settled(alloc, state.bytes);
+    }
+    let mut state = state;
+    state.written = Vec::new(alloc);
+    state
+}
+
+/// A sync failed: what was written is dropped.
+fn drop_written(alloc: Global, state: State) -> Result<State, AllocError>
+    ensures { IfOk result (λ s. s ≡ dropped state) }
+{
+    let mut state = state;
+    let mut left = state.written;
+    left.extend_from_slice(&state.left)?;
+    state.left = left;
+    state.written = Vec::new(alloc);
+    Ok(state)
 }
 
 /// Bytes are written, or fail to be.
@@ -105,6 +126,7 @@ fn write(
     let State {
         bytes: old,
         written,
+        left,
         settled,
         least,
         most,
@@ -117,26 +139,21 @@ fn write(
         size: bytes.len(),
     };
     let written = with_first(written, span)?;
-    let bytes = if passed {
-        over(alloc, &old, place, end, bytes)?
+    let (bytes, left) = if passed {
+        let now = over(alloc, &old, place, end, bytes)?;
+        let left = not_covered(alloc, span, now.len(), &left)?;
+        (now, left)
     } else {
-        old
+        (old, left)
     };
     Ok(State {
         bytes,
         written,
+        left,
         settled,
         least,
         most: most.max(end),
     })
-}
-
-fn with_first(spans: Vec<Span>, span: Span) -> Result<Vec<Span>, AllocError>
-    ensures { IfOk result (λ v. v.items ≡ span ∷ spans.items) }
-{
-    let mut spans = spans;
-    spans.insert(0, span)?;
-    Ok(spans)
 }
 
 /// The bytes with others written over them from a place on, up to an end.
