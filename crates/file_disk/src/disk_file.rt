@@ -8,7 +8,8 @@ use std::io;
 
 /// An open file, as a disk asks it.
 ///
-/// Its laws hold where it is honest. A call that fails may have done any part of its work.
+/// Its laws hold where it is honest. A call that fails may have done any part of its work. A sync that fails may
+/// drop what it should have written, as `Disk` says.
 pub trait DiskFile: Drop {
     /// Whether it keeps what it is told, which no call changes.
     ghost honest: { Self → Bool };
@@ -42,7 +43,8 @@ pub trait DiskFile: Drop {
             → OnOk result (IsWritten place bytes.now (states self.old) (states self.new)) }
         ensures honest { honest self.new ≡ honest self.old };
 
-    /// After Ok a crash leaves what a read gives.
+    /// After Ok a crash leaves what was written since the last call of sync, and where no failed one left
+    /// anything, all that a read gives.
     fn sync(&mut self) -> io::Result<()>
         ensures runs { IsTrue (honest self.old)
             → Runs (now (states self.old)) (states self.old) (states self.new) }

@@ -1,11 +1,13 @@
 //! A disk over an open file.
-ghost use Rattle.std.specs.Prelude.{◌≡◌};
+ghost use Rattle.std.specs.Prelude.{◌≡◌, ◌≢◌, IsTrue, []};
 ghost use Rattle.journal_store.specs.Causes.{HasCause};
+ghost use Rattle.journal_store.specs.Disks.{now};
 ghost use Rattle.journal_store.specs.declared.disk_fault.DiskFault.TheVariants.{Device};
 
 use crate::disk_file::DiskFile;
 use journal_store::{Disk, DiskFault};
 use std::alloc::Global;
+use std::marker::Model;
 
 /// A disk over an open file, which counts the calls of the file that fail. It is honest where its file is.
 #[derive(Drop)]
@@ -14,26 +16,40 @@ pub struct FileDisk<F: DiskFile> {
     pub(crate) failures: u64,
 }
 
+impl<F: DiskFile> Model for FileDisk<F> {
+    ghost use Rattle.std.specs.Prelude.{◌≡◌, IsTrue, []};
+    ghost use Rattle.journal_store.specs.Disks.{now};
+    ghost use Rattle.file_disk.specs.Counted.{Counted};
+
+    ghost Value = { Counted F };
+
+    ghost view = { λ d. record { file = d.file; failures = d.failures } };
+
+    ghost invariant = { λ d. IsTrue (F.honest d.file) → d.failures ≡ 0
+        → (now (F.states d.file)).left ≡ [] };
+}
+
 impl<F: DiskFile> FileDisk<F> {
     /// A disk over a file, of which no call has failed.
     pub fn new(file: F) -> Self
+        requires { IsTrue (F.honest file) → (now (F.states file)).left ≡ [] }
         ensures file { result.file ≡ file }
         ensures failures { result.failures ≡ 0 }
     {
         FileDisk { file, failures: 0 }
     }
+}
 
-    /// Counts a call that failed, and answers that.
-    fn failed<T>(&mut self) -> Result<T, DiskFault>
-        ensures answer { result ≡ Err Device }
-        ensures cause { HasCause self.old.failures self.new.failures result }
-        ensures file { self.new.file ≡ self.old.file }
-    {
-        if self.failures < u64::MAX {
-            self.failures += 1;
-        }
-        Err(DiskFault::Device)
+/// Counts a call that failed, and answers that.
+fn failed<T>(failures: &mut u64) -> Result<T, DiskFault>
+    ensures answer { result ≡ Err Device }
+    ensures cause { HasCause failures.old failures.new result }
+    ensures counted { failures.new ≢ 0 }
+{
+    if *failures < u64::MAX {
+        *failures += 1;
     }
+    Err(DiskFault::Device)
 }
 
 impl<F: DiskFile> Disk for FileDisk<F> {
@@ -46,7 +62,7 @@ impl<F: DiskFile> Disk for FileDisk<F> {
     fn len(&mut self) -> Result<usize, DiskFault> {
         match self.file.size() {
             Ok(size) => Ok(size as usize),
-            Err(_) => self.failed(),
+            Err(_) => failed(&mut self.failures),
         }
     }
 
@@ -56,21 +72,21 @@ impl<F: DiskFile> Disk for FileDisk<F> {
         let mut bytes = vec![in alloc; 0u8; len.min(size - start)]?;
         match self.file.fill(start as u64, &mut bytes) {
             Ok(()) => Ok(bytes),
-            Err(_) => self.failed(),
+            Err(_) => failed(&mut self.failures),
         }
     }
 
     fn write_at(&mut self, place: usize, bytes: &[u8]) -> Result<(), DiskFault> {
         match self.file.write(place as u64, bytes) {
             Ok(()) => Ok(()),
-            Err(_) => self.failed(),
+            Err(_) => failed(&mut self.failures),
         }
     }
 
     fn sync(&mut self) -> Result<(), DiskFault> {
         match self.file.sync() {
             Ok(()) => Ok(()),
-            Err(_) => self.failed(),
+            Err(_) => failed(&mut self.failures),
         }
     }
 

@@ -6,12 +6,14 @@
 //! call that `DiskFile` names as one call of its own, of which nothing is known.
 #![tactic(auto)]
 
+mod copied_file;
 mod disk_file;
 mod file_disk;
 mod file_id;
 mod header;
 mod journal;
 mod last_error;
+mod locked_file;
 mod made_file;
 mod open_fault;
 mod system_file;

@@ -1,22 +1,26 @@
 //! A file of the system.
 ghost use Rattle.std.specs.Prelude.{◌≡◌, ◌&&◌, ◌==◌, not, IfOk};
 
+use crate::copied_file::copied;
 use crate::disk_file::DiskFile;
 use crate::file_disk::FileDisk;
 use crate::file_id::FileId;
 use crate::last_error::LastError;
+use crate::locked_file::locked;
 use crate::made_file::{MadeFile, remove_file};
 use crate::open_fault::OpenFault;
 use stable_store::StoreFault;
 use std::alloc::{AllocError, Global};
-use std::fs::{self, File, Files, OpenOptions, TryLockError};
+use std::fs::{self, File, Files, OpenOptions};
 use std::io::{self, ErrorKind};
-use std::os::fd::AsRawFd;
 use std::os::unix::fs::{FileExt, OpenOptionsExt};
 use std::path::Path;
 
 /// Nobody but its owner reads a journal.
 const OWNERS: u32 = 0o600;
+
+/// In a file that is no longer nothing can be saved: so long is an empty journal.
+const EMPTY_LEN: u64 = 9;
 
 /// A file of the system, and why a call of it failed last.
 #[derive(Drop)]
@@ -25,6 +29,9 @@ pub struct SystemFile {
     last_error: LastError,
     /// Whether it was made as it was opened, and had nothing in it when it was locked.
     is_made: bool,
+    /// The file that lay at its path before. Its lock is held too, so that a program that opened it a moment before
+    /// this one took its place finds it in use.
+    before: Option<File>,
 }
 
 impl SystemFile {
@@ -67,6 +74,10 @@ impl FileDisk<SystemFile> {
     /// folder is synced, so that a crash leaves the file there. `InUse` where it is open as a disk
     /// already, in this program or another; `NotAFile` where the path names something else. Where it
     /// fails, a file that it made is removed.
+    ///
+    /// A file that was there, and in which something may be saved, is copied, and the copy takes its place: it may have
+    /// bytes that an earlier run did not bring to the device, and that the system shows all the same. Where that
+    /// fails the file stays as it is.
     pub fn open<R: Files<File = File>>(rt: &R, alloc: Global, path: &str) -> Result<Self, OpenFault>
         ensures { IfOk result (λ d. d.failures ≡ 0) }
     {
@@ -78,8 +89,11 @@ impl FileDisk<SystemFile> {
             .mode(OWNERS)
             .open(rt, path)?;
         let file = locked(file)?;
-        let is_made = is_made(was_there, file.metadata()?.len());
-        over(rt, alloc, path, file, is_made)
+        let len = file.metadata()?.len();
+        if len > EMPTY_LEN {
+            return over_copy(rt, alloc, path, file);
+        }
+        over(rt, alloc, path, file, None, is_made(was_there, len))
     }
 
     /// The file of a path that is there, locked until the disk is dropped, as `open` says. None is made: an error of
@@ -92,7 +106,7 @@ impl FileDisk<SystemFile> {
         ensures { IfOk result (λ d. d.failures ≡ 0) }
     {
         let file = OpenOptions::new().read(true).write(true).open(rt, path)?;
-        over(rt, alloc, path, locked(file)?, false)
+        over(rt, alloc, path, locked(file)?, None, false)
     }
 
     /// Why a call of its file failed last, now and later on.
@@ -138,18 +152,23 @@ fn is_made(was_there: bool, len: u64) -> bool
     !was_there && len == 0
 }
 
-/// A file that was opened, locked.
-fn locked(file: File) -> Result<File, OpenFault> {
-    let mut file = file;
-    // what is printed to a standard stream that was closed must not land in the file
-    if file.as_raw_fd() <= 2 {
-        file = file.try_clone()?;
+/// A disk over a copy of a file that was opened at a path, and locked.
+fn over_copy<R: Files<File = File>>(
+    rt: &R,
+    alloc: Global,
+    path: &str,
+    file: File,
+) -> Result<FileDisk<SystemFile>, OpenFault>
+    ensures { IfOk result (λ d. d.failures ≡ 0) }
+{
+    // a link stays, and the file to which it leads is copied
+    let place = rt.canonicalize(alloc, path)?;
+    // another program may have put a copy there, and ended, before this one locked the file
+    if FileId::at(rt, place.as_str())? != FileId::of(&file)? {
+        return Err(OpenFault::InUse);
     }
-    if !file.metadata()?.is_file() {
-        return Err(OpenFault::NotAFile);
-    }
-    lock(&file)?;
-    Ok(file)
+    let copy = copied(rt, alloc, place.as_str(), &file)?;
+    over(rt, alloc, place.as_str(), copy, Some(file), false)
 }
 
 /// A disk over a file that was opened at a path, and locked. Where it fails, the file is removed if it was made.
@@ -158,6 +177,7 @@ fn over<R: Files<File = File>>(
     alloc: Global,
     path: &str,
     file: File,
+    before: Option<File>,
     is_made: bool,
 ) -> Result<FileDisk<SystemFile>, OpenFault>
     ensures { IfOk result (λ d. d.failures ≡ 0) }
@@ -167,6 +187,7 @@ fn over<R: Files<File = File>>(
             file,
             last_error,
             is_made,
+            before,
         })),
         Err(fault) => {
             if is_made {
@@ -187,15 +208,6 @@ fn settle<R: Files<File = File>>(
     file.sync_all()?;
     sync_folder(rt, path)?;
     LastError::none(alloc).map_err(|_| OpenFault::Store(StoreFault::Memory))
-}
-
-/// The lock ends with the file's last handle, or with the program.
-fn lock(file: &File) -> Result<(), OpenFault> {
-    match file.try_lock() {
-        Ok(()) => Ok(()),
-        Err(TryLockError::WouldBlock) => Err(OpenFault::InUse),
-        Err(TryLockError::Error(error)) => Err(OpenFault::System(error)),
-    }
 }
 
 /// Syncs the folder in which a path lies.

@@ -1,0 +1,73 @@
+//! A file of the system in the place of another, whose bytes it has.
+use crate::locked_file::locked;
+use crate::open_fault::OpenFault;
+use std::alloc::Global;
+use std::fs::{self, File, Files, OpenOptions};
+use std::io;
+use std::os::unix::fs::{FileExt, OpenOptionsExt};
+
+/// Nobody but its owner reads a copy before it has the mode of what is copied.
+const OWNERS: u32 = 0o600;
+
+/// A new file in the place of the one that lies at a path, with its bytes and its mode, synced and locked. Where it
+/// fails, the file stays as it is. A leftover of an earlier try is overwritten.
+///
+/// A system may show what it could not write until it is read from the device again, and no sync tells of it but the
+/// one that failed. So of the bytes of a file that an earlier run left nobody knows whether they are on the device.
+/// Those of the copy are, since each was written and synced in this run. They are read and written, not shared between
+/// the two files, as some systems would do it.
+pub fn copied<R: Files<File = File>>(
+    rt: &R,
+    alloc: Global,
+    path: &str,
+    file: &File,
+) -> Result<File, OpenFault> {
+    let beside = beside(alloc, path)?;
+    // one that is there is not opened: it may have another owner, mode or name
+    let _ = fs::remove_file(rt, beside.as_str());
+    let copy = OpenOptions::new()
+        .read(true)
+        .write(true)
+        .create_new(true)
+        .mode(OWNERS)
+        .open(rt, beside.as_str())?;
+    match fill(rt, alloc, path, file, copy, beside.as_str()) {
+        Ok(copy) => Ok(copy),
+        Err(fault) => {
+            let _ = fs::remove_file(rt, beside.as_str());
+            Err(fault)
+        }
+    }
+}
+
+/// Where a copy of the file at a path lies until it takes its place.
+fn beside(alloc: Global, path: &str) -> io::Result<String> {
+    let mut beside = String::from_str(alloc, path)?;
+    beside.push_str(".copy")?;
+    Ok(beside)
+}
+
+/// A new file gets the bytes and the mode of another, and then its place.
+fn fill<R: Files<File = File>>(
+    rt: &R,
+    alloc: Global,
+    path: &str,
+    file: &File,
+    copy: File,
+    beside: &str,
+) -> Result<File, OpenFault> {
+    let copy = locked(copy)?;
+    copy_bytes(alloc, file, &copy)?;
+    copy.set_permissions(file.metadata()?.permissions())?;
+    copy.sync_all()?;
+    fs::rename(rt, beside, path)?;
+    Ok(copy)
+}
+
+/// All bytes of a file, written to another. They are read at once, as they are when the journal is read.
+fn copy_bytes(alloc: Global, from: &File, to: &File) -> io::Result<()> {
+    let len = from.metadata()?.len();
+    let mut bytes = vec![in alloc; 0u8; len as usize]?;
+    from.read_exact_at(&mut bytes, 0)?;
+    to.write_all_at(&bytes, 0)
+}
