@@ -6,7 +6,8 @@ use journal_store::{Disk, DiskFault, JournalStore};
 use raft_log::Log;
 use stable_store::{Change, Stable, StoreFault};
 use std::alloc::Global;
-use std::fs;
+use std::fs::{self, Permissions};
+use std::os::unix::fs::{MetadataExt, PermissionsExt, symlink};
 use std::process::Abort;
 use std::test::Fail;
 use wire_bytes::Number;
@@ -171,8 +172,44 @@ fn adopted(alloc: Global, disk: FileDisk<FaultFile>) -> Result<(u64, u64), Store
 
 #[test]
 fn a_disk_over_a_file_reads_it_and_counts_what_fails(rt: HostRuntime) -> Result<(), Fail> {
-    let mut disk = disk(rt.alloc(), Fails::Once(1))?;
-    check_disk(&rt, rt.alloc(), &mut disk)?;
-    assert!(rt; adopted(rt.alloc(), disk)? == (1, 1));
+    let mut failed = disk(rt.alloc(), Fails::Once(1))?;
+    check_disk(&rt, rt.alloc(), &mut failed)?;
+    // what that call left is not known from the file
+    assert!(rt; adopted(rt.alloc(), failed) == Err(StoreFault::Device));
+    assert!(rt; adopted(rt.alloc(), disk(rt.alloc(), Fails::Never)?)? == (1, 0));
+    Ok(())
+}
+
+const COPIED: &str = "file_cases_copied";
+
+/// The number by which the system knows the file of a path.
+fn inode(rt: &HostRuntime, path: &str) -> Result<u64, Fail> {
+    Ok(fs::metadata(rt, path)?.ino())
+}
+
+/// A journal that was there is a new file at its path once it is opened, with the bytes and the mode of the old one,
+/// and a link to it stays. An empty one is the old file.
+#[test]
+fn a_journal_that_was_there_is_copied_as_it_is_opened(rt: HostRuntime) -> Result<(), Fail> {
+    let _ = fs::remove_dir_all(&rt, COPIED);
+    fs::create_dir(&rt, COPIED)?;
+    let path = "file_cases_copied/node-1";
+    let link = "file_cases_copied/link";
+    let beside = "file_cases_copied/node-1.copy";
+    check_text(&rt, &opened(&rt, path, b"")?, "boot 0");
+    let empty = inode(&rt, path)?;
+    assert!(rt; boot(&rt, path)? == 0);
+    assert!(rt; inode(&rt, path)? == empty);
+    fs::write(&rt, path, BOOT)?;
+    fs::set_permissions(&rt, path, Permissions::from_mode(0o640))?;
+    fs::write(&rt, beside, b"a leftover")?;
+    symlink(&rt, "node-1", link)?;
+    assert!(rt; boot(&rt, link)? == 1);
+    assert!(rt; inode(&rt, path)? != empty);
+    assert!(rt; fs::symlink_metadata(&rt, link)?.is_symlink());
+    assert!(rt; fs::metadata(&rt, path)?.permissions().mode() & 0o777 == 0o640);
+    assert!(rt; !fs::exists(&rt, beside)?);
+    check_bytes(&rt, &fs::read(&rt, path)?, &BOOT);
+    fs::remove_dir_all(&rt, COPIED)?;
     Ok(())
 }

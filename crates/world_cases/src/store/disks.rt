@@ -12,7 +12,7 @@ use wire_bytes::Number;
 /// A journal in which nothing is saved.
 const EMPTY: [u8; 9] = *b"RBSTOR02\0";
 
-const IMAGES: [Unsynced; 4] = [
+pub const IMAGES: [Unsynced; 4] = [
     Unsynced::Kept,
     Unsynced::Overwritten(0),
     Unsynced::Overwritten(1),
@@ -20,13 +20,17 @@ const IMAGES: [Unsynced; 4] = [
 ];
 
 /// An empty journal on a disk of which these calls fail. To adopt it takes three calls.
-fn empty(alloc: Global, fails: Fails) -> Result<JournalStore<u8, FaultDisk>, StoreFault> {
+pub fn empty(alloc: Global, fails: Fails) -> Result<JournalStore<u8, FaultDisk>, StoreFault> {
     let file = EMPTY.to_vec(alloc)?;
     JournalStore::adopt(alloc, FaultDisk::new(alloc, file, fails))
 }
 
 /// Saves this boot where it may follow.
-fn save(alloc: Global, store: &mut JournalStore<u8, FaultDisk>, boot: u64) -> Result<(), StoreFault>
+pub fn save(
+    alloc: Global,
+    store: &mut JournalStore<u8, FaultDisk>,
+    boot: u64,
+) -> Result<(), StoreFault>
     requires { boot ≤ 9 }
 {
     let (boot, term) = (Number::new(boot), Number::new(0));
@@ -39,7 +43,7 @@ fn save(alloc: Global, store: &mut JournalStore<u8, FaultDisk>, boot: u64) -> Re
 }
 
 /// The boot that a file stands for.
-fn found(alloc: Global, file: &[u8]) -> Result<u64, StoreFault> {
+pub fn found(alloc: Global, file: &[u8]) -> Result<u64, StoreFault> {
     let disk = MemoryDisk::new(alloc, file.to_vec(alloc)?);
     let store: JournalStore<u8, MemoryDisk> = JournalStore::adopt(alloc, disk)?;
     Ok(store.read()?.boot.value())
@@ -81,12 +85,12 @@ fn letters(alloc: Global, calls: &[Called]) -> Result<Vec<u8>, AllocError> {
     Ok(letters)
 }
 
-fn check_bytes(rt: &impl Abort, told: &[u8], wanted: &[u8]) {
+pub fn check_bytes(rt: &impl Abort, told: &[u8], wanted: &[u8]) {
     assert!(rt; told == wanted);
 }
 
 /// The calls were these.
-fn check_calls(
+pub fn check_calls(
     rt: &impl Abort,
     alloc: Global,
     calls: &[Called],
@@ -98,7 +102,7 @@ fn check_calls(
 }
 
 /// The place and the size of each write.
-fn writes(alloc: Global, calls: &[Called]) -> Result<Vec<(usize, usize)>, AllocError> {
+pub fn writes(alloc: Global, calls: &[Called]) -> Result<Vec<(usize, usize)>, AllocError> {
     let mut writes = Vec::new(alloc);
     for called in calls {
         if let Call::Write(place, bytes) = &called.call {
@@ -132,7 +136,7 @@ fn a_save_is_four_calls(rt: HostRuntime) -> Result<(), Fail> {
 }
 
 /// The boot that a store reads.
-fn boot(store: &JournalStore<u8, FaultDisk>) -> Result<u64, StoreFault> {
+pub fn boot(store: &JournalStore<u8, FaultDisk>) -> Result<u64, StoreFault> {
     Ok(store.read()?.boot.value())
 }
 
@@ -204,7 +208,7 @@ fn a_save_that_stops_leaves_what_was_before_or_after(rt: HostRuntime) -> Result<
 #[test]
 fn whatever_call_fails_each_save_stands_or_does_not(rt: HostRuntime) -> Result<(), Fail> {
     let alloc = rt.alloc();
-    // three calls to adopt, four a save, three to serve again
+    // three calls to adopt, four a save, and three to serve again where no save failed
     for call in 3..19 {
         for fails in [Fails::From(call), Fails::Once(call)] {
             for unsynced in IMAGES {
@@ -233,7 +237,7 @@ fn a_journal_that_stops_while_it_is_made_is_made_again(rt: HostRuntime) -> Resul
 }
 
 /// A crash leaves this of a disk.
-fn check_left(
+pub fn check_left(
     rt: &impl Abort,
     disk: &FaultDisk,
     unsynced: Unsynced,
@@ -271,4 +275,6 @@ fn a_disk_fails_as_it_is_told(rt: HostRuntime) {
     assert!(rt; Fails::Never.passes(9));
     assert!(rt; Fails::From(2).passes(1) && !Fails::From(2).passes(3));
     assert!(rt; Fails::Once(2).passes(3) && !Fails::Once(2).passes(2));
+    assert!(rt; !Fails::Both(2, 4).passes(2) && Fails::Both(2, 4).passes(3));
+    assert!(rt; !Fails::Both(2, 4).passes(4));
 }
