@@ -4,7 +4,7 @@ use crate::open_fault::OpenFault;
 use std::alloc::Global;
 use std::fs::{self, File, Files, OpenOptions};
 use std::io;
-use std::os::unix::fs::{FileExt, OpenOptionsExt};
+use std::os::unix::fs::{FileExt, MetadataExt, OpenOptionsExt, fchown};
 
 /// Nobody but its owner reads a copy before it has the mode of what is copied.
 const OWNERS: u32 = 0o600;
@@ -58,7 +58,10 @@ fn fill<R: Files<File = File>>(
 ) -> Result<File, OpenFault> {
     let copy = locked(copy)?;
     copy_bytes(alloc, file, &copy)?;
-    copy.set_permissions(file.metadata()?.permissions())?;
+    let metadata = file.metadata()?;
+    // whoever starts the program once, as root or in the owner's group, the journal stays its owner's, where it may
+    let _ = fchown(&copy, Some(metadata.uid()), Some(metadata.gid()));
+    copy.set_permissions(metadata.permissions())?;
     copy.sync_all()?;
     fs::rename(rt, beside, path)?;
     Ok(copy)
