@@ -174,7 +174,7 @@ def said(*words, folder=None, environment=None):
     reading, writing = os.pipe()
     room = {"cwd": folder, "env": {**os.environ, **(environment or {})}}
     try:
-        done = subprocess.run([PROGRAM, *words], stdin=reading, capture_output=True, timeout=LONGEST, text=True, **room)
+        done = subprocess.run([PROGRAM, *words], stdin=reading, capture_output=True, timeout=LONGEST, text=True, errors="replace", **room)
     finally:
         os.close(reading)
         os.close(writing)
