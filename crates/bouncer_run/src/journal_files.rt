@@ -10,16 +10,20 @@ use crate::system::System;
 use bouncer_config::Config;
 use bouncer_tower::TowerBody;
 use file_disk::{FileJournal, OpenFault, open_journal};
-use journal_folder::{Renewed, Settled, finish_renewal};
+use journal_folder::{
+    ChangedKeys, RenewFault, Renewed, Settled, finish_renewal, is_lost, settle, settle_by_reading,
+};
 use raft_log::{GroupSize, Log, NodeId};
 use run_plan::journal_path;
 use stable_store::StoreFault;
+use std::alloc::AllocError;
+use std::io;
 
 /// A journal for each node, node 1's first, in the folder that the configuration names, which is
 /// made where it is not there. A renewal that was decided is finished first. Then the store is of the configuration's
-/// setup and number of nodes: its log is begun anew where it was of others. The folder and the files that are made are
-/// noted. Where there are no journals, a line was written to standard error that names the folder or the file, and says
-/// why.
+/// setup and number of nodes: its log is begun anew where it was of others, and where some of its journals are lost. The
+/// folder and the files that are made are noted. Where there are no journals, a line was written to standard error that
+/// names the folder or the file, and says why.
 pub fn journals<R: System>(
     rt: &R,
     config: &Config,
@@ -31,53 +35,97 @@ pub fn journals<R: System>(
     ensures serve { IfOk result (λ journals. All (λ j. j.broken ≡ false) journals.items) }
     ensures fault { IfErr result (IsOrMemory RunFault.Store) }
 {
-    let alloc = rt.alloc();
     let folder = config.store.as_str();
     make_folder(rt, folder, made)?;
     finish(rt, folder)?;
-    settle(rt, config, made)?;
+    let settled = settle(rt, config, config.renew_at as u64);
+    take(rt, config, settled, made)?;
+    match open_all(rt, folder, size, made) {
+        Err(Unopened::Journal(_, fault)) if is_lost(&fault) => {}
+        opened => return opened.map_err(|unopened| unopened.told(rt)),
+    }
+    // what was opened is let go by now, so that the journals may be locked and read, all of them
+    let settled = settle_by_reading(rt, config, config.renew_at as u64);
+    take(rt, config, settled, made)?;
+    open_all(rt, folder, size, made).map_err(|unopened| unopened.told(rt))
+}
+
+/// A journal for each of so many nodes in a folder, node 1's first.
+fn open_all<R: System>(
+    rt: &R,
+    folder: &str,
+    size: GroupSize,
+    made: &mut Made,
+) -> Result<Vec<FileJournal<TowerBody>>, Unopened>
+    ensures count { IfOk result (λ journals. length journals.items ≡ size) }
+    ensures serve { IfOk result (λ journals. All (λ j. j.broken ≡ false) journals.items) }
+{
+    let alloc = rt.alloc();
     let mut journals: Vec<FileJournal<TowerBody>> = Vec::new(alloc);
     for index in 0..size.value() {
         let path = journal_path(alloc, folder, NodeId::new(index + 1))?;
         let journal = match journals.first() {
-            None => open(rt, path.as_str(), &Log::new(alloc), made)?,
-            Some(first) => open(rt, path.as_str(), first.log(), made)?,
+            None => open(rt, path, &Log::new(alloc), made)?,
+            Some(first) => open(rt, path, first.log(), made)?,
         };
-        if journals.push(journal).is_err() {
-            return Err(RunFault::Memory);
-        }
+        journals.push(journal).map_err(|_| Unopened::Memory)?;
     }
     Ok(journals)
 }
 
-/// The journal in the file of a path. Where there is none, the line was written. What another log has too is one
-/// value in memory with it.
+/// The journal in the file of a path. What another log has too is one value in memory with it.
 fn open<R: System>(
     rt: &R,
-    path: &str,
+    path: String,
     beside: &Log<TowerBody>,
     made: &mut Made,
-) -> Result<FileJournal<TowerBody>, RunFault>
+) -> Result<FileJournal<TowerBody>, Unopened>
     ensures serves { IfOk result (λ j. j.broken ≡ false) }
-    ensures fault { IfErr result (IsOrMemory RunFault.Store) }
 {
-    let journal = match open_journal(rt, rt.alloc(), path, beside) {
+    let journal = match open_journal(rt, rt.alloc(), path.as_str(), beside) {
         Ok(journal) => journal,
-        Err(fault) => {
-            let _ = eprintln!(rt; "{path}: {fault}");
-            return Err(fault_of(&fault));
-        }
+        Err(fault) => return Err(Unopened::Journal(path, fault)),
     };
-    match journal.disk().made(rt.alloc(), path) {
+    match journal.disk().made(rt.alloc(), path.as_str()) {
         Ok(None) => {}
         Ok(Some(file)) => made.add(file)?,
         Err(error) => {
-            journal.disk().remove_made(rt, path);
-            let _ = eprintln!(rt; "{path}: {error}");
-            return Err(RunFault::of_error(&error, RunFault::Store));
+            journal.disk().remove_made(rt, path.as_str());
+            return Err(Unopened::Journal(path, OpenFault::System(error)));
         }
     }
     Ok(journal)
+}
+
+/// Why a journal is not opened.
+#[derive(Drop)]
+enum Unopened {
+    /// The journal of this path is refused.
+    Journal(String, OpenFault),
+    Memory,
+}
+
+impl Unopened {
+    /// What it is to the program. A line was written to standard error that names the file, and says why.
+    fn told<R: System>(&self, rt: &R) -> RunFault
+        ensures { IsOrMemory RunFault.Store result }
+    {
+        match self {
+            Unopened::Journal(path, fault) => {
+                let _ = eprintln!(rt; "{path}: {fault}");
+                fault_of(fault)
+            }
+            Unopened::Memory => RunFault::Memory,
+        }
+    }
+}
+
+impl From<AllocError> for Unopened {
+    ghost from_gives = { λ _ e. e ≡ Memory };
+
+    fn from(_error: AllocError) -> Self {
+        Unopened::Memory
+    }
 }
 
 /// What it is to the program that a journal is not opened.
@@ -124,13 +172,17 @@ fn finish<R: System>(rt: &R, folder: &str) -> Result<(), RunFault>
     }
 }
 
-/// The store is of a configuration: a new one is made so, and the log of another one is begun anew. What was done is
-/// told, but where it is new or goes on.
-fn settle<R: System>(rt: &R, config: &Config, made: &mut Made) -> Result<(), RunFault>
-    requires { IsGroupSize (length config.now.listen.items) }
+/// What was done so that the store is of a configuration is told, but where it is new or goes on, and noted. Where it
+/// was refused a line was written to standard error that says why.
+fn take<R: System>(
+    rt: &R,
+    config: &Config,
+    settled: Result<Settled, RenewFault>,
+    made: &mut Made,
+) -> Result<(), RunFault>
     ensures { IfErr result (IsOrMemory RunFault.Store) }
 {
-    match journal_folder::settle(rt, config, config.renew_at as u64) {
+    match settled {
         Ok(settled) => {
             tell_settled(rt, config, &settled);
             note(settled, made)
@@ -166,6 +218,7 @@ fn tell_settled<R: System>(rt: &R, config: &Config, settled: &Settled) {
                 "{folder}: {keys} changed: the log of {before} entries was begun anew, and the old folder is {old}"
             )
         }
+        Settled::Lost(keys, renewed) => tell_lost(rt, folder, keys, renewed),
         Settled::Long(renewed) => {
             let (before, old) = (renewed.before.value(), old_of(renewed));
             eprintln!(rt;
@@ -177,6 +230,22 @@ fn tell_settled<R: System>(rt: &R, config: &Config, settled: &Settled) {
             eprintln!(rt; "{folder}: the log has more than {most} entries, and goes on: {fault}")
         }
     };
+}
+
+/// Says that the log of a folder was begun anew since journals of it were lost, and whether these keys changed too.
+fn tell_lost<R: System>(
+    rt: &R,
+    folder: &str,
+    keys: &ChangedKeys,
+    renewed: &Renewed,
+) -> io::Result<()> {
+    let (lost, before, old) = (&renewed.lost, renewed.before.value(), old_of(renewed));
+    if !keys.is_none() {
+        eprintln!(rt; "{folder}: {keys} changed")?;
+    }
+    eprintln!(rt;
+        "{folder}: {lost}: the log of {before} entries was begun anew from the others, and the old folder is {old}"
+    )
 }
 
 /// Where the old folder of a renewal lies.

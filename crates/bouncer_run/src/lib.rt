@@ -45,7 +45,6 @@ mod record_file;
 mod run_fault;
 mod running;
 mod server;
-mod setting_apart;
 mod sockets;
 mod stopping;
 mod store_watch;

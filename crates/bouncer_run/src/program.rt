@@ -22,7 +22,6 @@ use crate::reading::read;
 use crate::record_file::{TowerRecord, try_record, write_record};
 use crate::run_fault::RunFault;
 use crate::running::Running;
-use crate::setting_apart::set_apart;
 use crate::sockets::Sockets;
 use crate::store_watch::StoreWatch;
 use crate::system::System;
@@ -116,8 +115,7 @@ impl<R: System, U: Upstream + Send + 'static> Started<R, U> {
         requires group { IsGroupSize (length config.now.listen.items) }
     {
         let alloc = rt.alloc();
-        let mut journals = journals(rt, config, size, made)?;
-        set_apart(rt, config, &mut journals)?;
+        let journals = journals(rt, config, size, made)?;
         let watch = watch_of(rt, config, journals.as_slice())?;
         let errors = JournalErrors::of(alloc, journals.as_slice())?;
         let rate = rate_of(alloc, journals.as_slice(), time_of_day(rt))?;

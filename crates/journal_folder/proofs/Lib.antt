@@ -2,8 +2,9 @@ pub mod Behind
 pub mod Blocks
 pub mod Boots
 pub mod Comes
-pub mod Covering
+pub mod FoundBytes
 pub mod Greatest
 pub mod GroupSaved
+pub mod Numbered
 pub mod Told
 pub mod UpToDate

@@ -1,8 +1,10 @@
 -- Why a log is not begun anew.
-use Rattle.std.specs.Prelude.{◌≡◌, ℕ, List, None, codes, string_bytes, ⊤}
+use Rattle.std.specs.Prelude.{◌≡◌, ◌≤◌, ◌*◌, ℕ, List, None, codes, length, string_bytes, ⊤}
 use Rattle.journal_folder.specs.Beside.{beside}
+use Rattle.journal_folder.specs.Losses.{IsPastLast, losses_among}
+use Rattle.journal_folder.specs.declared.standing.NodeJournal.{NodeJournal}
 use Rattle.journal_folder.specs.declared.fault.RenewFault.{RenewFault}
-use Rattle.journal_folder.specs.declared.fault.RenewFault.TheVariants.{Busy, Change, Journal, Memory, NoFreeName, Renewal, Setup, Spent, StillLong, System, UnknownName, Unnamed, Unread}
+use Rattle.journal_folder.specs.declared.fault.RenewFault.TheVariants.{Busy, Change, Journal, Loss, Memory, NoFreeName, Renewal, Setup, Spent, StillLong, System, TooFew, UnknownName, Unnamed, Unread}
 
 -- the system refuses it, or there is no memory
 abbrev pub IsOfFiles : RenewFault → Type 0
@@ -16,9 +18,47 @@ IsOfFiles Memory = ⊤
 IsOfFiles (UnknownName name) = ⊥
 IsOfFiles (StillLong entries) = ⊥
 IsOfFiles (Change keys fault) = ⊥
+IsOfFiles (Loss lost fault) = ⊥
+IsOfFiles (TooFew few) = ⊥
 IsOfFiles (Unnamed path) = ⊥
 IsOfFiles (Renewal fault) = ⊥
 IsOfFiles Spent = ⊥
+
+-- the same, or too few journals are whole, or no runs are left
+abbrev pub IsOfHolding : RenewFault → Type 0
+IsOfHolding (Journal refused) = ⊤
+IsOfHolding (TooFew few) = ⊤
+IsOfHolding (System path error) = ⊤
+IsOfHolding (Unread path error) = ⊤
+IsOfHolding (Setup path fault) = ⊤
+IsOfHolding (Busy path) = ⊤
+IsOfHolding (NoFreeName path) = ⊤
+IsOfHolding (UnknownName name) = ⊥
+IsOfHolding (StillLong entries) = ⊥
+IsOfHolding (Change keys fault) = ⊥
+IsOfHolding (Loss lost fault) = ⊥
+IsOfHolding (Unnamed path) = ⊥
+IsOfHolding (Renewal fault) = ⊥
+IsOfHolding Spent = ⊤
+IsOfHolding Memory = ⊤
+
+-- Nothing stands for the journals of a group: half of them or more are lost, which are told, or no runs are left, or there is no memory
+abbrev pub IsOfStanding : List NodeJournal → RenewFault → Type 0
+IsOfStanding group (Journal refused) = ⊥
+IsOfStanding group (TooFew few) = (few.lost.journals.items ≡ losses_among group group) × (length group ≤ 2 * length (losses_among group group))
+IsOfStanding group (System path error) = ⊥
+IsOfStanding group (Unread path error) = ⊥
+IsOfStanding group (Setup path fault) = ⊥
+IsOfStanding group (Busy path) = ⊥
+IsOfStanding group (NoFreeName path) = ⊥
+IsOfStanding group (UnknownName name) = ⊥
+IsOfStanding group (StillLong entries) = ⊥
+IsOfStanding group (Change keys fault) = ⊥
+IsOfStanding group (Loss lost fault) = ⊥
+IsOfStanding group (Unnamed path) = ⊥
+IsOfStanding group (Renewal fault) = ⊥
+IsOfStanding group Spent = IsPastLast group group
+IsOfStanding group Memory = ⊤
 
 -- the log can't be begun anew, no numbers are left, or there is no memory
 abbrev pub IsOfLists : RenewFault → Type 0
@@ -26,9 +66,11 @@ IsOfLists (Renewal fault) = ⊤
 IsOfLists (UnknownName name) = ⊤
 IsOfLists (StillLong entries) = ⊤
 IsOfLists (Change keys fault) = ⊤
+IsOfLists (Loss lost fault) = ⊤
 IsOfLists Spent = ⊤
 IsOfLists Memory = ⊤
 IsOfLists (Journal refused) = ⊥
+IsOfLists (TooFew few) = ⊥
 IsOfLists (System path error) = ⊥
 IsOfLists (Unread path error) = ⊥
 IsOfLists (Setup path fault) = ⊥
@@ -47,6 +89,8 @@ IsUnnamedAt folder (Busy path) = ⊤
 IsUnnamedAt folder (UnknownName name) = ⊤
 IsUnnamedAt folder (StillLong entries) = ⊤
 IsUnnamedAt folder (Change keys fault) = ⊤
+IsUnnamedAt folder (Loss lost fault) = ⊤
+IsUnnamedAt folder (TooFew few) = ⊤
 IsUnnamedAt folder (NoFreeName path) = ⊤
 IsUnnamedAt folder (Renewal fault) = ⊤
 IsUnnamedAt folder Spent = ⊤

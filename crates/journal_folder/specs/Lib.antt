@@ -1,8 +1,12 @@
 pub mod Beside
+pub mod Contents
 pub mod Counting
 pub mod Faults
-pub mod Moved
+pub mod Holding
+pub mod Looking
+pub mod Losses
 pub mod Naming
+pub mod Nodes
 pub mod Planning
 pub mod Runs
 pub mod Saving

@@ -1,97 +1,144 @@
 //! What stands in the journals of a folder, which stay locked.
-ghost use Rattle.std.specs.Prelude.{◌≡◌, ◌⊎◌, ◌≤◌, ◌+◌, IsTrue, IfErr, IfOk, OnOk, length};
-ghost use Rattle.journal_store.specs.Disks.{now};
-ghost use Rattle.journal_store.specs.Serving.{IsFound, IsRefused};
-ghost use Rattle.journal_folder.specs.Faults.{IsOfFiles};
+ghost use Rattle.std.specs.Prelude.{◌≡◌, ◌∷◌, ◌++◌, [], IfErr, IfOk, OnOk, length, map, take};
+ghost use Rattle.journal_folder.specs.Faults.{IsOfFiles, IsOfHolding};
+ghost use Rattle.journal_folder.specs.Holding.{StandsForSome};
+ghost use Rattle.journal_folder.specs.Nodes.{all_nodes};
 
 use crate::fault::RenewFault;
+use crate::journal_bytes::{bytes_of, journal_of};
+use crate::locking::{NodeLock, lock_journal};
+use crate::loss::Loss;
+use crate::nodes::nodes_of;
+use crate::standing::{Journal, NodeJournal, Standing, stand_for};
 use bouncer_tower::TowerBody;
 use file_disk::{FileDisk, OpenFault, SystemFile};
-use journal_store::{Disk, JournalStore};
-use raft_log::{Log, NodeId};
+use raft_log::{GroupSize, Log, NodeId};
 use run_plan::journal_path;
-use stable_store::{Saved, Stable, StoreFault};
-use std::alloc::Global;
+use stable_store::StoreFault;
+use std::alloc::{AllocError, Global};
 use std::fs::{File, Files};
-use wire_bytes::Wire;
 
-/// The journals of a group, all of them.
+/// The journals of a group, as far as they are there.
 #[derive(Drop)]
 pub struct Group {
-    /// What stands in them, node 1's first.
-    pub saved: Vec<Saved<TowerBody>>,
-    /// Their disks: no other program opens them as long as these are there.
-    pub locks: Vec<FileDisk<SystemFile>>,
+    /// What stands for them.
+    pub standing: Standing,
+    /// No other program opens them as long as these are there.
+    pub locks: Vec<NodeLock>,
 }
 
 impl Group {
-    /// The journals of a folder, each of which is there and sound. None is made or written.
+    /// The journals in a folder of a group of this size, more than half of which are whole. None is made or written.
     pub fn adopt<R: Files<File = File> + AllocGlobal>(
         rt: &R,
         folder: &str,
-        size: u8,
+        size: GroupSize,
     ) -> Result<Group, RenewFault>
-        requires { size ≤ 7 }
-        ensures count { IfOk result (λ group. length group.saved.items ≡ size) }
-        ensures locks { IfOk result (λ group. length group.locks.items ≡ size) }
+        ensures stands { IfOk result (λ group. StandsForSome size group.standing) }
+        ensures count { IfOk result (λ group. length group.standing.saved.items ≡ size) }
+        ensures locks { IfOk result
+            (λ group. map (λ lock. lock.node) group.locks.items ≡ take size all_nodes) }
+        ensures fault { IfErr result IsOfHolding }
+    {
+        let alloc = rt.alloc();
+        let mut gathered = Gathered {
+            journals: Vec::new(alloc),
+            locks: Vec::new(alloc),
+        };
+        let nodes = nodes_of(alloc, size)?;
+        for node in &nodes {
+            gathered.add(rt, folder, *node)?;
+        }
+        let Gathered { journals, locks } = gathered;
+        let standing = stand_for(alloc, folder, &journals)?;
+        Ok(Group { standing, locks })
+    }
+}
+
+/// What is found of some nodes' journals, each of which that is there is locked.
+#[derive(Drop)]
+struct Gathered {
+    journals: Vec<NodeJournal>,
+    locks: Vec<NodeLock>,
+}
+
+impl Gathered {
+    /// The journal of one more node.
+    fn add<R: Files<File = File> + AllocGlobal>(
+        &mut self,
+        rt: &R,
+        folder: &str,
+        node: NodeId,
+    ) -> Result<(), RenewFault>
+        ensures journals { OnOk result (map (λ first. first.node) self.new.journals.items
+            ≡ map (λ first. first.node) self.old.journals.items ++ node ∷ []) }
+        ensures locks { OnOk result (map (λ lock. lock.node) self.new.locks.items
+            ≡ map (λ lock. lock.node) self.old.locks.items ++ node ∷ []) }
         ensures fault { IfErr result IsOfFiles }
     {
         let alloc = rt.alloc();
-        let mut group = Group {
-            saved: Vec::new(alloc),
-            locks: Vec::new(alloc),
-        };
-        for index in 0..size {
-            let path = journal_path(alloc, folder, NodeId::new(index + 1))?;
-            match group.adopt_one(rt, path.as_str()) {
-                Ok(()) => {}
-                Err(fault) => return Err(RenewFault::of_journal(path, fault)),
-            }
-        }
-        Ok(group)
-    }
-
-    /// One more journal.
-    fn adopt_one<R: Files<File = File> + AllocGlobal>(
-        &mut self,
-        rt: &R,
-        path: &str,
-    ) -> Result<(), OpenFault>
-        ensures saved { OnOk result
-            (length self.new.saved.items ≡ length self.old.saved.items + 1) }
-        ensures locks { OnOk result
-            (length self.new.locks.items ≡ length self.old.locks.items + 1) }
-    {
-        let alloc = rt.alloc();
-        let disk = FileDisk::open_existing(rt, alloc, path)?;
+        let mut lock = lock_journal(rt, folder, node)?;
         let none = Log::new(alloc);
-        let beside = match self.saved.first() {
-            Some(first) => &first.log,
+        let beside = match first_log(&self.journals) {
+            Some(log) => log,
             None => &none,
         };
-        let (saved, disk) = adopt_from(alloc, disk, beside)?;
-        self.locks.push(disk).map_err(|_| StoreFault::Memory)?;
-        self.saved.push(saved).map_err(|_| StoreFault::Memory)?;
+        let journal = match read_locked(alloc, &mut lock.disk, beside) {
+            Ok(journal) => journal,
+            Err(fault) => {
+                return Err(RenewFault::of_journal(journal_path(alloc, folder, node)?, fault));
+            }
+        };
+        self.push(NodeJournal { node, journal }, lock)?;
+        Ok(())
+    }
+
+    /// One more journal, and its lock.
+    #[tactic(auto, using(crate::proofs::Numbered::pushed))]
+    fn push(&mut self, journal: NodeJournal, lock: NodeLock) -> Result<(), AllocError>
+        ensures journals { OnOk result (map (λ first. first.node) self.new.journals.items
+            ≡ map (λ first. first.node) self.old.journals.items ++ journal.node ∷ []) }
+        ensures locks { OnOk result (map (λ lock. lock.node) self.new.locks.items
+            ≡ map (λ lock. lock.node) self.old.locks.items ++ lock.node ∷ []) }
+    {
+        self.journals.push(journal)?;
+        self.locks.push(lock)?;
         Ok(())
     }
 }
 
-/// What the journal on a disk stands for, and the disk. Full blocks of entries that another log has at the same
-/// places are one value in memory with it.
-pub fn adopt_from<B: Wire, D: Disk>(
+/// The first log of these journals.
+pub fn first_log(journals: &[NodeJournal]) -> Option<&Log<TowerBody>> {
+    match journals {
+        [] => None,
+        [first, others @ ..] => match &first.journal {
+            Journal::Whole(saved) => Some(&saved.log),
+            Journal::Lost(_) => first_log(others),
+        },
+    }
+}
+
+/// What is found of a journal that is locked.
+fn read_locked(
     alloc: Global,
-    disk: D,
-    beside: &Log<B>,
-) -> Result<(Saved<B>, D), StoreFault>
-    ensures found { IsTrue (D.honest disk)
-        → IfOk result (λ r. IsFound B.taken (now (D.states disk)) r.0) }
-    ensures fault { IsTrue (D.honest disk) → IfErr result
-        (λ e. (e ≡ StoreFault.Device) ⊎ ((e ≡ StoreFault.Memory)
-        ⊎ IsRefused B.taken (now (D.states disk)) e)) }
-    ensures honest { IfOk result (λ r. D.honest r.1 ≡ D.honest disk) }
-{
-    let journal: JournalStore<B, D> = JournalStore::adopt(alloc, disk)?;
-    let mut saved = journal.read()?;
-    saved.log.share(0, beside)?;
-    Ok((saved, journal.into_disk()))
+    disk: &mut Option<FileDisk<SystemFile>>,
+    beside: &Log<TowerBody>,
+) -> Result<Journal, OpenFault> {
+    match disk {
+        None => Ok(Journal::Lost(Loss::Missing)),
+        Some(disk) => read_disk(alloc, disk, beside),
+    }
+}
+
+/// What is found of the journal on a disk.
+fn read_disk(
+    alloc: Global,
+    disk: &mut FileDisk<SystemFile>,
+    beside: &Log<TowerBody>,
+) -> Result<Journal, OpenFault> {
+    let last_error = disk.last_error().map_err(|_| StoreFault::Memory)?;
+    match bytes_of(alloc, disk) {
+        Ok(bytes) => Ok(journal_of(alloc, bytes, beside)?),
+        Err(fault) => Err(OpenFault::of_store(StoreFault::from(fault), last_error.get())),
+    }
 }

@@ -3,6 +3,7 @@ ghost use Rattle.std.specs.Prelude.{◌≡◌, IfOk};
 
 use crate::changed_keys::ChangedKeys;
 use crate::fault::RenewFault;
+use crate::loss::LostJournals;
 use crate::naming::{names_of, texts_of};
 use bouncer_tower::TowerBody;
 use stable_store::Saved;
@@ -22,6 +23,8 @@ pub enum Coming {
     Same,
     /// Its log is begun anew, since the values of these keys differ.
     Changed(ChangedKeys),
+    /// Its log is begun anew, since these journals are lost. The values of these keys differ, if any do.
+    Lost(LostJournals, ChangedKeys),
     /// Its log is begun anew, since it is too long. It has so many entries.
     Long(Number),
     /// Its log has more entries than it is to have, and can't be begun anew. It goes on as it was.
@@ -73,6 +76,12 @@ impl fmt::Display for Foretold {
             Coming::Same => f.write_str("store: the same setup")?,
             Coming::Changed(keys) => {
                 write!(f, "store: the log will be begun anew, since {keys} changed")?
+            }
+            Coming::Lost(lost, keys) => {
+                write!(f, "store: the log will be begun anew, since {lost}")?;
+                if !keys.is_none() {
+                    write!(f, ", and since {keys} changed")?;
+                }
             }
             Coming::Long(entries) => write!(
                 f,

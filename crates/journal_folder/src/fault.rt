@@ -5,6 +5,7 @@ ghost use Rattle.journal_folder.specs.declared.fault.RenewFault.TheVariants.{Mem
 
 use crate::changed_keys::ChangedKeys;
 use crate::folder_fault::FolderFault;
+use crate::loss::{LostJournals, TooFew};
 use file_disk::OpenFault;
 use renewal::RenewalFault;
 use stable_store::StoreFault;
@@ -18,9 +19,12 @@ use wire_bytes::Number;
 /// Why a log is not begun anew, and what to do.
 #[derive(Debug, Drop, Error)]
 pub enum RenewFault {
-    /// A journal is not there, not sound, or open.
+    /// A journal is open, or can't be opened or read.
     #[error("{0}")]
     Journal(Refused),
+    /// Too few journals are whole.
+    #[error("{0}")]
+    TooFew(TooFew),
     /// The folder is called `.` or `/`.
     #[error("{0}: the folder of the journals needs a name of its own: move it into a folder, and say so in the configuration")]
     Unnamed(String),
@@ -46,6 +50,9 @@ pub enum RenewFault {
     /// The log can't be begun anew, as it would have to be since the values of these keys changed.
     #[error("{0} changed, and the log can't be begun anew for that: {1}; with the old values it goes on")]
     Change(ChangedKeys, RenewalFault),
+    /// The log can't be begun anew, as it would have to be since these journals are lost.
+    #[error("{0}, and the log can't be begun anew from the others: {1}")]
+    Loss(LostJournals, RenewalFault),
     /// The new log would not be short enough.
     #[error("the new log would still have {0} entries: set renew_at higher")]
     StillLong(Number),
@@ -85,6 +92,17 @@ impl RenewFault {
         }
     }
 
+    /// The same of a log that is begun anew since these journals are lost.
+    pub fn for_loss(self, lost: LostJournals) -> RenewFault
+        ensures { IsOfLists self → IsOfLists result }
+    {
+        match self {
+            RenewFault::Renewal(RenewalFault::Memory) => RenewFault::Memory,
+            RenewFault::Renewal(fault) => RenewFault::Loss(lost, fault),
+            fault => fault,
+        }
+    }
+
     /// Whether the log itself can't be begun anew, so that nothing was written.
     pub fn is_of_log(&self) -> bool
         ensures { IsTrue result → IsOfLists self.now }
@@ -105,11 +123,13 @@ impl RenewFault {
                 error.kind() == ErrorKind::OutOfMemory
             }
             RenewFault::Unnamed(_)
+            | RenewFault::TooFew(_)
             | RenewFault::Setup(_, _)
             | RenewFault::Busy(_)
             | RenewFault::NoFreeName(_)
             | RenewFault::UnknownName(_)
             | RenewFault::Change(_, _)
+            | RenewFault::Loss(_, _)
             | RenewFault::StillLong(_)
             | RenewFault::Renewal(_)
             | RenewFault::Spent => false,
@@ -158,18 +178,17 @@ impl Refused {
     fn advice(&self) -> &'static str {
         match &self.fault {
             OpenFault::InUse => "end the bouncer first",
-            OpenFault::System(error) if error.kind() == ErrorKind::NotFound => {
-                "start the bouncer with the configuration that it ran with last, and end it, which makes what is missing; then try again"
+            OpenFault::Store(StoreFault::Version) => {
+                "a later program wrote it: start that one, nothing was changed"
             }
             OpenFault::NotAFile
+            | OpenFault::System(_)
             | OpenFault::Store(
-                StoreFault::NotAStore | StoreFault::Version | StoreFault::Damaged(_),
-            ) => {
-                "if all others are whole, move it away, start the bouncer with the configuration that it ran with last, and end it; then try again"
-            }
-            OpenFault::System(_) | OpenFault::Store(StoreFault::Device | StoreFault::Memory) => {
-                "nothing was changed"
-            }
+                StoreFault::Device
+                | StoreFault::Memory
+                | StoreFault::NotAStore
+                | StoreFault::Damaged(_),
+            ) => "nothing was changed",
         }
     }
 }

@@ -1,25 +1,29 @@
 //! What the next start will do with the store in a folder. Nothing is written, and no lock is taken.
-ghost use Rattle.std.specs.Prelude.{◌≡◌, ◌<◌, ◌≤◌, ℕ, IfOk, IsTrue, length};
+ghost use Rattle.std.specs.Prelude.{◌≡◌, ◌<◌, ◌≤◌, ◌∷◌, ◌++◌, [], IfOk, OnOk, length, map};
 ghost use Rattle.raft_log.specs.Peers.{IsGroupSize};
 ghost use Rattle.store_setup.specs.Changes.{IsOf};
+ghost use Rattle.journal_folder.specs.Holding.{StandsForSome};
 ghost use Rattle.journal_folder.specs.Settling.{IsComing};
 
-use crate::adopting::adopt_from;
+use crate::adopting::first_log;
 use crate::changed_keys::ChangedKeys;
 use crate::coming::{Coming, Foretold};
 use crate::counting::most_entries;
 use crate::fault::RenewFault;
+use crate::journal_bytes::journal_of;
+use crate::loss::Loss;
+use crate::nodes::nodes_of;
 use crate::placing::folder_in_use;
 use crate::renewing::{plan_for, short_plan};
+use crate::standing::{Journal, NodeJournal, Standing, stand_for};
 use crate::store::{Next, find, next_of, size_of, store_of};
 use bouncer_config::Config;
 use bouncer_tower::TowerBody;
 use file_disk::OpenFault;
-use journal_store::MemoryDisk;
-use raft_log::{Log, NodeId};
+use raft_log::{GroupSize, Log, NodeId};
 use run_plan::journal_path;
 use stable_store::Saved;
-use std::alloc::Global;
+use std::alloc::{AllocError, Global};
 use std::fs;
 use std::fs::Files;
 use std::io::ErrorKind;
@@ -41,60 +45,52 @@ pub fn foretold<R: Files + AllocGlobal>(
     let found = find(rt, folder.as_str())?;
     let next = next_of(alloc, &found, &config.setup, size_of(config))?;
     let store = store_of(alloc, found, &config.setup)?;
-    match next {
-        Next::Make => Ok(Foretold::of_none(alloc)),
-        Next::Describe => {
-            let group = read_group(rt, folder.as_str(), store.nodes.value(), false)?;
-            Foretold::of(alloc, Coming::Describe, &store, &group)
-        }
-        Next::GoOn => foretold_length(rt, config, folder.as_str(), &store, renew_at),
-        Next::BeginAnew => foretold_change(rt, config, folder.as_str(), &store),
+    if next == Next::Make {
+        return Ok(Foretold::of_none(alloc));
     }
+    let standing = read_group(rt, folder.as_str(), store.nodes)?;
+    let coming = coming_of(alloc, config, next, &store, &standing, renew_at)?;
+    Foretold::of(alloc, coming, &store, &standing.saved)
 }
 
-/// The log of a store in a folder is begun anew, as far as memory tells.
-fn foretold_change<R: Files + AllocGlobal>(
-    rt: &R,
+/// What comes of a store in whose journals this stands, of which these are lost, as far as memory tells.
+fn coming_of(
+    alloc: Global,
     config: &Config,
-    folder: &str,
+    next: Next,
     store: &StoreSetup,
-) -> Result<Foretold, RenewFault>
-    requires nodes { IsGroupSize (length config.now.listen.items) }
-    requires other { IsOf store.now config.now.setup (length config.now.listen.items) → ⊥ }
-    ensures { (renew_at : ℕ) → IfOk result (λ told.
-        IsComing config.now.setup (length config.now.listen.items) renew_at told.coming) }
-{
-    let alloc = rt.alloc();
-    let group = read_group(rt, folder, store.nodes.value(), true)?;
-    let keys = ChangedKeys::of(alloc, store, config)?;
-    match plan_for(alloc, config, &[], store, &group) {
-        Ok(_plan) => Foretold::of(alloc, Coming::Changed(keys), store, &group),
-        Err(fault) => Err(fault.for_change(keys)),
-    }
-}
-
-/// The store in a folder goes on, unless its log is too long.
-fn foretold_length<R: Files + AllocGlobal>(
-    rt: &R,
-    config: &Config,
-    folder: &str,
-    store: &StoreSetup,
+    standing: &Standing,
     renew_at: u64,
-) -> Result<Foretold, RenewFault>
-    requires { IsGroupSize (length config.now.listen.items) }
-    ensures { IfOk result (λ told.
-        IsComing config.now.setup (length config.now.listen.items) renew_at told.coming) }
+) -> Result<Coming, RenewFault>
+    requires nodes { IsGroupSize (length config.now.listen.items) }
+    requires next { next ≡ Next.BeginAnew
+        → IsOf store.now config.now.setup (length config.now.listen.items) → ⊥ }
+    requires stands { StandsForSome store.now.nodes standing.now }
+    requires first { 1 ≤ length standing.now.saved.items }
+    requires few { length standing.now.saved.items ≤ 7 }
+    ensures { IfOk result
+        (IsComing config.now.setup (length config.now.listen.items) renew_at) }
 {
-    let alloc = rt.alloc();
-    let group = read_group(rt, folder, store.nodes.value(), false)?;
-    if renew_at == 0 || most_entries(&group).value() <= renew_at {
-        return Foretold::of(alloc, Coming::Same, store, &group);
+    let Standing { saved: group, lost } = standing;
+    let keys = ChangedKeys::of(alloc, store, config)?;
+    if !lost.is_none() {
+        let lost = lost.again(alloc)?;
+        return match plan_for(alloc, config, &[], store, group) {
+            Ok(_plan) => Ok(Coming::Lost(lost, keys)),
+            Err(fault) => Err(fault.for_loss(lost)),
+        };
     }
-    let coming = coming_length(alloc, config, store, &group, renew_at)?;
-    Foretold::of(alloc, coming, store, &group)
+    match next {
+        Next::Make | Next::Describe => Ok(Coming::Describe),
+        Next::GoOn => coming_length(alloc, config, store, group, renew_at),
+        Next::BeginAnew => match plan_for(alloc, config, &[], store, group) {
+            Ok(_plan) => Ok(Coming::Changed(keys)),
+            Err(fault) => Err(fault.for_change(keys)),
+        },
+    }
 }
 
-/// What comes of a store one of whose logs is too long.
+/// What comes of a store that goes on, unless its log is too long.
 fn coming_length(
     alloc: Global,
     config: &Config,
@@ -103,12 +99,12 @@ fn coming_length(
     renew_at: u64,
 ) -> Result<Coming, RenewFault>
     requires nodes { IsGroupSize (length config.now.listen.items) }
-    requires some { 0 < renew_at }
+    requires first { 1 ≤ length group.now }
+    requires few { length group.now ≤ 7 }
     ensures { IfOk result
         (IsComing config.now.setup (length config.now.listen.items) renew_at) }
 {
-    if group.len() != config.listen.len() {
-        // a journal is missing, and made first
+    if renew_at == 0 || most_entries(group).value() <= renew_at {
         return Ok(Coming::Same);
     }
     match short_plan(alloc, config, store, group, renew_at) {
@@ -118,45 +114,62 @@ fn coming_length(
     }
 }
 
-/// What stands in the journals of so many nodes that are there, node 1's first; in all of them, where it is to be
-/// whole.
+/// What stands for the journals in a folder of a group of this size.
 fn read_group<R: Files + AllocGlobal>(
     rt: &R,
     folder: &str,
-    nodes: u8,
-    is_whole: bool,
-) -> Result<Vec<Saved<TowerBody>>, RenewFault>
-    requires { nodes ≤ 7 }
-    ensures few { IfOk result (λ group. length group.items ≤ nodes) }
-    ensures whole { IsTrue is_whole → IfOk result (λ group. length group.items ≡ nodes) }
+    size: GroupSize,
+) -> Result<Standing, RenewFault>
+    ensures stands { IfOk result (StandsForSome size) }
+    ensures count { IfOk result (λ standing. length standing.saved.items ≡ size) }
 {
     let alloc = rt.alloc();
-    let mut group = Vec::new(alloc);
-    for index in 0..nodes {
-        let path = journal_path(alloc, folder, NodeId::new(index + 1))?;
-        match read_journal(rt, path.as_str(), &group) {
-            Ok(saved) => group.push(saved).map_err(|_| RenewFault::Memory)?,
-            Err(OpenFault::System(error)) if !is_whole && error.kind() == ErrorKind::NotFound => {}
-            Err(fault) => return Err(RenewFault::of_journal(path, fault)),
-        }
+    let mut journals = Vec::new(alloc);
+    let nodes = nodes_of(alloc, size)?;
+    for node in &nodes {
+        let journal = read_journal(rt, folder, *node, &journals)?;
+        add(&mut journals, journal)?;
     }
-    Ok(group)
+    let standing = stand_for(alloc, folder, &journals)?;
+    Ok(standing)
 }
 
-/// What stands in the journal of a path. Full blocks of entries that the first log of these has too are one value in
+/// One more journal.
+#[tactic(auto, using(crate::proofs::Numbered::pushed))]
+fn add(journals: &mut Vec<NodeJournal>, journal: NodeJournal) -> Result<(), AllocError>
+    ensures { OnOk result (map (λ first. first.node) journals.new.items
+        ≡ map (λ first. first.node) journals.old.items ++ journal.node ∷ []) }
+{
+    journals.push(journal)?;
+    Ok(())
+}
+
+/// What is found of the journal of a node. Full blocks of entries that the first log of these has too are one value in
 /// memory with it.
 fn read_journal<R: Files + AllocGlobal>(
     rt: &R,
-    path: &str,
-    group: &[Saved<TowerBody>],
-) -> Result<Saved<TowerBody>, OpenFault> {
+    folder: &str,
+    node: NodeId,
+    journals: &[NodeJournal],
+) -> Result<NodeJournal, RenewFault>
+    ensures { IfOk result (λ read. read.node ≡ node) }
+{
     let alloc = rt.alloc();
-    let disk = MemoryDisk::new(alloc, fs::read(rt, path)?);
+    let path = journal_path(alloc, folder, node)?;
     let none = Log::new(alloc);
-    let beside = match group.first() {
-        Some(first) => &first.log,
+    let beside = match first_log(journals) {
+        Some(log) => log,
         None => &none,
     };
-    let (saved, _) = adopt_from(alloc, disk, beside)?;
-    Ok(saved)
+    match fs::read(rt, path.as_str()) {
+        Ok(bytes) => match journal_of(alloc, bytes, beside) {
+            Ok(journal) => Ok(NodeJournal { node, journal }),
+            Err(fault) => Err(RenewFault::of_journal(path, OpenFault::Store(fault))),
+        },
+        Err(error) if error.kind() == ErrorKind::NotFound => {
+            let journal = Journal::Lost(Loss::Missing);
+            Ok(NodeJournal { node, journal })
+        }
+        Err(error) => Err(RenewFault::of_journal(path, OpenFault::System(error))),
+    }
 }

@@ -1,6 +1,7 @@
 //! A store that no other program changes.
 ghost use Rattle.std.specs.Prelude.{◌≡◌, ◌≤◌, IfErr, IfOk, length};
-ghost use Rattle.journal_folder.specs.Faults.{IsOfFiles};
+ghost use Rattle.journal_folder.specs.Faults.{IsOfFiles, IsOfHolding};
+ghost use Rattle.journal_folder.specs.Holding.{StandsForSome};
 
 use crate::adopting::Group;
 use crate::fault::RenewFault;
@@ -17,21 +18,23 @@ pub struct Held {
     pub group: Group,
 }
 
-/// The store in the folder of a configuration, each journal of which is there and sound. What it is is read once more
-/// behind the locks, since another program may have begun its log anew before.
+/// The store in the folder of a configuration, more than half of whose journals are whole. What it is is read once
+/// more behind the locks, since another program may have begun its log anew before.
 pub fn hold<R: Files<File = File> + AllocGlobal>(
     rt: &R,
     config: &Config,
 ) -> Result<Held, RenewFault>
+    ensures stands { IfOk result
+        (λ held. StandsForSome held.store.nodes held.group.standing) }
     ensures count { IfOk result
-        (λ held. length held.group.saved.items ≡ held.store.nodes) }
-    ensures some { IfOk result (λ held. 1 ≤ length held.group.saved.items) }
-    ensures few { IfOk result (λ held. length held.group.saved.items ≤ 7) }
-    ensures fault { IfErr result IsOfFiles }
+        (λ held. length held.group.standing.saved.items ≡ held.store.nodes) }
+    ensures some { IfOk result (λ held. 1 ≤ length held.group.standing.saved.items) }
+    ensures few { IfOk result (λ held. length held.group.standing.saved.items ≤ 7) }
+    ensures fault { IfErr result IsOfHolding }
 {
     let folder = config.store.as_str();
     let nodes = store_in(rt, config)?.nodes;
-    let group = Group::adopt(rt, folder, nodes.value())?;
+    let group = Group::adopt(rt, folder, nodes)?;
     let store = store_in(rt, config)?;
     if store.nodes.value() != nodes.value() {
         return Err(RenewFault::Busy(setup_path(rt.alloc(), folder)?));

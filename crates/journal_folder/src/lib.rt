@@ -3,7 +3,8 @@
 //! A renewed folder is decided by its name alone, so that a program that is killed at any moment leaves either folder whole.
 //! Of the journals the log counts that a leader among all nodes would have; each new journal holds the renewed log,
 //! a term and a run that never were, and a vote for node 1. A log that came about under another setup or another number
-//! of nodes than the configuration's is begun anew before any node starts.
+//! of nodes than the configuration's is begun anew before any node starts, and so is that of a store some of whose
+//! journals are lost, from the others.
 #![tactic(auto)]
 
 mod adopting;
@@ -16,9 +17,11 @@ mod folder;
 mod folder_fault;
 mod foretelling;
 mod held;
+mod journal_bytes;
 mod locking;
+mod looking;
+mod loss;
 mod making;
-mod moved_away;
 mod naming;
 mod nodes;
 mod paths;
@@ -29,10 +32,10 @@ mod renewing;
 mod saving;
 mod settled;
 mod settling;
+mod standing;
 mod store;
 mod store_file;
 
-pub use adopting::adopt_from;
 pub use changed_keys::ChangedKeys;
 pub use coming::{Coming, Foretold};
 pub use counting::{Numbers, greatest_of, most_entries, most_up_to_date};
@@ -41,7 +44,8 @@ pub use fault::{Refused, RenewFault};
 pub use folder::{make_folder, sync_around};
 pub use folder_fault::FolderFault;
 pub use foretelling::foretold;
-pub use moved_away::{Earlier, earlier_of, give};
+pub use journal_bytes::is_lost;
+pub use loss::{Loss, LostJournal, LostJournals, TooFew};
 pub use naming::{names_in, names_of};
 pub use paths::Paths;
 pub use placing::{decide, finish_renewal, put_in_place};
@@ -50,5 +54,6 @@ pub use renewed::Renewed;
 pub use renewing::renew;
 pub use saving::{Unsaved, save_group, save_log};
 pub use settled::Settled;
-pub use settling::settle;
+pub use settling::{settle, settle_by_reading};
+pub use standing::{Journal, NodeJournal, Standing, stand_for};
 pub use store::{Found, Next, next_of, store_of};

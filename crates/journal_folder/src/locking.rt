@@ -1,26 +1,69 @@
 //! The locks of a folder's journals.
+ghost use Rattle.std.specs.Prelude.{◌≡◌, ◌∷◌, ◌++◌, [], IfOk, OnOk, map};
+ghost use Rattle.journal_folder.specs.Nodes.{all_nodes};
+
 use crate::folder_fault::FolderFault;
 use crate::nodes::all_nodes;
 use file_disk::{FileDisk, OpenFault, SystemFile};
+use raft_log::NodeId;
 use run_plan::journal_path;
+use std::alloc::AllocError;
 use std::fs::{File, Files};
 use std::io::ErrorKind;
 
-/// The journals of a folder, as many of a group as lie there, each locked until it is dropped. So no bouncer runs
-/// over them meanwhile.
+/// The journal of a node, locked until this is dropped, where it is there. No other program opens it meanwhile.
+#[derive(Drop)]
+pub struct NodeLock {
+    pub node: NodeId,
+    pub disk: Option<FileDisk<SystemFile>>,
+}
+
+/// The journals of a folder, of each node that a group may have. So no bouncer runs over them meanwhile.
 pub fn lock_journals<R: Files<File = File> + AllocGlobal>(
     rt: &R,
     folder: &str,
-) -> Result<Vec<FileDisk<SystemFile>>, FolderFault> {
+) -> Result<Vec<NodeLock>, FolderFault>
+    ensures { IfOk result (λ locks. map (λ lock. lock.node) locks.items ≡ all_nodes) }
+{
     let alloc = rt.alloc();
-    let mut disks = Vec::new(alloc);
-    for node in &all_nodes(alloc)? {
-        let path = journal_path(alloc, folder, *node)?;
-        match FileDisk::open_existing(rt, alloc, path.as_str()) {
-            Ok(disk) => disks.push(disk).map_err(|_| FolderFault::Memory)?,
-            Err(OpenFault::System(error)) if error.kind() == ErrorKind::NotFound => {}
-            Err(fault) => return Err(FolderFault::Journal(path, fault)),
-        }
+    let mut locks = Vec::new(alloc);
+    let nodes = all_nodes(alloc)?;
+    for node in &nodes {
+        let lock = lock_journal(rt, folder, *node)?;
+        add(&mut locks, lock)?;
     }
-    Ok(disks)
+    Ok(locks)
+}
+
+/// One more lock.
+#[tactic(auto, using(crate::proofs::Numbered::pushed))]
+fn add(locks: &mut Vec<NodeLock>, lock: NodeLock) -> Result<(), AllocError>
+    ensures { OnOk result (map (λ lock. lock.node) locks.new.items
+        ≡ map (λ lock. lock.node) locks.old.items ++ lock.node ∷ []) }
+{
+    locks.push(lock)?;
+    Ok(())
+}
+
+/// The journal of a node in a folder.
+pub fn lock_journal<R: Files<File = File> + AllocGlobal>(
+    rt: &R,
+    folder: &str,
+    node: NodeId,
+) -> Result<NodeLock, FolderFault>
+    ensures { IfOk result (λ lock. lock.node ≡ node) }
+{
+    let alloc = rt.alloc();
+    let path = journal_path(alloc, folder, node)?;
+    let disk = match FileDisk::open_existing(rt, alloc, path.as_str()) {
+        Ok(disk) => Some(disk),
+        Err(OpenFault::System(error)) if error.kind() == ErrorKind::NotFound => None,
+        Err(fault) => return Err(FolderFault::Journal(path, fault)),
+    };
+    Ok(NodeLock { node, disk })
+}
+
+/// Whether none of these journals is there.
+pub fn are_missing(locks: &[NodeLock]) -> bool {
+    locks.iter().all(|lock| lock.disk.is_none())
 }

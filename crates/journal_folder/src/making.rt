@@ -1,16 +1,18 @@
 //! New journals in a folder of their own.
-ghost use Rattle.std.specs.Prelude.{◌≡◌, ◌≤◌, IfErr, IfOk, length};
+ghost use Rattle.std.specs.Prelude.{◌≡◌, ◌∷◌, ◌++◌, ◌+◌, [], IfErr, IfOk, OnOk, length, take};
 ghost use Rattle.journal_folder.specs.Faults.{IsOfFiles};
+ghost use Rattle.journal_folder.specs.Nodes.{all_nodes};
 
 use crate::fault::RenewFault;
 use crate::folder::make_folder;
 use crate::folder_fault::FolderFault;
+use crate::nodes::nodes_of;
 use crate::planning::Plan;
 use crate::saving::save_group;
 use crate::store_file::{Described, describe};
 use bouncer_tower::TowerBody;
 use file_disk::{FileJournal, OpenFault, open_journal};
-use raft_log::{Log, NodeId};
+use raft_log::{GroupSize, Log, NodeId};
 use run_plan::journal_path;
 use stable_store::StoreFault;
 use std::fs;
@@ -25,10 +27,10 @@ pub fn make_journals<R: Files<File = File> + AllocGlobal>(
     folder: &str,
     plan: &Plan,
     store: &StoreSetup,
-) -> Result<Vec<FileJournal<TowerBody>>, RenewFault>
-    requires { length plan.now.boots.items ≤ 7 }
-    ensures count { IfOk result
-        (λ journals. length journals.items ≡ length plan.now.boots.items) }
+) -> Result<Opened, RenewFault>
+    requires { length plan.now.boots.items ≡ store.now.nodes }
+    ensures nodes { IfOk result
+        (λ opened. opened.nodes.items ≡ take store.now.nodes all_nodes) }
     ensures fault { IfErr result IsOfFiles }
 {
     let alloc = rt.alloc();
@@ -37,42 +39,76 @@ pub fn make_journals<R: Files<File = File> + AllocGlobal>(
         return Err(RenewFault::from(FolderFault::of_system(alloc, folder, error)));
     }
     let described = describe(rt, folder, store)?;
-    let mut journals = open_journals(rt, &described, plan.boots.len() as u8)?;
+    let mut opened = Opened::of_nodes(rt, &described, store.nodes)?;
     match save_group(
         alloc,
-        &mut journals,
+        &mut opened.journals,
         &plan.boots,
         plan.term,
         &plan.renewal.log,
     ) {
-        Ok(()) => Ok(journals),
+        Ok(()) => Ok(opened),
         Err(unsaved) => {
-            let path = journal_path(alloc, folder, NodeId::new(unsaved.index as u8 + 1))?;
-            Err(unwritten(&journals[unsaved.index], path, unsaved.fault))
+            let path = journal_path(alloc, folder, opened.nodes[unsaved.index])?;
+            Err(unwritten(&opened.journals[unsaved.index], path, unsaved.fault))
         }
     }
 }
 
-/// New journals of so many nodes, node 1's first, each locked until it is dropped, of a store that says what it is.
-fn open_journals<R: Files<File = File> + AllocGlobal>(
-    rt: &R,
-    described: &Described,
-    size: u8,
-) -> Result<Vec<FileJournal<TowerBody>>, RenewFault>
-    requires { size ≤ 7 }
-    ensures count { IfOk result (λ journals. length journals.items ≡ size) }
-    ensures fault { IfErr result IsOfFiles }
-{
-    let alloc = rt.alloc();
-    let mut journals = Vec::new(alloc);
-    for index in 0..size {
-        let path = journal_path(alloc, described.folder(), NodeId::new(index + 1))?;
+/// New journals of some nodes, each locked until it is dropped.
+#[derive(Drop)]
+pub struct Opened {
+    /// Whose they are, in their order.
+    pub nodes: Vec<NodeId>,
+    pub journals: Vec<FileJournal<TowerBody>>,
+}
+
+impl Opened {
+    /// Those of a group of this size, of a store that says what it is.
+    fn of_nodes<R: Files<File = File> + AllocGlobal>(
+        rt: &R,
+        described: &Described,
+        size: GroupSize,
+    ) -> Result<Opened, RenewFault>
+        ensures nodes { IfOk result (λ opened. opened.nodes.items ≡ take size all_nodes) }
+        ensures count { IfOk result (λ opened. length opened.journals.items ≡ size) }
+        ensures places { IfOk result (λ opened. length opened.nodes.items ≡ size) }
+        ensures fault { IfErr result IsOfFiles }
+    {
+        let alloc = rt.alloc();
+        let mut opened = Opened {
+            nodes: Vec::new(alloc),
+            journals: Vec::new(alloc),
+        };
+        let nodes = nodes_of(alloc, size)?;
+        for node in &nodes {
+            opened.add(rt, described, *node)?;
+        }
+        Ok(opened)
+    }
+
+    /// The journal of one more node.
+    fn add<R: Files<File = File> + AllocGlobal>(
+        &mut self,
+        rt: &R,
+        described: &Described,
+        node: NodeId,
+    ) -> Result<(), RenewFault>
+        ensures nodes { OnOk result (self.new.nodes.items ≡ self.old.nodes.items ++ node ∷ []) }
+        ensures count { OnOk result
+            (length self.new.journals.items ≡ length self.old.journals.items + 1) }
+        ensures places { OnOk result
+            (length self.new.nodes.items ≡ length self.old.nodes.items + 1) }
+        ensures fault { IfErr result IsOfFiles }
+    {
+        let alloc = rt.alloc();
+        let path = journal_path(alloc, described.folder(), node)?;
         match open_journal(rt, alloc, path.as_str(), &Log::new(alloc)) {
-            Ok(journal) => journals.push(journal).map_err(|_| RenewFault::Memory)?,
+            Ok(journal) => self.journals.push(journal).map_err(|_| RenewFault::Memory)?,
             Err(fault) => return Err(RenewFault::of_journal(path, fault)),
         }
+        self.nodes.push(node).map_err(|_| RenewFault::Memory)
     }
-    Ok(journals)
 }
 
 /// A folder is not there, nor what lay in it.

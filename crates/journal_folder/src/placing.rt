@@ -4,9 +4,8 @@ ghost use Rattle.journal_folder.specs.Beside.{IsOldName, beside, old_ending};
 
 use crate::folder::sync_around;
 use crate::folder_fault::FolderFault;
-use crate::locking::lock_journals;
+use crate::locking::{NodeLock, are_missing, lock_journals};
 use crate::paths::{Paths, beside};
-use file_disk::{FileDisk, SystemFile};
 use std::alloc::Global;
 use std::fs;
 use std::fs::{File, Files};
@@ -89,7 +88,7 @@ fn undo<R: Files<File = File>>(rt: &R, paths: &Paths) {
 pub fn put_in_place<R: Files<File = File> + AllocGlobal>(
     rt: &R,
     paths: &Paths,
-    journals: &[FileDisk<SystemFile>],
+    journals: &[NodeLock],
 ) -> Result<Option<String>, FolderFault>
     ensures { IfOk result (λ old. IfSome old
         (λ name. IsOldName (string_bytes paths.now.folder) (string_bytes name))) }
@@ -104,7 +103,7 @@ pub fn put_in_place<R: Files<File = File> + AllocGlobal>(
         Ok(old) => old,
         Err(fault) => {
             // a folder without journals is one whose journals were moved away before: there is no way back
-            if !journals.is_empty() {
+            if !are_missing(journals) {
                 undo(rt, paths);
             }
             return Err(fault);

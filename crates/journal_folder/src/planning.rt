@@ -16,7 +16,7 @@ use std::alloc::Global;
 use wire_bytes::Number;
 
 /// A number is at most this one.
-const GREATEST: u64 = 1 << 60;
+pub const GREATEST: u64 = 1 << 60;
 
 /// What is to stand in the new journals of a group, and what stood in the old ones.
 #[derive(Drop)]

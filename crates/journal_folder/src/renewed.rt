@@ -1,15 +1,17 @@
 //! What a renewal did.
+use crate::loss::LostJournals;
 use std::fmt;
 use wire_bytes::Number;
 
-/// What a renewal did: how many entries the log had and has, how much is kept in it, and where the old journals
-/// lie now.
+/// What a renewal did: how many entries the log had and has, how much is kept in it, which journals were lost, and where
+/// the old ones lie now.
 #[derive(Drop)]
 pub struct Renewed {
     pub before: Number,
     pub now: Number,
     pub targets: u64,
     pub lines: u64,
+    pub lost: LostJournals,
     pub old: Option<String>,
 }
 
@@ -19,6 +21,9 @@ impl fmt::Display for Renewed {
         writeln!(f, "entries now: {}", self.now.value())?;
         writeln!(f, "targets: {}", self.targets)?;
         write!(f, "lines kept: {}", self.lines)?;
+        if !self.lost.is_none() {
+            write!(f, "\nlost: {}", self.lost)?;
+        }
         match &self.old {
             Some(old) => write!(f, "\nold folder: {old}"),
             None => Ok(()),

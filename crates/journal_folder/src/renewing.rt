@@ -45,7 +45,13 @@ pub fn renew<R: Files<File = File> + AllocGlobal>(
     }
     finish_renewal(rt, folder)?;
     let held = hold(rt, config)?;
-    let plan = plan_for(alloc, config, forgotten, &held.store, &held.group.saved)?;
+    let plan = plan_for(
+        alloc,
+        config,
+        forgotten,
+        &held.store,
+        &held.group.standing.saved,
+    )?;
     carry_out(rt, config, &held, &plan)
 }
 
@@ -105,6 +111,8 @@ pub fn carry_out<R: Files<File = File> + AllocGlobal>(
     requires nodes { IsGroupSize (length config.now.listen.items) }
     requires boots { length plan.now.boots.items ≡ length config.now.listen.items }
     ensures told { IfOk result (Tells plan.now) }
+    ensures lost { IfOk result
+        (λ told. told.lost.journals.items ≡ held.now.group.standing.lost.journals.items) }
     ensures old { IfOk result (λ told. IfSome told.old
         (λ name. IsOldName (string_bytes config.now.store) (string_bytes name))) }
     ensures unnamed { IfErr result (IsUnnamedAt (string_bytes config.now.store)) }
@@ -132,12 +140,15 @@ fn replace<R: Files<File = File> + AllocGlobal>(
     plan: &Plan,
     now: &StoreSetup,
 ) -> Result<Renewed, RenewFault>
-    requires { length plan.now.boots.items ≤ 7 }
+    requires { length plan.now.boots.items ≡ now.now.nodes }
     ensures told { IfOk result (Tells plan.now) }
+    ensures lost { IfOk result
+        (λ told. told.lost.journals.items ≡ held.now.group.standing.lost.journals.items) }
     ensures old { IfOk result (λ told. IfSome told.old
         (λ name. IsOldName (string_bytes paths.now.folder) (string_bytes name))) }
     ensures fault { IfErr result IsOfFiles }
 {
+    let lost = held.group.standing.lost.again(rt.alloc())?;
     let _journals = make_journals(rt, paths.renewing.as_str(), plan, now)?;
     decide(rt, paths)?;
     let old = put_in_place(rt, paths, &held.group.locks)?;
@@ -146,6 +157,7 @@ fn replace<R: Files<File = File> + AllocGlobal>(
         now: plan.renewal.log.len(),
         targets: plan.renewal.targets,
         lines: plan.renewal.lines,
+        lost,
         old,
     })
 }

@@ -4,6 +4,7 @@ ghost use Rattle.std.specs.List.{All};
 ghost use Rattle.raft_log.specs.Batches.{batch_limit};
 ghost use Rattle.stable_store.specs.Changes.{change};
 ghost use Rattle.stable_store.specs.Stores.{IsHonest, MayFollow, Serves, nothing_saved};
+ghost use Rattle.journal_folder.specs.Losses.{is_nothing};
 ghost use Rattle.journal_folder.specs.Saving.{all_begun_anew, begun_anew};
 
 use raft_log::{BATCH_LIMIT, Entry, Log};
@@ -95,6 +96,7 @@ fn save_more<B: Wire, S: Stable<B>>(
 
 /// Whether nothing stands in a store.
 pub fn is_nothing<B: Wire>(saved: &Saved<B>) -> bool
+    ensures value { result ≡ is_nothing saved.now }
     ensures nothing { IsTrue result → saved.now ≡ nothing_saved }
     ensures something { result ≡ false → saved.now ≢ nothing_saved }
 {

@@ -15,6 +15,9 @@ pub enum Settled {
     Same,
     /// Its log came about under another setup or another number of nodes, and was begun anew.
     Changed(ChangedKeys, Renewed),
+    /// Journals of it were lost, which are told of, and its log was begun anew from the others. The values of these
+    /// keys differ, if any do.
+    Lost(ChangedKeys, Renewed),
     /// Its log had more entries than it is to have, and was begun anew.
     Long(Renewed),
     /// Its log has more entries than it is to have, and can't be begun anew. It goes on as it was.

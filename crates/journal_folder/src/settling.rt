@@ -1,30 +1,33 @@
 //! What a start does before any journal is opened: the store is of the configuration's setup from then on.
-ghost use Rattle.std.specs.Prelude.{◌≡◌, ◌<◌, ◌≤◌, ℕ, IfErr, IfOk, length, string_bytes};
+ghost use Rattle.std.specs.Prelude.{◌≡◌, ◌≢◌, ◌<◌, ◌≤◌, ℕ, [], IfErr, IfOk, length, string_bytes};
 ghost use Rattle.raft_log.specs.Peers.{IsGroupSize};
 ghost use Rattle.journal_folder.specs.Faults.{IsOfFiles, IsUnnamedAt};
 ghost use Rattle.journal_folder.specs.Counting.{most_entries};
-ghost use Rattle.journal_folder.specs.Settling.{IsSettled};
-ghost use Rattle.store_setup.specs.Changes.{IsOf};
+ghost use Rattle.journal_folder.specs.Settling.{IsChanged, IsSettled, IsWithout};
+ghost use Rattle.store_setup.specs.Changes.{IsOf, changed_keys};
+ghost use Rattle.journal_folder.specs.Holding.{StandsForSome};
 
 use crate::changed_keys::ChangedKeys;
 use crate::counting::most_entries;
 use crate::fault::RenewFault;
 use crate::held::{Held, hold};
 use crate::locking::lock_journals;
+use crate::looking::{Look, look_at};
+use crate::renewed::Renewed;
 use crate::renewing::{carry_out, plan_for, short_plan};
 use crate::settled::Settled;
-use crate::store::{Next, find, is_there, next_of, size_of};
+use crate::standing::Standing;
+use crate::store::{Next, find, next_of, size_of};
 use crate::store_file::{Described, describe, read_setup, setup_path};
 use bouncer_config::Config;
-use raft_log::NodeId;
 use std::fs::{File, Files};
 use store_setup::StoreSetup;
 use wire_bytes::Number;
 
 /// The store in the folder of a configuration, which is there and in which no renewal waits to be finished, is made
 /// one of its setup and of as many nodes. A log that came about under others is begun anew, and so is one of more
-/// than `renew_at` entries, if that is not 0. Where it fails, the folder is as it was, or what was begun is finished
-/// by the next start.
+/// than `renew_at` entries, if that is not 0, and one some of whose journals are missing or empty. Where it fails, the
+/// folder is as it was, or what was begun is finished by the next start.
 pub fn settle<R: Files<File = File> + AllocGlobal>(
     rt: &R,
     config: &Config,
@@ -40,17 +43,37 @@ pub fn settle<R: Files<File = File> + AllocGlobal>(
     let found = find(rt, config.store.as_str())?;
     match next_of(alloc, &found, &config.setup, nodes)? {
         Next::Make => make(rt, config),
-        Next::Describe => describe_locked(rt, config),
+        Next::Describe => settle_older(rt, config, renew_at),
         Next::GoOn => {
-            // a log is read here only where it may be too long, and where all of it is there
-            if renew_at == 0 || !are_there(rt, config)? {
-                Ok(Settled::Same)
-            } else {
-                settle_held(rt, config, renew_at)
+            // journals are read here only where one may be lost, or too long
+            match look_at(rt, config.store.as_str(), nodes)? {
+                Look::New => Ok(Settled::Same),
+                Look::Full if renew_at == 0 => Ok(Settled::Same),
+                Look::Full | Look::Partly => settle_by_reading(rt, config, renew_at),
             }
         }
-        Next::BeginAnew => settle_held(rt, config, renew_at),
+        Next::BeginAnew => settle_by_reading(rt, config, renew_at),
     }
+}
+
+/// The same of a store of before, of the configuration's number of nodes.
+fn settle_older<R: Files<File = File> + AllocGlobal>(
+    rt: &R,
+    config: &Config,
+    renew_at: u64,
+) -> Result<Settled, RenewFault>
+    requires { IsGroupSize (length config.now.listen.items) }
+    ensures settled { IfOk result
+        (IsSettled config.now.setup (length config.now.listen.items) renew_at) }
+    ensures unnamed { IfErr result (IsUnnamedAt (string_bytes config.now.store)) }
+{
+    if look_at(rt, config.store.as_str(), size_of(config))? == Look::Partly {
+        match settle_by_reading(rt, config, renew_at)? {
+            Settled::Same => {}
+            settled => return Ok(settled),
+        }
+    }
+    describe_locked(rt, config)
 }
 
 /// A new store says what it is.
@@ -97,21 +120,9 @@ fn describe_as<R: Files<File = File> + AllocGlobal>(
     describe(rt, config.store.as_str(), &store)
 }
 
-/// Whether each journal of a configuration is there.
-fn are_there<R: Files + AllocGlobal>(rt: &R, config: &Config) -> Result<bool, RenewFault>
-    requires { IsGroupSize (length config.now.listen.items) }
-    ensures { IfErr result IsOfFiles }
-{
-    for index in 0..size_of(config).value() {
-        if !is_there(rt, config.store.as_str(), NodeId::new(index + 1))? {
-            return Ok(false);
-        }
-    }
-    Ok(true)
-}
-
-/// A store whose log may have to be begun anew, which is found out behind the locks of its journals.
-fn settle_held<R: Files<File = File> + AllocGlobal>(
+/// The same of a store each of whose journals is read, behind their locks: its log is begun anew also where one is
+/// damaged.
+pub fn settle_by_reading<R: Files<File = File> + AllocGlobal>(
     rt: &R,
     config: &Config,
     renew_at: u64,
@@ -121,22 +132,76 @@ fn settle_held<R: Files<File = File> + AllocGlobal>(
         (IsSettled config.now.setup (length config.now.listen.items) renew_at) }
     ensures unnamed { IfErr result (IsUnnamedAt (string_bytes config.now.store)) }
 {
-    let alloc = rt.alloc();
     let held = hold(rt, config)?;
-    let keys = ChangedKeys::of(alloc, &held.store, config)?;
-    if !keys.is_none() {
-        let plan = match plan_for(alloc, config, &[], &held.store, &held.group.saved) {
-            Ok(plan) => plan,
-            Err(fault) => return Err(fault.for_change(keys)),
-        };
-        let renewed = carry_out(rt, config, &held, &plan)?;
-        return Ok(Settled::Changed(keys, renewed));
-    }
-    if renew_at > 0 && most_entries(&held.group.saved).value() > renew_at {
+    let keys = ChangedKeys::of(rt.alloc(), &held.store, config)?;
+    let standing = &held.group.standing;
+    if !standing.lost.is_none() {
+        let renewed = begin_without(rt, config, &held, &keys)?;
+        Ok(Settled::Lost(keys, renewed))
+    } else if !keys.is_none() {
+        let (keys, renewed) = begin_changed(rt, config, &held, keys)?;
+        Ok(Settled::Changed(keys, renewed))
+    } else if renew_at > 0 && most_entries(&standing.saved).value() > renew_at {
         settle_long(rt, config, renew_at, &held)
     } else {
         Ok(Settled::Same)
     }
+}
+
+/// The log of a store some of whose journals are lost is begun anew from the others. The values of these keys differ, if
+/// any do.
+fn begin_without<R: Files<File = File> + AllocGlobal>(
+    rt: &R,
+    config: &Config,
+    held: &Held,
+    keys: &ChangedKeys,
+) -> Result<Renewed, RenewFault>
+    requires nodes { IsGroupSize (length config.now.listen.items) }
+    requires keys { keys.now.keys.items
+        ≡ changed_keys held.now.store config.now.setup (length config.now.listen.items) }
+    requires stands { StandsForSome held.now.store.nodes held.now.group.standing }
+    requires first { 1 ≤ length held.now.group.standing.saved.items }
+    requires few { length held.now.group.standing.saved.items ≤ 7 }
+    requires lost { held.now.group.standing.lost.journals.items ≢ [] }
+    ensures without { IfOk result
+        (IsWithout config.now.setup (length config.now.listen.items) keys.now) }
+    ensures unnamed { IfErr result (IsUnnamedAt (string_bytes config.now.store)) }
+{
+    let alloc = rt.alloc();
+    let Standing { saved, lost } = &held.group.standing;
+    let plan = match plan_for(alloc, config, &[], &held.store, saved) {
+        Ok(plan) => plan,
+        Err(fault) => return Err(fault.for_loss(lost.again(alloc)?)),
+    };
+    let renewed = carry_out(rt, config, held, &plan)?;
+    Ok(renewed)
+}
+
+/// The log of a store of which the values of these keys differ is begun anew.
+fn begin_changed<R: Files<File = File> + AllocGlobal>(
+    rt: &R,
+    config: &Config,
+    held: &Held,
+    keys: ChangedKeys,
+) -> Result<(ChangedKeys, Renewed), RenewFault>
+    requires nodes { IsGroupSize (length config.now.listen.items) }
+    requires keys { keys.keys.items
+        ≡ changed_keys held.now.store config.now.setup (length config.now.listen.items) }
+    requires some { keys.keys.items ≢ [] }
+    requires count { length held.now.group.standing.saved.items ≡ held.now.store.nodes }
+    requires first { 1 ≤ length held.now.group.standing.saved.items }
+    requires few { length held.now.group.standing.saved.items ≤ 7 }
+    ensures changed { IfOk result
+        (λ begun. IsChanged config.now.setup (length config.now.listen.items) begun.0 begun.1) }
+    ensures unnamed { IfErr result (IsUnnamedAt (string_bytes config.now.store)) }
+{
+    let saved = &held.group.standing.saved;
+    let plan = match plan_for(rt.alloc(), config, &[], &held.store, saved) {
+        Ok(plan) => plan,
+        Err(fault) => return Err(fault.for_change(keys)),
+    };
+    let renewed = carry_out(rt, config, held, &plan)?;
+    Ok((keys, renewed))
 }
 
 /// A store goes on, a log of which has more entries than so many: begun anew, where that is shorter.
@@ -147,17 +212,17 @@ fn settle_long<R: Files<File = File> + AllocGlobal>(
     held: &Held,
 ) -> Result<Settled, RenewFault>
     requires nodes { IsGroupSize (length config.now.listen.items) }
-    requires count { length held.now.group.saved.items ≡ held.now.store.nodes }
-    requires first { 1 ≤ length held.now.group.saved.items }
-    requires few { length held.now.group.saved.items ≤ 7 }
+    requires count { length held.now.group.standing.saved.items ≡ held.now.store.nodes }
+    requires first { 1 ≤ length held.now.group.standing.saved.items }
+    requires few { length held.now.group.standing.saved.items ≤ 7 }
     requires same { IsOf held.now.store config.now.setup (length config.now.listen.items) }
     requires some { 0 < renew_at }
-    requires long { renew_at < most_entries held.now.group.saved.items }
+    requires long { renew_at < most_entries held.now.group.standing.saved.items }
     ensures settled { IfOk result
         (IsSettled config.now.setup (length config.now.listen.items) renew_at) }
     ensures unnamed { IfErr result (IsUnnamedAt (string_bytes config.now.store)) }
 {
-    let (store, group) = (&held.store, held.group.saved.as_slice());
+    let (store, group) = (&held.store, held.group.standing.saved.as_slice());
     match short_plan(rt.alloc(), config, store, group, renew_at) {
         Ok(plan) => Ok(Settled::Long(carry_out(rt, config, held, &plan)?)),
         Err(fault) if fault.is_of_log() => Ok(Settled::StaysLong(fault)),

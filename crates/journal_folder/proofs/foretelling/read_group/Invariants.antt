@@ -1,6 +1,6 @@
-use Rattle.std.proofs.Common.{◌≡◌, ◌≤◌, IsTrue, length}
+use Rattle.std.proofs.Common.{◌≡◌, ◌++◌, drop, map}
 use Rattle.journal_folder.proofs.foretelling.read_group.Given as goal
 
--- one of each node so far, where the group is to be whole, and no more
-abbrev pub invariant-loop-index : goal.invariant-loop-index
-invariant-loop-index g l = (length l.group.items ≤ l.index) × (IsTrue l.is_whole → length l.group.items ≡ l.index)
+-- a journal of each node so far, and then one of each that is left, are those of all of them
+abbrev pub invariant-loop-node : goal.invariant-loop-node
+invariant-loop-node g l = map (λ first. first.node) l.journals.items ++ drop l.node-index l.node-items ≡ l.node-items

@@ -1,6 +1,8 @@
-use Rattle.std.proofs.Common.{◌≡◌, length}
+use Rattle.std.proofs.Common.{◌≡◌, ◌++◌, drop, map}
 use Rattle.journal_folder.proofs.adopting.Group.adopt.Given as goal
 
--- one is adopted for each node so far, and its disk is kept
-abbrev pub invariant-loop-index : goal.invariant-loop-index
-invariant-loop-index g l = (length l.group.saved.items ≡ l.index) × (length l.group.locks.items ≡ l.index)
+-- a journal and a lock of each node so far, and then those of each that is left, are those of all of them
+abbrev pub invariant-loop-node : goal.invariant-loop-node
+invariant-loop-node g l =
+    (map (λ first. first.node) l.gathered.journals.items ++ drop l.node-index l.node-items ≡ l.node-items)
+    × (map (λ lock. lock.node) l.gathered.locks.items ++ drop l.node-index l.node-items ≡ l.node-items)

@@ -1,6 +1,6 @@
 use Rattle.std.proofs.Common.{◌≡◌, false, length}
 use Rattle.std.specs.List.{All}
-use Rattle.bouncer_run.proofs.journal_files.journals.Given as goal
+use Rattle.bouncer_run.proofs.journal_files.open_all.Given as goal
 
 -- a journal for each node so far, which serves
 abbrev pub invariant-loop-index : goal.invariant-loop-index

@@ -1,0 +1,8 @@
+-- What a look at the files of a group's journals shows.
+use Rattle.std.specs.Prelude.{ℕ, ◌==◌, if◌then◌else◌, nat_le}
+use Rattle.journal_folder.specs.declared.looking.Look.{Look}
+use Rattle.journal_folder.specs.declared.looking.Look.TheVariants.{Full, New, Partly}
+
+-- by how many files of so many are longer than an empty journal
+abbrev pub seen : ℕ → ℕ → Look
+seen full size = if full == 0 then New else (if nat_le size full then Full else Partly)

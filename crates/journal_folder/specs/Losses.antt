@@ -1,0 +1,99 @@
+-- Which journals of a group are lost, and what stands for them.
+use Rattle.std.specs.Prelude.{◌≡◌, ℕ, ◌+◌, ◌*◌, ◌^◌, ◌<◌, ◌⊎◌, ◌==◌, ◌&&◌, ◌||◌, not, Bool, true, false, if◌then◌else◌, List, [], ◌∷◌, length, map, Option, None, Some, is_none}
+use Rattle.bouncer_tower.specs.Bodies.{TowerBody}
+use Rattle.stable_store.specs.declared.saved.Saved.{Saved}
+use Rattle.stable_store.specs.Stores.{nothing_saved}
+use Rattle.journal_folder.specs.Counting.{boot_told}
+use Rattle.journal_folder.specs.declared.loss.Loss.{Loss}
+use Rattle.journal_folder.specs.declared.loss.Loss.TheVariants.{Damaged, Empty, Missing, NotAStore}
+use Rattle.journal_folder.specs.declared.loss.LostJournal.{LostJournal}
+use Rattle.journal_folder.specs.declared.standing.Journal.{Journal}
+use Rattle.journal_folder.specs.declared.standing.Journal.TheVariants.{Lost, Whole}
+use Rattle.journal_folder.specs.declared.standing.NodeJournal.{NodeJournal}
+use Rattle.journal_folder.specs.declared.standing.Standing.{Standing}
+
+-- whether nothing is saved: no run, no term, no vote, no entry
+abbrev pub is_nothing : {B : Type 0} → Saved B → Bool
+is_nothing saved = (saved.boot == 0) && ((saved.term == 0) && (is_none saved.vote && (length saved.log == 0)))
+
+-- what is saved in a journal, nothing where it is lost
+abbrev pub held : Journal → Saved TowerBody
+held (Whole saved) = saved
+held (Lost loss) = nothing_saved
+
+-- the same of each of these
+abbrev pub all_held : List NodeJournal → List (Saved TowerBody)
+all_held [] = []
+all_held (first ∷ journals) = held first.journal ∷ all_held journals
+
+-- whether a journal is missing, or nothing is saved in it
+abbrev pub may_be_new : Journal → Bool
+may_be_new (Whole saved) = is_nothing saved
+may_be_new (Lost Missing) = true
+may_be_new (Lost Empty) = false
+may_be_new (Lost NotAStore) = false
+may_be_new (Lost (Damaged place)) = false
+
+-- whether a group is new: nothing is saved in any journal that is there
+abbrev pub is_new : List NodeJournal → Bool
+is_new [] = true
+is_new (first ∷ journals) = may_be_new first.journal && is_new journals
+
+-- whether entries are saved in a journal
+abbrev pub holds_entries : Journal → Bool
+holds_entries (Whole saved) = not (length saved.log == 0)
+holds_entries (Lost loss) = false
+
+-- whether entries are saved in one of these journals
+abbrev pub has_entries : List NodeJournal → Bool
+has_entries [] = false
+has_entries (first ∷ journals) = holds_entries first.journal || has_entries journals
+
+-- Why a journal is lost, if it is, by whether its group is new, and whether the group has entries: it is missing and the group not new; it is
+-- no journal or damaged; or nothing is saved in it, and entries are in another one
+abbrev pub loss_of : Bool → Bool → Journal → Option Loss
+loss_of new entries (Whole saved) = if entries && is_nothing saved then Some Empty else None
+loss_of new entries (Lost Missing) = if new then None else Some Missing
+loss_of new entries (Lost Empty) = Some Empty
+loss_of new entries (Lost NotAStore) = Some NotAStore
+loss_of new entries (Lost (Damaged place)) = Some (Damaged place)
+
+-- a journal that is lost for this before the others that are
+abbrev pub with_loss : ℕ → Option Loss → List LostJournal → List LostJournal
+with_loss node None lost = lost
+with_loss node (Some loss) lost = record { node = node; loss = loss } ∷ lost
+
+-- those that are lost of these journals, which are of this group
+abbrev pub losses_among : List NodeJournal → List NodeJournal → List LostJournal
+losses_among group [] = []
+losses_among group (first ∷ journals) = with_loss first.node (loss_of (is_new group) (has_entries group) first.journal) (losses_among group journals)
+
+-- how far a node whose journal is lost begins behind the greatest run of it that the other logs tell of
+abbrev pub runs_apart : ℕ
+runs_apart = 1000000
+
+-- what stands for the lost journal of a node: nothing but a run, so far behind the greatest that the logs of its group tell of
+abbrev pub stand_in : ℕ → List NodeJournal → Saved TowerBody
+stand_in node group = record { boot = boot_told node (all_held group) + runs_apart; term = 0; vote = None; log = [] }
+
+-- what stands for a journal of a group, that is lost for this or not
+abbrev pub saved_for : List NodeJournal → NodeJournal → Option Loss → Saved TowerBody
+saved_for group first None = held first.journal
+saved_for group first (Some loss) = stand_in first.node group
+
+-- what stands for these journals, which are of this group
+abbrev pub standing_among : List NodeJournal → List NodeJournal → List (Saved TowerBody)
+standing_among group [] = []
+standing_among group (first ∷ journals) = saved_for group first (loss_of (is_new group) (has_entries group) first.journal) ∷ standing_among group journals
+
+-- In the place of each journal of a group stands what is saved in it or, where it is lost, its stand-in; those that are lost are told, and they
+-- are fewer than half
+pub record Stands (group : List NodeJournal) (standing : Standing) : Type 0 where
+  pub saved : standing.saved.items ≡ standing_among group group
+  pub lost : standing.lost.journals.items ≡ losses_among group group
+  pub fewer : 2 * length (losses_among group group) < length group
+
+-- the run that would stand for the journal of one of these is past the greatest number
+abbrev pub IsPastLast : List NodeJournal → List NodeJournal → Type 0
+IsPastLast group [] = ⊥
+IsPastLast group (first ∷ journals) = (2 ^ 60 < boot_told first.node (all_held group) + runs_apart) ⊎ IsPastLast group journals

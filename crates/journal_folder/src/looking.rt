@@ -1,0 +1,67 @@
+//! A look at the files of a group's journals, none of which is read.
+ghost use Rattle.std.specs.Prelude.{◌≡◌, ◌≤◌, IfErr};
+ghost use Rattle.journal_folder.specs.Faults.{IsOfFiles};
+ghost use Rattle.journal_folder.specs.Looking.{seen};
+
+use crate::fault::RenewFault;
+use crate::journal_bytes::EMPTY_LEN;
+use crate::nodes::nodes_of;
+use raft_log::{GroupSize, NodeId};
+use run_plan::journal_path;
+use std::fs;
+use std::fs::Files;
+use std::io::ErrorKind;
+
+/// What a look at the files of a group's journals shows.
+#[derive(Clone, Copy, Debug, PartialEq, Eq)]
+pub enum Look {
+    /// Nothing is saved in any of them.
+    New,
+    /// Something may be saved in each of them.
+    Full,
+    /// Something may be saved in some of them, and nothing is in others.
+    Partly,
+}
+
+/// A look at the journals in a folder of a group of this size.
+pub fn look_at<R: Files + AllocGlobal>(
+    rt: &R,
+    folder: &str,
+    size: GroupSize,
+) -> Result<Look, RenewFault>
+    ensures { IfErr result IsOfFiles }
+{
+    let mut full = 0u8;
+    let nodes = nodes_of(rt.alloc(), size)?;
+    for node in &nodes {
+        if is_longer(rt, folder, *node)? {
+            full += 1;
+        }
+    }
+    Ok(seen(full, size.value()))
+}
+
+/// What is seen where so many files of so many are longer than an empty journal.
+fn seen(full: u8, size: u8) -> Look
+    ensures { result ≡ seen full size }
+{
+    if full == 0 {
+        Look::New
+    } else if full < size {
+        Look::Partly
+    } else {
+        Look::Full
+    }
+}
+
+/// Whether a node's journal lies in a folder, and is longer than an empty one.
+fn is_longer<R: Files + AllocGlobal>(rt: &R, folder: &str, node: NodeId) -> Result<bool, RenewFault>
+    ensures { IfErr result IsOfFiles }
+{
+    let path = journal_path(rt.alloc(), folder, node)?;
+    match fs::metadata(rt, path.as_str()) {
+        Ok(metadata) => Ok(metadata.len() > EMPTY_LEN as u64),
+        Err(error) if error.kind() == ErrorKind::NotFound => Ok(false),
+        Err(error) => Err(RenewFault::Unread(path, error)),
+    }
+}

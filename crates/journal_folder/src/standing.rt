@@ -1,0 +1,256 @@
+//! What stands for the journals of a group, some of which may be lost.
+ghost use Rattle.std.specs.Prelude.{◌≡◌, ◌⊎◌, ◌<◌, ◌≤◌, ◌++◌, ◌+◌, ◌^◌, [], None, IfErr, IfOk, OnOk, length};
+ghost use Rattle.journal_folder.specs.Counting.{boot_told};
+ghost use Rattle.journal_folder.specs.Runs.{greatest_boot};
+ghost use Rattle.journal_folder.specs.Faults.{IsOfStanding};
+ghost use Rattle.journal_folder.specs.Losses.{IsPastLast, Stands, all_held, has_entries, held, holds_entries, is_new, loss_of, losses_among, may_be_new, runs_apart, saved_for, stand_in, standing_among};
+
+use crate::earlier_runs::greatest_boot;
+use crate::fault::RenewFault;
+use crate::loss::{Loss, LostJournal, LostJournals, TooFew};
+use crate::planning::GREATEST;
+use crate::saving::is_nothing;
+use bouncer_tower::TowerBody;
+use raft_log::{Log, NodeId};
+use stable_store::Saved;
+use std::alloc::{AllocError, Global};
+use wire_bytes::{Copied, Number};
+
+/// How far a node whose journal is lost begins behind the greatest run of it that the other logs tell of.
+// runs of which nothing was agreed are known to no other node, and no run may come again. With no majority a node begins
+// once in 2 s at most, so that it takes 23 days to use up so many
+const RUNS_APART: u64 = 1_000_000;
+
+/// What is found of a journal by its file alone.
+#[derive(Drop)]
+pub enum Journal {
+    /// This stands in it.
+    Whole(Saved<TowerBody>),
+    Lost(Loss),
+}
+
+/// What is found of the journal of a node.
+#[derive(Drop)]
+pub struct NodeJournal {
+    pub node: NodeId,
+    pub journal: Journal,
+}
+
+/// What stands for the journals of a group.
+#[derive(Drop)]
+pub struct Standing {
+    /// What stands in each journal, node 1's first. For one that is lost a store that holds nothing but a run.
+    pub saved: Vec<Saved<TowerBody>>,
+    pub lost: LostJournals,
+}
+
+/// What stands for the journals of a group in a folder, more than half of which are whole.
+pub fn stand_for(
+    alloc: Global,
+    folder: &str,
+    journals: &[NodeJournal],
+) -> Result<Standing, RenewFault>
+    requires few { length journals.now ≤ 7 }
+    ensures stands { IfOk result (Stands journals.now) }
+    ensures count { IfOk result (λ s. length s.saved.items ≡ length journals.now) }
+    ensures fault { IfErr result (IsOfStanding journals.now) }
+{
+    let mut lost = Vec::new(alloc);
+    push_losses(&mut lost, journals, journals)?;
+    if lost.len() * 2 >= journals.len() {
+        let lost = LostJournals { journals: lost };
+        return Err(RenewFault::TooFew(TooFew::new(alloc, folder, lost)?));
+    }
+    let mut saved = Vec::new(alloc);
+    push_standing(alloc, &mut saved, journals, journals)?;
+    Ok(Standing {
+        saved,
+        lost: LostJournals { journals: lost },
+    })
+}
+
+/// The journals that are lost of these, which are of this group.
+fn push_losses(
+    lost: &mut Vec<LostJournal>,
+    journals: &[NodeJournal],
+    group: &[NodeJournal],
+) -> Result<(), AllocError>
+    ensures lost { OnOk result
+        (lost.new.items ≡ lost.old.items ++ losses_among group.now journals.now) }
+    ensures few { OnOk result
+        (length lost.new.items ≤ length lost.old.items + length journals.now) }
+{
+    match journals {
+        [] => Ok(()),
+        [first, journals @ ..] => {
+            if let Some(loss) = loss_of(&first.journal, group) {
+                lost.push(LostJournal {
+                    node: first.node,
+                    loss,
+                })?;
+            }
+            push_losses(lost, journals, group)
+        }
+    }
+}
+
+/// Why a journal of a group is lost, if it is.
+fn loss_of(journal: &Journal, group: &[NodeJournal]) -> Option<Loss>
+    ensures { result ≡ loss_of (is_new group.now) (has_entries group.now) journal.now }
+{
+    match journal {
+        Journal::Whole(saved) => {
+            if has_entries(group) && is_nothing(saved) {
+                Some(Loss::Empty)
+            } else {
+                None
+            }
+        }
+        Journal::Lost(Loss::Missing) => {
+            if is_new(group) {
+                None
+            } else {
+                Some(Loss::Missing)
+            }
+        }
+        Journal::Lost(loss) => Some(*loss),
+    }
+}
+
+/// Whether nothing is saved in any of these journals that is there.
+fn is_new(group: &[NodeJournal]) -> bool
+    ensures { result ≡ is_new group.now }
+{
+    match group {
+        [] => true,
+        [first, group @ ..] => may_be_new(&first.journal) && is_new(group),
+    }
+}
+
+/// Whether a journal is missing, or nothing is saved in it.
+fn may_be_new(journal: &Journal) -> bool
+    ensures { result ≡ may_be_new journal.now }
+{
+    match journal {
+        Journal::Whole(saved) => is_nothing(saved),
+        Journal::Lost(loss) => *loss == Loss::Missing,
+    }
+}
+
+/// Whether entries are saved in one of these journals.
+fn has_entries(group: &[NodeJournal]) -> bool
+    ensures { result ≡ has_entries group.now }
+{
+    match group {
+        [] => false,
+        [first, group @ ..] => holds_entries(&first.journal) || has_entries(group),
+    }
+}
+
+/// Whether entries are saved in a journal.
+fn holds_entries(journal: &Journal) -> bool
+    ensures { result ≡ holds_entries journal.now }
+{
+    match journal {
+        Journal::Whole(saved) => saved.log.len().value() > 0,
+        Journal::Lost(_) => false,
+    }
+}
+
+/// What stands for these journals, which are of this group.
+fn push_standing(
+    alloc: Global,
+    saved: &mut Vec<Saved<TowerBody>>,
+    journals: &[NodeJournal],
+    group: &[NodeJournal],
+) -> Result<(), RenewFault>
+    ensures saved { OnOk result
+        (saved.new.items ≡ saved.old.items ++ standing_among group.now journals.now) }
+    ensures count { OnOk result
+        (length saved.new.items ≡ length saved.old.items + length journals.now) }
+    ensures fault { IfErr result (λ e. (e ≡ RenewFault.Memory)
+        ⊎ ((e ≡ RenewFault.Spent) × IsPastLast group.now journals.now)) }
+{
+    match journals {
+        [] => Ok(()),
+        [first, journals @ ..] => {
+            saved
+                .push(saved_for(alloc, first, group)?)
+                .map_err(|_| RenewFault::Memory)?;
+            push_standing(alloc, saved, journals, group)
+        }
+    }
+}
+
+/// What stands for a journal of a group.
+fn saved_for(
+    alloc: Global,
+    journal: &NodeJournal,
+    group: &[NodeJournal],
+) -> Result<Saved<TowerBody>, RenewFault>
+    ensures saved { IfOk result (λ saved. saved ≡ saved_for group.now journal.now
+        (loss_of (is_new group.now) (has_entries group.now) journal.now.journal)) }
+    ensures fault { IfErr result (λ e. (e ≡ RenewFault.Memory) ⊎ ((e ≡ RenewFault.Spent)
+        × (2 ^ 60 < boot_told journal.now.node (all_held group.now) + runs_apart))) }
+{
+    if loss_of(&journal.journal, group).is_some() {
+        return stand_in(alloc, journal.node, group);
+    }
+    match &journal.journal {
+        Journal::Whole(saved) => Ok(saved.copy(alloc)?),
+        Journal::Lost(_) => Ok(with_run(alloc, Number::new(0))),
+    }
+}
+
+/// What stands for the lost journal of a node: nothing but a run behind all of which the others' logs tell.
+fn stand_in(
+    alloc: Global,
+    node: NodeId,
+    group: &[NodeJournal],
+) -> Result<Saved<TowerBody>, RenewFault>
+    ensures saved { IfOk result (λ saved. saved ≡ stand_in node group.now) }
+    ensures spent { IfErr result (λ e. (e ≡ RenewFault.Spent)
+        × (2 ^ 60 < boot_told node (all_held group.now) + runs_apart)) }
+{
+    let boot = boot_told(node, group).value() + RUNS_APART;
+    if boot > GREATEST {
+        return Err(RenewFault::Spent);
+    }
+    Ok(with_run(alloc, Number::new(boot)))
+}
+
+/// A store that holds nothing but a run.
+fn with_run(alloc: Global, boot: Number) -> Saved<TowerBody>
+    ensures { result ≡ record { boot = boot; term = 0; vote = None; log = [] } }
+{
+    Saved {
+        boot,
+        term: Number::new(0),
+        vote: None,
+        log: Log::new(alloc),
+    }
+}
+
+/// The greatest run of a node that the logs in these journals tell of.
+fn boot_told(node: NodeId, group: &[NodeJournal]) -> Number
+    ensures { result ≡ boot_told node (all_held group.now) }
+{
+    match group {
+        [] => Number::new(0),
+        [first, group @ ..] => {
+            let told = boot_held(node, &first.journal);
+            Number::new(told.max(boot_told(node, group).value()))
+        }
+    }
+}
+
+/// The greatest run of a node that the log in a journal tells of.
+fn boot_held(node: NodeId, journal: &Journal) -> u64
+    ensures boot { result ≡ greatest_boot node (held journal.now).log }
+    ensures limit { result ≤ 2 ^ 60 }
+{
+    match journal {
+        Journal::Whole(saved) => greatest_boot(node, &saved.log),
+        Journal::Lost(_) => 0,
+    }
+}
