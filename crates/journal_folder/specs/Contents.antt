@@ -1,5 +1,5 @@
 -- What is found of a journal by the bytes of its file.
-use Rattle.std.specs.Prelude.{◌≡◌, ◌≢◌, ◌⊎◌, ◌≤◌, ℕ, List, Ok, Err, length, ⊤}
+use Rattle.std.specs.Prelude.{◌≡◌, ◌⊎◌, ◌≤◌, ℕ, List, Ok, Err, length, ⊤}
 use Rattle.wire_bytes.specs.Fields.{Reading}
 use Rattle.bouncer_tower.specs.Bodies.{TowerBody}
 use Rattle.journal_store.specs.Journals.{found}
