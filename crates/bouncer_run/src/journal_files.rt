@@ -3,6 +3,7 @@ ghost use Rattle.std.specs.Prelude.{◌≡◌, false, length, IfErr, IfOk};
 ghost use Rattle.std.specs.List.{All};
 ghost use Rattle.raft_log.specs.Peers.{IsGroupSize};
 ghost use Rattle.bouncer_run.specs.Faults.{IsFaultOfOpening, IsOrMemory};
+ghost use Rattle.bouncer_run.specs.declared.journal_files.Unopened.TheVariants.{Memory};
 
 use crate::made::Made;
 use crate::run_fault::RunFault;
@@ -40,14 +41,20 @@ pub fn journals<R: System>(
     finish(rt, folder)?;
     let settled = settle(rt, config, config.renew_at as u64);
     take(rt, config, settled, made)?;
-    match open_all(rt, folder, size, made) {
-        Err(Unopened::Journal(_, fault)) if is_lost(&fault) => {}
-        opened => return opened.map_err(|unopened| unopened.told(rt)),
+    let unopened = match open_all(rt, folder, size, made) {
+        Ok(journals) => return Ok(journals),
+        Err(unopened) => unopened,
+    };
+    if !unopened.is_lost() {
+        return Err(unopened.told(rt));
     }
     // what was opened is let go by now, so that the journals may be locked and read, all of them
     let settled = settle_by_reading(rt, config, config.renew_at as u64);
     take(rt, config, settled, made)?;
-    open_all(rt, folder, size, made).map_err(|unopened| unopened.told(rt))
+    match open_all(rt, folder, size, made) {
+        Ok(journals) => Ok(journals),
+        Err(unopened) => Err(unopened.told(rt)),
+    }
 }
 
 /// A journal for each of so many nodes in a folder, node 1's first.
@@ -106,6 +113,14 @@ enum Unopened {
 }
 
 impl Unopened {
+    /// Whether its file holds no journal that is read, so that it may be made from the others.
+    fn is_lost(&self) -> bool {
+        match self {
+            Unopened::Journal(_, fault) => is_lost(fault),
+            Unopened::Memory => false,
+        }
+    }
+
     /// What it is to the program. A line was written to standard error that names the file, and says why.
     fn told<R: System>(&self, rt: &R) -> RunFault
         ensures { IsOrMemory RunFault.Store result }
