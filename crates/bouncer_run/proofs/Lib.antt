@@ -1,3 +1,4 @@
+pub mod Elements
 pub mod Entries
 pub mod Longest
 pub mod Marks
