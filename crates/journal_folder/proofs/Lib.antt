@@ -5,6 +5,7 @@ pub mod Comes
 pub mod FoundBytes
 pub mod Greatest
 pub mod GroupSaved
+pub mod Last
 pub mod Numbered
 pub mod Told
 pub mod UpToDate

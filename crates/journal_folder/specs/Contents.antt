@@ -21,6 +21,7 @@ module _ (body : Reading TowerBody) where
   IsContent file (Lost (loss.Damaged place)) = found (payloads body) nothing_saved file ≡ Err (fault.Damaged place)
   IsContent file (Lost loss.Missing) = ⊥
   IsContent file (Lost loss.Empty) = ⊥
+  IsContent file (Lost loss.Older) = ⊥
 
   -- it is refused: it is of another version, or there is no memory
   abbrev pub IsNoContent : List ℕ → StoreFault → Type 0

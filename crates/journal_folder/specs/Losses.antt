@@ -4,8 +4,9 @@ use Rattle.bouncer_tower.specs.Bodies.{TowerBody}
 use Rattle.stable_store.specs.declared.saved.Saved.{Saved}
 use Rattle.stable_store.specs.Stores.{nothing_saved}
 use Rattle.journal_folder.specs.Counting.{boot_told}
+use Rattle.journal_folder.specs.Runs.{is_older}
 use Rattle.journal_folder.specs.declared.loss.Loss.{Loss}
-use Rattle.journal_folder.specs.declared.loss.Loss.TheVariants.{Damaged, Empty, Missing, NotAStore}
+use Rattle.journal_folder.specs.declared.loss.Loss.TheVariants.{Damaged, Empty, Missing, NotAStore, Older}
 use Rattle.journal_folder.specs.declared.loss.LostJournal.{LostJournal}
 use Rattle.journal_folder.specs.declared.standing.Journal.{Journal}
 use Rattle.journal_folder.specs.declared.standing.Journal.TheVariants.{Lost, Whole}
@@ -32,6 +33,7 @@ may_be_new (Whole saved) = is_nothing saved
 may_be_new (Lost Missing) = true
 may_be_new (Lost Empty) = false
 may_be_new (Lost NotAStore) = false
+may_be_new (Lost Older) = false
 may_be_new (Lost (Damaged place)) = false
 
 -- whether a group is new: nothing is saved in any journal that is there
@@ -49,14 +51,19 @@ abbrev pub has_entries : List NodeJournal → Bool
 has_entries [] = false
 has_entries (first ∷ journals) = holds_entries first.journal || has_entries journals
 
--- Why a journal is lost, if it is, by whether its group is new, and whether the group has entries: it is missing and the group not new; it is
--- no journal or damaged; or nothing is saved in it, and entries are in another one
-abbrev pub loss_of : Bool → Bool → Journal → Option Loss
-loss_of new entries (Whole saved) = if entries && is_nothing saved then Some Empty else None
-loss_of new entries (Lost Missing) = if new then None else Some Missing
-loss_of new entries (Lost Empty) = Some Empty
-loss_of new entries (Lost NotAStore) = Some NotAStore
-loss_of new entries (Lost (Damaged place)) = Some (Damaged place)
+-- Why a journal is lost, if it is, by whether its group is new, whether the group has entries, and whether it is older than its group tells: it is
+-- missing and the group not new; it is empty and the group has entries; it is an older copy; or it was found lost by its file
+abbrev pub loss_of : Bool → Bool → Bool → Journal → Option Loss
+loss_of new entries older (Whole saved) = if entries && is_nothing saved then Some Empty else (if older then Some Older else None)
+loss_of new entries older (Lost Missing) = if new then None else Some Missing
+loss_of new entries older (Lost Empty) = Some Empty
+loss_of new entries older (Lost Older) = Some Older
+loss_of new entries older (Lost NotAStore) = Some NotAStore
+loss_of new entries older (Lost (Damaged place)) = Some (Damaged place)
+
+-- why a journal of a group is lost, if it is
+abbrev pub loss_in : List NodeJournal → NodeJournal → Option Loss
+loss_in group first = loss_of (is_new group) (has_entries group) (is_older first.node (held first.journal) (all_held group)) first.journal
 
 -- a journal that is lost for this before the others that are
 abbrev pub with_loss : ℕ → Option Loss → List LostJournal → List LostJournal
@@ -66,7 +73,7 @@ with_loss node (Some loss) lost = record { node = node; loss = loss } ∷ lost
 -- those that are lost of these journals, which are of this group
 abbrev pub losses_among : List NodeJournal → List NodeJournal → List LostJournal
 losses_among group [] = []
-losses_among group (first ∷ journals) = with_loss first.node (loss_of (is_new group) (has_entries group) first.journal) (losses_among group journals)
+losses_among group (first ∷ journals) = with_loss first.node (loss_in group first) (losses_among group journals)
 
 -- how far a node whose journal is lost begins behind the greatest run of it that the other logs tell of
 abbrev pub runs_apart : ℕ
@@ -84,7 +91,7 @@ saved_for group first (Some loss) = stand_in first.node group
 -- what stands for these journals, which are of this group
 abbrev pub standing_among : List NodeJournal → List NodeJournal → List (Saved TowerBody)
 standing_among group [] = []
-standing_among group (first ∷ journals) = saved_for group first (loss_of (is_new group) (has_entries group) first.journal) ∷ standing_among group journals
+standing_among group (first ∷ journals) = saved_for group first (loss_in group first) ∷ standing_among group journals
 
 -- In the place of each journal of a group stands what is saved in it or, where it is lost, its stand-in; those that are lost are told, and they
 -- are fewer than half

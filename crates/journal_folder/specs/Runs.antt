@@ -1,5 +1,5 @@
 -- What bodies tell of a node's runs.
-use Rattle.std.specs.Prelude.{ℕ, ◌==◌, max, if◌then◌else◌, List, [], ◌∷◌}
+use Rattle.std.specs.Prelude.{ℕ, suc, ◌-◌, ◌==◌, nat_lt, max, Bool, true, false, if◌then◌else◌, List, [], ◌∷◌, Option, None, Some}
 use Rattle.bouncer_tower.specs.Bodies.{Claimed, Sessioned, TowerBody}
 use Rattle.buffer_commands.specs.declared.command.Command.{Command}
 use Rattle.buffer_commands.specs.declared.command.Command.TheVariants.{Client, NodeGone}
@@ -8,6 +8,7 @@ use Rattle.upstream_claim.specs.declared.command.ClaimsCommand.TheVariants as cl
 use Rattle.request_once.specs.declared.body.Body.TheVariants as body
 use Rattle.wire_bytes.specs.declared.origin.Origin.{Origin}
 use Rattle.raft_log.specs.declared.entry.Entry.{Entry}
+use Rattle.stable_store.specs.declared.saved.Saved.{Saved}
 
 -- the boot of a client, where it is of this node
 abbrev pub boot_of : ℕ → Origin → ℕ
@@ -35,6 +36,53 @@ boot_in node (body.Inner c) = boot_in_claims node c
 boot_in node (body.Asked o number at action) = boot_of node o
 boot_in node body.Blank = 0
 boot_in node (body.Mark m) = if m.node == node then m.boot else 0
+
+-- whether a command for the buffers says that runs of a node below a floor are gone
+abbrev pub is_floor_command : Command → Bool
+is_floor_command (NodeGone gone floor) = true
+is_floor_command _ = false
+
+-- whether one for the fence does
+abbrev pub is_floor_session : Sessioned → Bool
+is_floor_session (fence.Inner c) = is_floor_command c
+is_floor_session _ = false
+
+-- whether one for the claims does
+abbrev pub is_floor_claims : Claimed → Bool
+is_floor_claims (claims.Inner c) = is_floor_session c
+is_floor_claims (claims.Claim id number) = false
+
+-- whether a body does
+abbrev pub is_floor : TowerBody → Bool
+is_floor (body.Inner c) = is_floor_claims c
+is_floor (body.Asked o number at action) = false
+is_floor body.Blank = false
+is_floor (body.Mark m) = false
+
+-- The run of a node that a body tells to have begun: the boot that it tells of. Where runs below a floor are gone, the one below the floor had
+-- begun; a run of the floor itself may never be
+abbrev pub run_in : ℕ → TowerBody → ℕ
+run_in node b = if is_floor b then boot_in node b - 1 else boot_in node b
+
+-- the last run of a node that the entries of a list tell to have begun
+abbrev pub last_run : ℕ → List (Entry TowerBody) → ℕ
+last_run node [] = 0
+last_run node (e ∷ es) = max (run_in node e.body) (last_run node es)
+
+-- the last run of a node that logs of a group tell to have begun
+abbrev pub run_told : ℕ → List (Saved TowerBody) → ℕ
+run_told node [] = 0
+run_told node (saved ∷ group) = max (last_run node saved.log) (run_told node group)
+
+-- A store is older than its group tells: a log of the group tells of a later run of its node. It is an older copy of the node's journal, or
+-- the journal of another node
+abbrev pub is_older : ℕ → Saved TowerBody → List (Saved TowerBody) → Bool
+is_older node saved group = nat_lt saved.boot (run_told node group)
+
+-- the first node from this one on, whose stores these are, one whose store is older than its group tells, if one is
+abbrev pub first_older : ℕ → List (Saved TowerBody) → List (Saved TowerBody) → Option ℕ
+first_older node [] group = None
+first_older node (own ∷ owns) group = if is_older node own group then Some node else first_older (suc node) owns group
 
 -- the greatest boot of a node that the entries of a list tell of
 abbrev pub greatest_boot : ℕ → List (Entry TowerBody) → ℕ

@@ -1,7 +1,9 @@
 //! What a list tells of a node's runs.
 ghost use Rattle.std.specs.Prelude.{◌≡◌, ◌≤◌, ◌^◌};
 ghost use Rattle.std.specs.List.{All};
-ghost use Rattle.journal_folder.specs.Runs.{greatest_boot, boot_in, boot_in_claims, boot_in_command, boot_in_session, boot_of};
+ghost use Rattle.journal_folder.specs.Runs.{boot_in, boot_in_claims, boot_in_command, boot_in_session, boot_of};
+ghost use Rattle.journal_folder.specs.Runs.{greatest_boot, last_run, run_in};
+ghost use Rattle.journal_folder.specs.Runs.{is_floor, is_floor_claims, is_floor_command, is_floor_session};
 
 use bouncer_tower::TowerBody;
 use buffer_commands::{Command, WireLine};
@@ -24,6 +26,71 @@ pub fn greatest_boot(node: NodeId, log: &Log<TowerBody>) -> u64
         greatest = greatest.max(boot_in(node, body.get()));
     }
     greatest
+}
+
+/// The last run of a node that the entries of a log tell to have begun, 0 where they tell of none.
+#[tactic(auto, using(crate::proofs::Last::one_more))]
+pub fn last_run(node: NodeId, log: &Log<TowerBody>) -> u64
+    ensures last { result ≡ last_run node log.now }
+    ensures limit { result ≤ 2 ^ 60 }
+{
+    let mut last = 0u64;
+    for before in 0..log.len().value() {
+        let body = log.body(Number::new(before + 1));
+        last = last.max(run_in(node, body.get()));
+    }
+    last
+}
+
+/// The run of a node that a body tells to have begun, 0 where it tells of none.
+fn run_in(node: NodeId, body: &TowerBody) -> u64
+    ensures run { result ≡ run_in node body.now }
+    ensures limit { result ≤ 2 ^ 60 }
+{
+    let boot = boot_in(node, body);
+    if is_floor(body) {
+        // a run of the floor itself may never be
+        boot.saturating_sub(1)
+    } else {
+        boot
+    }
+}
+
+/// Whether a body says that runs of a node below a floor are gone.
+fn is_floor(body: &TowerBody) -> bool
+    ensures { result ≡ is_floor body.now }
+{
+    match body {
+        Body::Inner(command) => is_floor_claims(command),
+        Body::Asked(_, _, _, _) | Body::Blank | Body::Mark(_) => false,
+    }
+}
+
+fn is_floor_claims(command: &ClaimsCommand<FenceCommand<Command, WireLine>>) -> bool
+    ensures { result ≡ is_floor_claims command.now }
+{
+    match command {
+        ClaimsCommand::Inner(command) => is_floor_session(command),
+        ClaimsCommand::Claim(_, _) => false,
+    }
+}
+
+fn is_floor_session(command: &FenceCommand<Command, WireLine>) -> bool
+    ensures { result ≡ is_floor_session command.now }
+{
+    match command {
+        FenceCommand::Inner(command) => is_floor_command(command),
+        FenceCommand::Opened(_) | FenceCommand::Shut(_) | FenceCommand::Heard(_, _, _, _) => false,
+    }
+}
+
+fn is_floor_command(command: &Command) -> bool
+    ensures { result ≡ is_floor_command command.now }
+{
+    match command {
+        Command::NodeGone(_, _) => true,
+        _ => false,
+    }
 }
 
 /// The boot of a node that a body tells of, 0 where it tells of none.

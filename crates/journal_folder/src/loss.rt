@@ -12,6 +12,8 @@ pub enum Loss {
     Missing,
     /// Nothing is saved in it, while entries are saved in another one.
     Empty,
+    /// A log of the others tells of a later run of its node.
+    Older,
     /// Its file is no journal.
     NotAStore,
     /// The record at this place of its file, from 0, is none.
@@ -23,6 +25,7 @@ impl fmt::Display for Loss {
         match self {
             Loss::Missing => f.write_str("is missing"),
             Loss::Empty => f.write_str("is empty"),
+            Loss::Older => f.write_str("is an older copy, or another node's"),
             Loss::NotAStore => f.write_str("is no journal"),
             Loss::Damaged(place) => write!(f, "is damaged at byte {place}"),
         }

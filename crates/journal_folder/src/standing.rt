@@ -1,11 +1,11 @@
 //! What stands for the journals of a group, some of which may be lost.
 ghost use Rattle.std.specs.Prelude.{◌≡◌, ◌⊎◌, ◌<◌, ◌≤◌, ◌++◌, ◌+◌, ◌^◌, [], None, IfErr, IfOk, OnOk, length};
 ghost use Rattle.journal_folder.specs.Counting.{boot_told};
-ghost use Rattle.journal_folder.specs.Runs.{greatest_boot};
+ghost use Rattle.journal_folder.specs.Runs.{greatest_boot, last_run, run_told};
 ghost use Rattle.journal_folder.specs.Faults.{IsOfStanding};
-ghost use Rattle.journal_folder.specs.Losses.{IsPastLast, Stands, all_held, has_entries, held, holds_entries, is_new, loss_of, losses_among, may_be_new, runs_apart, saved_for, stand_in, standing_among};
+ghost use Rattle.journal_folder.specs.Losses.{IsPastLast, Stands, all_held, has_entries, held, holds_entries, is_new, loss_in, losses_among, may_be_new, runs_apart, saved_for, stand_in, standing_among};
 
-use crate::earlier_runs::greatest_boot;
+use crate::earlier_runs::{greatest_boot, last_run};
 use crate::fault::RenewFault;
 use crate::loss::{Loss, LostJournal, LostJournals, TooFew};
 use crate::planning::GREATEST;
@@ -83,7 +83,7 @@ fn push_losses(
     match journals {
         [] => Ok(()),
         [first, journals @ ..] => {
-            if let Some(loss) = loss_of(&first.journal, group) {
+            if let Some(loss) = loss_in(first, group) {
                 lost.push(LostJournal {
                     node: first.node,
                     loss,
@@ -95,13 +95,15 @@ fn push_losses(
 }
 
 /// Why a journal of a group is lost, if it is.
-fn loss_of(journal: &Journal, group: &[NodeJournal]) -> Option<Loss>
-    ensures { result ≡ loss_of (is_new group.now) (has_entries group.now) journal.now }
+fn loss_in(first: &NodeJournal, group: &[NodeJournal]) -> Option<Loss>
+    ensures { result ≡ loss_in group.now first.now }
 {
-    match journal {
+    match &first.journal {
         Journal::Whole(saved) => {
             if has_entries(group) && is_nothing(saved) {
                 Some(Loss::Empty)
+            } else if saved.boot.value() < run_told(first.node, group).value() {
+                Some(Loss::Older)
             } else {
                 None
             }
@@ -189,11 +191,11 @@ fn saved_for(
     group: &[NodeJournal],
 ) -> Result<Saved<TowerBody>, RenewFault>
     ensures saved { IfOk result (λ saved. saved ≡ saved_for group.now journal.now
-        (loss_of (is_new group.now) (has_entries group.now) journal.now.journal)) }
+        (loss_in group.now journal.now)) }
     ensures fault { IfErr result (λ e. (e ≡ RenewFault.Memory) ⊎ ((e ≡ RenewFault.Spent)
         × (2 ^ 60 < boot_told journal.now.node (all_held group.now) + runs_apart))) }
 {
-    if loss_of(&journal.journal, group).is_some() {
+    if loss_in(journal, group).is_some() {
         return stand_in(alloc, journal.node, group);
     }
     match &journal.journal {
@@ -228,6 +230,30 @@ fn with_run(alloc: Global, boot: Number) -> Saved<TowerBody>
         term: Number::new(0),
         vote: None,
         log: Log::new(alloc),
+    }
+}
+
+/// The last run of a node that the logs in these journals tell to have begun.
+fn run_told(node: NodeId, group: &[NodeJournal]) -> Number
+    ensures { result ≡ run_told node (all_held group.now) }
+{
+    match group {
+        [] => Number::new(0),
+        [first, group @ ..] => {
+            let told = run_held(node, &first.journal);
+            Number::new(told.max(run_told(node, group).value()))
+        }
+    }
+}
+
+/// The last run of a node that the log in a journal tells to have begun.
+fn run_held(node: NodeId, journal: &Journal) -> u64
+    ensures run { result ≡ last_run node (held journal.now).log }
+    ensures limit { result ≤ 2 ^ 60 }
+{
+    match journal {
+        Journal::Whole(saved) => last_run(node, &saved.log),
+        Journal::Lost(_) => 0,
     }
 }
 

@@ -15,7 +15,7 @@ use raft_log::Log;
 use stable_store::{Change, Saved, Stable, StoreFault};
 use std::alloc::Global;
 use std::marker::Model;
-use wire_bytes::{Copied, Wire};
+use wire_bytes::{Copied, Number, Wire};
 
 /// The closed gate of a journal lies below this, since an honest disk's file is shorter.
 const END_LIMIT: usize = 1 << 63;
@@ -146,6 +146,13 @@ impl<B: Wire, D: Disk> JournalStore<B, D> {
             → Leaves (StandsFor B.taken self.now.saved) (now (D.states self.now.disk)) }
     {
         &self.disk
+    }
+
+    /// The run that is saved.
+    pub fn boot(&self) -> Number
+        ensures { result ≡ self.now.saved.boot }
+    {
+        self.saved.boot
     }
 
     /// The entries that are saved.

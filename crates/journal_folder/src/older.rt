@@ -1,0 +1,56 @@
+//! Journals that are older copies, which their group tells.
+ghost use Rattle.std.specs.Prelude.{◌≡◌, ◌≤◌, ◌+◌, length, map, option_map};
+ghost use Rattle.journal_folder.specs.Runs.{first_older, run_told};
+
+use crate::earlier_runs::last_run;
+use bouncer_tower::TowerBody;
+use file_disk::FileJournal;
+use raft_log::NodeId;
+use wire_bytes::Number;
+
+/// The first node whose journal, of these of a group, is older than their logs tell, if one is. They are open, node
+/// 1's first.
+pub fn first_older(journals: &[FileJournal<TowerBody>]) -> Option<NodeId>
+    requires { length journals.now ≤ 7 }
+    ensures { result ≡ first_older 1 (map (λ j. j.saved) journals.now)
+        (map (λ j. j.saved) journals.now) }
+{
+    first_older_of(1, journals, journals)
+}
+
+/// The same of those of a group, the first of which is of this node.
+fn first_older_of(
+    node: u8,
+    journals: &[FileJournal<TowerBody>],
+    group: &[FileJournal<TowerBody>],
+) -> Option<NodeId>
+    requires first { 1 ≤ node }
+    requires last { node + length journals.now ≤ 8 }
+    ensures { result ≡ first_older node (map (λ j. j.saved) journals.now)
+        (map (λ j. j.saved) group.now) }
+{
+    match journals {
+        [] => None,
+        [own, journals @ ..] => {
+            let of = NodeId::new(node);
+            if own.boot() < run_told(of, group) {
+                Some(of)
+            } else {
+                first_older_of(node + 1, journals, group)
+            }
+        }
+    }
+}
+
+/// The last run of a node that the logs of these journals tell to have begun.
+fn run_told(node: NodeId, group: &[FileJournal<TowerBody>]) -> Number
+    ensures { result ≡ run_told node (map (λ j. j.saved) group.now) }
+{
+    match group {
+        [] => Number::new(0),
+        [first, group @ ..] => {
+            let told = last_run(node, first.log());
+            Number::new(told.max(run_told(node, group).value()))
+        }
+    }
+}
