@@ -16,13 +16,13 @@ use Rattle.driver.specs.declared.clients.Clients.{Clients}
 use Rattle.driver.specs.declared.driver.Driver.{Driver}
 use Rattle.driver.specs.declared.link.Stage.{Stage}
 use Rattle.driver.specs.declared.order.Order.{Order}
-use Rattle.driver.specs.declared.order.Order.TheVariants.{Send, Write}
+use Rattle.driver.specs.declared.order.Order.TheVariants.{Write}
 use Rattle.driver.specs.Crowds.{Told}
 use Rattle.driver.specs.Driving.{told_of}
 use Rattle.driver.specs.Kicks.{KickEach, KicksClient, RejoinsIf}
 use Rattle.driver.specs.Opening.{closed, has_open, joined_as}
 use Rattle.driver.specs.Learning.{LearnsIf, LearnsNick, nick_learnt}
-use Rattle.driver.specs.Links.{SendsIf, is_session_of}
+use Rattle.driver.specs.Links.{is_session_of}
 use Rattle.driver.specs.Nicks.{AreWritten, IsNamedIn, IsWritten, IsWrittenIf, is_misnamed, is_reached, nick_in}
 use Rattle.driver.specs.Passing.{HearsOne, PassEach, Passes, PassesBy}
 use Rattle.driver.specs.Rewording.{reworded}
@@ -90,10 +90,6 @@ all_written_add P (number ∷ numbers) clients text before after good (behind, f
     (written_adds P clients number (client_at clients number) text before behind refl good first)
     (all_written_add P numbers clients text behind after good more)
 
-pub sends_add : (P : Order → Type 0) (is : Bool) (line : Parts) (before after : Ordered) → ((bytes : Vec ℕ) → P (Send bytes)) → SendsIf is line before after → Adds P before after
-sends_add P false line before after fits none = nothing_adds P before after none
-sends_add P true line before after fits sent = one_adds P (Send sent.bytes) before after sent.orders (fits sent.bytes)
-
 -- Clients that have a channel open are put out of it.
 
 kicked_good : (P : Order → Type 0) (channel : List ℕ) (number : ℕ) (c : Client) (old new : Clients) → AllGood P old → AreOthersSame number old new → Good P c → client_at new number ≡ Some (record c { channels = closed channel c.channels }) → AllGood P new
@@ -128,12 +124,9 @@ kicks_grow P channel text (number ∷ numbers) old new good (behind, kicks, more
     let first = kick_by P channel text number (client_at old.clients number) old behind refl good kicks in
     grows_both P old behind new first (kicks_grow P channel text numbers behind new first.good more)
 
-rejoins_grow : (P : Order → Type 0) (is : Bool) (line : Parts) (nick : List ℕ) (old new : Told) → ((bytes : Vec ℕ) → P (Send bytes)) → AllGood P old.clients → RejoinsIf is line nick old new → Grows P old new
-rejoins_grow P false line nick old new fits good same = same_grows P old new good same
-rejoins_grow P true line nick old new fits good r =
-    let first = kicks_grow P (parameter 0 line) _ (keys old.clients.all) old r.kicked good r.kicks in
-    grows_both P old r.kicked new first
-    (adds_grow P r.kicked new first.good r.clients (one_adds P (Send r.sent.bytes) r.kicked.orders new.orders r.sent.orders (fits r.sent.bytes)))
+rejoins_grow : (P : Order → Type 0) (is : Bool) (line : Parts) (nick : List ℕ) (old new : Told) → AllGood P old.clients → RejoinsIf is line nick old new → Grows P old new
+rejoins_grow P false line nick old new good same = same_grows P old new good same
+rejoins_grow P true line nick old new good kicks = kicks_grow P (parameter 0 line) _ (keys old.clients.all) old new good kicks
 
 heard_of : (P : Order → Type 0) (now : ℕ) (at : Moment) (nick : List ℕ) (origin : Origin) (effect : GateEffect) (c : Client) (same : Bool) (old new : Told) → client_at old.clients origin.2 ≡ Some c → same_origin c.origin origin ≡ same → AllGood P old.clients → HearsOne now at nick origin effect old new → Grows P old new
 heard_of P now at nick origin effect c false old new is own good h =
@@ -147,13 +140,13 @@ heard_by P now at nick origin effect None old new is good h = same_grows P old n
 heard_by P now at nick origin effect (Some c) old new is good h = heard_of P now at nick origin effect c (same_origin c.origin origin) old new is refl good h
 
 -- An effect passes.
-pub pass_by : (P : Order → Type 0) (class : Class Parts) (now : ℕ) (at : Moment) (stage : Stage) (nick : List ℕ) (node : ℕ) (effect : GateEffect) (old new : Told) → ((bytes : Vec ℕ) → P (Send bytes)) → AllGood P old.clients → PassesBy class now at stage nick node effect old new → Grows P old new
-pass_by P (To origin) now at stage nick node effect old new fits good h = heard_by P now at nick origin (reworded nick effect) (client_at old.clients origin.2) old new refl good h
-pass_by P (Rejoin session line) now at stage nick node effect old new fits good rejoins =
-    rejoins_grow P (is_session_of stage node) line nick old new fits good rejoins
-pass_by P (Hand session number line) now at stage nick node effect old new fits good same =
+pub pass_by : (P : Order → Type 0) (class : Class Parts) (now : ℕ) (at : Moment) (stage : Stage) (nick : List ℕ) (node : ℕ) (effect : GateEffect) (old new : Told) → AllGood P old.clients → PassesBy class now at stage nick node effect old new → Grows P old new
+pass_by P (To origin) now at stage nick node effect old new good h = heard_by P now at nick origin (reworded nick effect) (client_at old.clients origin.2) old new refl good h
+pass_by P (Rejoin session line) now at stage nick node effect old new good rejoins =
+    rejoins_grow P (is_session_of stage node) line nick old new good rejoins
+pass_by P (Hand session number line) now at stage nick node effect old new good same =
     same_grows P old new good (ap (λ (told : Told). told.clients) same, ap (λ (told : Told). told.orders) same)
-pass_by P Nowhere now at stage nick node effect old new fits good same =
+pass_by P Nowhere now at stage nick node effect old new good same =
     same_grows P old new good (ap (λ (told : Told). told.clients) same, ap (λ (told : Told). told.orders) same)
 
 -- A nick is learnt: what is ordered is written to clients, and all else that matters here stays.
@@ -179,20 +172,20 @@ learnt_good P effect old new good l =
     subst (λ (clients : Clients). AllGood P clients) (sym (learns_if P (nick_learnt old.given old.settings.nick (joined_as effect)) old new good l).clients) good
 
 -- an effect passes, and the monitors stay
-pub passes_one : (P : Order → Type 0) (now : ℕ) (at : Moment) (node : ℕ) (effect : GateEffect) (old new : Driver) → ((bytes : Vec ℕ) → P (Send bytes)) → AllGood P old.clients → Passes now at node effect old new → Grows P (told_of old) (told_of new) × (new.monitors ≡ old.monitors)
-passes_one P now at node effect old new fits good p =
+pub passes_one : (P : Order → Type 0) (now : ℕ) (at : Moment) (node : ℕ) (effect : GateEffect) (old new : Driver) → AllGood P old.clients → Passes now at node effect old new → Grows P (told_of old) (told_of new) × (new.monitors ≡ old.monitors)
+passes_one P now at node effect old new good p =
     let l = learns_if P (nick_learnt old.given old.settings.nick (joined_as effect)) old p.learnt good p.learns in
     let first = adds_grow P (told_of old) (told_of p.learnt) good l.clients l.adds in
-    let last = pass_by P (class_of effect) now at p.learnt.link.stage (nick_in p.learnt) node effect (told_of p.learnt) (told_of new) fits first.good p.passes in
+    let last = pass_by P (class_of effect) now at p.learnt.link.stage (nick_in p.learnt) node effect (told_of p.learnt) (told_of new) first.good p.passes in
     (grows_both P (told_of old) (told_of p.learnt) (told_of new) first last, ap (λ (driver : Driver). driver.monitors) p.rest ∙ l.monitors)
 
-pub passes_grow : (P : Order → Type 0) (now : ℕ) (at : Moment) (node : ℕ) (effects : List GateEffect) (old new : Driver) → ((bytes : Vec ℕ) → P (Send bytes)) → AllGood P old.clients → PassEach now at node effects old new → Grows P (told_of old) (told_of new) × (new.monitors ≡ old.monitors)
+pub passes_grow : (P : Order → Type 0) (now : ℕ) (at : Moment) (node : ℕ) (effects : List GateEffect) (old new : Driver) → AllGood P old.clients → PassEach now at node effects old new → Grows P (told_of old) (told_of new) × (new.monitors ≡ old.monitors)
 unfolding PassEach
-passes_grow P now at node [] old new fits good same = (
+passes_grow P now at node [] old new good same = (
   same_grows P (told_of old) (told_of new) good (ap (λ (driver : Driver). driver.clients) same, ap (λ (driver : Driver). driver.orders) same),
   ap (λ (driver : Driver). driver.monitors) same,
 )
-passes_grow P now at node (effect ∷ effects) old new fits good (behind, passes, more) =
-    let (first, monitors) = passes_one P now at node effect old behind fits good passes in
-    let (last, rest) = passes_grow P now at node effects behind new fits first.good more in
+passes_grow P now at node (effect ∷ effects) old new good (behind, passes, more) =
+    let (first, monitors) = passes_one P now at node effect old behind good passes in
+    let (last, rest) = passes_grow P now at node effects behind new first.good more in
     (grows_both P (told_of old) (told_of behind) (told_of new) first last, rest ∙ monitors)

@@ -19,7 +19,7 @@ use Rattle.driver.specs.declared.node_monitor.NodeMonitor.{NodeMonitor}
 use Rattle.driver.specs.declared.driver.Driver.{Driver}
 use Rattle.driver.specs.declared.level.Level.{Level}
 use Rattle.driver.specs.declared.link.Stage.{Stage}
-use Rattle.driver.specs.declared.link.Stage.TheVariants.{Connecting, Idle, Open}
+use Rattle.driver.specs.declared.link.Stage.TheVariants.{Closing, Connecting, Idle, Open}
 use Rattle.driver.specs.declared.news.News.TheVariants.{LogFills, TurnedAway}
 use Rattle.driver.specs.declared.order.Order.{Order}
 use Rattle.driver.specs.declared.order.Order.TheVariants as order
@@ -151,6 +151,7 @@ orders_of_call n gives old new sound o adds =
 -- The server is connected to.
 pub stands_add : (P : Order → Type 0) (stage : Stage) (settings : Settings) (now : ℕ) (before after : Ordered) (new : Stage) → ((bytes : Vec ℕ) → P (order.Send bytes)) → Connects stage settings now before new after → Adds P before after
 stands_add P (Idle since wait) settings now before after new fits (same, none) = nothing_adds P before after none
+stands_add P (Closing since wait) settings now before after new fits (same, none) = nothing_adds P before after none
 stands_add P (Connecting node) settings now before after new fits (session, begun, is) = one_adds P (order.Send begun.first) before after begun.orders (fits begun.first)
 stands_add P (Open session) settings now before after new fits (same, none) = nothing_adds P before after none
 
@@ -232,6 +233,8 @@ send_quiet n bytes (byte ∷ more) = (refl, tt)
 
 pub received_add : (n : ℕ) (stage : Stage) (now : ℕ) (at : Moment) (bytes : List ℕ) (before after : Ordered) (new : Stage) (notes : List (Note TowerBody WireLine)) → Receives stage now at bytes before new notes after → Adds (NoClaim n) before after × AllQuiet notes
 received_add n (Idle since wait) now at bytes before after new notes (same, none, is) =
+    (nothing_adds (NoClaim n) before after is, subst AllQuiet (sym none) tt)
+received_add n (Closing since wait) now at bytes before after new notes (same, none, is) =
     (nothing_adds (NoClaim n) before after is, subst AllQuiet (sym none) tt)
 received_add n (Connecting node) now at bytes before after new notes (same, none, is) =
     (nothing_adds (NoClaim n) before after is, subst AllQuiet (sym none) tt)

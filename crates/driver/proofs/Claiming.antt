@@ -4,11 +4,9 @@ use Rattle.std.specs.Prelude.{◌||◌, if◌then◌else◌, nat_eq, option_map}
 use Rattle.std.proofs.lemmas.Bool.{cases_Bool, eqb-true}
 use Rattle.std.proofs.lemmas.Bool.Decides.{nat_tests}
 use Rattle.node_notes.specs.declared.note.Note.TheVariants as note
-use Rattle.driver.specs.Pacing.{may_go}
 use Rattle.driver.specs.declared.clients.Clients.{Clients}
 use Rattle.driver.specs.declared.node_monitor.NodeMonitor.{NodeMonitor}
 use Rattle.driver.specs.declared.driver.Driver.{Driver}
-use Rattle.driver.specs.declared.news.Ending.TheVariants.{LedNoMore}
 use Rattle.driver.specs.declared.order.Order.{Order}
 use Rattle.driver.specs.declared.order.Order.TheVariants as order
 use Rattle.driver.specs.declared.settings.Settings.{Settings}
@@ -17,10 +15,12 @@ use Rattle.driver.specs.Driving.{Claims, ServesIf, TickNodes, TicksNode, orders_
 use Rattle.driver.specs.Leading.{is_older, is_that}
 use Rattle.driver.specs.Links.{node_of}
 use Rattle.driver.specs.Telling.{Ordered, ordered}
+use Rattle.driver.specs.declared.driver.writing.TheConstants.{MOST_AT_ONCE}
+use Rattle.driver.specs.Writing.{may_claim}
 use Rattle.driver.proofs.Monitors.{Ids, changed_other, changed_own, ids_changed, look, look_at, look_in}
 use Rattle.driver.proofs.Growing.{AllAre, AllGood, by_number}
 use Rattle.driver.proofs.Quiet.{NoClaim}
-use Rattle.driver.proofs.Keeping.{Keeps, Line, Result, Sound, connects_keep, monitor_keeps, keeps_both, keeps_result, leaves_keep, result_keeps, same_keeps}
+use Rattle.driver.proofs.Keeping.{Keeps, Line, Result, Sound, connects_keep, monitor_keeps, keeps_both, keeps_result, older_keep, result_keeps, same_keeps, writes_keep}
 
 -- numbers that are apart are not the same
 pub apart_eq : (a b : ℕ) → (a ≡ b → ⊥) → nat_eq a b ≡ false
@@ -47,9 +47,6 @@ claim_change old now may = λ d. monitor_claimed old.orders d now may (claim_due
 
 abbrev pub claim_orders : Driver → ℕ → Bool → NodeMonitor → List Order
 claim_orders old now may = λ d. told d.id (claim_if may (claim_due d old.settings now))
-
-abbrev pub may_claim : Driver → ℕ → Bool
-may_claim old now = may_go old.pace.burst old.pace.line_ms old.pace.free_at now
 
 pub apart_orders : (n m now : ℕ) (may : Bool) (old : Driver) (found : Option NodeMonitor) → 1 ≤ n → 1 ≤ m → (m ≡ n → ⊥) → Ids old.monitors → slice_get old.monitors (m - 1) ≡ found → AllAre (NoClaim n) (orders_of (claim_orders old now may) found)
 unfolding AllAre
@@ -159,26 +156,30 @@ claims_own n now old new low sound c =
 pub serves_own : (n : ℕ) (serves : Bool) (now : ℕ) (old new : Driver) → 1 ≤ n → Sound n old → ServesIf serves now n old new → Result n old new
 serves_own n false now old new low sound same = inl (same_keeps n old new sound same)
 serves_own n true now old new low sound s =
-    let first = claims_own n now old s.claimed low sound s.claims in
-    result_keeps n old s.claimed new first (connects_keep n now n s.claimed new (claims_sound n now n old s.claimed sound s.claims) s.connects)
+    let first = writes_keep n MOST_AT_ONCE now n old s.written sound s.writes in
+    let second = claims_own n now s.written s.claimed low first.sound s.claims in
+    let last = connects_keep n now n s.claimed new (claims_sound n now n s.written s.claimed first.sound s.claims) s.connects in
+    keeps_result n old s.written new first (result_keeps n s.written s.claimed new second last)
 
 pub serves_apart : (n : ℕ) (serves : Bool) (now node : ℕ) (old new : Driver) → 1 ≤ n → 1 ≤ node → (node ≡ n → ⊥) → Sound n old → ServesIf serves now node old new → Keeps n old new
 serves_apart n false now node old new low low_node apart sound same = same_keeps n old new sound same
 serves_apart n true now node old new low low_node apart sound s =
-    let first = claims_apart n now node old s.claimed low low_node apart sound s.claims in
-    keeps_both n old s.claimed new first (connects_keep n now node s.claimed new first.sound s.connects)
+    let first = writes_keep n MOST_AT_ONCE now node old s.written sound s.writes in
+    let second = claims_apart n now node s.written s.claimed low low_node apart first.sound s.claims in
+    let last = connects_keep n now node s.claimed new second.sound s.connects in
+    keeps_both n old s.written new first (keeps_both n s.written s.claimed new second last)
 
 -- a node ticks
 pub node_own : (n now : ℕ) (old new : Driver) → 1 ≤ n → Sound n old → TicksNode now n old new → Result n old new
 node_own n now old new low sound t =
     let first = monitor_keeps n now n old t.told sound t.ticks in
-    let left = keeps_both n old t.told t.left first (leaves_keep n (is_older (node_of t.told.link.stage) t.leader) now LedNoMore t.told t.left first.sound t.leaves) in
+    let left = keeps_both n old t.told t.left first (older_keep n (is_older (node_of t.told.link.stage) t.leader) now t.told t.left first.sound t.leaves) in
     keeps_result n old t.left new left (serves_own n (is_that t.leader n) now t.left new low left.sound t.serves)
 
 pub node_apart : (n now node : ℕ) (old new : Driver) → 1 ≤ n → 1 ≤ node → (node ≡ n → ⊥) → Sound n old → TicksNode now node old new → Keeps n old new
 node_apart n now node old new low low_node apart sound t =
     let first = monitor_keeps n now node old t.told sound t.ticks in
-    let left = keeps_both n old t.told t.left first (leaves_keep n (is_older (node_of t.told.link.stage) t.leader) now LedNoMore t.told t.left first.sound t.leaves) in
+    let left = keeps_both n old t.told t.left first (older_keep n (is_older (node_of t.told.link.stage) t.leader) now t.told t.left first.sound t.leaves) in
     keeps_both n old t.left new left (serves_apart n (is_that t.leader node) now node t.left new low low_node apart left.sound t.serves)
 
 pub node_result : (n now node : ℕ) (old new : Driver) → 1 ≤ n → 1 ≤ node → Sound n old → TicksNode now node old new → Result n old new

@@ -18,7 +18,7 @@ use Rattle.driver.specs.declared.node_monitor.NodeMonitor.{NodeMonitor}
 use Rattle.driver.specs.declared.driver.Driver.{Driver}
 use Rattle.driver.specs.declared.level.Level.{Level}
 use Rattle.driver.specs.declared.link.Stage.{Stage}
-use Rattle.driver.specs.declared.link.Stage.TheVariants.{Connecting, Idle, Open}
+use Rattle.driver.specs.declared.link.Stage.TheVariants.{Closing, Connecting, Idle, Open}
 use Rattle.driver.specs.declared.news.News.TheVariants.{LogFills, TurnedAway}
 use Rattle.driver.specs.declared.order.Order.TheVariants as order
 use Rattle.driver.specs.Arriving.{ArrivesBy, boot_at, boot_in, next_number, turned_away_by, visited}
@@ -191,6 +191,7 @@ send_fits n down bytes (byte ∷ more) = ((tt, refl), tt)
 
 received_fits : (n : ℕ) (down : Bool) (stage : Stage) (now : ℕ) (at : Moment) (bytes : List ℕ) (before after : Ordered) (new : Stage) (notes : List (Note TowerBody WireLine)) → Receives stage now at bytes before new notes after → Adds (Plain n down) before after
 received_fits n down (Idle since wait) now at bytes before after new notes (same, none, is) = nothing_adds (Plain n down) before after is
+received_fits n down (Closing since wait) now at bytes before after new notes (same, none, is) = nothing_adds (Plain n down) before after is
 received_fits n down (Connecting node) now at bytes before after new notes (same, none, is) = nothing_adds (Plain n down) before after is
 received_fits n down (Open session) now at bytes before after new notes (behind, h, is) =
     record { told = send_some h.reply h.reply.items; orders = h.orders; all = send_fits n down h.reply h.reply.items }

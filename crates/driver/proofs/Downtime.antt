@@ -11,7 +11,7 @@ use Rattle.driver.specs.declared.node_monitor.NodeMonitor.{NodeMonitor}
 use Rattle.driver.specs.declared.driver.Driver.{Driver}
 use Rattle.driver.specs.declared.link.Link.{Link}
 use Rattle.driver.specs.declared.link.Stage.{Stage}
-use Rattle.driver.specs.declared.link.Stage.TheVariants.{Connecting, Idle, Open}
+use Rattle.driver.specs.declared.link.Stage.TheVariants.{Closing, Connecting, Idle, Open}
 use Rattle.driver.specs.declared.order.Order.{Order}
 use Rattle.driver.specs.declared.settings.Settings.{Settings}
 use Rattle.driver.specs.Arriving.{IsNewDriver, new_monitors}
@@ -22,11 +22,11 @@ use Rattle.driver.specs.Downtime.{DownIsOnlyRestarted}
 use Rattle.driver.specs.Filling.{TellsLevelIf, WatchesFor, is_left_out}
 use Rattle.driver.specs.Leading.{IsLeader}
 use Rattle.driver.specs.Led.{IsOf, IsOfLeader}
-use Rattle.driver.specs.Links.{Connects, Receives, is_session_of, node_of, opened as opened_stage}
+use Rattle.driver.specs.Links.{Connects, Receives, node_of, opened as opened_stage}
 use Rattle.driver.specs.Rosters.{client_at}
 use Rattle.driver.specs.Sessions.{TakesIf, TellsAllOf, TellsIf, link_behind}
 use Rattle.driver.specs.Telling.{Ordered, ordered}
-use Rattle.driver.proofs.Adding.{all_written_add, sends_add, written_adds}
+use Rattle.driver.proofs.Adding.{all_written_add, nothing_adds, written_adds}
 use Rattle.driver.proofs.Calling.{stands_add}
 use Rattle.driver.proofs.Monitors.{Ids}
 use Rattle.driver.proofs.Dialing.{connect_stays, given_stay, goes_stay, speaks_stay, takes_stay, watch_stays}
@@ -65,16 +65,19 @@ leader_up n down driver steady l = λ own. leader_by n down driver.monitors (nod
 
 connected_node : (stage : Stage) (settings : Settings) (now : ℕ) (before after : Ordered) (new : Stage) → Connects stage settings now before new after → node_of new ≡ node_of stage
 connected_node (Idle since wait) settings now before after new (same, none) = ap node_of same
+connected_node (Closing since wait) settings now before after new (same, none) = ap node_of same
 connected_node (Connecting node) settings now before after new (session, begun, is) = ap node_of is ∙ ap Some begun.node_is
 connected_node (Open session) settings now before after new (same, none) = ap node_of same
 
 received_node : (stage : Stage) (now : ℕ) (at : Moment) (bytes : List ℕ) (before after : Ordered) (new : Stage) (notes : List (Note TowerBody WireLine)) → Receives stage now at bytes before new notes after → node_of new ≡ node_of stage
 received_node (Idle since wait) now at bytes before after new notes (same, none, is) = ap node_of same
+received_node (Closing since wait) now at bytes before after new notes (same, none, is) = ap node_of same
 received_node (Connecting node) now at bytes before after new notes (same, none, is) = ap node_of same
 received_node (Open session) now at bytes before after new notes (behind, h, is) = ap node_of is ∙ ap Some h.node_is
 
 opened_node : (stage : Stage) → node_of (opened_stage stage) ≡ node_of stage
 opened_node (Idle since wait) = refl
+opened_node (Closing since wait) = refl
 opened_node (Connecting node) = refl
 opened_node (Open session) = refl
 
@@ -155,10 +158,14 @@ call_result n down (Receive bytes now at number) told old new low steady up s is
     kept n down old new told (speaks_stay n down bytes now at number (client_at old.clients number) old new refl steady s) (ap (λ (driver : Driver). driver.link) s.rest) up is
 call_result n down (Lose now at number) told old new low steady up s is =
     kept n down old new told (goes_stay n down now at number (client_at old.clients number) old new refl steady s) (ap (λ (driver : Driver). driver.link) s.rest) up is
-call_result n down (Hand node line) told old new low steady up o is =
-    kept n down old new told
-    (given_stay n down _ old new steady o (sends_add (Plain n down) (is_session_of old.link.stage node) line old.orders new.orders (λ bytes. (tt, refl)) o.given))
-    (ap (λ (driver : Driver). driver.link) o.rest) up is
+call_result n down (Hand node line) told old new low steady up h is =
+    stayed n down old new told
+    (orders_stay n down old new steady
+    (ap (λ (driver : Driver). driver.monitors) h)
+    (ap (λ (driver : Driver). driver.clients) h)
+    (nothing_adds (Plain n down) old.orders new.orders (ap (λ (driver : Driver). driver.orders) h)))
+    (up_kept n down old.link.stage new.link.stage (ap (λ (driver : Driver). node_of driver.link.stage) h) up)
+    is
 call_result n down (Hear now at node status effects progress refused) told old new low steady up r is =
     let t = report_turns n now at node status effects progress refused down old new low r.low steady r.hears in
     turned n down old new told t (leader_up n t.last new t.steady (heard_of_leader now at node status effects progress refused old new r.hears)) is

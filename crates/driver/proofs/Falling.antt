@@ -63,7 +63,7 @@ pub passed_stays : (n now : ℕ) (at : Moment) (node : ℕ) (status : Status) (e
 passed_stays n now at node status effects progress refused down old new steady h =
     let woken = awake now old in
     let first = awake_stays n now down old steady in
-    let (grows, same) = passes_grow (Plain n down) now at node effects woken h.passed (λ bytes. (tt, refl)) steady.good h.passes in
+    let (grows, same) = passes_grow (Plain n down) now at node effects woken h.passed steady.good h.passes in
     stays_both n down old woken h.passed first (grows_stay n down woken h.passed first.steady same grows)
 
 -- How the node stands is told.

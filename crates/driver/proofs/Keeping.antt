@@ -9,19 +9,23 @@ use Rattle.driver.specs.declared.node_monitor.standing.Claimed.{Claimed}
 use Rattle.driver.specs.declared.node_monitor.NodeMonitor.{NodeMonitor}
 use Rattle.driver.specs.declared.driver.Driver.{Driver}
 use Rattle.driver.specs.declared.link.Stage.{Stage}
-use Rattle.driver.specs.declared.link.Stage.TheVariants.{Connecting, Idle, Open}
+use Rattle.driver.specs.declared.link.Stage.TheVariants.{Closing, Connecting, Idle, Open}
 use Rattle.driver.specs.declared.news.Ending.{Ending}
+use Rattle.driver.specs.declared.news.Ending.TheVariants.{LedNoMore}
 use Rattle.driver.specs.declared.order.Order.{Order}
 use Rattle.driver.specs.declared.order.Order.TheVariants as order
 use Rattle.driver.specs.Claiming.{claims}
 use Rattle.driver.specs.Monitors.{is_claimed, line_to_claim}
-use Rattle.driver.specs.Driving.{Connects, Ends, LeavesIf, TicksMonitor, closed_of, closed_orders, orders_of, tick_orders, ticked}
-use Rattle.driver.specs.Links.{ending, may_connect, node_of}
+use Rattle.driver.specs.Driving.{Connects, Ends, LeavesIf, LeavesOlder, QuitsIf, TicksMonitor, closed_of, closed_orders, orders_of, tick_orders, ticked}
+use Rattle.driver.specs.Links.{ending, is_open, may_connect, node_of}
 use Rattle.driver.specs.Telling.{Ordered, ordered}
+use Rattle.driver.specs.Writing.{Hands, WriteLines}
+use Rattle.irc_line.specs.Lines.{Parts}
 use Rattle.driver.proofs.Adding.{Adds, adds_both, nothing_adds, one_adds}
 use Rattle.driver.proofs.Monitors.{Ids, Look, changed_same, ids_kept, look_at, ticked_look}
 use Rattle.driver.proofs.Growing.{AllAre, AllGood, all_append}
 use Rattle.driver.proofs.Quiet.{NoClaim, none_claims, quiet_tick}
+use Rattle.driver.proofs.Writing.{lines_add, lines_rest}
 
 -- the line of a session
 abbrev pub Line : Type 0
@@ -165,6 +169,7 @@ monitor_keeps n now node old new sound t =
 pub ending_quiet : (n : ℕ) (stage : Stage) (why : Ending) → AllAre (NoClaim n) (ending stage why)
 unfolding AllAre
 ending_quiet n (Idle since wait) why = tt
+ending_quiet n (Closing since wait) why = tt
 ending_quiet n (Connecting node) why = (refl, tt)
 ending_quiet n (Open session) why = (refl, tt)
 
@@ -198,6 +203,30 @@ leaves_keep n true now why old new sound l =
     in
     keeps_both n old l.closed new first (ends_keep n now why l.closed new first.sound l.ends)
 
+-- the server is told that the session is over, and the connection is left
+pub quits_keep : (n : ℕ) (is : Bool) (now : ℕ) (old new : Driver) → Sound n old → QuitsIf is now old new → Keeps n old new
+quits_keep n false now old new sound l = leaves_keep n true now LedNoMore old new sound l
+quits_keep n true now old new sound q =
+    let first =
+    orders_keep n old q.said sound
+    (ap (λ (driver : Driver). driver.monitors) q.says.rest)
+    (ap (λ (driver : Driver). driver.clients) q.says.rest)
+    (one_adds (NoClaim n) (order.Send q.says.bytes) old.orders q.said.orders q.says.orders refl)
+    in
+    let second = ends_keep n now LedNoMore q.said q.ended first.sound q.ends in
+    let last =
+    orders_keep n q.ended new second.sound
+    (ap (λ (driver : Driver). driver.monitors) q.rest)
+    (ap (λ (driver : Driver). driver.clients) q.rest)
+    (nothing_adds (NoClaim n) q.ended.orders new.orders (ap (λ (driver : Driver). driver.orders) q.rest))
+    in
+    keeps_both n old q.said new first (keeps_both n q.said q.ended new second last)
+
+-- or that of an older leader is
+pub older_keep : (n : ℕ) (leaves : Bool) (now : ℕ) (old new : Driver) → Sound n old → LeavesOlder leaves now old new → Keeps n old new
+older_keep n false now old new sound same = same_keeps n old new sound same
+older_keep n true now old new sound q = quits_keep n (is_open old.link.stage) now old new sound q
+
 pub connects_add : (n : ℕ) (may : Bool) (before after : Ordered) → after ≡ ordered before (if may then order.Connect ∷ [] else []) → Adds (NoClaim n) before after
 unfolding AllAre
 connects_add n true before after is = record { told = order.Connect ∷ []; orders = is; all = (refl, tt) }
@@ -210,3 +239,20 @@ connects_keep n now node old new sound c =
     (ap (λ (driver : Driver). driver.monitors) c.rest)
     (ap (λ (driver : Driver). driver.clients) c.rest)
     (connects_add n (may_connect old.link.stage now) old.orders new.orders c.orders)
+
+-- lines go out
+pub writes_keep : (n count now node : ℕ) (old new : Driver) → Sound n old → WriteLines count now node old new → Keeps n old new
+writes_keep n count now node old new sound w =
+    let rest = lines_rest count now node old new w in
+    orders_keep n old new sound
+    (ap (λ (driver : Driver). driver.monitors) rest)
+    (ap (λ (driver : Driver). driver.clients) rest)
+    (lines_add (NoClaim n) count now node old new (λ bytes. refl) w)
+
+-- and a line is handed out
+pub hands_keep : (n node : ℕ) (line : Parts) (old new : Driver) → Sound n old → Hands node line old new → Keeps n old new
+hands_keep n node line old new sound h =
+    orders_keep n old new sound
+    (ap (λ (driver : Driver). driver.monitors) h)
+    (ap (λ (driver : Driver). driver.clients) h)
+    (nothing_adds (NoClaim n) old.orders new.orders (ap (λ (driver : Driver). driver.orders) h))

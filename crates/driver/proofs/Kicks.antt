@@ -5,7 +5,7 @@ use Rattle.irc_line.specs.Lines.{Parts, parameter}
 use Rattle.driver.specs.declared.link.Stage.{Stage}
 use Rattle.driver.specs.Crowds.{Told}
 use Rattle.driver.specs.Kicks.{KickEach, KicksClient, Rejoins, RejoinsIf, kick_line}
-use Rattle.driver.specs.Links.{Sends, SendsIf, is_session_of}
+use Rattle.driver.specs.Links.{is_session_of}
 
 -- one client is kicked, and then those behind it
 pub kick_more : (channel text : List ℕ) (number : ℕ) (left more : List ℕ) (old behind new : Told) → left ≡ number ∷ more → KicksClient channel text number old behind → KickEach channel text more behind new → KickEach channel text left old new
@@ -19,15 +19,12 @@ unfolding KickEach
 kick_none channel text left last none =
     subst (λ (left : List ℕ). KickEach channel text left last last) (sym none) refl
 
-rejoins_if : (is : Bool) (line : Parts) (nick : List ℕ) (old kicked new : Told) → is ≡ true
-    → KickEach (parameter 0 line) (kick_line (parameter 0 line) nick) (keys old.clients.all) old kicked
-    → SendsIf is line kicked.orders new.orders → new.clients ≡ kicked.clients → RejoinsIf is line nick old new
-rejoins_if true line nick old kicked new is kicks sent same = record { kicked = kicked; kicks = kicks; sent = sent; clients = same }
-rejoins_if false line nick old kicked new is kicks sent same = absurd (cc is)
+rejoins_if : (is : Bool) (line : Parts) (nick : List ℕ) (old new : Told) → is ≡ true
+    → KickEach (parameter 0 line) (kick_line (parameter 0 line) nick) (keys old.clients.all) old new → RejoinsIf is line nick old new
+rejoins_if true line nick old new is kicks = kicks
+rejoins_if false line nick old new is kicks = absurd (cc is)
 
--- a line of a session of the node joins a channel again, once the clients were kicked
-pub rejoins_so : (stage : Stage) (node : ℕ) (line : Parts) (nick : List ℕ) (old kicked new : Told) → is_session_of stage node ≡ true
-    → KickEach (parameter 0 line) (kick_line (parameter 0 line) nick) (keys old.clients.all) old kicked
-    → Sends stage node line kicked.orders new.orders → new.clients ≡ kicked.clients → Rejoins stage node line nick old new
-rejoins_so stage node line nick old kicked new is kicks sends same =
-    rejoins_if (is_session_of stage node) line nick old kicked new is kicks sends same
+-- in a session of the node the clients that have the channel open are put out of it
+pub rejoins_so : (stage : Stage) (node : ℕ) (line : Parts) (nick : List ℕ) (old new : Told) → is_session_of stage node ≡ true
+    → KickEach (parameter 0 line) (kick_line (parameter 0 line) nick) (keys old.clients.all) old new → Rejoins stage node line nick old new
+rejoins_so stage node line nick old new is kicks = rejoins_if (is_session_of stage node) line nick old new is kicks

@@ -4,19 +4,20 @@ use Rattle.std.specs.Prelude.{if◌then◌else◌}
 use Rattle.std.proofs.lemmas.Bool.{cases_lt, eqb-true}
 use Rattle.std.proofs.lemmas.List.{get_or-set_same, get_or-set_other, length-set}
 use Rattle.std.proofs.lemmas.Option.{slice_get-get_or, slice_get_past, slice_get_within}
-use Rattle.driver.specs.Pacing.{may_go}
 use Rattle.driver.specs.declared.backoff.Backoff.{Backoff}
 use Rattle.driver.specs.declared.node_monitor.NodeMonitor.{NodeMonitor}
 use Rattle.driver.specs.declared.driver.Driver.{Driver}
 use Rattle.driver.specs.declared.link.Stage.{Stage}
-use Rattle.driver.specs.declared.link.Stage.TheVariants.{Idle, Connecting, Open}
-use Rattle.driver.specs.declared.news.Ending.TheVariants.{LedNoMore}
+use Rattle.driver.specs.declared.link.Stage.TheVariants.{Closing, Idle, Connecting, Open}
 use Rattle.driver.specs.Monitors.{claim_due, monitor_claimed}
-use Rattle.driver.specs.Driving.{LeavesIf, ServesIf, TickNodes, TicksNode, changed_at, changed_if}
+use Rattle.driver.specs.Driving.{Claims, Connects, LeavesOlder, QuitsIf, ServesIf, TickNodes, TicksNode, changed_at, changed_if}
 use Rattle.driver.specs.Leading.{IsLeader, is_older, is_that, term_at, term_in, term_of}
 use Rattle.driver.specs.Led.{IsOf, IsOfLeader, IsOfLeaderHeard, IsOfLeaderTicked}
-use Rattle.driver.specs.Links.{idle_behind, may_connect, node_of}
+use Rattle.driver.specs.Links.{idle_behind, is_open, lingering, may_connect, node_of}
 use Rattle.driver.specs.Telling.{Ordered}
+use Rattle.driver.specs.declared.driver.writing.TheConstants.{MOST_AT_ONCE}
+use Rattle.driver.specs.Writing.{may_claim}
+use Rattle.driver.proofs.Writing.{lines_rest}
 
 -- one of two monitors at the same place leads in the term in which the other leads, where they stand alike
 term_same : (monitors : List NodeMonitor) (i : ℕ) (d v : NodeMonitor) → slice_get monitors i ≡ Some d → v.status ≡ d.status → term_in (slice_get (set monitors i v) i) ≡ term_in (slice_get monitors i)
@@ -74,6 +75,7 @@ claimed_stands orders now false (Some line) monitor = refl
 -- a connection that is gone is of no node
 pub idle_of_none : (stage : Stage) (backoff : Backoff) (now : ℕ) → node_of (idle_behind stage backoff now) ≡ None
 idle_of_none (Idle since wait) backoff now = refl
+idle_of_none (Closing since wait) backoff now = refl
 idle_of_none (Connecting node) backoff now = refl
 idle_of_none (Open session) backoff now = refl
 
@@ -90,19 +92,53 @@ of_not_older : (own leader : Option ℕ) → is_older own leader ≡ false → I
 of_not_older None leader is = tt
 of_not_older (Some node) leader is = that_is leader node (shown (is_that leader node) is)
 
--- a connection of another node is left
-left_of : (older : Bool) (now : ℕ) (told left : Driver) (leader : Option ℕ) → is_older (node_of told.link.stage) leader ≡ older → LeavesIf older now LedNoMore told left → (left.monitors ≡ told.monitors) × IsOf (node_of left.link.stage) leader
-left_of false now told left leader is same =
-    (ap (λ (driver : Driver). driver.monitors) same, subst (λ (driver : Driver). IsOf (node_of driver.link.stage) leader) (sym same) (of_not_older (node_of told.link.stage) leader is))
-left_of true now told left leader is h = (
+-- a connection that was left is of no node
+lingers_none : (stage : Stage) (backoff : Backoff) (now : ℕ) → node_of (lingering (idle_behind stage backoff now)) ≡ None
+lingers_none (Idle since wait) backoff now = refl
+lingers_none (Closing since wait) backoff now = refl
+lingers_none (Connecting node) backoff now = refl
+lingers_none (Open session) backoff now = refl
+
+quit_of : (is : Bool) (now : ℕ) (told left : Driver) (leader : Option ℕ) → QuitsIf is now told left → (left.monitors ≡ told.monitors) × IsOf (node_of left.link.stage) leader
+quit_of false now told left leader h = (
   ap (λ (driver : Driver). driver.monitors) h.ends.rest ∙ ap (λ (driver : Driver). driver.monitors) h.rest,
   subst (λ (own : Option ℕ). IsOf own leader) (sym (ap node_of h.ends.stage ∙ idle_of_none h.closed.link.stage h.closed.link.backoff now)) tt,
 )
+quit_of true now told left leader q = (
+  ap (λ (driver : Driver). driver.monitors) q.rest ∙ ap (λ (driver : Driver). driver.monitors) q.ends.rest ∙ ap (λ (driver : Driver). driver.monitors) q.says.rest,
+  subst (λ (own : Option ℕ). IsOf own leader)
+      (sym (ap (λ (driver : Driver). node_of driver.link.stage) q.rest ∙ ap (λ (stage : Stage). node_of (lingering stage)) q.ends.stage ∙ lingers_none q.said.link.stage q.said.link.backoff now))
+      tt,
+)
+
+-- a connection of another node is left
+left_of : (older : Bool) (now : ℕ) (told left : Driver) (leader : Option ℕ) → is_older (node_of told.link.stage) leader ≡ older → LeavesOlder older now told left → (left.monitors ≡ told.monitors) × IsOf (node_of left.link.stage) leader
+left_of false now told left leader is same =
+    (ap (λ (driver : Driver). driver.monitors) same, subst (λ (driver : Driver). IsOf (node_of driver.link.stage) leader) (sym same) (of_not_older (node_of told.link.stage) leader is))
+left_of true now told left leader is q = quit_of (is_open told.link.stage) now told left leader q
 
 -- the server is connected to for the node that leads
 connects_of : (may : Bool) (stage : Stage) (node : ℕ) (leader : Option ℕ) → leader ≡ Some node → IsOf (node_of stage) leader → IsOf (node_of (if may then Connecting node else stage)) leader
 connects_of true stage node leader is own = is
 connects_of false stage node leader is own = own
+
+-- the node that leads claims, and the server is connected to for it
+claimed_of : (now node : ℕ) (old claimed new : Driver) (leader : Option ℕ) → is_that leader node ≡ true → Claims now node old claimed → Connects now node claimed new → IsLeader old.monitors leader → IsOf (node_of old.link.stage) leader → IsOfLeader new
+claimed_of now node old claimed new leader is claims connects leads own =
+    let may = may_claim old now in
+    let claim : NodeMonitor → NodeMonitor = λ monitor. monitor_claimed old.orders monitor now may (claim_due monitor old.settings now) in
+    let monitors = ap (λ (driver : Driver). driver.monitors) connects.rest ∙ claims.monitors in
+    let stage = ap (λ (driver : Driver). driver.link.stage) claims.rest in
+    let same = λ (other : ℕ). terms_kept claim (λ monitor. claimed_stands old.orders now may (claim_due monitor old.settings now) monitor) old.monitors node other (slice_get old.monitors (node - 1)) refl in
+    record {
+      leader = leader;
+      is_leader = subst (λ (monitors : List NodeMonitor). IsLeader monitors leader) (sym monitors) (leader_kept old.monitors (changed_at claim old.monitors node) leader same leads);
+      is_of =
+          subst
+          (λ (stage : Stage). IsOf (node_of stage) leader)
+          (sym (connects.stage ∙ ap (λ (stage : Stage). if may_connect stage now then Connecting node else stage) stage))
+          (connects_of (may_connect old.link.stage now) old.link.stage node leader (that_is leader node is) own);
+    }
 
 served_of : (serves : Bool) (now node : ℕ) (left new : Driver) (leader : Option ℕ) → is_that leader node ≡ serves → ServesIf serves now node left new → IsLeader left.monitors leader → IsOf (node_of left.link.stage) leader → IsOfLeader new
 served_of false now node left new leader is same leads own = record {
@@ -111,20 +147,10 @@ served_of false now node left new leader is same leads own = record {
   is_of = subst (λ (driver : Driver). IsOf (node_of driver.link.stage) leader) (sym same) own;
 }
 served_of true now node left new leader is h leads own =
-    let may = may_go left.pace.burst left.pace.line_ms left.pace.free_at now in
-    let claim : NodeMonitor → NodeMonitor = λ monitor. monitor_claimed left.orders monitor now may (claim_due monitor left.settings now) in
-    let monitors = ap (λ (driver : Driver). driver.monitors) h.connects.rest ∙ h.claims.monitors in
-    let stage = ap (λ (driver : Driver). driver.link.stage) h.claims.rest in
-    let same = λ (other : ℕ). terms_kept claim (λ monitor. claimed_stands left.orders now may (claim_due monitor left.settings now) monitor) left.monitors node other (slice_get left.monitors (node - 1)) refl in
-    record {
-      leader = leader;
-      is_leader = subst (λ (monitors : List NodeMonitor). IsLeader monitors leader) (sym monitors) (leader_kept left.monitors (changed_at claim left.monitors node) leader same leads);
-      is_of =
-          subst
-          (λ (stage : Stage). IsOf (node_of stage) leader)
-          (sym (h.connects.stage ∙ ap (λ (stage : Stage). if may_connect stage now then Connecting node else stage) stage))
-          (connects_of (may_connect left.link.stage now) left.link.stage node leader (that_is leader node is) own);
-    }
+    let rest = lines_rest MOST_AT_ONCE now node left h.written h.writes in
+    let leads_still = subst (λ (monitors : List NodeMonitor). IsLeader monitors leader) (sym (ap (λ (driver : Driver). driver.monitors) rest)) leads in
+    let own_still = subst (λ (stage : Stage). IsOf (node_of stage) leader) (sym (ap (λ (driver : Driver). driver.link.stage) rest)) own in
+    claimed_of now node h.written h.claimed new leader is h.claims h.connects leads_still own_still
 
 node_of_leader : (now node : ℕ) (old new : Driver) → TicksNode now node old new → IsOfLeader new
 node_of_leader now node old new h =

@@ -2,6 +2,7 @@ mod Adding
 mod Asking
 mod Calling
 mod Claiming
+mod Counted
 mod Counting
 mod Crowds
 mod Cutting
@@ -14,8 +15,10 @@ mod Farewells
 mod Growing
 mod Hanging
 mod Heard
+mod Inside
 mod Keeping
 mod Kicks
+mod Lasting
 mod Leading
 mod Learning
 mod Led
@@ -26,10 +29,14 @@ mod Nicks
 mod OneClaim
 mod Owning
 mod Paced
+mod Parted
 mod Parting
 mod Passing
+mod Queueing
 mod Quiet
+mod Quitting
 mod Reaching
+mod Reported
 mod Reporting
 mod Restarts
 mod Resting
@@ -38,5 +45,7 @@ mod Serving
 mod Sessions
 mod Staying
 mod Telling
+mod Used
 mod Waiting
 mod Watching
+mod Writing

@@ -12,10 +12,10 @@ use Rattle.driver.specs.Arriving.{IsNewDriver, new_monitors}
 use Rattle.driver.specs.Calls.{Call, Does, DoesAll, IsTold, Step}
 use Rattle.driver.specs.Calls.{Connect, Connected, Dismiss, End, Hand, Hear, Lose, Notice, Receive, ReceiveLine, Refuse, Take, Tick, Watch, WatchNodes}
 use Rattle.driver.specs.Claiming.{Claims, OneClaimWaits, applies_all, claims, tells_claim}
-use Rattle.driver.specs.Links.{is_session_of, node_of}
+use Rattle.driver.specs.Links.{node_of}
 use Rattle.driver.specs.Rosters.{client_at}
-use Rattle.driver.proofs.Adding.{all_written_add, sends_add, written_adds}
-use Rattle.driver.proofs.Keeping.{Line, Sound, ends_keep, orders_keep}
+use Rattle.driver.proofs.Adding.{all_written_add, written_adds}
+use Rattle.driver.proofs.Keeping.{Line, Sound, ends_keep, hands_keep, orders_keep}
 use Rattle.driver.proofs.Monitors.{Ids, Look, look_at}
 use Rattle.driver.proofs.Growing.{AllGood, Good, none_some}
 use Rattle.driver.proofs.Quiet.{NoClaim}
@@ -29,8 +29,7 @@ pub outcome : (n : ℕ) (call : Call) (told : List Order) (old new : Driver) →
 outcome n (Connect now node) told old new low sound (low_node, c) is = outcome_keeps n false old new told (connect_keeps n now node old new sound c) is
 outcome n (Receive bytes now at number) told old new low sound s is = outcome_keeps n false old new told (speaks_by n bytes now at number (client_at old.clients number) old new refl sound s) is
 outcome n (Lose now at number) told old new low sound s is = outcome_keeps n false old new told (goes_by n now at number (client_at old.clients number) old new refl sound s) is
-outcome n (Hand node line) told old new low sound o is =
-    outcome_keeps n false old new told (orders_of_call n _ old new sound o (sends_add (NoClaim n) (is_session_of old.link.stage node) line old.orders new.orders (λ bytes. refl) o.given)) is
+outcome n (Hand node line) told old new low sound h is = outcome_keeps n false old new told (hands_keep n node line old new sound h) is
 outcome n (Hear now at node status effects progress refused) told old new low sound r is =
     report_outcome n now at node status effects progress refused old new told low r.low sound r.hears is
 outcome n (Tick now at) told old new low sound t is = tick_outcome n now at old new told low sound t is

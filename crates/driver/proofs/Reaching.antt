@@ -118,10 +118,7 @@ kicks_open channel text (number ∷ numbers) old new (behind, kicks, more) =
 
 rejoins_open : (is : Bool) (line : Parts) (nick : List ℕ) (old new : Told) → RejoinsIf is line nick old new → AreSameButOpen old.clients new.clients
 rejoins_open false line nick old new (same, none) = same_open old.clients new.clients same
-rejoins_open true line nick old new r =
-    open_both old.clients r.kicked.clients new.clients
-    (kicks_open (parameter 0 line) _ (keys old.clients.all) old r.kicked r.kicks)
-    (same_open r.kicked.clients new.clients r.clients)
+rejoins_open true line nick old new kicks = kicks_open (parameter 0 line) _ (keys old.clients.all) old new kicks
 
 reaches_by : (n : ℕ) (class : Class Parts) (now : ℕ) (at : Moment) (stage : Stage) (nick : List ℕ) (node : ℕ) (effect : GateEffect) (old new : Told) → AllGood (NoClaim n) old.clients → PassesBy class now at stage nick node effect old new → ReachesBy class old new
 reaches_by n (To origin) now at stage nick node effect old new good h = reach_by n now at nick origin (reworded nick effect) (client_at old.clients origin.2) old new refl good h
@@ -133,7 +130,7 @@ reach_each : (n now : ℕ) (at : Moment) (node : ℕ) (effects : List GateEffect
 unfolding PassEach ReachEach
 reach_each n now at node [] old new good same = same
 reach_each n now at node (effect ∷ effects) old new good (behind, passes, more) =
-    let (first, monitors) = passes_one (NoClaim n) now at node effect old behind (λ bytes. refl) good passes in
+    let (first, monitors) = passes_one (NoClaim n) now at node effect old behind good passes in
     let learnt = learnt_good (NoClaim n) effect old passes.learnt good passes.learns in
     let nick = nick_in passes.learnt in (
       passes.learnt,

@@ -210,7 +210,7 @@ pub report_outcome : (n now : ℕ) (at : Moment) (node : ℕ) (status : Status) 
 report_outcome n now at node status effects progress refused old new told low low_node sound h is =
     let woken = awake now old in
     let first = awake_keeps n now old sound in
-    let (grows, same) = passes_grow (NoClaim n) now at node effects woken h.passed (λ bytes. refl) sound.good h.passes in
+    let (grows, same) = passes_grow (NoClaim n) now at node effects woken h.passed sound.good h.passes in
     let passes = grows_keep n woken h.passed first.sound same grows in
     let passed = keeps_both n old woken h.passed first passes in
     let stood = stood_sound n now node status progress refused h.passed h.stood passed.sound h.stands in

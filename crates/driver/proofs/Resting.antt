@@ -12,21 +12,24 @@ use Rattle.driver.specs.declared.clients.Clients.{Clients}
 use Rattle.driver.specs.declared.node_monitor.NodeMonitor.{NodeMonitor}
 use Rattle.driver.specs.declared.driver.Driver.{Driver}
 use Rattle.driver.specs.declared.link.Stage.{Stage}
-use Rattle.driver.specs.declared.link.Stage.TheVariants.{Connecting, Idle, Open}
+use Rattle.driver.specs.declared.link.Stage.TheVariants.{Closing, Connecting, Idle, Open}
 use Rattle.driver.specs.declared.news.Ending.{Ending}
 use Rattle.driver.specs.declared.news.Ending.TheVariants.{LedNoMore}
 use Rattle.driver.specs.declared.order.Order.TheVariants as order
 use Rattle.driver.specs.Monitors.{claim_due, claim_if, monitor_claimed, told}
-use Rattle.driver.specs.Driving.{Claims, Connects, Ends, LeavesIf, ServesIf, TickNodes, TicksNode, closed_of, closed_orders, orders_of}
+use Rattle.driver.specs.Driving.{Claims, Connects, Ends, LeavesIf, LeavesOlder, QuitsIf, ServesIf, TickNodes, TicksNode, closed_of, closed_orders, orders_of}
 use Rattle.driver.specs.Hearing.{boot_if, boot_up}
 use Rattle.driver.specs.Leading.{IsLeader, is_older, is_that, term_at, term_in, term_of}
-use Rattle.driver.specs.Links.{end_of, ending, may_connect, node_of, status_at, status_in}
+use Rattle.driver.specs.Links.{end_of, ending, may_connect, node_of, status_at, status_in, is_open}
 use Rattle.driver.specs.Telling.{Ordered, ordered}
-use Rattle.driver.proofs.Adding.{Adds, one_adds}
-use Rattle.driver.proofs.Claiming.{claim_change, claim_orders, claimed_id, may_claim}
+use Rattle.driver.specs.declared.driver.writing.TheConstants.{MOST_AT_ONCE}
+use Rattle.driver.specs.Writing.{WriteLines, may_claim}
+use Rattle.driver.proofs.Adding.{Adds, nothing_adds, one_adds}
+use Rattle.driver.proofs.Claiming.{claim_change, claim_orders, claimed_id}
 use Rattle.driver.proofs.Monitors.{Ids, ids_changed}
 use Rattle.driver.proofs.Growing.{AllAre, AllGood, all_append}
 use Rattle.driver.proofs.Keeping.{Line}
+use Rattle.driver.proofs.Writing.{lines_add, lines_rest}
 use Rattle.driver.proofs.Led.{that_is}
 use Rattle.driver.proofs.Restarts.{Plain, both_false, told_apart}
 use Rattle.driver.proofs.Staying.{KeepsStanding, StandsAs, Stays, Steady, both_last, changed_as, monitor_stays, is_down_so, orders_stay, own_stands, same_stays, stays_both}
@@ -82,6 +85,7 @@ end_plain n down false node why = (tt, refl)
 ending_plain : (n : ℕ) (down : Bool) (stage : Stage) (why : Ending) → AllAre (Plain n down) (ending stage why)
 unfolding AllAre
 ending_plain n down (Idle since wait) why = tt
+ending_plain n down (Closing since wait) why = tt
 ending_plain n down (Connecting node) why = ((tt, refl), tt)
 ending_plain n down (Open session) why = (end_plain n down session.is_opened session.node why, tt)
 
@@ -123,9 +127,40 @@ leaves_stay n true now down why old new steady l =
     in
     stays_both n down old l.closed new first (ends_stay n now down why l.closed new first.steady l.ends)
 
-pub left_monitors : (leaves : Bool) (now : ℕ) (why : Ending) (old new : Driver) → LeavesIf leaves now why old new → new.monitors ≡ old.monitors
-left_monitors false now why old new same = ap (λ (driver : Driver). driver.monitors) same
-left_monitors true now why old new l = ap (λ (driver : Driver). driver.monitors) l.ends.rest ∙ ap (λ (driver : Driver). driver.monitors) l.rest
+quits_stay : (n : ℕ) (is : Bool) (now : ℕ) (down : Bool) (old new : Driver) → Steady n down old → QuitsIf is now old new → Stays n down old new
+quits_stay n false now down old new steady l = leaves_stay n true now down LedNoMore old new steady l
+quits_stay n true now down old new steady q =
+    let first =
+    orders_stay n down old q.said steady
+    (ap (λ (driver : Driver). driver.monitors) q.says.rest)
+    (ap (λ (driver : Driver). driver.clients) q.says.rest)
+    (one_adds (Plain n down) (order.Send q.says.bytes) old.orders q.said.orders q.says.orders (tt, refl))
+    in
+    let second = ends_stay n now down LedNoMore q.said q.ended first.steady q.ends in
+    let last =
+    orders_stay n down q.ended new second.steady
+    (ap (λ (driver : Driver). driver.monitors) q.rest)
+    (ap (λ (driver : Driver). driver.clients) q.rest)
+    (nothing_adds (Plain n down) q.ended.orders new.orders (ap (λ (driver : Driver). driver.orders) q.rest))
+    in
+    stays_both n down old q.said new first (stays_both n down q.said q.ended new second last)
+
+-- the connection of an older leader is left
+older_stays : (n : ℕ) (leaves : Bool) (now : ℕ) (down : Bool) (old new : Driver) → Steady n down old → LeavesOlder leaves now old new → Stays n down old new
+older_stays n false now down old new steady same = same_stays n down old new steady same
+older_stays n true now down old new steady q = quits_stay n (is_open old.link.stage) now down old new steady q
+
+-- and the monitors are as they were
+quits_monitors : (is : Bool) (now : ℕ) (old new : Driver) → QuitsIf is now old new → new.monitors ≡ old.monitors
+quits_monitors false now old new l = ap (λ (driver : Driver). driver.monitors) l.ends.rest ∙ ap (λ (driver : Driver). driver.monitors) l.rest
+quits_monitors true now old new q =
+    ap (λ (driver : Driver). driver.monitors) q.rest
+    ∙ ap (λ (driver : Driver). driver.monitors) q.ends.rest
+    ∙ ap (λ (driver : Driver). driver.monitors) q.says.rest
+
+pub older_monitors : (leaves : Bool) (now : ℕ) (old new : Driver) → LeavesOlder leaves now old new → new.monitors ≡ old.monitors
+older_monitors false now old new same = ap (λ (driver : Driver). driver.monitors) same
+older_monitors true now old new q = quits_monitors (is_open old.link.stage) now old new q
 
 connects_fit : (n : ℕ) (down may : Bool) (before after : Ordered) → after ≡ ordered before (if may then order.Connect ∷ [] else []) → Adds (Plain n down) before after
 unfolding AllAre
@@ -138,6 +173,15 @@ connects_stay n now node down old new steady c =
     (ap (λ (driver : Driver). driver.monitors) c.rest)
     (ap (λ (driver : Driver). driver.clients) c.rest)
     (connects_fit n down (may_connect old.link.stage now) old.orders new.orders c.orders)
+
+-- lines go out
+writes_stay : (n count now node : ℕ) (down : Bool) (old new : Driver) → Steady n down old → WriteLines count now node old new → Stays n down old new
+writes_stay n count now node down old new steady w =
+    let rest = lines_rest count now node old new w in
+    orders_stay n down old new steady
+    (ap (λ (driver : Driver). driver.monitors) rest)
+    (ap (λ (driver : Driver). driver.clients) rest)
+    (lines_add (Plain n down) count now node old new (λ bytes. (tt, refl)) w)
 
 -- The node that leads claims, and it is up.
 
@@ -185,17 +229,21 @@ serves_stay : (n : ℕ) (serves : Bool) (now node : ℕ) (down : Bool) (leader :
 serves_stay n false now node down leader old new low steady leads is same = same_stays n down old new steady same
 serves_stay n true now node down leader old new low steady leads is s =
     let own = subst (λ (leader : Option ℕ). IsLeader old.monitors leader) (that_is leader node is) leads in
-    let first = claims_stay n now node down old s.claimed low steady own s.claims in
-    stays_both n down old s.claimed new first (connects_stay n now node down s.claimed new first.steady s.connects)
+    let first = writes_stay n MOST_AT_ONCE now node down old s.written steady s.writes in
+    let same = ap (λ (driver : Driver). driver.monitors) (lines_rest MOST_AT_ONCE now node old s.written s.writes) in
+    let own_still = subst (λ (monitors : List NodeMonitor). IsLeader monitors (Some node)) (sym same) own in
+    let second = claims_stay n now node down s.written s.claimed low first.steady own_still s.claims in
+    let last = connects_stay n now node down s.claimed new second.steady s.connects in
+    stays_both n down old s.written new first (stays_both n down s.written s.claimed new second last)
 
 -- A node ticks.
 pub node_stays : (n now node : ℕ) (down : Bool) (old new : Driver) → 1 ≤ n → Steady n down old → TicksNode now node old new → Stays n down old new
 node_stays n now node down old new low steady t =
     let first = monitor_stays n now node down old t.told low steady t.ticks in
     let older = is_older (node_of t.told.link.stage) t.leader in
-    let left = leaves_stay n older now down LedNoMore t.told t.left first.steady t.leaves in
+    let left = older_stays n older now down t.told t.left first.steady t.leaves in
     let leads =
-    subst (λ (monitors : List NodeMonitor). IsLeader monitors t.leader) (sym (left_monitors older now LedNoMore t.told t.left t.leaves)) t.is_leader
+    subst (λ (monitors : List NodeMonitor). IsLeader monitors t.leader) (sym (older_monitors older now t.told t.left t.leaves)) t.is_leader
     in
     let served = serves_stay n (is_that t.leader node) now node down t.leader t.left new low left.steady leads refl t.serves in
     stays_both n down old t.left new (stays_both n down old t.told t.left first left) served

@@ -18,6 +18,7 @@ use Rattle.driver.specs.Hearing.{turned_away, turned_away_news}
 use Rattle.driver.specs.Absences.{boot_open}
 use Rattle.driver.specs.Links.{first_backoff}
 use Rattle.driver.specs.Rosters.{IsNew, client_at}
+use Rattle.driver.specs.Outgoing.{nothing_waits}
 use Rattle.driver.specs.Telling.{none_told}
 use Rattle.driver.specs.declared.driver.TheConstants.{MOST_NUMBER}
 
@@ -42,9 +43,11 @@ pub record IsNewDriver (settings : Settings) (now : ℕ) (new : Driver) : Type 0
   pub numbered : new.numbered ≡ 0
   pub stage : new.link.stage ≡ Idle (at now) 0
   pub backoff : new.link.backoff ≡ first_backoff
+  pub waiting : new.link.waiting ≡ nothing_waits
   pub given : new.given ≡ None
   pub level : new.level ≡ Roomy
   pub pace : new.pace ≡ record { burst = settings.flood_burst; line_ms = settings.flood_ms; free_at = 0 }
+  pub unheard : new.unheard ≡ 0
   pub is_not_short : new.is_short ≡ false
   pub going_on : new.going_on ≡ at now
   pub ran : new.ran ≡ at now

@@ -15,13 +15,14 @@ use Rattle.driver.specs.Coming.{Comes}
 use Rattle.driver.specs.Absences.{WatchesNodes}
 use Rattle.driver.specs.Driving.{Dismisses, Ends, Ticks}
 use Rattle.driver.specs.Filling.{Watches, words_of}
-use Rattle.driver.specs.Links.{Connects, Sends, node_of}
+use Rattle.driver.specs.Links.{Connects, node_of}
 use Rattle.driver.specs.Nicks.{AllAreWritten, IsWritten, nick_in, notice}
 use Rattle.driver.specs.Reports.{Hears}
 use Rattle.driver.specs.Rosters.{AreOthersSame, Serves, client_at}
 use Rattle.driver.specs.Serving.{IsLost}
 use Rattle.driver.specs.Sessions.{TakesIf}
 use Rattle.driver.specs.Telling.{Ordered, emptied, ordered}
+use Rattle.driver.specs.Writing.{Hands}
 
 -- A call: a client connects to a node, sends bytes or is gone; a node hands out a line for the server; a node's worker reports; time
 -- passes; the server is connected to, sends bytes or is gone; all clients are told something, or are to leave; the log is looked at, or the
@@ -91,7 +92,7 @@ abbrev pub Does : Call → Driver → Driver → Type 0
 Does (Connect now node) old new = (1 ≤ node) × ConnectsTo now node old new
 Does (Receive bytes now at number) old new = Speaks bytes now at number old new
 Does (Lose now at number) old new = Goes now at number old new
-Does (Hand node line) old new = Orders (λ before after. Sends old.link.stage node line before after) old new
+Does (Hand node line) old new = Hands node line old new
 Does (Hear now at node status effects progress refused) old new = Reports now at node status effects progress refused old new
 Does (Tick now at) old new = Ticks now at old new
 Does (Connected now) old new = Stands now old new

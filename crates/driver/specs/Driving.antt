@@ -1,6 +1,7 @@
 -- What comes of time, and how each node is driven.
-use Rattle.std.specs.Prelude.{◌≡◌, ◌++◌, ℕ, zero, suc, ◌+◌, ◌-◌, ◌&&◌, Bool, true, false, if◌then◌else◌, List, [], ◌∷◌, Option, Some, None, slice_get, slice_set}
+use Rattle.std.specs.Prelude.{◌≡◌, ◌++◌, ℕ, zero, suc, ◌+◌, ◌-◌, ◌&&◌, Bool, true, false, codes, if◌then◌else◌, List, [], ◌∷◌, Option, Some, None, slice_get, slice_set}
 use Rattle.std.specs.BTreeMap.{keys}
+use Rattle.std.specs.Global.{Vec}
 use Rattle.std.specs.Option.{is_some}
 use Rattle.wire_bytes.specs.declared.moment.Moment.{Moment}
 use Rattle.node_notes.specs.declared.note.Note.TheVariants as note
@@ -10,7 +11,7 @@ use Rattle.driver.specs.declared.retirement.Retirement.{Retirement}
 use Rattle.driver.specs.declared.news.Ending.{Ending}
 use Rattle.driver.specs.declared.news.Ending.TheVariants.{LedNoMore, Silent}
 use Rattle.driver.specs.declared.order.Order.{Order}
-use Rattle.driver.specs.declared.order.Order.TheVariants.{Connect, Disconnect, Submit}
+use Rattle.driver.specs.declared.order.Order.TheVariants.{Connect, Disconnect, Send, Submit}
 use Rattle.driver.specs.declared.settings.Settings.{Settings}
 use Rattle.driver.specs.declared.link.Stage.TheVariants.{Connecting}
 use Rattle.driver.specs.Crowds.{DismissEach, TickEach, Told, told as crowd}
@@ -18,11 +19,12 @@ use Rattle.driver.specs.Monitors.{claim_at, claim_due, monitor_behind, monitor_c
 use Rattle.driver.specs.Retiring.{restart_at, restart_behind}
 use Rattle.driver.specs.Leading.{IsLeader, is_older, is_that}
 use Rattle.driver.specs.Hearing.{boot_up}
-use Rattle.driver.specs.Links.{IsLost, backoff_behind, ending, idle_behind, is_silent, may_connect, node_of, status_at}
+use Rattle.driver.specs.Links.{IsLost, backoff_behind, ending, idle_behind, is_open, is_silent, lingering, may_connect, node_of, status_at, waiting_behind}
 use Rattle.driver.specs.Rounds.{GoesRound, Round, round}
 use Rattle.driver.specs.Telling.{Ordered, ordered}
 use Rattle.driver.specs.Waking.{awake}
-use Rattle.driver.specs.Pacing.{may_go}
+use Rattle.driver.specs.Writing.{WriteLines, may_claim}
+use Rattle.driver.specs.declared.driver.writing.TheConstants.{MOST_AT_ONCE}
 
 -- the monitors, that of this node changed
 abbrev pub changed_if : (NodeMonitor → NodeMonitor) → List NodeMonitor → ℕ → Option NodeMonitor → List NodeMonitor
@@ -87,6 +89,7 @@ pub record Ends (now : ℕ) (why : Ending) (old new : Driver) : Type 0 where
       new.orders ≡ ordered old.orders (ending old.link.stage why ++ closed_orders (closed_of old.monitors (node_of old.link.stage) lost))
   pub stage : new.link.stage ≡ idle_behind old.link.stage old.link.backoff now
   pub backoff : new.link.backoff ≡ backoff_behind old.link.stage old.link.backoff now
+  pub waiting : new.link.waiting ≡ waiting_behind old.link.stage old.link.waiting
   pub rest : new ≡ record old { orders = new.orders; link = new.link }
 
 -- The connection to the server is closed, and then it is gone.
@@ -101,24 +104,55 @@ abbrev pub LeavesIf : Bool → ℕ → Ending → Driver → Driver → Type 0
 LeavesIf false now why old new = new ≡ old
 LeavesIf true now why old new = Leaves now why old new
 
--- The node that leads in the greatest term claims its next line, where the pace allows it.
+-- what a server is told as the session is over
+abbrev pub quit_line : List ℕ
+quit_line = codes "QUIT" ++ 13 ∷ 10 ∷ []
+
+-- The server is told that the session is over.
+pub record SaysQuit (old new : Driver) : Type 0 where
+  pub bytes : Vec ℕ
+  pub are : bytes.items ≡ quit_line
+  pub orders : new.orders ≡ ordered old.orders (Send bytes ∷ [])
+  pub rest : new ≡ record old { orders = new.orders }
+
+-- The session is over, since its node leads no more: the server is told so, and has time to close the connection.
+pub record Quits (now : ℕ) (old new : Driver) : Type 0 where
+  pub said : Driver
+  pub says : SaysQuit old said
+  pub ended : Driver
+  pub ends : Ends now LedNoMore said ended
+  pub rest : new ≡ record ended { link = record ended.link { stage = lingering ended.link.stage } }
+
+-- A connection that stands is left so, and one that does not stand yet is closed.
+abbrev pub QuitsIf : Bool → ℕ → Driver → Driver → Type 0
+QuitsIf false now old new = Leaves now LedNoMore old new
+QuitsIf true now old new = Quits now old new
+
+-- The connection of an older leader is left, where it is one, and else nothing changes.
+abbrev pub LeavesOlder : Bool → ℕ → Driver → Driver → Type 0
+LeavesOlder false now old new = new ≡ old
+LeavesOlder true now old new = QuitsIf (is_open old.link.stage) now old new
+
+-- The node that leads in the greatest term claims its next line, where one may be claimed.
 pub record Claims (now node : ℕ) (old new : Driver) : Type 0 where
   pub monitors :
       new.monitors
-      ≡ changed_at (λ monitor. monitor_claimed old.orders monitor now (may_go old.pace.burst old.pace.line_ms old.pace.free_at now) (claim_due monitor old.settings now)) old.monitors node
-  pub orders : new.orders ≡ ordered old.orders (orders_at (λ monitor. told monitor.id (claim_at monitor old.settings now old.pace)) old.monitors node)
-  pub rest : new ≡ record old { monitors = new.monitors; orders = new.orders; pace = new.pace }
+      ≡ changed_at (λ monitor. monitor_claimed old.orders monitor now (may_claim old now) (claim_due monitor old.settings now)) old.monitors node
+  pub orders : new.orders ≡ ordered old.orders (orders_at (λ monitor. told monitor.id (claim_at monitor old.settings now (may_claim old now))) old.monitors node)
+  pub rest : new ≡ record old { monitors = new.monitors; orders = new.orders }
 
 -- The server is connected to for a node, where there is no connection and one may be tried.
 pub record Connects (now node : ℕ) (old new : Driver) : Type 0 where
   pub orders : new.orders ≡ ordered old.orders (if may_connect old.link.stage now then Connect ∷ [] else [])
   pub stage : new.link.stage ≡ (if may_connect old.link.stage now then Connecting node else old.link.stage)
-  pub rest : new ≡ record old { orders = new.orders; link = new.link }
+  pub rest : new ≡ record old { orders = new.orders; link = record old.link { stage = new.link.stage } }
 
--- The node that leads in the greatest term claims, and the server is connected to for it.
+-- For the node that leads in the greatest term what waits goes out; then it claims, and the server is connected to for it.
 pub record Serves (now node : ℕ) (old new : Driver) : Type 0 where
+  pub written : Driver
+  pub writes : WriteLines MOST_AT_ONCE now node old written
   pub claimed : Driver
-  pub claims : Claims now node old claimed
+  pub claims : Claims now node written claimed
   pub connects : Connects now node claimed new
 
 -- For any other node nothing is done.
@@ -134,7 +168,7 @@ pub record TicksNode (now node : ℕ) (old new : Driver) : Type 0 where
   pub leader : Option ℕ
   pub is_leader : IsLeader told.monitors leader
   pub left : Driver
-  pub leaves : LeavesIf (is_older (node_of told.link.stage) leader) now LedNoMore told left
+  pub leaves : LeavesOlder (is_older (node_of told.link.stage) leader) now told left
   pub serves : ServesIf (is_that leader node) now node left new
 
 -- Nodes tick in turn, so many from this one on.

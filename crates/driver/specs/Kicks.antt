@@ -5,7 +5,7 @@ use Rattle.irc_line.specs.Lines.{Parts, parameter}
 use Rattle.driver.specs.declared.client.Client.{Client}
 use Rattle.driver.specs.declared.link.Stage.{Stage}
 use Rattle.driver.specs.Crowds.{IsSame, Told}
-use Rattle.driver.specs.Links.{IsSent, is_session_of}
+use Rattle.driver.specs.Links.{is_session_of}
 use Rattle.driver.specs.Nicks.{IsWritten}
 use Rattle.driver.specs.Opening.{closed, has_open}
 use Rattle.driver.specs.Rosters.{AreOthersSame, client_at}
@@ -36,17 +36,10 @@ KickEach channel text [] old new = new ≡ old
 KickEach channel text (number ∷ numbers) old new =
     (behind : Told) × KicksClient channel text number old behind × KickEach channel text numbers behind new
 
--- A line that joins a channel again goes to the server; before it the clients that have the channel open are put out of it.
-pub record IsRejoined (line : Parts) (nick : List ℕ) (old new : Told) : Type 0 where
-  pub kicked : Told
-  pub kicks : KickEach (parameter 0 line) (kick_line (parameter 0 line) nick) (keys old.clients.all) old kicked
-  pub sent : IsSent line kicked.orders new.orders
-  pub clients : new.clients ≡ kicked.clients
-
--- where it is one of this node's session, it does, and else nothing comes of it
+-- where this is so, the clients that have the channel open that a line joins again are put out of it
 abbrev pub RejoinsIf : Bool → Parts → List ℕ → Told → Told → Type 0
 RejoinsIf false line nick old new = IsSame old new
-RejoinsIf true line nick old new = IsRejoined line nick old new
+RejoinsIf true line nick old new = KickEach (parameter 0 line) (kick_line (parameter 0 line) nick) (keys old.clients.all) old new
 
 -- a line joins a channel again where the server's connection is a session of this node
 abbrev pub Rejoins : Stage → ℕ → Parts → List ℕ → Told → Told → Type 0

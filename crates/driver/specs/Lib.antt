@@ -28,7 +28,10 @@ pub mod Opening
 pub mod Operators
 pub mod Outages
 pub mod Pacing
+pub mod Outgoing
 pub mod Passing
+pub mod Queueing
+pub mod Quitting
 pub mod Reaching
 pub mod Reports
 pub mod Rosters
@@ -38,3 +41,4 @@ pub mod Sessions
 pub mod Silence
 pub mod Telling
 pub mod Waking
+pub mod Writing

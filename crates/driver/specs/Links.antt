@@ -2,7 +2,7 @@
 use Rattle.std.specs.Prelude.{◌≡◌, ℕ, ◌-◌, Bool, true, false, nat_eq, nat_lt, if◌then◌else◌, List, [], ◌∷◌, ◌++◌, length, Option, Some, None, slice_get}
 use Rattle.std.specs.Global.{Vec}
 use Rattle.std.specs.Option.{is_some, option_to_list}
-use Rattle.irc_line.specs.Lines.{Parts, cut_spelling, spelling}
+use Rattle.irc_line.specs.Lines.{spelling}
 use Rattle.wire_bytes.specs.declared.moment.Moment.{Moment}
 use Rattle.buffer_commands.specs.declared.wire_line.WireLine.{WireLine}
 use Rattle.bouncer_tower.specs.Bodies.{TowerBody}
@@ -19,7 +19,7 @@ use Rattle.driver.specs.Pacing.{doubled}
 use Rattle.driver.specs.declared.node_monitor.NodeMonitor.{NodeMonitor}
 use Rattle.driver.specs.declared.link.Session.{Session}
 use Rattle.driver.specs.declared.link.Stage.{Stage}
-use Rattle.driver.specs.declared.link.Stage.TheVariants.{Idle, Connecting, Open}
+use Rattle.driver.specs.declared.link.Stage.TheVariants.{Closing, Idle, Connecting, Open}
 use Rattle.driver.specs.declared.news.Ending.{Ending}
 use Rattle.driver.specs.declared.news.News.{News}
 use Rattle.driver.specs.declared.news.News.TheVariants.{Closed, Unopened}
@@ -27,19 +27,22 @@ use Rattle.driver.specs.declared.order.Order.{Order}
 use Rattle.driver.specs.declared.order.Order.TheVariants.{Send, Log}
 use Rattle.driver.specs.declared.settings.Settings.{Settings}
 use Rattle.driver.specs.Monitors.{at, is_over}
+use Rattle.driver.specs.Outgoing.{Waiting, nothing_waits}
 use Rattle.driver.specs.Telling.{Ordered, ordered}
-use Rattle.driver.specs.declared.link.TheConstants.{FIRST_WAIT, LONGEST_WAIT, GOOD_SESSION, SILENCE}
+use Rattle.driver.specs.declared.link.TheConstants.{FIRST_WAIT, LONGEST_WAIT, GOOD_SESSION, SILENCE, TIME_TO_CLOSE}
 use Rattle.irc_line.specs.Limits.{line_limit}
 
 -- the node that a connection is of, if there is one
 abbrev pub node_of : Stage → Option ℕ
 node_of (Idle since wait) = None
+node_of (Closing since wait) = None
 node_of (Connecting node) = Some node
 node_of (Open session) = Some session.node
 
 -- a connection may be tried: there is none, and it was waited long enough since the last one
 abbrev pub may_connect : Stage → ℕ → Bool
 may_connect (Idle since wait) now = is_over since wait now
+may_connect (Closing since wait) now = false
 may_connect (Connecting node) now = false
 may_connect (Open session) now = false
 
@@ -47,9 +50,10 @@ may_connect (Open session) now = false
 abbrev pub first_backoff : Backoff
 first_backoff = record { first = FIRST_WAIT; most = LONGEST_WAIT; next = FIRST_WAIT }
 
--- the server was silent for five minutes
+-- the server was silent for five minutes, or did not close a connection for a second whose session it was told is over
 abbrev pub is_silent : Stage → ℕ → Bool
 is_silent (Idle since wait) now = false
+is_silent (Closing since wait) now = is_over since TIME_TO_CLOSE now
 is_silent (Connecting node) now = false
 is_silent (Open session) now = is_over session.heard SILENCE now
 
@@ -60,36 +64,56 @@ end_of was_given node why = if was_given then Closed node why else Unopened node
 -- what an operator is told of a connection that is gone
 abbrev pub ending : Stage → Ending → List Order
 ending (Idle since wait) why = []
+ending (Closing since wait) why = []
 ending (Connecting node) why = Log (Unopened node why) ∷ []
 ending (Open session) why = Log (end_of session.is_opened session.node why) ∷ []
 
 -- a connection that stands, of which the server gave the session
 abbrev pub opened : Stage → Stage
 opened (Idle since wait) = Idle since wait
+opened (Closing since wait) = Closing since wait
 opened (Connecting node) = Connecting node
 opened (Open session) = Open (record session { is_opened = true })
+
+-- what waits to go out behind a connection that is gone: nothing
+abbrev pub waiting_behind : Stage → Waiting → Waiting
+waiting_behind (Idle since wait) waiting = waiting
+waiting_behind (Closing since wait) waiting = waiting
+waiting_behind (Connecting node) waiting = nothing_waits
+waiting_behind (Open session) waiting = nothing_waits
 
 -- how long is waited behind a connection that is gone: the first wait again behind a session of a minute
 abbrev pub wait_behind : Stage → Backoff → ℕ → ℕ
 wait_behind (Open session) backoff now = if is_over session.since GOOD_SESSION now then backoff.first else backoff.next
 wait_behind (Connecting node) backoff now = backoff.next
 wait_behind (Idle since wait) backoff now = wait
+wait_behind (Closing since wait) backoff now = wait
 
 -- where a connection that is gone stands
 abbrev pub idle_behind : Stage → Backoff → ℕ → Stage
 idle_behind (Idle since wait) backoff now = Idle since wait
+idle_behind (Closing since wait) backoff now = Idle (at now) wait
 idle_behind (Connecting node) backoff now = Idle (at now) backoff.next
 idle_behind (Open session) backoff now = Idle (at now) (wait_behind (Open session) backoff now)
 
 -- how long is waited behind the next one that is gone: twice as long as behind this one, up to a limit
 abbrev pub backoff_behind : Stage → Backoff → ℕ → Backoff
 backoff_behind (Idle since wait) backoff now = backoff
+backoff_behind (Closing since wait) backoff now = backoff
 backoff_behind (Connecting node) backoff now = record backoff { next = doubled backoff.most backoff.next }
 backoff_behind (Open session) backoff now = record backoff { next = doubled backoff.most (wait_behind (Open session) backoff now) }
+
+-- a connection that is gone, where the server was told that its session is over: the server is to close it
+abbrev pub lingering : Stage → Stage
+lingering (Idle since wait) = Closing since wait
+lingering (Closing since wait) = Closing since wait
+lingering (Connecting node) = Connecting node
+lingering (Open session) = Open session
 
 -- there is a session
 abbrev pub is_open : Stage → Bool
 is_open (Idle since wait) = false
+is_open (Closing since wait) = false
 is_open (Connecting node) = false
 is_open (Open session) = true
 
@@ -116,6 +140,7 @@ pub record HasBegun (settings : Settings) (now node : ℕ) (before : Ordered) (s
 -- what a connection that stands comes to: nothing where none was asked for
 abbrev pub Connects : Stage → Settings → ℕ → Ordered → Stage → Ordered → Type 0
 Connects (Idle since wait) settings now before stage after = (stage ≡ Idle since wait) × (after ≡ before)
+Connects (Closing since wait) settings now before stage after = (stage ≡ Closing since wait) × (after ≡ before)
 Connects (Connecting node) settings now before stage after =
     (session : Session) × HasBegun settings now node before session after × (stage ≡ Open session)
 Connects (Open session) settings now before stage after = (stage ≡ Open session) × (after ≡ before)
@@ -151,6 +176,7 @@ pub record HasReceived (now : ℕ) (moment : Moment) (bytes : List ℕ) (old : S
 -- what bytes come to: nothing where there is no session
 abbrev pub Receives : Stage → ℕ → Moment → List ℕ → Ordered → Stage → List (Note TowerBody WireLine) → Ordered → Type 0
 Receives (Idle since wait) now moment bytes before stage notes after = (stage ≡ Idle since wait) × (notes ≡ []) × (after ≡ before)
+Receives (Closing since wait) now moment bytes before stage notes after = (stage ≡ Closing since wait) × (notes ≡ []) × (after ≡ before)
 Receives (Connecting node) now moment bytes before stage notes after = (stage ≡ Connecting node) × (notes ≡ []) × (after ≡ before)
 Receives (Open session) now moment bytes before stage notes after =
     (behind : Session) × HasReceived now moment bytes session before behind notes after × (stage ≡ Open behind)
@@ -158,28 +184,15 @@ Receives (Open session) now moment bytes before stage notes after =
 -- whether the node has to be told of the end: it has where the uplink of its session gives the end
 abbrev pub IsLost : Stage → Bool → Type 0
 IsLost (Idle since wait) lost = lost ≡ false
+IsLost (Closing since wait) lost = lost ≡ false
 IsLost (Connecting node) lost = lost ≡ false
 IsLost (Open session) lost =
     (behind : uplink.Link) × (given : Option UplinkInput) × GoesOn session.uplink Ended behind (option_to_list given) []
     × (lost ≡ is_some given)
 
--- a line goes to the server, cut to what fits into a line
-pub record IsSent (line : Parts) (before after : Ordered) : Type 0 where
-  pub bytes : Vec ℕ
-  pub are : bytes.items ≡ cut_spelling line
-  pub orders : after ≡ ordered before (Send bytes ∷ [])
-
--- a line goes to the server where this is so, and else nothing is ordered
-abbrev pub SendsIf : Bool → Parts → Ordered → Ordered → Type 0
-SendsIf true line before after = IsSent line before after
-SendsIf false line before after = after ≡ before
-
 -- there is a session of this node
 abbrev pub is_session_of : Stage → ℕ → Bool
 is_session_of (Idle since wait) node = false
+is_session_of (Closing since wait) node = false
 is_session_of (Connecting other) node = false
 is_session_of (Open session) node = nat_eq session.node node
-
--- a node's line goes to the server in a session of this node, and nowhere else
-abbrev pub Sends : Stage → ℕ → Parts → Ordered → Ordered → Type 0
-Sends stage node line before after = SendsIf (is_session_of stage node) line before after

@@ -10,8 +10,7 @@ use Rattle.node_notes.specs.Notes.{leads}
 use Rattle.machine_laws.specs.Sessions.{same_session}
 use Rattle.raft_log.specs.Batches.{batch_limit}
 use Rattle.driver.specs.declared.timer.Timer.{Timer}
-use Rattle.driver.specs.declared.pace.Pace.{Pace}
-use Rattle.driver.specs.Pacing.{doubled, free_after, may_go}
+use Rattle.driver.specs.Pacing.{doubled}
 use Rattle.driver.specs.declared.node_monitor.NodeMonitor.{NodeMonitor}
 use Rattle.driver.specs.declared.node_monitor.standing.Claimed.{Claimed}
 use Rattle.driver.specs.declared.node_monitor.standing.Outage.{Outage}
@@ -130,20 +129,14 @@ unless_claimed monitor wait now (Some line) = if is_claimed monitor.claimed wait
 unfoldable pub claim_due : NodeMonitor → Settings → ℕ → Option ((ℕ × ℕ) × ℕ)
 claim_due monitor settings now = unless_claimed monitor settings.timeout_ms now (line_to_claim monitor.status)
 
--- a claim goes to the node where one is due and the pace allows it
+-- a claim goes to the node where one is due, and a line may be claimed
 abbrev pub claim_if : Bool → Option ((ℕ × ℕ) × ℕ) → Option (Note TowerBody WireLine)
 claim_if may None = None
 claim_if may (Some line) = if may then Some Claim else None
 
--- the note that tells a node to claim, where a line is due and the pace allows it
-abbrev pub claim_at : NodeMonitor → Settings → ℕ → Pace → Option (Note TowerBody WireLine)
-claim_at monitor settings now pace =
-    claim_if (may_go pace.burst pace.line_ms pace.free_at now) (claim_due monitor settings now)
-
--- the pace behind it
-abbrev pub paced : Pace → ℕ → Option ((ℕ × ℕ) × ℕ) → Pace
-paced pace now None = pace
-paced pace now (Some line) = record pace { free_at = free_after pace.burst pace.line_ms pace.free_at now }
+-- the note that tells a node to claim, where a line is due, and one may be claimed
+abbrev pub claim_at : NodeMonitor → Settings → ℕ → Bool → Option (Note TowerBody WireLine)
+claim_at monitor settings now may = claim_if may (claim_due monitor settings now)
 
 -- the claim of a line, which the node is told now, by its next note
 abbrev pub claim_told : Ordered → NodeMonitor → ℕ → ((ℕ × ℕ) × ℕ) → Claimed

@@ -19,6 +19,7 @@ use Rattle.driver.specs.Nicks.{nick_in}
 use Rattle.driver.specs.Rewording.{reworded}
 use Rattle.driver.specs.Rosters.{AreOthersSame, Serves, client_at}
 use Rattle.driver.specs.Serving.{Hears}
+use Rattle.driver.specs.Writing.{link_passed}
 
 -- An effect for the client of this origin is heard by it, where there is one; all others are as they were, one of another origin that has
 -- the same number too.
@@ -34,8 +35,8 @@ pub record HearsOne (now : ℕ) (at : Moment) (nick : List ℕ) (origin : Origin
       (λ s calls c client. Hears effect nick now at s calls c old.orders client new.orders)
       origin.2 new.clients
 
--- An effect that joins anew goes to the server in a session of this node, one for a client to that client, as it hears it, and others
--- nowhere.
+-- By an effect that joins a channel anew, in a session of this node, clients are put out of it; one for a client goes to that client, as it
+-- hears it, and others nowhere.
 abbrev pub PassesBy : Class Parts → ℕ → Moment → Stage → List ℕ → ℕ → GateEffect → Told → Told → Type 0
 PassesBy (To origin) now at stage nick node effect old new = HearsOne now at nick origin (reworded nick effect) old new
 PassesBy (Rejoin session line) now at stage nick node effect old new =
@@ -43,12 +44,12 @@ PassesBy (Rejoin session line) now at stage nick node effect old new =
 PassesBy (Hand session number line) now at stage nick node effect old new = new ≡ old
 PassesBy Nowhere now at stage nick node effect old new = new ≡ old
 
--- An effect passes: the nick that it shows is learnt, and then it goes where it is for.
+-- An effect passes: the nick that it shows is learnt, and then it goes where it is for; a channel that it joins anew waits to be joined.
 pub record Passes (now : ℕ) (at : Moment) (node : ℕ) (effect : GateEffect) (old new : Driver) : Type 0 where
   pub learnt : Driver
   pub learns : LearnsNick effect old learnt
   pub passes : PassesBy (class_of effect) now at learnt.link.stage (nick_in learnt) node effect (told_of learnt) (told_of new)
-  pub rest : new ≡ record learnt { clients = new.clients; orders = new.orders }
+  pub rest : new ≡ record learnt { clients = new.clients; orders = new.orders; link = link_passed (class_of effect) node learnt.link }
 
 -- effects pass in turn
 unfoldable pub PassEach : ℕ → Moment → ℕ → List GateEffect → Driver → Driver → Type 0

@@ -54,7 +54,7 @@ pub record Takes (now : ℕ) (moment : Moment) (bytes : List ℕ) (node : ℕ) (
   pub taken : Driver
   pub notes : List (Note TowerBody WireLine)
   pub receives : Receives old.link.stage now moment bytes old.orders taken.link.stage notes taken.orders
-  pub rest : taken ≡ record old { link = record old.link { stage = taken.link.stage }; orders = taken.orders }
+  pub rest : taken ≡ record old { link = record old.link { stage = taken.link.stage }; orders = taken.orders; unheard = 0 }
   pub tells : TellsAllOf node notes taken new
 
 -- and they are dropped where there is no connection

@@ -1,13 +1,14 @@
 //! The driver: what happened is told to it, and it gives orders.
-ghost use Rattle.std.specs.Prelude.{◌≡◌, true, IfOk, IfSome, None, OnErr, OnOk};
+ghost use Rattle.std.specs.Prelude.{◌≡◌, true, IfOk, IfSome, None, OnErr, OnOk, is_some};
 ghost use Rattle.driver.specs.Arriving.{Arrives, ArrivesIf, IsNewDriver, boot_at, monitors_behind};
 ghost use Rattle.driver.specs.Arriving.{last_number, new_monitors, next_number, turned_away_at};
 ghost use Rattle.driver.specs.Coming.{Comes};
 ghost use Rattle.driver.specs.Deeds.{are_merged, deeds};
 ghost use Rattle.driver.specs.Driving.{Dismisses, changed_at, orders_at};
+ghost use Rattle.driver.specs.Writing.{Hands};
 ghost use Rattle.driver.specs.Retiring.{with_seen};
 ghost use Rattle.driver.specs.Hearing.{boot_up, turned_away, turned_away_news};
-ghost use Rattle.driver.specs.Links.{Sends, status_at};
+ghost use Rattle.driver.specs.Links.{status_at};
 ghost use Rattle.driver.specs.Nicks.{nick_in};
 ghost use Rattle.driver.specs.Rosters.{AreOthersSame, Serves, client_at, is_attached_in, is_leaving_in};
 ghost use Rattle.driver.specs.Serving.{IsLost};
@@ -21,6 +22,7 @@ mod rejoining;
 mod session;
 mod ticking;
 mod watching;
+mod writing;
 
 use crate::client::Client;
 use crate::clients::Clients;
@@ -59,6 +61,8 @@ pub struct Driver {
     /// How full the log is, of which people were told last.
     level: Level,
     pace: Pace,
+    /// How many lines that are said went to the server since it was last heard.
+    unheard: u64,
     /// Fewer nodes than a majority serve clients, as people were told last.
     is_short: bool,
     /// Since when a majority of the nodes goes on, as far as is known.
@@ -86,6 +90,7 @@ impl Driver {
             given: None,
             level: Level::Roomy,
             pace,
+            unheard: 0,
             is_short: false,
             going_on: Timer::from(now.ms),
             ran: Timer::from(now.ms),
@@ -149,6 +154,13 @@ impl Driver {
     {
         let monitor = self.monitors.get(node.value() as usize - 1)?;
         monitor.boot()
+    }
+
+    /// Whether a node takes clients: it is up, and does not hang.
+    pub fn takes_clients(&self, node: NodeId) -> bool
+        ensures { result ≡ is_some (boot_at self.now.monitors node) }
+    {
+        self.open_boot(node).is_some()
     }
 
     /// The run in which a node takes clients, if it does.
@@ -250,13 +262,19 @@ impl Driver {
         self.clients.dismiss_all(now, &mut self.orders)
     }
 
-    /// A line was handed out by a node, for its session.
-    pub fn hand(&mut self, node: NodeId, line: &Line) -> Result<(), AllocError>
-        ensures sent { OnOk result (Sends self.old.link.stage node line.now self.old.orders
-            self.new.orders) }
-        ensures rest { self.new ≡ record self.old { orders = self.new.orders } }
+    /// How many lines that are said went to the server since it was last heard: as a session ends, so many may not have
+    /// arrived.
+    pub fn unheard(&self) -> u64
+        ensures { result ≡ self.now.unheard }
     {
-        self.link.send(node, line, &mut self.orders)
+        self.unheard
+    }
+
+    /// A line was handed out by a node, for its session, in which it waits to go out.
+    pub fn hand(&mut self, node: NodeId, line: &Line) -> Result<(), AllocError>
+        ensures { OnOk result (Hands node line.now self.old self.new) }
+    {
+        self.link.queue(node, line)
     }
 }
 

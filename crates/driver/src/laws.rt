@@ -7,6 +7,8 @@ ghost use Rattle.driver.specs.Learning.{JoinsShowTheNick};
 ghost use Rattle.driver.specs.Led.{IsOfLeaderHeard, IsOfLeaderTicked};
 ghost use Rattle.driver.specs.Once.{AsksOnce, AsksOwn};
 ghost use Rattle.driver.specs.Pacing.{IsPaced};
+ghost use Rattle.driver.specs.Queueing.{QuestionsWait, SaidAreCounted, SaidGoInOrder};
+ghost use Rattle.driver.specs.Quitting.{SessionsEndFirst};
 ghost use Rattle.driver.specs.Reaching.{EffectsReach};
 ghost use Rattle.driver.specs.Rewording.{RewordsEndings};
 
@@ -74,4 +76,25 @@ pub fn joins_show_the_nick_in_force()
 /// it.
 pub fn lines_are_paced()
     ensures { IsPaced }
+{}
+
+/// In a session, whatever nodes hand out, channels are joined and lines go: the lines that are said go out in the
+/// order in which they were handed out, each at most once; a question who is in a channel goes only where nothing
+/// that is said waits, and of those that wait no two ask of one channel.
+pub fn what_is_said_goes_first()
+    ensures order { SaidGoInOrder }
+    ensures questions { QuestionsWait }
+{}
+
+/// In a session, from where the server was heard on: each line that is said and goes out is counted once, and nothing else
+/// is.
+pub fn what_is_said_is_counted()
+    ensures { SaidAreCounted }
+{}
+
+/// Over every list of calls of a driver one connection to the server is asked for at a time. Where the node of one leads
+/// no more, the server is told by a QUIT, and once; nothing is said behind it, and the next connection is asked for only
+/// where the server closed this one, or had a second to.
+pub fn sessions_end_first()
+    ensures { SessionsEndFirst }
 {}

@@ -4,22 +4,24 @@ ghost use Rattle.std.specs.Option.{is_some, option_to_list};
 ghost use Rattle.uplink.specs.declared.input.UplinkInput.{UplinkInput};
 ghost use Rattle.uplink.specs.Calls.{Ended, GoesOn};
 ghost use Rattle.driver.specs.declared.order.Order.TheVariants.{Connect};
-ghost use Rattle.driver.specs.Links.{Connects, HasBegun, HasReceived, IsLost, Receives, Sends};
-ghost use Rattle.driver.specs.Links.{backoff_behind, ending, idle_behind, is_session_of, is_silent, may_connect, node_of, opened};
+ghost use Rattle.driver.specs.Links.{Connects, HasBegun, HasReceived, IsLost, Receives};
+ghost use Rattle.driver.specs.Links.{backoff_behind, ending, idle_behind, is_open, is_session_of, is_silent, lingering, may_connect, node_of, opened, waiting_behind};
 ghost use Rattle.driver.specs.Links.{first_backoff, notes_of, send_some};
 ghost use Rattle.driver.specs.Monitors.{at};
+ghost use Rattle.driver.specs.Outgoing.{nothing_waits};
 ghost use Rattle.driver.specs.Telling.{ordered};
 
 mod notes;
+mod sending;
 
 use crate::backoff::Backoff;
 use crate::link::notes::notes_of;
 use crate::news::{Ending, News};
 use crate::order::{Now, TowerNote};
 use crate::orders::Orders;
+use crate::outgoing::Outgoing;
 use crate::settings::Settings;
 use crate::timer::Timer;
-use irc_line::Line;
 use raft_log::NodeId;
 use std::alloc::{AllocError, Global};
 use uplink::{Passed, Uplink};
@@ -37,11 +39,18 @@ const GOOD_SESSION: u64 = 60_000;
 // A server sends a PING at least every few minutes. One that says nothing for so long is gone.
 const SILENCE: u64 = 300_000;
 
+/// How long a server has to close a connection whose session it is told is over, in milliseconds.
+// it frees the nick as it does, and the next session asks for the same one
+const TIME_TO_CLOSE: u64 = 1000;
+
 /// Where the connection stands.
 #[derive(Drop)]
 enum Stage {
     /// There is none; a next one may be tried after so many milliseconds from then.
     Idle(Timer, u32),
+    /// The server was told then that the session is over, and is to close the connection; a next one may be tried so
+    /// many milliseconds after that.
+    Closing(Timer, u32),
     /// One was asked for, for this node.
     Connecting(NodeId),
     /// It stands, for this node.
@@ -65,6 +74,8 @@ pub struct Link {
     alloc: Global,
     stage: Stage,
     backoff: Backoff,
+    /// What waits to go out in the session.
+    waiting: Outgoing,
 }
 
 impl Link {
@@ -72,11 +83,13 @@ impl Link {
     pub fn new(alloc: Global, now: &Now) -> Link
         ensures stage { result.stage ≡ Stage.Idle (at now.now.ms) 0 }
         ensures backoff { result.backoff ≡ first_backoff }
+        ensures waiting { result.waiting ≡ nothing_waits }
     {
         Link {
             alloc,
             stage: Stage::Idle(Timer::from(now.ms), 0),
             backoff: Backoff::new(FIRST_WAIT, LONGEST_WAIT),
+            waiting: Outgoing::new(alloc),
         }
     }
 
@@ -85,7 +98,7 @@ impl Link {
         ensures { result ≡ node_of self.now.stage }
     {
         match &self.stage {
-            Stage::Idle(_, _) => None,
+            Stage::Idle(_, _) | Stage::Closing(_, _) => None,
             Stage::Connecting(node) => Some(*node),
             Stage::Open(session) => Some(session.node),
         }
@@ -110,7 +123,7 @@ impl Link {
                     return Ok(());
                 }
             }
-            Stage::Connecting(_) | Stage::Open(_) => return Ok(()),
+            Stage::Closing(_, _) | Stage::Connecting(_) | Stage::Open(_) => return Ok(()),
         }
         orders.connect()?;
         self.stage = Stage::Connecting(node);
@@ -151,7 +164,9 @@ impl Link {
                 let notes = receive_in(self.alloc, session, now, bytes, orders)?;
                 Ok(notes)
             }
-            Stage::Idle(_, _) | Stage::Connecting(_) => Ok(Vec::new(self.alloc)),
+            Stage::Idle(_, _) | Stage::Closing(_, _) | Stage::Connecting(_) => {
+                Ok(Vec::new(self.alloc))
+            }
         }
     }
 
@@ -164,7 +179,8 @@ impl Link {
         }
     }
 
-    /// The connection is gone, or could not be made. Whether its node has to be told.
+    /// The connection is gone, or could not be made, and nothing waits to go out any more. Whether its node has to be
+    /// told.
     pub fn lose(&mut self, now: &Now, why: Ending, orders: &mut Orders) -> Result<bool, AllocError>
         ensures told { OnOk result (orders.new ≡ ordered orders.old (ending self.old.stage why)) }
         ensures stage { OnOk result
@@ -172,9 +188,15 @@ impl Link {
         ensures lost { IfOk result (λ lost. IsLost self.old.stage lost) }
         ensures backoff { OnOk result
             (self.new.backoff ≡ backoff_behind self.old.stage self.old.backoff now.now.ms) }
+        ensures waiting { OnOk result
+            (self.new.waiting ≡ waiting_behind self.old.stage self.old.waiting) }
     {
         let lost = match &mut self.stage {
             Stage::Idle(_, _) => return Ok(false),
+            Stage::Closing(_, wait) => {
+                self.stage = Stage::Idle(Timer::from(now.ms), *wait);
+                return Ok(false);
+            }
             Stage::Connecting(node) => {
                 orders.log(News::Unopened(*node, why))?;
                 false
@@ -189,15 +211,17 @@ impl Link {
             }
         };
         self.stage = Stage::Idle(Timer::from(now.ms), self.backoff.fail());
+        self.waiting = Outgoing::new(self.alloc);
         Ok(lost)
     }
 
-    /// Whether the server was silent for too long.
+    /// Whether the server was silent for too long, or had its time to close the connection.
     pub fn is_silent(&self, now: &Now) -> bool
         ensures { result ≡ is_silent self.now.stage now.now.ms }
     {
         match &self.stage {
             Stage::Open(session) => session.heard.has_passed(SILENCE, now.ms),
+            Stage::Closing(since, _) => since.has_passed(TIME_TO_CLOSE, now.ms),
             Stage::Idle(_, _) | Stage::Connecting(_) => false,
         }
     }
@@ -208,22 +232,24 @@ impl Link {
     {
         match &self.stage {
             Stage::Open(session) => session.node == node,
-            Stage::Idle(_, _) | Stage::Connecting(_) => false,
+            Stage::Idle(_, _) | Stage::Closing(_, _) | Stage::Connecting(_) => false,
         }
     }
 
-    /// A line of this node's session goes to the server.
-    pub fn send(&self, node: NodeId, line: &Line, orders: &mut Orders) -> Result<(), AllocError>
-        ensures { OnOk result (Sends self.now.stage node line.now orders.old
-            orders.new) }
+    /// Whether the connection stands, and its session is not over.
+    pub fn is_open(&self) -> bool
+        ensures { result ≡ is_open self.now.stage }
     {
-        if !self.is_session_of(node) {
-            return Ok(());
+        matches!(self.stage, Stage::Open(_))
+    }
+
+    /// The session is over, of which the server was told: it is to close the connection.
+    pub fn linger(&mut self)
+        ensures { self.new ≡ record self.old { stage = lingering self.old.stage } }
+    {
+        if let Stage::Idle(since, wait) = self.stage {
+            self.stage = Stage::Closing(since, wait);
         }
-        let mut bytes = Vec::new(self.alloc);
-        line.write_cut(&mut bytes)?;
-        orders.send(bytes)?;
-        Ok(())
     }
 }
 

@@ -10,6 +10,7 @@ ghost use Rattle.driver.specs.Nicks.{nick_in};
 ghost use Rattle.driver.specs.Hearing.{heard_behind, heard_news, heard_of};
 ghost use Rattle.driver.specs.Reports.{Begins, BeginsIf, Hears, Stands, WordsBy, heard_at};
 ghost use Rattle.driver.specs.Telling.{ordered, told_to};
+ghost use Rattle.driver.specs.Writing.{link_passed};
 
 use crate::absence::Absence;
 use crate::driver::Driver;
@@ -126,8 +127,11 @@ impl Driver {
     fn hand_on(&mut self, now: &Now, node: NodeId, effect: &TowerEffect) -> Result<(), AllocError>
         ensures passes { OnOk result (PassesBy (class_of effect.now) now.now.ms
             now.now.at self.old.link.stage (nick_in self.old) node effect.now (told_of self.old) (told_of self.new)) }
-        ensures rest { self.new ≡ record self.old
-            { clients = self.new.clients; orders = self.new.orders } }
+        ensures rest { OnOk result (self.new ≡ record self.old {
+          clients = self.new.clients;
+          orders = self.new.orders;
+          link = link_passed (class_of effect.now) node self.old.link;
+        }) }
     {
         match <Tower as Hosted>::class(effect) {
             Class::To(origin) => self.tell_client(now, origin, effect)?,

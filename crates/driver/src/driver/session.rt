@@ -1,10 +1,10 @@
 //! The connection to the server, as the driver has it.
 ghost use Rattle.std.specs.Prelude.{◌≡◌, OnOk};
-ghost use Rattle.driver.specs.declared.news.Ending.TheVariants.{LedNoMore, Silent};
+ghost use Rattle.driver.specs.declared.news.Ending.TheVariants.{Silent};
 ghost use Rattle.driver.specs.Filling.{is_left_out};
-ghost use Rattle.driver.specs.Driving.{Connects, Ends, Leaves, LeavesIf};
+ghost use Rattle.driver.specs.Driving.{Connects, Ends, Leaves, LeavesIf, LeavesOlder, QuitsIf, SaysQuit};
 ghost use Rattle.driver.specs.Leading.{is_older, is_that};
-ghost use Rattle.driver.specs.Links.{Connects as IsConnected, is_silent, node_of};
+ghost use Rattle.driver.specs.Links.{Connects as IsConnected, is_open, is_silent, node_of};
 ghost use Rattle.driver.specs.Sessions.{OpensBy, TakesIf, TellsAllOf, TellsIf};
 
 use crate::driver::Driver;
@@ -13,6 +13,9 @@ use crate::order::{Now, TowerNote};
 use node_notes::Note;
 use raft_log::NodeId;
 use std::alloc::AllocError;
+
+/// What a server is told as the session is over.
+const QUIT: &[u8] = b"QUIT\r\n";
 
 impl Driver {
     /// The server is connected to.
@@ -34,6 +37,7 @@ impl Driver {
         let Some(node) = self.link.node() else {
             return Ok(());
         };
+        self.unheard = 0;
         let notes = self.link.receive(now, bytes, &mut self.orders)?;
         self.tell_all(node, notes)?;
         Ok(())
@@ -88,10 +92,11 @@ impl Driver {
     fn end_session(&mut self, now: &Now, why: Ending) -> Result<(), AllocError>
         ensures { OnOk result (Ends now.now.ms why self.old self.new) }
     {
-        let Some(node) = self.link.node() else {
+        let node = self.link.node();
+        let is_lost = self.link.lose(now, why, &mut self.orders)?;
+        let Some(node) = node else {
             return Ok(());
         };
-        let is_lost = self.link.lose(now, why, &mut self.orders)?;
         if is_lost && self.boot_of(node).is_some() {
             self.orders.submit(node, Note::Closed)?;
         }
@@ -110,8 +115,8 @@ impl Driver {
     /// The connection to the server is left where it is of another node than the one that leads in the
     /// greatest term, as far as is known: the older leader may hang, and not know of the newer one.
     pub fn leave_older(&mut self, now: &Now, leader: &Option<NodeId>) -> Result<(), AllocError>
-        ensures { OnOk result (LeavesIf (is_older (node_of self.old.link.stage) leader.now)
-            now.now.ms LedNoMore self.old self.new) }
+        ensures { OnOk result (LeavesOlder (is_older (node_of self.old.link.stage) leader.now)
+            now.now.ms self.old self.new) }
     {
         let Some(node) = self.link.node() else {
             return Ok(());
@@ -119,10 +124,33 @@ impl Driver {
         if is_that(leader, node) {
             return Ok(());
         }
-        self.leave(now, Ending::LedNoMore)
+        self.quit(now)
     }
 
-    /// The connection to a server that is silent is left.
+    /// The connection to the server is left, since its node leads no more. Where it has a session the server is told that
+    /// this is over, and has a second to close the connection: so the nick is free as the next session asks for it.
+    fn quit(&mut self, now: &Now) -> Result<(), AllocError>
+        ensures { OnOk result
+            (QuitsIf (is_open self.old.link.stage) now.now.ms self.old self.new) }
+    {
+        if !self.link.is_open() {
+            return self.leave(now, Ending::LedNoMore);
+        }
+        self.say_quit()?;
+        self.end_session(now, Ending::LedNoMore)?;
+        self.link.linger();
+        Ok(())
+    }
+
+    /// The server is told that the session is over.
+    fn say_quit(&mut self) -> Result<(), AllocError>
+        ensures { OnOk result (SaysQuit self.old self.new) }
+    {
+        let quit = Vec::from_slice(self.alloc, QUIT)?;
+        self.orders.send(quit)
+    }
+
+    /// The connection to a server that is silent is left, and one that the server had time to close.
     pub fn leave_silent(&mut self, now: &Now) -> Result<(), AllocError>
         ensures { OnOk result (LeavesIf (is_silent self.old.link.stage now.now.ms)
             now.now.ms Silent self.old self.new) }

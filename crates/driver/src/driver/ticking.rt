@@ -100,21 +100,23 @@ impl Driver {
         self.serve(now, node)
     }
 
-    /// The node that leads in the greatest term claims, and the server is connected to for it.
+    /// What waits goes out for the node that leads in the greatest term; it claims, and the server is connected to.
     fn serve(&mut self, now: &Now, node: NodeId) -> Result<(), AllocError>
         ensures { OnOk result (Serves now.now.ms node self.old self.new) }
     {
+        self.write_lines(now, node)?;
         self.claim(now, node)?;
         self.connect_for(now, node)?;
         Ok(())
     }
 
-    /// The next line of this node's session is claimed, where the pace allows it.
+    /// The next line of this node's session is claimed, where it could go out at once.
     fn claim(&mut self, now: &Now, node: NodeId) -> Result<(), AllocError>
         ensures { OnOk result (Claims now.now.ms node self.old self.new) }
     {
+        let may = self.may_claim(now);
         let monitor = &mut self.monitors[node.value() as usize - 1];
-        monitor.claim(now, &self.settings, &mut self.pace, &mut self.orders)?;
+        monitor.claim(now, &self.settings, may, &mut self.orders)?;
         Ok(())
     }
 }

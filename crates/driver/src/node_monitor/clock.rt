@@ -1,16 +1,14 @@
 //! What the clock tells a node, and when.
-ghost use Rattle.std.specs.Prelude.{◌≡◌, OnOk, Some, None, if◌then◌else◌};
+ghost use Rattle.std.specs.Prelude.{◌≡◌, OnOk, Some, None, if◌then◌else◌, is_some};
 ghost use Rattle.node_notes.specs.declared.note.Note.TheVariants.{Beat};
 ghost use Rattle.driver.specs.Monitors.{beaten_at, claim_at, claim_due, monitor_behind, monitor_claimed};
-ghost use Rattle.driver.specs.Monitors.{is_claimed, is_to_beat, line_to_claim, note_at, paced, told};
+ghost use Rattle.driver.specs.Monitors.{is_claimed, is_to_beat, line_to_claim, note_at, told};
 ghost use Rattle.driver.specs.Telling.{ordered};
-ghost use Rattle.driver.specs.Pacing.{may_go};
 
 use crate::node_monitor::NodeMonitor;
 use crate::node_monitor::standing::{Claimed, Following, LastBeat, Outage};
 use crate::order::Now;
 use crate::orders::Orders;
-use crate::pace::Pace;
 use crate::settings::Settings;
 use crate::timer::Timer;
 use node_notes::Note;
@@ -91,27 +89,24 @@ impl NodeMonitor {
             && self.beat.note <= self.progress.done
     }
 
-    /// The next line is claimed for the session, where the node has one, and where the pace allows it.
+    /// The next line is claimed for the session, where the node has one, and where one may be claimed.
     /// The same claim is told again only behind a while, and where it is known not to be in the log.
     pub fn claim(
         &mut self,
         now: &Now,
         settings: &Settings,
-        pace: &mut Pace,
+        may: bool,
         orders: &mut Orders,
     ) -> Result<(), AllocError>
         ensures told { OnOk result (orders.new ≡ ordered orders.old
-            (told self.old.id (claim_at self.old settings.now now.now.ms pace.old))) }
+            (told self.old.id (claim_at self.old settings.now now.now.ms may))) }
         ensures monitor { OnOk result (self.new ≡ monitor_claimed orders.old self.old now.now.ms
-            (may_go pace.old.burst pace.old.line_ms pace.old.free_at now.now.ms)
-            (claim_due self.old settings.now now.now.ms)) }
-        ensures pace { pace.new
-            ≡ paced pace.old now.now.ms (claim_due self.old settings.now now.now.ms) }
+            may (claim_due self.old settings.now now.now.ms)) }
     {
         let Some((session, number)) = self.claim_due(now, settings) else {
             return Ok(());
         };
-        if !pace.go(now.ms) {
+        if !may {
             return Ok(());
         }
         let note = orders.submit(self.id, Note::Claim)?;
@@ -135,6 +130,13 @@ impl NodeMonitor {
             Some(last) if last.is_of(now, settings, session, number) => None,
             _ => Some((session, number)),
         }
+    }
+
+    /// Whether a line is to be claimed, at this moment or later.
+    pub fn has_line(&self) -> bool
+        ensures { result ≡ is_some (line_to_claim self.now.status) }
+    {
+        self.line_to_claim().is_some()
     }
 
     /// The session that the node holds, and the number of the line that is to be claimed next.

@@ -1,4 +1,4 @@
-use Rattle.std.proofs.Common.{◌∙◌, ◌≡◌, ℕ, List, refl, rules, sym, subst}
+use Rattle.std.proofs.Common.{◌∙◌, ◌≡◌, ℕ, List, rules, sym, subst}
 use Rattle.std.proofs.lemmas.Result.{on_ok_weaker}
 use Rattle.std.specs.BTreeMap.{keys}
 use Rattle.irc_line.specs.Lines.{parameter}
@@ -17,6 +17,6 @@ returns-clause-told c =
     let written : c.as_slice.result.now ≡ kick_line c.parameter-channel.result.now (nick_in c.args.self.now) = search rules in
     let kicks = subst (λ (channel : List ℕ). KickEach channel (kick_line channel (nick_in c.args.self.now)) numbers (told_of c.args.self.now) kicked) named
     (subst (λ (text : List ℕ). KickEach c.parameter-channel.result.now text numbers (told_of c.args.self.now) kicked) written c.in_ok-kick_all.ensures) in
-    on_ok_weaker c.send.result
-    (λ sends. rejoins_so c.args.self.now.link.stage c.args.node c.args.line.now (nick_in c.args.self.now) (told_of c.args.self.now) kicked _ (sym c.is_session_of.ensures ∙ c.if-not-is_session_of.false) kicks sends refl)
-    c.send.ensures
+    on_ok_weaker c.join.result
+    (λ same. rejoins_so c.args.self.now.link.stage c.args.node c.args.line.now (nick_in c.args.self.now) (told_of c.args.self.now) kicked (sym c.is_session_of.ensures ∙ c.if-not-is_session_of.false) kicks)
+    c.join.ensures

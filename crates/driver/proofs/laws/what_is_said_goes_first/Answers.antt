@@ -1,0 +1,8 @@
+use Rattle.driver.proofs.Queueing.{questions_wait, said_in_order}
+use Rattle.driver.proofs.laws.what_is_said_goes_first.Goals as goal
+
+pub returns-clause-order : goal.returns-clause-order
+returns-clause-order c = said_in_order
+
+pub returns-clause-questions : goal.returns-clause-questions
+returns-clause-questions c = questions_wait

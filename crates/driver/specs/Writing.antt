@@ -1,0 +1,95 @@
+-- Lines that nodes hand out, and how they go to the server.
+use Rattle.std.specs.Prelude.{◌≡◌, List, ◌∷◌, [], ◌&&◌, ◌-◌, ℕ, zero, suc, Bool, not, if◌then◌else◌, Option, Some, None, slice_get}
+use Rattle.std.specs.Global.{Vec}
+use Rattle.std.specs.Option.{is_some}
+use Rattle.irc_line.specs.Lines.{Parts, parameter}
+use Rattle.machine_laws.specs.declared.class.Class.{Class}
+use Rattle.machine_laws.specs.declared.class.Class.TheVariants.{Hand, Nowhere, Rejoin, To}
+use Rattle.driver.specs.declared.driver.Driver.{Driver}
+use Rattle.driver.specs.declared.link.Link.{Link}
+use Rattle.driver.specs.declared.node_monitor.NodeMonitor.{NodeMonitor}
+use Rattle.driver.specs.declared.order.Order.TheVariants.{Send}
+use Rattle.driver.specs.declared.outgoing.Piece.{Piece}
+use Rattle.driver.specs.declared.pace.Pace.{Pace}
+use Rattle.driver.specs.Links.{is_session_of, status_in}
+use Rattle.driver.specs.Monitors.{line_to_claim}
+use Rattle.driver.specs.Outgoing.{Waiting, has_said, is_said, next_piece, piece_bytes, with_join, with_line, without_next}
+use Rattle.driver.specs.Pacing.{free_after, may_go}
+use Rattle.driver.specs.Telling.{Ordered, one_more, ordered}
+
+-- a node hands out a line: in its session it waits to go out
+abbrev pub handed : ℕ → Parts → Link → Link
+handed node line link = record link { waiting = if is_session_of link.stage node then with_line line link.waiting else link.waiting }
+
+-- A line that a node hands out waits to go out.
+abbrev pub Hands : ℕ → Parts → Driver → Driver → Type 0
+Hands node line old new = new ≡ record old { link = handed node line old.link }
+
+-- a channel waits to be joined again
+abbrev pub joined : List ℕ → Link → Link
+joined channel link = record link { waiting = with_join channel link.waiting }
+
+-- a connection behind an effect of a node: where that joins a channel again, in a session of the node, the channel waits to be joined
+abbrev pub link_passed : Class Parts → ℕ → Link → Link
+link_passed (Rejoin session line) node link = if is_session_of link.stage node then joined (parameter 0 line) link else link
+link_passed (To origin) node link = link
+link_passed (Hand session number line) node link = link
+link_passed Nowhere node link = link
+
+-- a line may go out at this moment
+abbrev pub may_write : Driver → ℕ → Bool
+may_write driver now = may_go driver.pace.burst driver.pace.line_ms driver.pace.free_at now
+
+-- a line may be claimed: it could go out at once, and none that is said waits
+abbrev pub may_claim : Driver → ℕ → Bool
+may_claim driver now = not (has_said driver.link.waiting) && may_write driver now
+
+-- the pace behind a line that goes
+abbrev pub gone_at : ℕ → Pace → Pace
+gone_at now pace = record pace { free_at = free_after pace.burst pace.line_ms pace.free_at now }
+
+-- questions are due at a node: it has no line to claim, as far as is known
+abbrev pub are_due : Option NodeMonitor → Bool
+are_due monitor = not (is_some (line_to_claim (status_in monitor)))
+
+-- how many lines that are said went since the server was last heard, behind one that is, or another
+abbrev pub unheard_behind : Piece → ℕ → ℕ
+unheard_behind piece unheard = if is_said piece then one_more unheard else unheard
+
+-- this goes to the server
+pub record IsSent (piece : Piece) (before after : Ordered) : Type 0 where
+  pub bytes : Vec ℕ
+  pub are : bytes.items ≡ piece_bytes piece
+  pub orders : after ≡ ordered before (Send bytes ∷ [])
+
+-- This goes out; what waits behind it waits on.
+pub record GoesOut (now : ℕ) (due : Bool) (piece : Piece) (old new : Driver) : Type 0 where
+  pub sent : IsSent piece old.orders new.orders
+  pub rest : new ≡ record old {
+    orders = new.orders;
+    pace = gone_at now old.pace;
+    unheard = unheard_behind piece old.unheard;
+    link = record old.link { waiting = without_next due old.link.waiting };
+  }
+
+-- What goes next goes out, if something does, and else nothing changes.
+abbrev pub GoesOutIf : ℕ → Bool → Option Piece → Driver → Driver → Type 0
+GoesOutIf now due None old new = new ≡ old
+GoesOutIf now due (Some piece) old new = GoesOut now due piece old new
+
+-- what goes out at this moment, if something does
+abbrev pub piece_at : Bool → Bool → Waiting → Option Piece
+piece_at may due waiting = if may then next_piece due waiting else None
+
+-- what goes out at a node at this moment, if something does
+abbrev pub piece_of : ℕ → ℕ → Driver → Option Piece
+piece_of now node driver = piece_at (may_write driver now) (are_due (slice_get driver.monitors (node - 1))) driver.link.waiting
+
+-- What goes next goes out, where the pace allows it.
+abbrev pub WritesLine : ℕ → ℕ → Driver → Driver → Type 0
+WritesLine now node old new = GoesOutIf now (are_due (slice_get old.monitors (node - 1))) (piece_of now node old) old new
+
+-- so many lines go out in turn, as far as there are so many and the pace allows it
+unfoldable pub WriteLines : ℕ → ℕ → ℕ → Driver → Driver → Type 0
+WriteLines zero now node old new = new ≡ old
+WriteLines (suc count) now node old new = (behind : Driver) × WritesLine now node old behind × WriteLines count now node behind new

@@ -1,0 +1,58 @@
+//! What waits to go to the server in a session, and goes.
+ghost use Rattle.std.specs.Prelude.{◌≡◌, OnOk, if◌then◌else◌};
+ghost use Rattle.driver.specs.Links.{is_session_of};
+ghost use Rattle.driver.specs.Outgoing.{has_said, next_piece, with_line, without_next};
+ghost use Rattle.driver.specs.Writing.{IsSent, joined};
+
+use crate::link::Link;
+use crate::orders::Orders;
+use crate::outgoing::Piece;
+use irc_line::Line;
+use raft_log::NodeId;
+use std::alloc::AllocError;
+
+impl Link {
+    /// A line of this node's session waits to go out.
+    pub fn queue(&mut self, node: NodeId, line: &Line) -> Result<(), AllocError>
+        ensures waiting { OnOk result (self.new.waiting ≡ (if is_session_of self.old.stage node
+            then with_line line.now self.old.waiting else self.old.waiting)) }
+        ensures rest { self.new ≡ record self.old { waiting = self.new.waiting } }
+    {
+        if !self.is_session_of(node) {
+            return Ok(());
+        }
+        let line = line.share()?;
+        self.waiting.push(line)
+    }
+
+    /// A channel waits to be joined again in the session.
+    pub fn join(&mut self, channel: &[u8]) -> Result<(), AllocError>
+        ensures { OnOk result (self.new ≡ joined channel.now self.old) }
+    {
+        self.waiting.push_join(channel)
+    }
+
+    /// Whether a line that is said waits.
+    pub fn has_said(&self) -> bool
+        ensures { result ≡ has_said self.now.waiting }
+    {
+        self.waiting.has_said()
+    }
+
+    /// What goes next, where something does: questions go where they are due. It waits no longer.
+    pub fn next_piece(&mut self, are_due: bool) -> Option<Piece>
+        ensures piece { result ≡ next_piece are_due self.old.waiting }
+        ensures rest { self.new
+            ≡ record self.old { waiting = without_next are_due self.old.waiting } }
+    {
+        self.waiting.next(are_due)
+    }
+
+    /// This goes to the server.
+    pub fn write(&self, piece: Piece, orders: &mut Orders) -> Result<(), AllocError>
+        ensures { OnOk result (IsSent piece orders.old orders.new) }
+    {
+        let bytes = piece.into_bytes(self.alloc)?;
+        orders.send(bytes)
+    }
+}

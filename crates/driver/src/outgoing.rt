@@ -1,0 +1,173 @@
+//! What waits to go to the server in a session.
+ghost use Rattle.std.specs.Prelude.{◌≡◌, IfOk, OnOk};
+ghost use Rattle.driver.specs.Outgoing.{asks_names, has_said, is_asked, is_dropped, is_said, next_piece, nothing_waits};
+ghost use Rattle.driver.specs.Outgoing.{piece_bytes, with_join, with_line, without_next};
+
+use crate::join_line::JoinLine;
+use buffer_machine::has_command;
+use irc_line::{Line, is_same_name};
+use std::alloc::{AllocError, Global};
+use std::collections::VecDeque;
+use std::marker::Model;
+use std::mem::replace;
+
+/// The most questions that wait who is in a channel. One more is dropped.
+// one of each channel: a setup names at most 100, and people may join more
+const MOST_QUESTIONS: usize = 1_000;
+
+/// What goes to the server as one line.
+#[derive(Drop)]
+pub enum Piece {
+    /// Channels are joined again.
+    Joins(JoinLine),
+    /// A line that was handed out.
+    Says(Line),
+}
+
+impl Piece {
+    /// Whether it is a line that is said.
+    pub fn is_said(&self) -> bool
+        ensures { result ≡ is_said self.now }
+    {
+        match self {
+            Piece::Joins(_) => false,
+            Piece::Says(line) => !asks_names(line),
+        }
+    }
+
+    /// The line's bytes, cut to what fits into a line.
+    pub fn into_bytes(self, alloc: Global) -> Result<Vec<u8>, AllocError>
+        ensures { IfOk result (λ bytes. bytes.items ≡ piece_bytes self) }
+    {
+        match self {
+            Piece::Joins(line) => line.into_bytes(),
+            Piece::Says(line) => {
+                let mut bytes = Vec::new(alloc);
+                line.write_cut(&mut bytes)?;
+                Ok(bytes)
+            }
+        }
+    }
+}
+
+/// What waits to go to the server in a session: JOINs of its channels go first, then what people say, and behind it
+/// questions who is in a channel, at most one of a channel.
+///
+/// A clause sees all of it, what goes first first.
+#[derive(Drop)]
+pub struct Outgoing {
+    alloc: Global,
+    joins: VecDeque<JoinLine>,
+    /// The last JOIN, which takes more channels.
+    joining: Option<JoinLine>,
+    said: VecDeque<Line>,
+    questions: VecDeque<Line>,
+}
+
+impl Model for Outgoing {
+    ghost use Rattle.driver.specs.Outgoing.{Waiting};
+
+    ghost Value = { Waiting };
+
+    ghost view = { λ o. record {
+      joins = o.joins.items;
+      joining = o.joining;
+      said = o.said.items;
+      questions = o.questions.items;
+    } };
+}
+
+impl Outgoing {
+    /// Nothing waits.
+    pub fn new(alloc: Global) -> Outgoing
+        ensures { result ≡ nothing_waits }
+    {
+        Outgoing {
+            alloc,
+            joins: VecDeque::new(alloc),
+            joining: None,
+            said: VecDeque::new(alloc),
+            questions: VecDeque::new(alloc),
+        }
+    }
+
+    /// Whether a line that is said waits.
+    pub fn has_said(&self) -> bool
+        ensures { result ≡ has_said self.now }
+    {
+        !self.said.is_empty()
+    }
+
+    /// A channel waits to be joined again, in the last JOIN where it fits in there.
+    pub fn push_join(&mut self, channel: &[u8]) -> Result<(), AllocError>
+        ensures { OnOk result (self.new ≡ with_join channel.now self.old) }
+    {
+        if let Some(line) = &mut self.joining
+            && line.fits(channel)
+        {
+            return line.add(channel);
+        }
+        let next = JoinLine::of(self.alloc, channel)?;
+        if let Some(line) = replace(&mut self.joining, Some(next)) {
+            self.joins.push_back(line)?;
+        }
+        Ok(())
+    }
+
+    /// A line that was handed out waits in its place. A question is dropped where one of its channel waits: the
+    /// answer is shown to all clients, also to those that asked last.
+    pub fn push(&mut self, line: Line) -> Result<(), AllocError>
+        ensures { OnOk result (self.new ≡ with_line line self.old) }
+    {
+        if !asks_names(&line) {
+            self.said.push_back(line)?;
+        } else if !self.is_dropped(&line) {
+            self.questions.push_back(line)?;
+        }
+        Ok(())
+    }
+
+    /// Whether a question is dropped: one of its channel waits, or as many wait as may.
+    fn is_dropped(&self, line: &Line) -> bool
+        ensures { result ≡ is_dropped line.now self.now }
+    {
+        self.is_asked(line) || self.questions.len() >= MOST_QUESTIONS
+    }
+
+    /// Whether a question of the same channel waits.
+    fn is_asked(&self, line: &Line) -> bool
+        ensures { result ≡ is_asked line.now self.now }
+    {
+        let channel = line.parameter(0);
+        self.questions
+            .iter()
+            .any(|asked| is_same_name(channel, asked.parameter(0)))
+    }
+
+    /// What goes next: the first JOIN, where none waits the first line that is said, and where none waits, and
+    /// questions are due, the first question. It waits no longer.
+    pub fn next(&mut self, are_due: bool) -> Option<Piece>
+        ensures piece { result ≡ next_piece are_due self.old }
+        ensures rest { self.new ≡ without_next are_due self.old }
+    {
+        if let Some(line) = self.joins.pop_front() {
+            return Some(Piece::Joins(line));
+        }
+        if let Some(line) = replace(&mut self.joining, None) {
+            return Some(Piece::Joins(line));
+        }
+        let line = match self.said.pop_front() {
+            Some(line) => line,
+            None if are_due => self.questions.pop_front()?,
+            None => return None,
+        };
+        Some(Piece::Says(line))
+    }
+}
+
+/// Whether a line asks who is in a channel: a NAMES with the channel alone.
+fn asks_names(line: &Line) -> bool
+    ensures { result ≡ asks_names line.now }
+{
+    has_command(line, b"NAMES") && line.parameter_count() == 1
+}
