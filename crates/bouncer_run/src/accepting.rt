@@ -56,7 +56,10 @@ impl Sockets {
         let Some(listening) = self.listeners.get(node.value() as usize - 1) else {
             return Arrival::Nobody;
         };
-        match listening.listener.accept() {
+        let Some(listener) = &listening.listener else {
+            return Arrival::Nobody;
+        };
+        match listener.accept() {
             Ok((stream, from)) => Arrival::Client(stream, from),
             Err(error) => match error.kind() {
                 ErrorKind::WouldBlock => Arrival::Nobody,
@@ -103,11 +106,14 @@ impl Sockets {
         let Some(listening) = self.listeners.get_mut(node.value() as usize - 1) else {
             return Ok(());
         };
+        let Some(listener) = &mut listening.listener else {
+            return Ok(());
+        };
         let token = Token(node.value() as usize);
         match self
             .poll
             .registry()
-            .reregister(&mut listening.listener, token, Interest::READABLE)
+            .reregister(listener, token, Interest::READABLE)
         {
             Ok(()) => Ok(()),
             Err(_) => Err(LoopFault::Socket),

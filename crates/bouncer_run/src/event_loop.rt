@@ -90,7 +90,7 @@ pub fn run_loop<R: Net + Wait + Clock + Files, N: Nodes, O: Operator>(
         sockets.take_turns(&now, driver)?;
         if ticks.take(now.ms) {
             look(rt, &now, watch)?;
-            tick(&now, driver, sockets, operator)?;
+            tick(rt, &now, driver, sockets, operator)?;
         }
         // what the sockets tell comes before what the driver made of it
         tell_edge(&now, sockets, operator);
@@ -126,7 +126,8 @@ fn look<R: Files>(rt: &R, now: &Now, watch: &mut StoreWatch) -> Result<(), LoopF
 }
 
 /// Time has passed: the driver and the sockets do what is due, and an operator is told how long the log is.
-fn tick<O: Operator>(
+fn tick<R: Net, O: Operator>(
+    rt: &R,
     now: &Now,
     driver: &mut Driver,
     sockets: &mut Sockets,
@@ -135,6 +136,7 @@ fn tick<O: Operator>(
     driver.tick(now)?;
     driver.watch_nodes(now)?;
     driver.watch_log()?;
+    sockets.follow(rt, now, driver)?;
     sockets.tick(now, driver)?;
     if let Some(entries) = driver.log_length() {
         operator.hear_length(now, entries)?;

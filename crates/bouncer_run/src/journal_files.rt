@@ -1,7 +1,8 @@
 //! The journals of a bouncer's nodes.
-ghost use Rattle.std.specs.Prelude.{◌≡◌, false, length, IfErr, IfOk};
+ghost use Rattle.std.specs.Prelude.{◌≡◌, None, false, length, map, IfErr, IfOk};
 ghost use Rattle.std.specs.List.{All};
 ghost use Rattle.raft_log.specs.Peers.{IsGroupSize};
+ghost use Rattle.journal_folder.specs.Runs.{first_older};
 ghost use Rattle.bouncer_run.specs.Faults.{IsFaultOfOpening, IsOrMemory};
 ghost use Rattle.bouncer_run.specs.declared.journal_files.Unopened.TheVariants.{Memory};
 
@@ -12,7 +13,8 @@ use bouncer_config::Config;
 use bouncer_tower::TowerBody;
 use file_disk::{FileJournal, OpenFault, open_journal};
 use journal_folder::{
-    ChangedKeys, RenewFault, Renewed, Settled, finish_renewal, is_lost, settle, settle_by_reading,
+    ChangedKeys, Loss, RenewFault, Renewed, Settled, finish_renewal, first_older, is_lost, settle,
+    settle_by_reading,
 };
 use raft_log::{GroupSize, Log, NodeId};
 use run_plan::journal_path;
@@ -22,9 +24,9 @@ use std::io;
 
 /// A journal for each node, node 1's first, in the folder that the configuration names, which is
 /// made where it is not there. A renewal that was decided is finished first. Then the store is of the configuration's
-/// setup and number of nodes: its log is begun anew where it was of others, and where some of its journals are lost. The
-/// folder and the files that are made are noted. Where there are no journals, a line was written to standard error that
-/// names the folder or the file, and says why.
+/// setup and number of nodes: its log is begun anew where it was of others, and where some of its journals are lost or
+/// older copies. The folder and the files that are made are noted. Where there are no journals, a line was written to
+/// standard error that names the folder or the file, and says why.
 pub fn journals<R: System>(
     rt: &R,
     config: &Config,
@@ -34,6 +36,8 @@ pub fn journals<R: System>(
     requires { IsGroupSize (length config.now.listen.items) }
     ensures count { IfOk result (λ journals. length journals.items ≡ size) }
     ensures serve { IfOk result (λ journals. All (λ j. j.broken ≡ false) journals.items) }
+    ensures none_is_older { IfOk result (λ journals.
+        let group = map (λ j. j.saved) journals.items in first_older 1 group group ≡ None) }
     ensures fault { IfErr result (IsOrMemory RunFault.Store) }
 {
     let folder = config.store.as_str();
@@ -57,7 +61,7 @@ pub fn journals<R: System>(
     }
 }
 
-/// A journal for each of so many nodes in a folder, node 1's first.
+/// A journal for each of so many nodes in a folder, node 1's first, none of which is older than their logs tell.
 fn open_all<R: System>(
     rt: &R,
     folder: &str,
@@ -66,6 +70,8 @@ fn open_all<R: System>(
 ) -> Result<Vec<FileJournal<TowerBody>>, Unopened>
     ensures count { IfOk result (λ journals. length journals.items ≡ size) }
     ensures serve { IfOk result (λ journals. All (λ j. j.broken ≡ false) journals.items) }
+    ensures none_is_older { IfOk result (λ journals.
+        let group = map (λ j. j.saved) journals.items in first_older 1 group group ≡ None) }
 {
     let alloc = rt.alloc();
     let mut journals: Vec<FileJournal<TowerBody>> = Vec::new(alloc);
@@ -77,7 +83,10 @@ fn open_all<R: System>(
         };
         journals.push(journal).map_err(|_| Unopened::Memory)?;
     }
-    Ok(journals)
+    match first_older(&journals) {
+        None => Ok(journals),
+        Some(node) => Err(Unopened::Older(journal_path(alloc, folder, node)?)),
+    }
 }
 
 /// The journal in the file of a path. What another log has too is one value in memory with it.
@@ -109,14 +118,17 @@ fn open<R: System>(
 enum Unopened {
     /// The journal of this path is refused.
     Journal(String, OpenFault),
+    /// The journal of this path is older than the others' logs tell.
+    Older(String),
     Memory,
 }
 
 impl Unopened {
-    /// Whether its file holds no journal that is read, so that it may be made from the others.
+    /// Whether its file holds no journal that counts, so that it may be made from the others.
     fn is_lost(&self) -> bool {
         match self {
             Unopened::Journal(_, fault) => is_lost(fault),
+            Unopened::Older(_) => true,
             Unopened::Memory => false,
         }
     }
@@ -129,6 +141,11 @@ impl Unopened {
             Unopened::Journal(path, fault) => {
                 let _ = eprintln!(rt; "{path}: {fault}");
                 fault_of(fault)
+            }
+            Unopened::Older(path) => {
+                let loss = Loss::Older;
+                let _ = eprintln!(rt; "{path} {loss}");
+                RunFault::Store
             }
             Unopened::Memory => RunFault::Memory,
         }

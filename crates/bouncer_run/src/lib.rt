@@ -16,6 +16,8 @@ mod event_loop;
 mod fault;
 mod first_mark;
 mod flushing;
+mod following;
+mod gone;
 mod group;
 mod growth;
 mod guest;

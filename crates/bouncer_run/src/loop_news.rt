@@ -1,6 +1,7 @@
 //! What the loop tells an operator, and clients.
 use crate::edge_news::EdgeNews;
 use crate::event_loop::LoopFault;
+use crate::gone::tell_gone;
 use crate::operator::Operator;
 use crate::sockets::Sockets;
 use buffer_commands::Action;
@@ -66,7 +67,7 @@ fn log<O: Operator>(
     operator: &mut O,
     news: News,
 ) -> Result<(), LoopFault> {
-    tell_clients(driver, &news)?;
+    tell_clients(sockets.alloc, driver, &news)?;
     if let News::Attached(origin) = news {
         sockets.register(origin.client());
     }
@@ -79,10 +80,10 @@ fn log<O: Operator>(
 }
 
 /// Clients are told that the server is there, or gone.
-fn tell_clients(driver: &mut Driver, news: &News) -> Result<(), LoopFault> {
+fn tell_clients(alloc: Global, driver: &mut Driver, news: &News) -> Result<(), LoopFault> {
     match news {
         News::Opened(_) => driver.notice(b"Connected to the server.")?,
-        News::Closed(_, _) => driver.notice(b"The server is gone. What you say is sent later.")?,
+        News::Closed(_, _) => tell_gone(alloc, driver)?,
         _ => {}
     }
     Ok(())

@@ -29,9 +29,13 @@ pub const MOST_CLIENTS: usize = 256;
 /// Where a node's clients come.
 #[derive(Drop)]
 pub struct Listening {
-    pub listener: TcpListener,
-    /// The last try to take a client failed, so that the next one is due at the next tick.
+    pub address: SocketAddr,
+    /// None while the node is down or hangs: its address refuses connections, so that who comes goes to the next one.
+    pub listener: Option<TcpListener>,
+    /// The last try to take a client, or to listen again, failed, so that the next one is due at the next tick.
     pub is_deaf: bool,
+    /// The node took clients before: until then its address is kept.
+    pub was_open: bool,
 }
 
 /// All sockets: the nodes' listeners, their clients, and the server.
@@ -77,17 +81,30 @@ impl Sockets {
 
     /// The next node listens at this address.
     pub fn listen(&mut self, net: &impl Net, address: SocketAddr) -> io::Result<()> {
+        let place = self.listeners.len();
+        let listener = Some(self.listener_at(net, place, address)?);
+        self.listeners.push(Listening {
+            address,
+            listener,
+            is_deaf: false,
+            was_open: false,
+        })?;
+        Ok(())
+    }
+
+    /// What listens at this address for the node at this place, from 0 on.
+    pub fn listener_at(
+        &self,
+        net: &impl Net,
+        place: usize,
+        address: SocketAddr,
+    ) -> io::Result<TcpListener> {
         let mut listener = TcpListener::bind(net, address)?;
-        let token = Token(self.listeners.len().saturating_add(1));
+        let token = Token(place.saturating_add(1));
         self.poll
             .registry()
             .register(&mut listener, token, Interest::READABLE)?;
-        let listening = Listening {
-            listener,
-            is_deaf: false,
-        };
-        self.listeners.push(listening)?;
-        Ok(())
+        Ok(listener)
     }
 
     /// No node listens any more.
