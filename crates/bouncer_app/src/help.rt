@@ -1,8 +1,8 @@
 //! What the program says of itself.
 
 /// How it is called, where it is called otherwise.
-pub const USAGE: &str =
-    "usage: bouncer [fold | world N | replay FILE | draw FILE | show JOURNAL [TARGET] | run CONFIG]";
+pub const USAGE: &str = "usage: bouncer [init FOLDER | run CONFIG | check CONFIG | renew CONFIG | \
+show JOURNAL [TARGET] | fold | world N | replay FILE | draw FILE | help | --version]";
 
 /// What a person at a terminal is told who is to type the input.
 pub const WAITING: &str =
@@ -15,6 +15,9 @@ pub const VERSION: &str = "bouncer 0.1.0";
 pub const HELP: &str = "\
 bouncer keeps you on IRC while you are away. Words, each with an example:
 
+  init FOLDER   writes a first configuration, with a password of its own; asks for a
+                nick, a server and channels, where they do not stand behind it
+                  bouncer init hukbarg
   run CONFIG    runs the bouncer of a configuration, until standard input ends
                   bouncer run examples/hukbarg.toml
   check CONFIG  says what run would do, and warns as it would; changes nothing

@@ -12,6 +12,7 @@ use crate::help::{HELP, USAGE, VERSION, WAITING};
 use crate::show::show;
 use crate::words::{Task, asked};
 use bouncer_run::{Hands, RunFault, check, read, run};
+use first_config::{Answers, InitFault, Written, ask, first_config, random_password, write_first};
 use fold_app::{FoldFault, fold};
 use irc_line::Name;
 use journal_folder::renew;
@@ -137,6 +138,27 @@ fn run_renew(rt: &HostRuntime, path: &str, forgotten: &[Name]) -> ExitCode {
     }
 }
 
+/// Writes a first configuration into a folder, and says where it is. The exit code is 0, or 1 with the fault on standard
+/// error.
+fn run_init(rt: &HostRuntime, folder: &str, words: Vec<String>) -> ExitCode {
+    match init(rt, folder, words) {
+        Ok(written) => told(rt, &written),
+        Err(fault) => failed(rt, fault),
+    }
+}
+
+/// Writes a first configuration into a folder: of these words, or, where there are none, of what standard input answers.
+fn init(rt: &HostRuntime, folder: &str, words: Vec<String>) -> Result<Written, InitFault> {
+    let answers = if words.is_empty() {
+        ask(rt, &mut rt.reader())?
+    } else {
+        Answers::of(rt.alloc(), words)?
+    };
+    let password = random_password(rt)?;
+    let first = first_config(rt.alloc(), &answers, password.as_str())?;
+    write_first(rt, folder, &first.text)
+}
+
 /// Tells a person at a terminal that the program waits for what they type.
 fn tell_waiting(rt: &HostRuntime, input: &impl IsTerminal) {
     if input.is_terminal() {
@@ -178,6 +200,7 @@ fn main(rt: HostRuntime) -> ExitCode {
             },
             Ok(Some(Task::Check(path))) => run_check(&rt, path.as_str()),
             Ok(Some(Task::Renew(path, forgotten))) => run_renew(&rt, path.as_str(), &forgotten),
+            Ok(Some(Task::Init(folder, words))) => run_init(&rt, folder.as_str(), words),
             Ok(Some(Task::Help)) => told(&rt, &HELP),
             Ok(Some(Task::Version)) => told(&rt, &VERSION),
             Ok(None) => usage(&rt),

@@ -23,6 +23,9 @@ pub enum Task {
     Check(String),
     /// To begin the log of that bouncer anew, without these names of clients.
     Renew(String, Vec<Name>),
+    /// To write a first configuration into the folder of this path: of these words, or, where there are none, of what
+    /// is answered.
+    Init(String, Vec<String>),
     Help,
     Version,
 }
@@ -30,12 +33,14 @@ pub enum Task {
 /// What the words, the program's name first, ask for: a fold where none follows, or `fold` alone; the
 /// events of a world where `world` and a number follow; a record's where `replay` and a path do, and its picture
 /// where `draw` and a path do; a journal's chat where `show`, a path and a name or none do; a bouncer's run, a
-/// check of its configuration, or a new log, where `run`, `check` or `renew` and a path do.
+/// check of its configuration, or a new log, where `run`, `check` or `renew` and a path do; a first configuration
+/// where `init` and a folder do.
 pub fn asked(alloc: Global, words: Args) -> Result<Option<Task>, AllocError> {
     let mut words = words.skip(1);
     match words.next() {
         None => Ok(Some(Task::Fold)),
         Some(word) if word.as_str() == "renew" => renewal(alloc, words),
+        Some(word) if word.as_str() == "init" => beginning(alloc, words),
         Some(word) => Ok(task_of(word.as_str(), words)),
     }
 }
@@ -82,6 +87,18 @@ fn renewal(alloc: Global, mut words: Skip<Args>) -> Result<Option<Task>, AllocEr
         return Ok(None);
     }
     Ok(Some(Task::Renew(path, forgotten)))
+}
+
+/// A first configuration, where a folder follows, and behind it what it is to say, or nothing.
+fn beginning(alloc: Global, mut words: Skip<Args>) -> Result<Option<Task>, AllocError> {
+    let Some(folder) = words.next() else {
+        return Ok(None);
+    };
+    let mut answers = Vec::new(alloc);
+    for word in words {
+        answers.push(word)?;
+    }
+    Ok(Some(Task::Init(folder, answers)))
 }
 
 /// The target that a word names, or none where there is no word. A word that is no name is refused.

@@ -1,9 +1,10 @@
 -- What a configuration is warned of.
-use Rattle.std.specs.Prelude.{ℕ, ◌*◌, nat_le, nat_lt, Bool, false, not, ◌&&◌, ◌||◌, ◌==◌, List, [], ◌∷◌}
+use Rattle.std.specs.Prelude.{ℕ, ◌*◌, nat_le, nat_lt, Bool, false, not, ◌&&◌, ◌||◌, ◌==◌, List, [], ◌∷◌, codes}
 use Rattle.std.specs.List.{list_all}
+use Rattle.irc_line.specs.Names.{same_bytes}
 use Rattle.bouncer_config.specs.declared.config.Config.{Config}
 use Rattle.run_plan.specs.declared.warning.Warning.{Warning}
-use Rattle.run_plan.specs.declared.warning.Warning.TheVariants.{BeatsTooSeldom, NickIsTakenNowhere}
+use Rattle.run_plan.specs.declared.warning.Warning.TheVariants.{BeatsTooSeldom, NickIsTakenNowhere, PasswordIsKnown}
 
 -- beats so far apart that three of them take longer than the others wait for a leader
 abbrev pub are_too_seldom : ℕ → ℕ → Bool
@@ -22,7 +23,12 @@ abbrev pub is_taken_somewhere : List ℕ → Bool
 is_taken_somewhere [] = false
 is_taken_somewhere (b ∷ bs) = begins_nicks b && list_all is_of_nicks bs
 
+-- the password of the example, which everybody can read
+abbrev pub known_password : List ℕ
+known_password = codes "correct-horse"
+
 -- a configuration is warned of this
 abbrev pub is_warned : Warning → Config → Bool
 is_warned BeatsTooSeldom c = are_too_seldom c.beat_ms c.timeout_ms
 is_warned NickIsTakenNowhere c = not (is_taken_somewhere c.setup.nick)
+is_warned PasswordIsKnown c = same_bytes c.password known_password

@@ -2,14 +2,18 @@
 ghost use Rattle.std.specs.Prelude.{◌≡◌, [], ◌∷◌};
 ghost use Rattle.std.specs.List.{list_all};
 ghost use Rattle.run_plan.specs.Warnings.{are_too_seldom, begins_nicks, is_of_nicks, is_taken_somewhere, is_warned};
-ghost use Rattle.run_plan.specs.declared.warning.Warning.TheVariants.{BeatsTooSeldom, NickIsTakenNowhere};
+ghost use Rattle.run_plan.specs.declared.warning.Warning.TheVariants.{BeatsTooSeldom, NickIsTakenNowhere, PasswordIsKnown};
 
 use bouncer_config::Config;
+use irc_line::is_same;
 use std::fmt;
 
 /// How many times a leader is to be heard before the others take it for gone: one that is heard
 /// once may be late.
 const LEAST_BEATS: u32 = 3;
+
+/// The password of the example.
+const KNOWN_PASSWORD: [u8; 13] = *b"correct-horse";
 
 /// What in a configuration is allowed, and serves nobody.
 #[derive(Clone, Copy, Debug, PartialEq, Eq)]
@@ -18,6 +22,8 @@ pub enum Warning {
     BeatsTooSeldom,
     /// No server takes the nick: RFC 2812, section 2.3.1, has what a nick is made of.
     NickIsTakenNowhere,
+    /// The clients' password is that of the example.
+    PasswordIsKnown,
 }
 
 impl fmt::Display for Warning {
@@ -29,16 +35,23 @@ impl fmt::Display for Warning {
             Warning::NickIsTakenNowhere => {
                 "nick: servers refuse it: it needs a letter or one of []\\`_^{|} first, and behind it those, digits and -"
             }
+            Warning::PasswordIsKnown => {
+                "password: it is that of the example, which everybody knows: choose one of your own"
+            }
         })
     }
 }
 
 impl Warning {
     /// All that a configuration may be warned of.
-    pub const fn all() -> [Warning; 2]
-        ensures { result ≡ BeatsTooSeldom ∷ NickIsTakenNowhere ∷ [] }
+    pub const fn all() -> [Warning; 3]
+        ensures { result ≡ BeatsTooSeldom ∷ NickIsTakenNowhere ∷ PasswordIsKnown ∷ [] }
     {
-        [Warning::BeatsTooSeldom, Warning::NickIsTakenNowhere]
+        [
+            Warning::BeatsTooSeldom,
+            Warning::NickIsTakenNowhere,
+            Warning::PasswordIsKnown,
+        ]
     }
 
     /// Whether a configuration is warned of this.
@@ -48,6 +61,7 @@ impl Warning {
         match self {
             Warning::BeatsTooSeldom => are_too_seldom(config.beat_ms, config.timeout_ms),
             Warning::NickIsTakenNowhere => !is_taken_somewhere(config.setup.nick().as_bytes()),
+            Warning::PasswordIsKnown => is_same(config.password.as_bytes(), &KNOWN_PASSWORD),
         }
     }
 }

@@ -1,0 +1,51 @@
+//! What differs from one person to the next.
+
+use std::alloc::{AllocError, Global};
+
+/// The nick of one who gives none.
+pub const NICK: &str = "me";
+
+/// Where the server of one is who names none: on this machine, or the end of a tunnel.
+pub const SERVER: &str = "127.0.0.1:6667";
+
+/// The channel of one who names none.
+pub const CHANNEL: &str = "#hukbarg";
+
+/// What a person says of a first configuration.
+#[derive(Drop)]
+pub struct Answers {
+    pub nick: String,
+    /// As `127.0.0.1:6667`.
+    pub server: String,
+    pub channels: Vec<String>,
+}
+
+impl Answers {
+    /// Those of these words: a nick, a server, and channels, as many of them as there are. The others are those of
+    /// one who says nothing.
+    pub fn of(alloc: Global, words: Vec<String>) -> Result<Answers, AllocError> {
+        let mut words = words.into_iter();
+        let nick = or_else(alloc, words.next(), NICK)?;
+        let server = or_else(alloc, words.next(), SERVER)?;
+        let mut channels = Vec::new(alloc);
+        for channel in words {
+            channels.push(channel)?;
+        }
+        if channels.is_empty() {
+            channels.push(String::from_str(alloc, CHANNEL)?)?;
+        }
+        Ok(Answers {
+            nick,
+            server,
+            channels,
+        })
+    }
+}
+
+/// A word, or another one in place of none or of an empty one.
+fn or_else(alloc: Global, word: Option<String>, other: &str) -> Result<String, AllocError> {
+    match word {
+        Some(word) if !word.as_str().is_empty() => Ok(word),
+        _ => String::from_str(alloc, other),
+    }
+}
