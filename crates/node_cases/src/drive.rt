@@ -1,10 +1,8 @@
-//! What is told by hand to what drives the nodes, and the orders that must come of it.
-mod absences;
-mod asking;
-mod endings;
-mod node_stories;
-mod outages;
+//! What a driver is told and what it orders, by stories; and how often something may be done, by example.
+mod driven;
+mod orders;
 mod paces;
-mod stories;
-mod story;
-mod telling;
+mod reports;
+mod standing;
+mod steps;
+mod tests;

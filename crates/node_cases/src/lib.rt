@@ -14,6 +14,8 @@ mod opening;
 #[cfg(test)]
 mod running;
 #[cfg(test)]
+mod stories;
+#[cfg(test)]
 mod tickets;
 #[cfg(test)]
 mod walks;
