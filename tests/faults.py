@@ -144,9 +144,7 @@ def a_node_that_goes_down(room):
     client.wait_closed()
     check("it is let go at once", time.monotonic() - gone < 0.5, time.monotonic() - gone)
     check("it is told why", client.lines[-1:] == [f"ERROR :node {node} is down"], client.lines[-3:])
-    late = Client(bouncer.ports[node - 1], "me", "pw")
-    late.wait_closed()
-    check("so is a new one", late.lines[-1:] == [f"ERROR :node {node} is down"], late.lines[-3:])
+    until(lambda: bouncer.is_refusing(node), f"node {node} refuses connections", 1)
     time.sleep(0.1)
     came = [f"came {number}" for number in range(20)]
     for text in came:

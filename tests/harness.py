@@ -9,7 +9,7 @@ import tempfile
 import threading
 import time
 
-from client import Client, Late, until, LONGEST
+from client import Client, Late, until, LONGEST, PAUSE
 
 TOP = os.path.dirname(os.path.dirname(os.path.realpath(__file__)))
 PROGRAM = os.environ.get("BOUNCER", "")  # else found by program_is_there
@@ -77,7 +77,7 @@ class Bouncer:
             for key, value in values.items():
                 config.write(f"{key} = {value}\n")
 
-    def start(self, **environment):
+    def start(self, preexec_fn=None, **environment):
         with open(self.log_path, "a") as log:
             self.begun = os.path.getsize(self.log_path)
             self.process = subprocess.Popen(
@@ -86,6 +86,7 @@ class Bouncer:
                 stdout=subprocess.DEVNULL,
                 stderr=log,
                 env={**os.environ, **environment},
+                preexec_fn=preexec_fn,
             )
         return self
 
@@ -154,11 +155,25 @@ class Bouncer:
         self.process.wait(LONGEST)
         self.process.stdin.close()
 
+    def is_refusing(self, node):
+        """Whether a node's address refuses connections, as where it is down."""
+        try:
+            socket.create_connection(("127.0.0.1", self.ports[node - 1]), LONGEST).close()
+            return False
+        except ConnectionRefusedError:
+            return True
+
     def attach(self, node, nick="me", password="pw"):
         """A client that a node took. A node that is not up takes none."""
         end = time.monotonic() + LONGEST
         while True:
-            client = Client(self.ports[node - 1], nick, password)
+            try:
+                client = Client(self.ports[node - 1], nick, password)
+            except ConnectionRefusedError:
+                if time.monotonic() > end:
+                    raise
+                time.sleep(PAUSE)
+                continue
             try:
                 client.wait("Welcome to the bouncer")
                 return client

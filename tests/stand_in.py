@@ -58,16 +58,20 @@ class Flood(threading.Thread):
 
 
 class StandIn:
-    """A server, in a thread of its own while it is there. Nobody is given a nick that is taken."""
+    """A server, in a thread of its own while it is there. Nobody is given a nick that is taken; one of a session is, until that is
+    closed, which it is so many seconds after it said QUIT or was left."""
 
-    def __init__(self, taken=()):
+    def __init__(self, taken=(), late=0.0):
         self.taken = taken
+        self.late = late
         self.held = Ports(1)
         self.port = self.held.numbers[0]
         self.lock = threading.Lock()
         self.joined = None  # the session that joined #x last, if it lasts
         self.sessions = []  # what each session said to #x
         self.last = 0.0  # when something was said there last
+        self.heard = []  # each line that came, with its moment
+        self.live = []  # all sessions, those too that ended
         self.open()
 
     def open(self):
@@ -85,16 +89,25 @@ class StandIn:
     def run(self, listener):
         room = selectors.DefaultSelector()
         room.register(listener, selectors.EVENT_READ, None)
+        ending = []  # sessions that are closed soon, with their moments
         while self.is_open:
+            for moment, session in [over for over in ending if over[0] <= time.monotonic()]:
+                ending.remove((moment, session))
+                session.stream.close()
+                session.nick = None
             for key, _ in room.select(PAUSE):
                 if key.data is None:
                     stream, _ = listener.accept()
-                    session = Session(stream, self.taken)
+                    session = Session(stream, self)
+                    self.live.append(session)
                     self.sessions.append(session.said)
                     room.register(stream, selectors.EVENT_READ, session)
                 elif not self.read(key.data):
                     room.unregister(key.fileobj)
-                    key.fileobj.close()
+                    ending.append((time.monotonic() + self.late, key.data))
+        for _, session in ending:
+            session.stream.close()
+        self.live = []
         for key in list(room.get_map().values()):
             key.fileobj.close()
         with self.lock:
@@ -108,15 +121,17 @@ class StandIn:
             data = b""
         *lines, session.rest = (session.rest + data).split(b"\r\n")
         for line in lines:
-            session.answer(line.decode(errors="replace"))
+            text = line.decode(errors="replace")
+            self.heard.append((time.monotonic(), text))
+            session.answer(text)
             self.last = time.monotonic()
         with self.lock:
             if session.is_joined:
-                self.joined = session if data else None
+                self.joined = session if data and not session.has_quit else None
                 session.is_joined = False
-            elif not data and self.joined is session:
+            elif (not data or session.has_quit) and self.joined is session:
                 self.joined = None
-        return bool(data)
+        return bool(data) and not session.has_quit
 
     def is_joined(self):
         with self.lock:
@@ -142,13 +157,14 @@ class StandIn:
 class Session:
     """A connection of a bouncer."""
 
-    def __init__(self, stream, taken):
+    def __init__(self, stream, server):
         self.stream = stream
-        self.taken = taken
+        self.server = server
         self.rest = b""
         self.said = []
         self.is_joined = False  # it joined #x just now
         self.nick = None
+        self.has_quit = False
         self.has_user = self.is_registered = False
 
     def send(self, line):
@@ -165,15 +181,23 @@ class Session:
             self.name(line[5:].lstrip(":"))
         elif line.startswith("PING"):
             self.send("PONG" + line[4:])
-        elif line.startswith("JOIN #x"):
-            self.send(f":{self.nick}!u@h JOIN #x")
-            self.is_joined = True
+        elif line.startswith("QUIT"):
+            self.has_quit = True
+        elif line.startswith("JOIN "):
+            self.join(line.split(" ")[1].lstrip(":").split(","))
         elif line.startswith("PRIVMSG #x :"):
             self.said.append(line.split(" :", 1)[1])
 
+    def join(self, channels):
+        """These channels are joined."""
+        for channel in channels:
+            self.send(f":{self.nick}!u@h JOIN {channel}")
+        if "#x" in channels:
+            self.is_joined = True
+
     def name(self, nick):
         """A nick is asked for."""
-        if nick in self.taken:
+        if nick in self.server.taken or any(other.nick == nick for other in self.server.live if other is not self):
             self.send(f":irc.test 433 {self.nick or '*'} {nick} :Nickname is already in use")
             return
         self.rename(nick)
