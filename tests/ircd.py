@@ -14,9 +14,9 @@ marks = itertools.count()
 
 
 class Server:
-    """An IRC server."""
+    """An IRC server, with further lines of its configuration, and of what it limits."""
 
-    def __init__(self, folder):
+    def __init__(self, folder, more=(), limits=()):
         self.held = Ports(1)
         self.port = self.held.numbers[0]
         path = os.path.join(folder, "ngircd.conf")
@@ -24,7 +24,9 @@ class Server:
             conf.write(f"[Global]\nName = irc.test.local\nInfo = test\nListen = 127.0.0.1\nPorts = {self.port}\n")
             conf.write("ServerUID = nobody\nServerGID = nogroup\n")
             conf.write("[Limits]\nMaxConnectionsIP = 50\nMaxNickLength = 20\nMaxPenaltyTime = 0\n")
+            conf.writelines(f"{line}\n" for line in limits)
             conf.write("[Options]\nDNS = no\nIdent = no\nPAM = no\n")
+            conf.writelines(f"{line}\n" for line in more)
         with open(os.path.join(folder, "ngircd.log"), "w") as log:
             self.process = subprocess.Popen(
                 ["ngircd", "-n", "-f", path], stdin=subprocess.DEVNULL, stdout=log, stderr=log
