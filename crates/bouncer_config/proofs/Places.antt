@@ -1,6 +1,7 @@
 -- A name put at its place stands where it belongs; lists that are no setup's.
 use Rattle.std.proofs.Common.{◌≡◌, ◌<◌, ◌≤◌, ℕ, ◌+◌, suc, Bool, true, false, if◌then◌else◌, List, [], ◌∷◌, length, Option, Some, None, MatchOption, refl, ap, sym, subst, ◌∙◌, add-one}
 use Rattle.std.proofs.lemmas.Bool.{and_parts, false≢true}
+use Rattle.std.specs.Prelude.{is_none}
 use Rattle.std.specs.List.{insert}
 use Rattle.irc_line.specs.Names.{IsPassed, fold_name, has_channel_mark, is_channel, is_name}
 use Rattle.irc_line.specs.Keys.{is_below, put_in}
@@ -8,6 +9,10 @@ use Rattle.toml.specs.Data.{Items, Members}
 use Rattle.toml.specs.View.{items_view}
 use Rattle.toml.specs.declared.value.Value.{Value}
 use Rattle.raft_log.specs.Peers.{IsGroupSize}
+use Rattle.buffer_commands.proofs.Limits.{limits_by_fault}
+use Rattle.buffer_commands.specs.Settings.{fault_of, within_limits}
+use Rattle.buffer_commands.specs.declared.options.Options.{Options}
+use Rattle.buffer_commands.specs.declared.setup_fault.SetupFault.{SetupFault}
 use Rattle.bouncer_config.specs.Found.{channel_of, place_in, item_count}
 use Rattle.bouncer_config.specs.Wrong.{HasFewChannels, IsProblem, list_at}
 use Rattle.bouncer_config.specs.declared.key.Key.TheVariants.{Listen, Channels}
@@ -26,6 +31,10 @@ insert_place c (d ∷ ds) = insert_by (is_below (fold_name d) (fold_name c)) c d
 pub item_count-view : (vs : List Value) → item_count (items_view vs) ≡ length vs
 item_count-view [] = refl
 item_count-view (v ∷ vs) = ap suc (item_count-view vs)
+
+-- the same, by a name that an attribute can say
+pub count_of_items : (vs : List Value) → item_count (items_view vs) ≡ length vs
+count_of_items vs = item_count-view vs
 
 -- the name of a channel is a name
 pub named_channel : (bytes : List ℕ) (n : Option (List ℕ)) → is_channel bytes ≡ true → MatchOption n (is_name bytes ≡ false) (IsPassed is_name bytes) → n ≡ channel_of bytes
@@ -46,3 +55,11 @@ pub no_more : (table : Members) (vs : List Value) → list_at Channels table ≡
 no_more table vs e h ds at =
     let same : items_view vs ≡ ds = cc (e, at) in
     subst (λ (d : Items). item_count d ≤ 100) same (rw (item_count-view vs) h)
+
+none_by : (fault : Option SetupFault) → is_none fault ≡ true → fault ≡ None
+none_by None e = refl
+none_by (Some fault) e = absurd (false≢true e)
+
+-- a setup that keeps its limits has no fault
+pub no_setup_fault : (channels : List (List ℕ)) (options : Options) → true ≡ within_limits channels options → fault_of channels options ≡ None
+no_setup_fault channels options e = none_by (fault_of channels options) (limits_by_fault channels options ∙ sym e)

@@ -1,7 +1,9 @@
+pub mod Faults
 pub mod Found
 pub mod Judged
 pub mod KeyTexts
 pub mod Reads
 pub mod Texts
 pub mod Wrong
+pub mod Near
 pub mod Placing

@@ -1,97 +1,27 @@
-use crate::key::{Key, Kind};
+use crate::detail::Detail;
+use crate::key_fault::KeyFault;
 use crate::problem::Problem;
-use buffer_commands::SetupFault;
+use crate::saying::write_fault;
 use std::fmt;
 
-/// What is wrong with the text of a configuration, and in which line where that is known.
+/// What is wrong with the text of a configuration: first, and in all.
 #[derive(Debug, Drop)]
 pub struct ConfigFault {
-    /// From 1.
+    /// From 1, where it is known.
     pub line: Option<usize>,
     pub problem: Problem,
-    /// Of a text that is no TOML, what was expected there, where there was memory to say it.
-    pub detail: Option<String>,
+    /// What more is said of it, where there is more and there was memory to say it.
+    pub detail: Option<Detail>,
+    /// All that is wrong with the table of the text. None where the text is no TOML, or where
+    /// memory ran out as it was gathered.
+    pub all: Option<Vec<KeyFault>>,
 }
 
 /// As `7: listen: needs three, five or seven addresses`, to which the caller puts the file's name
-/// and a colon before. Where no line is known it begins with a space in place of one.
+/// and a colon before. Where no line is known it begins with a space in place of one. It tells the
+/// first problem alone.
 impl fmt::Display for ConfigFault {
     fn fmt<W: fmt::Write>(&self, f: &mut fmt::Formatter<W>) -> fmt::Result {
-        write_line(f, self.line)?;
-        write_key(f, self.problem.key_text())?;
-        f.write_str(reason(&self.problem))?;
-        write_detail(f, &self.detail)
-    }
-}
-
-fn write_line<W: fmt::Write>(f: &mut fmt::Formatter<W>, line: Option<usize>) -> fmt::Result {
-    match line {
-        Some(line) => write!(f, "{line}: "),
-        None => f.write_str(" "),
-    }
-}
-
-fn write_key<W: fmt::Write>(f: &mut fmt::Formatter<W>, key: Option<&str>) -> fmt::Result {
-    match key {
-        Some(key) => write!(f, "{key}: "),
-        None => Ok(()),
-    }
-}
-
-fn write_detail<W: fmt::Write>(f: &mut fmt::Formatter<W>, detail: &Option<String>) -> fmt::Result {
-    match detail {
-        Some(detail) => write!(f, ": {detail}"),
-        None => Ok(()),
-    }
-}
-
-/// What is wrong, without the key with which it is.
-fn reason(problem: &Problem) -> &'static str {
-    match problem {
-        Problem::Memory => "out of memory",
-        Problem::NotToml => "is no TOML",
-        Problem::Unknown(_) => "is no key of a configuration",
-        Problem::Missing(_) => "is missing",
-        Problem::Kind(key) => kind_text(key.kind()),
-        Problem::Refused(key) => rule_text(*key),
-        Problem::ListenCount => "needs three, five or seven addresses",
-        Problem::ListenTwice => "needs addresses that differ, and none of upstream's",
-        Problem::ChannelCount => "takes at most 100 names",
-        Problem::Setup(_) => "names a channel twice",
-    }
-}
-
-/// What a key of this kind needs.
-fn kind_text(kind: Kind) -> &'static str {
-    match kind {
-        Kind::Text => "needs a text",
-        Kind::Texts => "needs a list of texts",
-        Kind::Number => "needs a whole number",
-        Kind::Truth => "needs true or false",
-    }
-}
-
-/// What a key needs beyond its kind.
-fn rule_text(key: Key) -> &'static str {
-    match key {
-        Key::Nick => "needs a name: 1 to 64 bytes without space or comma, the first no colon",
-        Key::Password | Key::UpstreamPassword => "needs 1 to 64 bytes without space",
-        Key::Upstream => {
-            "needs an address 127.0.0.1:PORT: of a server elsewhere, or with TLS, that of a tunnel to it"
-        }
-        Key::Listen => "needs addresses 127.0.0.1:PORT",
-        Key::Store | Key::Record => "needs a path",
-        Key::Channels => "needs names of channels",
-        Key::ChanBufferSize | Key::QueryBufferSize => "needs 0 to 500",
-        Key::MaxQueryBuffers => "needs 1 to 50",
-        Key::OffsetMinutes => "needs -1439 to 1439",
-        Key::BeatMs => "needs 10 to 10000",
-        Key::TimeoutMs => "needs 50 to 60000",
-        Key::FloodBurst => "needs 1 to 100",
-        Key::FloodMs => "needs 0 to 60000",
-        Key::Log => "needs quiet, info or debug",
-        Key::Input => "needs stop or ignore",
-        Key::RenewAt => "needs 0 to 1000000",
-        _ => "needs true or false",
+        write_fault(f, self.line, &self.problem, &self.detail)
     }
 }

@@ -43,7 +43,7 @@ fn is_without_nul(bytes: &[u8]) -> bool
 }
 
 /// Whether a text is a path: at least one byte, and none of them NUL.
-fn is_a_path(text: &[u8]) -> bool
+pub(crate) fn is_a_path(text: &[u8]) -> bool
     ensures { result ≡ is_path text.now }
 {
     1 <= text.len() && is_without_nul(text)

@@ -1,5 +1,6 @@
 ghost use Rattle.std.specs.Prelude.{◌≡◌};
 ghost use Rattle.bouncer_config.specs.KeyTexts.{key_text, kind_of, limits_of};
+ghost use Rattle.bouncer_config.specs.Wrong.{is_needed};
 
 use buffer_commands::{MOST_LINES, MOST_QUERIES};
 use raft_log::ENTRY_LIMIT;
@@ -99,6 +100,16 @@ impl Key {
             Key::MultiClients => Kind::Truth,
             _ => Kind::Number,
         }
+    }
+
+    /// Whether no configuration goes without the key.
+    pub(crate) fn is_needed(self) -> bool
+        ensures { result ≡ is_needed self }
+    {
+        matches!(
+            self,
+            Key::Nick | Key::Password | Key::Upstream | Key::Listen | Key::Store
+        )
     }
 
     /// The limits of a key whose value is a natural number; of any other key 0 throughout.

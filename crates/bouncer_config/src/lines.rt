@@ -43,7 +43,7 @@ fn begins_with_key(line: &[u8], key: &[u8]) -> bool {
 }
 
 /// The first text of a list that may not stand in it, where a problem is of one.
-fn refused_element<'a>(table: &'a Table, problem: &Problem) -> Option<&'a str> {
+pub(crate) fn refused_element<'a>(table: &'a Table, problem: &Problem) -> Option<&'a str> {
     let key = match problem {
         Problem::Refused(Key::Listen) => Key::Listen,
         Problem::Refused(Key::Channels) => Key::Channels,

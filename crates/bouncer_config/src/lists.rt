@@ -6,6 +6,7 @@ ghost use Rattle.toml.specs.Data.{as_str};
 ghost use Rattle.irc_line.specs.Keys.{put_in};
 ghost use Rattle.raft_log.specs.Peers.{IsGroupSize};
 ghost use Rattle.bouncer_config.specs.Found.{are_different, channel_of, channels_in, names_after, place_in, ports_after, text_at, value_at};
+ghost use Rattle.bouncer_config.specs.Faults.{is_group};
 ghost use Rattle.bouncer_config.specs.Texts.{address_of};
 ghost use Rattle.bouncer_config.specs.Wrong.{HasFewChannels, IsProblem, Listens, list_at};
 
@@ -19,14 +20,17 @@ use std::alloc::{AllocError, Global};
 use toml::{Table, Value};
 
 /// The address of a value, where it is one.
-fn address_at(value: &Value) -> Option<Address>
+pub(crate) fn address_at(value: &Value) -> Option<Address>
     ensures { result ≡ option_and_then address_of (as_str (view value.now)) }
 {
     Address::from_text(value.as_str()?.as_bytes())
 }
 
 /// Reads the addresses of values behind those that were read, and tells whether each value is one.
-fn read_addresses(values: &[Value], addresses: &mut Vec<Address>) -> Result<bool, AllocError>
+pub(crate) fn read_addresses(
+    values: &[Value],
+    addresses: &mut Vec<Address>,
+) -> Result<bool, AllocError>
     ensures read { IfOk result (λ all. ports_after addresses.old.items (items_view values.now)
         ≡ (if all then Some addresses.new.items else None)) }
     ensures count { IfOk result (λ all. IsTrue all
@@ -104,21 +108,22 @@ fn read_channels(alloc: Global, values: &[Value], names: &mut Vec<Name>) -> Resu
 }
 
 /// Whether a group may have so many nodes.
-fn is_group(count: usize) -> bool
-    ensures { IsTrue result ↔ IsGroupSize count }
+pub(crate) fn is_group(count: usize) -> bool
+    ensures group { IsTrue result ↔ IsGroupSize count }
+    ensures value { result ≡ is_group count }
 {
     count == 3 || count == 5 || count == 7
 }
 
 /// Whether an address stands among others.
-fn is_among(address: Address, others: &[Address]) -> bool
+pub(crate) fn is_among(address: Address, others: &[Address]) -> bool
     ensures { result ≡ list_any (λ q. q == address) others.now }
 {
     others.iter().any(|other| other.port() == address.port())
 }
 
 /// Whether no address stands twice.
-fn are_different(addresses: &[Address]) -> bool
+pub(crate) fn are_different(addresses: &[Address]) -> bool
     ensures { result ≡ are_different addresses.now }
 {
     match addresses {
@@ -176,7 +181,10 @@ pub(crate) fn listen(
 }
 
 /// The channels that values name, by rising folded names.
-fn named_channels(alloc: Global, values: &[Value]) -> Result<Option<Vec<Name>>, AllocError>
+pub(crate) fn named_channels(
+    alloc: Global,
+    values: &[Value],
+) -> Result<Option<Vec<Name>>, AllocError>
     ensures { IfOk result (λ v.
         option_map (λ names. names.items) v ≡ names_after [] (items_view values.now)) }
 {

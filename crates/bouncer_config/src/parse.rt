@@ -1,9 +1,11 @@
-ghost use Rattle.std.specs.Prelude.{◌≡◌, IfOk, IfErr};
+ghost use Rattle.std.specs.Prelude.{◌≡◌, IfOk, IfErr, IfSome, IsNone};
 ghost use Rattle.toml.specs.Errors.{IsMemory};
-ghost use Rattle.bouncer_config.specs.Reads.{IsFault, Says};
+ghost use Rattle.bouncer_config.specs.Reads.{AreFaultsOf, IsFault, Says};
 
 use crate::config::Config;
 use crate::config_fault::ConfigFault;
+use crate::detail::{detail_of, detail_of_error};
+use crate::gathering::all_faults;
 use crate::lines::{line_at, line_of};
 use crate::problem::Problem;
 use std::alloc::Global;
@@ -11,10 +13,11 @@ use toml::de::Error;
 
 /// The configuration of a TOML text. A fault tells the first problem, in the order of
 /// [`Config::from_table`], and the line in which its key, the element of its list, or what is no
-/// TOML stands.
+/// TOML stands; and all that is wrong with the table, where memory does not run out.
 pub fn parse_config(alloc: Global, text: &[u8]) -> Result<Config, ConfigFault>
     ensures ok { IfOk result (Says text.now) }
     ensures err { IfErr result (λ fault. IsFault text.now fault.problem) }
+    ensures all { IfErr result (λ fault. IfSome fault.all (λ all. AreFaultsOf text.now all.items)) }
 {
     let table = match toml::table_from_slice(alloc, text) {
         Ok(table) => table,
@@ -23,11 +26,12 @@ pub fn parse_config(alloc: Global, text: &[u8]) -> Result<Config, ConfigFault>
     match Config::from_table(alloc, &table) {
         Ok(config) => Ok(config),
         Err(problem) => {
-            let line = line_of(text, &table, &problem);
+            let all = all_faults(alloc, text, &table).ok();
             Err(ConfigFault {
-                line,
+                line: line_of(text, &table, &problem),
+                detail: detail_of(alloc, &table, &problem),
                 problem,
-                detail: None,
+                all,
             })
         }
     }
@@ -37,17 +41,20 @@ pub fn parse_config(alloc: Global, text: &[u8]) -> Result<Config, ConfigFault>
 fn not_toml(alloc: Global, text: &[u8], error: &Error) -> ConfigFault
     ensures memory { IsMemory error.now → result.problem ≡ Problem.Memory }
     ensures toml { ¬ IsMemory error.now → result.problem ≡ Problem.NotToml }
+    ensures alone { IsNone result.all }
 {
     match error.span() {
         Some(span) => ConfigFault {
             line: Some(line_at(text, span.start)),
             problem: Problem::NotToml,
-            detail: String::from_str(alloc, error.message()).ok(),
+            detail: detail_of_error(alloc, text, error, &span),
+            all: None,
         },
         None => ConfigFault {
             line: None,
             problem: Problem::Memory,
             detail: None,
+            all: None,
         },
     }
 }

@@ -61,7 +61,7 @@ pub(crate) fn text(table: &Table, key: Key) -> Result<Option<&str>, Problem>
 }
 
 /// This number, where it is within limits.
-fn number_within(number: i64, limits: Limits) -> Option<u32>
+pub(crate) fn number_within(number: i64, limits: Limits) -> Option<u32>
     ensures value { result ≡ within limits number }
     ensures most { IfSome result (λ n. n ≤ limits.most) }
 {
@@ -109,7 +109,7 @@ pub(crate) fn truth(table: &Table, key: Key) -> Result<bool, Problem>
 }
 
 /// The offset of so many minutes, where there is one.
-fn offset_of(minutes: i64) -> Option<Offset>
+pub(crate) fn offset_of(minutes: i64) -> Option<Offset>
     ensures { result ≡ above_least minutes }
 {
     if minutes < -1439 || minutes > 1439 {

@@ -36,7 +36,7 @@ pub(crate) const ALL_KEYS: [Key; 22] = [
 ];
 
 /// Whether some key has this name.
-fn is_known(name: &[u8]) -> bool
+pub(crate) fn is_known(name: &[u8]) -> bool
     ensures { result ≡ is_known name.now }
 {
     ALL_KEYS
