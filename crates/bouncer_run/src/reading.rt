@@ -80,10 +80,25 @@ pub fn read_config<F: Read>(alloc: Global, file: &mut F) -> Result<Config, Unrea
 
 /// Says on standard error why there is no configuration in a file.
 fn tell<R: Runtime>(rt: &R, path: &str, unread: &Unread) {
-    let _ = match unread {
-        Unread::Unreadable(ReadFault::InputTooLong) => eprintln!(rt; "{path}: is too long"),
-        Unread::Unreadable(ReadFault::Read) => eprintln!(rt; "{path}: can't be read"),
-        Unread::Unreadable(ReadFault::Memory) => eprintln!(rt; "{path}: out of memory"),
-        Unread::Refused(fault) => eprintln!(rt; "{path}:{fault}"),
+    let why = match unread {
+        Unread::Unreadable(ReadFault::InputTooLong) => "is too long",
+        Unread::Unreadable(ReadFault::Read) => "can't be read",
+        Unread::Unreadable(ReadFault::Memory) => "out of memory",
+        Unread::Refused(fault) => return tell_faults(rt, path, fault),
     };
+    let _ = eprintln!(rt; "{path}: {why}");
+}
+
+/// Says on standard error all that is wrong with the text of a configuration, a line each.
+fn tell_faults<R: Runtime>(rt: &R, path: &str, fault: &ConfigFault) {
+    match &fault.all {
+        Some(faults) => {
+            for fault in faults.iter() {
+                let _ = eprintln!(rt; "{path}:{fault}");
+            }
+        }
+        None => {
+            let _ = eprintln!(rt; "{path}:{fault}");
+        }
+    }
 }
