@@ -13,7 +13,7 @@ pub struct ConfigFault {
     /// What more is said of it, where there is more and there was memory to say it.
     pub detail: Option<Detail>,
     /// All that is wrong with the table of the text. None where the text is no TOML, or where
-    /// memory ran out as it was gathered.
+    /// memory ran out.
     pub all: Option<Vec<KeyFault>>,
 }
 

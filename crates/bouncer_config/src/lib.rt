@@ -1,6 +1,7 @@
 //! The configuration of a running bouncer: what a TOML text says of it, and why one is refused.
 //! Stands under run_plan, bouncer_run and buffer_cases.
-//! A configuration that is taken says what its table says, or the defaults, within all limits.
+//! A configuration that is taken says what its table says, or the defaults, within all limits; of one that is not
+//! all that is wrong is told.
 #![tactic(auto)]
 
 mod address;
