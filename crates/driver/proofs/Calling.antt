@@ -31,7 +31,7 @@ use Rattle.driver.specs.Driving.{orders_of, told_of}
 use Rattle.driver.specs.Filling.{TellsLevelIf, WatchesFor}
 use Rattle.driver.specs.Retiring.{with_seen}
 use Rattle.driver.specs.Hearing.{turned_away, turned_away_news}
-use Rattle.driver.specs.Links.{Connects, Receives, notes_of, send_some}
+use Rattle.driver.specs.Links.{Connects, Receives, is_answer, notes_of, send_some}
 use Rattle.driver.specs.Nicks.{IsGreeted, IsWarned, RenamesBy, RenamesIf, is_renamed, nick_in}
 use Rattle.driver.specs.Clients.{is_leaving}
 use Rattle.driver.specs.Rosters.{AreOthersSame, client_at, is_attached_in}
@@ -162,15 +162,16 @@ abbrev pub AllQuiet : List (Note TowerBody WireLine) → Type 0
 AllQuiet [] = Unit {0}
 AllQuiet (came ∷ more) = IsQuiet (Some came) × AllQuiet more
 
-pub quiet_cut : (b : Bool) (at : Moment) (line : Parts) (more : List (Note TowerBody WireLine)) → AllQuiet more → AllQuiet ((if b then [] else note.Heard at line ∷ []) ++ more)
-quiet_cut true at line more all = all
-quiet_cut false at line more all = (refl, all)
+pub quiet_cut : (answers long : Bool) (at : Moment) (line : Parts) (more : List (Note TowerBody WireLine)) → AllQuiet more → AllQuiet ((if answers then [] else (if long then [] else note.Heard at line ∷ [])) ++ more)
+quiet_cut true long at line more all = all
+quiet_cut false true at line more all = all
+quiet_cut false false at line more all = (refl, all)
 
 pub quiet_notes : (at : Moment) (inputs : List UplinkInput) → AllQuiet (notes_of at inputs)
 unfolding notes_of
 quiet_notes at [] = tt
 quiet_notes at (input.Opened ∷ inputs) = (refl, quiet_notes at inputs)
-quiet_notes at (input.Heard line ∷ inputs) = quiet_cut (nat_lt 511 (length (spelling line))) at line (notes_of at inputs) (quiet_notes at inputs)
+quiet_notes at (input.Heard line ∷ inputs) = quiet_cut (is_answer line) (nat_lt 511 (length (spelling line))) at line (notes_of at inputs) (quiet_notes at inputs)
 quiet_notes at (input.Closed ∷ inputs) = (refl, quiet_notes at inputs)
 
 pub renames_if : (P : Order → Type 0) (is : Bool) (clients : Clients) (text : List ℕ) (before after : Ordered) → AllGood P clients → RenamesIf is clients text before after → Adds P before after

@@ -21,7 +21,7 @@ use Rattle.driver.specs.Driving.{Ticks, changed_at, orders_of, round_of, told_of
 use Rattle.driver.specs.Retiring.{fresh, retirement_at}
 use Rattle.driver.specs.Hearing.{begins_run, elected_news, heard_news, is_elected, is_none, stood_news, was_up, is_new_run}
 use Rattle.driver.specs.Leading.{IsLeader, term_in}
-use Rattle.driver.specs.Links.{is_silent}
+use Rattle.driver.specs.Servers.{is_silent}
 use Rattle.driver.specs.Reports.{BeginsIf, Hears, WordsBy, WordsIf, heard_at, heard_if, lost_at}
 use Rattle.driver.specs.Rounds.{Round, SpreadsAll, SpreadsBy, ask_orders, retired, retirement_due, retirement_told}
 use Rattle.driver.specs.Telling.{Ordered, ordered, told_to}
@@ -33,7 +33,7 @@ use Rattle.driver.proofs.Monitors.{Ids, look, look_in}
 use Rattle.driver.proofs.Falling.{IsOther, Turns, awake_stays, elected_plain, heard_stands, other_stands, passed_stays, stays_turns, stood_change, stood_good, stood_ids, stood_own}
 use Rattle.driver.proofs.Growing.{AllAre, AllGood, Grows, by_number, cuts_grow, leaves_grow, same_grows, ticks_grow, words_grow}
 use Rattle.driver.proofs.Restarts.{Plain, apart_good, both_false, follows_all, follows_both, told_apart}
-use Rattle.driver.proofs.Resting.{lead_by, leaves_stay, node_stays, nodes_stay}
+use Rattle.driver.proofs.Resting.{asks_stay, lead_by, leaves_stay, node_stays, nodes_stay}
 use Rattle.driver.proofs.Staying.{StandsAs, Stays, Steady, grows_stay, orders_stay, other_changed, own_changed, own_stands, same_stays, stays_both}
 
 -- What its clients hear.
@@ -264,7 +264,8 @@ spreads_by n down (Some leader) settings now monitors old new low ids at leads s
 pub ticks_stay : (n now : ℕ) (at : Moment) (down : Bool) (old new : Driver) → 1 ≤ n → Steady n down old → Ticks now at old new → Stays n down old new
 ticks_stay n now at down old new low steady t =
     let first = awake_stays n now down old steady in
-    let left = leaves_stay n (is_silent old.link.stage now) now down Silent (awake now old) t.left first.steady t.leaves in
+    let pinged = asks_stay n now down (awake now old) t.pinged first.steady t.pings in
+    let left = leaves_stay n (is_silent t.pinged.link.stage now) now down Silent t.pinged t.left pinged.steady t.leaves in
     let served =
     grows_stay n down t.left t.served left.steady (ap (λ (driver : Driver). driver.monitors) t.is_served)
     (ticks_grow (Plain n down) at t.left.settings.timeout_ms now t.left.monitors (keys t.left.clients.all) (told_of t.left) (told_of t.served) left.steady.good t.clients)
@@ -275,5 +276,6 @@ ticks_stay n now at down old new low steady t =
     (spreads_by n down t.retired.leader t.asked.settings now t.asked.monitors (round_of t.asked) (round_of new) low asked.steady.ids asked.steady.at t.retired.is_leader t.retired.spreads)
     in
     stays_both n down old (awake now old) new first
-    (stays_both n down (awake now old) t.left new left
-    (stays_both n down t.left t.served new served (stays_both n down t.served t.asked new asked word)))
+    (stays_both n down (awake now old) t.pinged new pinged
+    (stays_both n down t.pinged t.left new left
+    (stays_both n down t.left t.served new served (stays_both n down t.served t.asked new asked word))))

@@ -16,8 +16,9 @@ use Rattle.driver.specs.declared.order.Order.{Order}
 use Rattle.driver.specs.declared.order.Order.TheVariants as order
 use Rattle.driver.specs.Claiming.{claims}
 use Rattle.driver.specs.Monitors.{is_claimed, line_to_claim}
-use Rattle.driver.specs.Driving.{Connects, Ends, LeavesIf, LeavesOlder, QuitsIf, TicksMonitor, closed_of, closed_orders, orders_of, tick_orders, ticked}
+use Rattle.driver.specs.Driving.{AsksServer, Connects, Ends, LeavesIf, LeavesOlder, QuitsIf, TicksMonitor, closed_of, closed_orders, orders_of, tick_orders, ticked}
 use Rattle.driver.specs.Links.{ending, is_open, may_connect, node_of}
+use Rattle.driver.specs.Servers.{AsksForWord, is_quiet}
 use Rattle.driver.specs.Telling.{Ordered, ordered}
 use Rattle.driver.specs.Writing.{Hands, WriteLines}
 use Rattle.irc_line.specs.Lines.{Parts}
@@ -190,6 +191,18 @@ ends_keep n now why old new sound e =
       orders = e.orders;
       all = all_append (NoClaim n) (ending old.link.stage why) (closed_orders node) (ending_quiet n old.link.stage why) (closed_quiet n node);
     })
+
+-- it is asked for a word
+asks_by : (n : ℕ) (asks : Bool) (now : ℕ) (old new : Driver) → Sound n old → new ≡ record old { orders = new.orders; link = record old.link { stage = new.link.stage } } → AsksForWord asks now old.link.stage old.orders new.link.stage new.orders → Keeps n old new
+asks_by n false now old new sound rest (stage, orders) =
+    orders_keep n old new sound (ap (λ (driver : Driver). driver.monitors) rest) (ap (λ (driver : Driver). driver.clients) rest)
+    (nothing_adds (NoClaim n) old.orders new.orders orders)
+asks_by n true now old new sound rest (ping, is, orders, stage) =
+    orders_keep n old new sound (ap (λ (driver : Driver). driver.monitors) rest) (ap (λ (driver : Driver). driver.clients) rest)
+    (one_adds (NoClaim n) (order.Send ping) old.orders new.orders orders refl)
+
+pub asks_keep : (n now : ℕ) (old new : Driver) → Sound n old → AsksServer now old new → Keeps n old new
+asks_keep n now old new sound a = asks_by n (is_quiet old.link.stage now) now old new sound a.rest a.asks
 
 -- or is left
 pub leaves_keep : (n : ℕ) (leaves : Bool) (now : ℕ) (why : Ending) (old new : Driver) → Sound n old → LeavesIf leaves now why old new → Keeps n old new

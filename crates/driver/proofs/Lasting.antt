@@ -22,12 +22,13 @@ use Rattle.driver.specs.declared.settings.Settings.{Settings}
 use Rattle.driver.specs.Links.{node_of, Connects, Receives, is_open, is_session_of, opened as opened_stage, send_some}
 use Rattle.driver.specs.Writing.{handed}
 use Rattle.driver.specs.Calls.{Call, Does, DoesAll, IsTold, Step, Connect, Connected, Dismiss, End, Hand, Hear, Lose, Notice, Receive, ReceiveLine, Refuse, Take, Tick, Watch, WatchNodes}
-use Rattle.driver.specs.Driving.{Ticks, round_of, told_of}
+use Rattle.driver.specs.Driving.{AsksServer, Ticks, round_of, told_of}
 use Rattle.driver.specs.Filling.{is_left_out}
 use Rattle.driver.specs.Quitting.{AllLead, Connection, Gone, Leads, SessionsEndFirst, met_by, moment_of}
 use Rattle.driver.specs.Retiring.{retirement_at}
 use Rattle.driver.specs.Rosters.{client_at}
 use Rattle.driver.specs.Rounds.{Round, SpreadsAll, SpreadsBy, ask_orders, retired, retirement_due}
+use Rattle.driver.specs.Servers.{AsksForWord, is_quiet}
 use Rattle.driver.specs.Sessions.{TakesIf, TellsAllOf, TellsIf, link_behind, opened_of}
 use Rattle.driver.specs.Telling.{ordered}
 use Rattle.driver.specs.Waking.{awake}
@@ -64,9 +65,28 @@ spreads_by (Some leader) settings now monitors old new s = spreads_add 7 setting
 woken_goes : (now : ℕ) (c : Connection) (old new : Driver) → Goes now c (awake now old) new → Goes now c old new
 woken_goes now c old new g = record { last = g.last; told = g.told; orders = g.orders; leads = g.leads; fits = g.fits; good = g.good }
 
+stage_link : (stage : Stage) (old new : Driver) → old.link.stage ≡ stage → new.link.stage ≡ stage → new.link ≡ record old.link { stage = new.link.stage } → new.link ≡ old.link
+stage_link stage old new is same link = link ∙ ap (λ (stage : Stage). record old.link { stage = stage }) (same ∙ sym is)
+
+-- A server that is quiet is asked for a word.
+asks_go : (now : ℕ) (c : Connection) (asks : Bool) (stage : Stage) (old new : Driver) → is_quiet stage now ≡ asks → old.link.stage ≡ stage → Fits c old.link → AllGood Inner old.clients → new.link ≡ record old.link { stage = new.link.stage } → new.clients ≡ old.clients → AsksForWord asks now stage old.orders new.link.stage new.orders → Goes now c old new
+asks_go now c false stage old new quiet is fits good link clients (same, none) =
+    adds_goes now c old new fits good (stage_link stage old new is same link) clients (nothing_adds Inner old.orders new.orders none)
+asks_go now c true (Idle since wait) old new quiet is fits good link clients asks = absurd (cc quiet)
+asks_go now c true (Closing since wait) old new quiet is fits good link clients asks = absurd (cc quiet)
+asks_go now c true (Connecting node) old new quiet is fits good link clients asks = absurd (cc quiet)
+asks_go now c true (Open session) old new quiet is fits good link clients (ping, are, orders, asked) =
+    says_go now c ping old new (subst (λ (stage : Stage). StandsAs c stage) is fits.stands) (ap is_open asked) orders clients good
+
+pings_go : (now : ℕ) (c : Connection) (old new : Driver) → Fits c old.link → AllGood Inner old.clients → AsksServer now old new → Goes now c old new
+pings_go now c old new fits good a =
+    asks_go now c (is_quiet old.link.stage now) old.link.stage old new refl refl fits good
+    (ap (λ (driver : Driver). driver.link) a.rest) (ap (λ (driver : Driver). driver.clients) a.rest) a.asks
+
 ticks_go : (now : ℕ) (at : Moment) (c : Connection) (old new : Driver) → Fits c old.link → AllGood Inner old.clients → Ticks now at old new → Goes now c old new
 ticks_go now at c old new fits good t =
-    let left = woken_goes now c old t.left (silent_goes now c Silent (awake now old) t.left fits good t.leaves) in
+    let pinged = woken_goes now c old t.pinged (pings_go now c (awake now old) t.pinged fits good t.pings) in
+    let left = silent_goes now pinged.last Silent t.pinged t.left pinged.fits pinged.good t.leaves in
     let served =
     inner_goes now left.last t.left t.served left.fits (ap (λ (driver : Driver). driver.link) t.is_served)
     (ticks_grow Inner at t.left.settings.timeout_ms now t.left.monitors (keys t.left.clients.all) (told_of t.left) (told_of t.served) left.good t.clients)
@@ -76,13 +96,11 @@ ticks_go now at c old new fits good t =
     adds_goes now asked.last t.asked new asked.fits asked.good (ap (λ (driver : Driver). driver.link) t.rest) (ap (λ (driver : Driver). driver.clients) t.rest)
     (spreads_by t.retired.leader t.asked.settings now t.asked.monitors (round_of t.asked) (round_of new) t.retired.spreads)
     in
-    goes_both now c old t.left new left
-    (goes_both now left.last t.left t.served new served (goes_both now served.last t.served t.asked new asked last))
+    goes_both now c old t.pinged new pinged
+    (goes_both now pinged.last t.pinged t.left new left
+    (goes_both now left.last t.left t.served new served (goes_both now served.last t.served t.asked new asked last)))
 
 -- The server is connected to, or sends bytes.
-
-stage_link : (stage : Stage) (old new : Driver) → old.link.stage ≡ stage → new.link.stage ≡ stage → new.link ≡ record old.link { stage = new.link.stage } → new.link ≡ old.link
-stage_link stage old new is same link = link ∙ ap (λ (stage : Stage). record old.link { stage = stage }) (same ∙ sym is)
 
 quiet_stage : (c : Connection) (stage : Stage) (old new : Driver) → old.link.stage ≡ stage → Fits c old.link → AllGood Inner old.clients → new.link.stage ≡ stage → new.link ≡ record old.link { stage = new.link.stage } → new.clients ≡ old.clients → new.orders ≡ old.orders → Goes 0 c old new
 quiet_stage c stage old new is fits good same link clients none =

@@ -30,6 +30,7 @@ mod OneClaim
 mod Owning
 mod Paced
 mod Parted
+mod Pings
 mod Parting
 mod Passing
 mod Queueing

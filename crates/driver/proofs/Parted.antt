@@ -1,5 +1,5 @@
 -- What comes of the end of a session for the connection to the server.
-use Rattle.std.proofs.Common.{◌≡◌, ◌∙◌, ◌++◌, ℕ, ◌+◌, ◌-◌, Bool, true, false, List, [], ◌∷◌, Option, Some, None, refl, sym, ap, subst}
+use Rattle.std.proofs.Common.{◌≡◌, ◌∙◌, ◌++◌, ℕ, ◌-◌, Bool, true, false, List, [], ◌∷◌, Option, Some, None, refl, sym, ap, subst}
 use Rattle.std.specs.Prelude.{if◌then◌else◌, nat_le}
 use Rattle.irc_line.specs.Names.{same_bytes}
 use Rattle.driver.specs.declared.backoff.Backoff.{Backoff}
@@ -13,8 +13,9 @@ use Rattle.driver.specs.declared.news.Ending.TheVariants as reason
 use Rattle.driver.specs.declared.order.Order.TheVariants as order
 use Rattle.driver.specs.Driving.{Ends, Leaves, LeavesIf, LeavesOlder, Quits, QuitsIf, closed_of, closed_orders, quit_line}
 use Rattle.driver.specs.Leading.{is_older}
-use Rattle.driver.specs.Links.{ending, end_of, idle_behind, is_open, is_silent, lingering, node_of, waiting_behind}
+use Rattle.driver.specs.Links.{ending, end_of, idle_behind, is_open, lingering, node_of, waiting_behind}
 use Rattle.driver.specs.Outgoing.{Waiting, nothing_waits}
+use Rattle.driver.specs.Servers.{is_silent}
 use Rattle.driver.specs.Quitting.{Connection, Gone, Leads, Over, Told, Used, behind, closed_behind, kept, said_behind}
 use Rattle.driver.proofs.Growing.{AllGood}
 use Rattle.driver.proofs.Heard.{then_orders}

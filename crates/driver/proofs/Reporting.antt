@@ -24,14 +24,14 @@ use Rattle.driver.specs.declared.settings.Settings.{Settings}
 use Rattle.driver.specs.Driving.{Ticks, orders_of, round_of, told_of}
 use Rattle.driver.specs.Retiring.{fresh, retirement_at}
 use Rattle.driver.specs.Hearing.{answers_news, begins_run, down_behind, down_news, elected_news, heard_behind, heard_news, is_elected, progressed, settled, settles, stood_behind, stood_news, told_behind, up_behind, up_news, was_up}
-use Rattle.driver.specs.Links.{is_silent}
+use Rattle.driver.specs.Servers.{is_silent}
 use Rattle.driver.specs.Reports.{BeginsIf, Hears, Stands, WordsBy, WordsIf, heard_at, lost_at}
 use Rattle.driver.specs.Rounds.{Round, SpreadsAll, SpreadsBy, ask_orders, retired, retirement_due, retirement_told}
 use Rattle.driver.specs.Telling.{ordered, told_to}
 use Rattle.driver.specs.Waking.{awake, slept, waited_longer}
 use Rattle.driver.proofs.Adding.{Adds, adds_both, nothing_adds, passes_grow}
 use Rattle.driver.proofs.Claiming.{node_result, nodes_result, same_eq, sound_behind}
-use Rattle.driver.proofs.Keeping.{Keeps, Line, Sound, keeps_both, keeps_result, leaves_keep, orders_keep, result_keeps, same_keeps}
+use Rattle.driver.proofs.Keeping.{Keeps, Line, Sound, asks_keep, keeps_both, keeps_result, leaves_keep, orders_keep, result_keeps, same_keeps}
 use Rattle.driver.proofs.Monitors.{Ids, Look, changed_other, changed_own, ids_changed, ids_kept, look, look_at, look_in, mapped_same}
 use Rattle.driver.proofs.Growing.{AllAre, AllGood, Grows, all_append, by_number, cuts_grow, leaves_grow, same_grows, ticks_grow, words_grow}
 use Rattle.driver.proofs.Quiet.{NoClaim}
@@ -248,7 +248,8 @@ spreads_by n (Some leader) settings now monitors old new s = spreads_add n 7 set
 pub tick_outcome : (n now : ℕ) (at : Moment) (old new : Driver) (told : List Order) → 1 ≤ n → Sound n old → Ticks now at old new → new.orders ≡ ordered old.orders told → Outcome n false old new told
 tick_outcome n now at old new told low sound t is =
     let first = awake_keeps n now old sound in
-    let left = keeps_both n old (awake now old) t.left first (leaves_keep n (is_silent old.link.stage now) now Silent (awake now old) t.left first.sound t.leaves) in
+    let pinged = keeps_both n old (awake now old) t.pinged first (asks_keep n now (awake now old) t.pinged first.sound t.pings) in
+    let left = keeps_both n old t.pinged t.left pinged (leaves_keep n (is_silent t.pinged.link.stage now) now Silent t.pinged t.left pinged.sound t.leaves) in
     let served =
     grows_keep n t.left t.served left.sound (ap (λ (driver : Driver). driver.monitors) t.is_served)
     (ticks_grow (NoClaim n) at t.left.settings.timeout_ms now t.left.monitors (keys t.left.clients.all) (told_of t.left) (told_of t.served) left.sound.good t.clients)

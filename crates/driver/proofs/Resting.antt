@@ -17,10 +17,11 @@ use Rattle.driver.specs.declared.news.Ending.{Ending}
 use Rattle.driver.specs.declared.news.Ending.TheVariants.{LedNoMore}
 use Rattle.driver.specs.declared.order.Order.TheVariants as order
 use Rattle.driver.specs.Monitors.{claim_due, claim_if, monitor_claimed, told}
-use Rattle.driver.specs.Driving.{Claims, Connects, Ends, LeavesIf, LeavesOlder, QuitsIf, ServesIf, TickNodes, TicksNode, closed_of, closed_orders, orders_of}
+use Rattle.driver.specs.Driving.{AsksServer, Claims, Connects, Ends, LeavesIf, LeavesOlder, QuitsIf, ServesIf, TickNodes, TicksNode, closed_of, closed_orders, orders_of}
 use Rattle.driver.specs.Hearing.{boot_if, boot_up}
 use Rattle.driver.specs.Leading.{IsLeader, is_older, is_that, term_at, term_in, term_of}
 use Rattle.driver.specs.Links.{end_of, ending, may_connect, node_of, status_at, status_in, is_open}
+use Rattle.driver.specs.Servers.{AsksForWord, is_quiet}
 use Rattle.driver.specs.Telling.{Ordered, ordered}
 use Rattle.driver.specs.declared.driver.writing.TheConstants.{MOST_AT_ONCE}
 use Rattle.driver.specs.Writing.{WriteLines, may_claim}
@@ -115,6 +116,17 @@ ends_stay n now down why old new steady e =
           (ending_plain n down old.link.stage why)
           (closed_plain n down old.monitors (node_of old.link.stage) e.lost steady.at);
     })
+
+asks_by : (n : ℕ) (asks : Bool) (now : ℕ) (down : Bool) (old new : Driver) → Steady n down old → new ≡ record old { orders = new.orders; link = record old.link { stage = new.link.stage } } → AsksForWord asks now old.link.stage old.orders new.link.stage new.orders → Stays n down old new
+asks_by n false now down old new steady rest (stage, orders) =
+    orders_stay n down old new steady (ap (λ (driver : Driver). driver.monitors) rest) (ap (λ (driver : Driver). driver.clients) rest)
+    (nothing_adds (Plain n down) old.orders new.orders orders)
+asks_by n true now down old new steady rest (ping, is, orders, stage) =
+    orders_stay n down old new steady (ap (λ (driver : Driver). driver.monitors) rest) (ap (λ (driver : Driver). driver.clients) rest)
+    (one_adds (Plain n down) (order.Send ping) old.orders new.orders orders (tt, refl))
+
+pub asks_stay : (n now : ℕ) (down : Bool) (old new : Driver) → Steady n down old → AsksServer now old new → Stays n down old new
+asks_stay n now down old new steady a = asks_by n (is_quiet old.link.stage now) now down old new steady a.rest a.asks
 
 pub leaves_stay : (n : ℕ) (leaves : Bool) (now : ℕ) (down : Bool) (why : Ending) (old new : Driver) → Steady n down old → LeavesIf leaves now why old new → Stays n down old new
 leaves_stay n false now down why old new steady same = same_stays n down old new steady same

@@ -19,7 +19,8 @@ use Rattle.driver.specs.Monitors.{claim_at, claim_due, monitor_behind, monitor_c
 use Rattle.driver.specs.Retiring.{restart_at, restart_behind}
 use Rattle.driver.specs.Leading.{IsLeader, is_older, is_that}
 use Rattle.driver.specs.Hearing.{boot_up}
-use Rattle.driver.specs.Links.{IsLost, backoff_behind, ending, idle_behind, is_open, is_silent, lingering, may_connect, node_of, status_at, waiting_behind}
+use Rattle.driver.specs.Links.{IsLost, backoff_behind, ending, idle_behind, is_open, lingering, may_connect, node_of, status_at, waiting_behind}
+use Rattle.driver.specs.Servers.{AsksForWord, is_quiet, is_silent}
 use Rattle.driver.specs.Rounds.{GoesRound, Round, round}
 use Rattle.driver.specs.Telling.{Ordered, ordered}
 use Rattle.driver.specs.Waking.{awake}
@@ -103,6 +104,11 @@ pub record Leaves (now : ℕ) (why : Ending) (old new : Driver) : Type 0 where
 abbrev pub LeavesIf : Bool → ℕ → Ending → Driver → Driver → Type 0
 LeavesIf false now why old new = new ≡ old
 LeavesIf true now why old new = Leaves now why old new
+
+-- The server is asked for a word where it is quiet.
+pub record AsksServer (now : ℕ) (old new : Driver) : Type 0 where
+  pub asks : AsksForWord (is_quiet old.link.stage now) now old.link.stage old.orders new.link.stage new.orders
+  pub rest : new ≡ record old { orders = new.orders; link = record old.link { stage = new.link.stage } }
 
 -- what a server is told as the session is over
 abbrev pub quit_line : List ℕ
@@ -190,11 +196,13 @@ pub record Dismisses (now : ℕ) (at : Moment) (old new : Driver) : Type 0 where
   pub clients : DismissEach at now (keys old.clients.all) (told_of old) (told_of new)
   pub rest : new ≡ record old { clients = new.clients; orders = new.orders }
 
--- What time brings. The driver is awake, and the connection to a server that is silent is left; then each client ticks,
--- in the order of their numbers, and then each node; what comes last is retirements.
+-- What time brings. The driver is awake; a server that is quiet is asked for a word, and the connection to one that is silent is left; then
+-- each client ticks, in the order of their numbers, and then each node; what comes last is retirements.
 pub record Ticks (now : ℕ) (at : Moment) (old new : Driver) : Type 0 where
+  pub pinged : Driver
+  pub pings : AsksServer now (awake now old) pinged
   pub left : Driver
-  pub leaves : LeavesIf (is_silent old.link.stage now) now Silent (awake now old) left
+  pub leaves : LeavesIf (is_silent pinged.link.stage now) now Silent pinged left
   pub served : Driver
   pub clients : TickEach at left.settings.timeout_ms now left.monitors (keys left.clients.all) (told_of left) (told_of served)
   pub is_served : served ≡ record left { clients = served.clients; orders = served.orders }

@@ -36,6 +36,7 @@ pub mod Reaching
 pub mod Reports
 pub mod Rosters
 pub mod Rounds
+pub mod Servers
 pub mod Serving
 pub mod Sessions
 pub mod Silence

@@ -1,8 +1,9 @@
 -- The connection to the server, and the numbers of clients.
-use Rattle.std.specs.Prelude.{◌≡◌, ℕ, ◌-◌, Bool, true, false, nat_eq, nat_lt, if◌then◌else◌, List, [], ◌∷◌, ◌++◌, length, Option, Some, None, slice_get}
+use Rattle.std.specs.Prelude.{◌≡◌, ℕ, ◌-◌, Bool, true, false, codes, nat_eq, nat_lt, if◌then◌else◌, List, [], ◌∷◌, ◌++◌, length, Option, Some, None, slice_get}
 use Rattle.std.specs.Global.{Vec}
 use Rattle.std.specs.Option.{is_some, option_to_list}
-use Rattle.irc_line.specs.Lines.{spelling}
+use Rattle.irc_line.specs.Lines.{Parts, spelling}
+use Rattle.irc_line.specs.Names.{same_bytes}
 use Rattle.wire_bytes.specs.declared.moment.Moment.{Moment}
 use Rattle.buffer_commands.specs.declared.wire_line.WireLine.{WireLine}
 use Rattle.bouncer_tower.specs.Bodies.{TowerBody}
@@ -29,7 +30,7 @@ use Rattle.driver.specs.declared.settings.Settings.{Settings}
 use Rattle.driver.specs.Monitors.{at, is_over}
 use Rattle.driver.specs.Outgoing.{Waiting, nothing_waits}
 use Rattle.driver.specs.Telling.{Ordered, ordered}
-use Rattle.driver.specs.declared.link.TheConstants.{FIRST_WAIT, LONGEST_WAIT, GOOD_SESSION, SILENCE, TIME_TO_CLOSE}
+use Rattle.driver.specs.declared.link.TheConstants.{FIRST_WAIT, LONGEST_WAIT, GOOD_SESSION}
 use Rattle.irc_line.specs.Limits.{line_limit}
 
 -- the node that a connection is of, if there is one
@@ -49,13 +50,6 @@ may_connect (Open session) now = false
 -- before anything failed: the first wait is a second, and the longest a minute
 abbrev pub first_backoff : Backoff
 first_backoff = record { first = FIRST_WAIT; most = LONGEST_WAIT; next = FIRST_WAIT }
-
--- the server was silent for five minutes, or did not close a connection for a second whose session it was told is over
-abbrev pub is_silent : Stage → ℕ → Bool
-is_silent (Idle since wait) now = false
-is_silent (Closing since wait) now = is_over since TIME_TO_CLOSE now
-is_silent (Connecting node) now = false
-is_silent (Open session) now = is_over session.heard SILENCE now
 
 -- what an operator is told of a connection that stood: the end of its session, or that none was given
 abbrev pub end_of : Bool → ℕ → Ending → News
@@ -134,6 +128,7 @@ pub record HasBegun (settings : Settings) (now node : ℕ) (before : Ordered) (s
   pub node_is : session.node ≡ node
   pub since : session.since ≡ at now
   pub heard : session.heard ≡ at now
+  pub is_unasked : session.asked ≡ None
   pub is_unopened : session.is_opened ≡ false
   pub uplink_is : IsAfter session.uplink settings.nick []
 
@@ -145,10 +140,15 @@ Connects (Connecting node) settings now before stage after =
     (session : Session) × HasBegun settings now node before session after × (stage ≡ Open session)
 Connects (Open session) settings now before stage after = (stage ≡ Open session) × (after ≡ before)
 
--- what an uplink gives is a note to its node; a line that no body can hold is none
+-- an answer to what the driver asked for a word by (RFC 2812, 3.7.3)
+abbrev pub is_answer : Parts → Bool
+is_answer line = same_bytes line.command (codes "PONG")
+
+-- what an uplink gives is a note to its node; an answer to the driver's own question is none, nor a line that no body can hold
 abbrev pub note_of : Moment → UplinkInput → List (Note TowerBody WireLine)
 note_of at input.Opened = note.Opened ∷ []
-note_of at (input.Heard line) = if nat_lt line_limit (length (spelling line)) then [] else note.Heard at line ∷ []
+note_of at (input.Heard line) =
+    if is_answer line then [] else (if nat_lt line_limit (length (spelling line)) then [] else note.Heard at line ∷ [])
 note_of at input.Closed = note.Closed ∷ []
 
 -- the notes to its node of all that an uplink gives, in order
@@ -172,6 +172,7 @@ pub record HasReceived (now : ℕ) (moment : Moment) (bytes : List ℕ) (old : S
   pub since : new.since ≡ old.since
   pub is_opened : new.is_opened ≡ old.is_opened
   pub heard : new.heard ≡ at now
+  pub is_unasked : new.asked ≡ None
 
 -- what bytes come to: nothing where there is no session
 abbrev pub Receives : Stage → ℕ → Moment → List ℕ → Ordered → Stage → List (Note TowerBody WireLine) → Ordered → Type 0

@@ -5,7 +5,7 @@ ghost use Rattle.uplink.specs.declared.input.UplinkInput.{UplinkInput};
 ghost use Rattle.uplink.specs.Calls.{Ended, GoesOn};
 ghost use Rattle.driver.specs.declared.order.Order.TheVariants.{Connect};
 ghost use Rattle.driver.specs.Links.{Connects, HasBegun, HasReceived, IsLost, Receives};
-ghost use Rattle.driver.specs.Links.{backoff_behind, ending, idle_behind, is_open, is_session_of, is_silent, lingering, may_connect, node_of, opened, waiting_behind};
+ghost use Rattle.driver.specs.Links.{backoff_behind, ending, idle_behind, is_open, is_session_of, lingering, may_connect, node_of, opened, waiting_behind};
 ghost use Rattle.driver.specs.Links.{first_backoff, notes_of, send_some};
 ghost use Rattle.driver.specs.Monitors.{at};
 ghost use Rattle.driver.specs.Outgoing.{nothing_waits};
@@ -13,6 +13,7 @@ ghost use Rattle.driver.specs.Telling.{ordered};
 
 mod notes;
 mod sending;
+mod silence;
 
 use crate::backoff::Backoff;
 use crate::link::notes::notes_of;
@@ -35,14 +36,6 @@ const LONGEST_WAIT: u32 = 60_000;
 /// After how long a session the first wait is the shortest again, in milliseconds.
 const GOOD_SESSION: u64 = 60_000;
 
-/// After how long without a word from the server the connection is closed, in milliseconds.
-// A server sends a PING at least every few minutes. One that says nothing for so long is gone.
-const SILENCE: u64 = 300_000;
-
-/// How long a server has to close a connection whose session it is told is over, in milliseconds.
-// it frees the nick as it does, and the next session asks for the same one
-const TIME_TO_CLOSE: u64 = 1000;
-
 /// Where the connection stands.
 #[derive(Drop)]
 enum Stage {
@@ -64,6 +57,8 @@ struct Session {
     uplink: Uplink,
     since: Timer,
     heard: Timer,
+    /// When the server was asked for a word, where it gave none since.
+    asked: Option<Timer>,
     /// The server gave it.
     is_opened: bool,
 }
@@ -215,17 +210,6 @@ impl Link {
         Ok(lost)
     }
 
-    /// Whether the server was silent for too long, or had its time to close the connection.
-    pub fn is_silent(&self, now: &Now) -> bool
-        ensures { result ≡ is_silent self.now.stage now.now.ms }
-    {
-        match &self.stage {
-            Stage::Open(session) => session.heard.has_passed(SILENCE, now.ms),
-            Stage::Closing(since, _) => since.has_passed(TIME_TO_CLOSE, now.ms),
-            Stage::Idle(_, _) | Stage::Connecting(_) => false,
-        }
-    }
-
     /// Whether there is a session of this node.
     pub fn is_session_of(&self, node: NodeId) -> bool
         ensures { result ≡ is_session_of self.now.stage node }
@@ -272,6 +256,7 @@ fn begin(
         uplink,
         since: Timer::from(now.ms),
         heard: Timer::from(now.ms),
+        asked: None,
         is_opened: false,
     })
 }
@@ -288,6 +273,7 @@ fn receive_in(
         orders.old session.new notes.items orders.new) }
 {
     session.heard = Timer::from(now.ms);
+    session.asked = None;
     let Passed { inputs, reply } = session.uplink.feed(bytes)?;
     send_back(reply, orders)?;
     let notes = notes_of(alloc, now, inputs)?;

@@ -2,9 +2,10 @@
 ghost use Rattle.std.specs.Prelude.{◌≡◌, OnOk};
 ghost use Rattle.driver.specs.declared.news.Ending.TheVariants.{Silent};
 ghost use Rattle.driver.specs.Filling.{is_left_out};
-ghost use Rattle.driver.specs.Driving.{Connects, Ends, Leaves, LeavesIf, LeavesOlder, QuitsIf, SaysQuit};
+ghost use Rattle.driver.specs.Driving.{AsksServer, Connects, Ends, Leaves, LeavesIf, LeavesOlder, QuitsIf, SaysQuit};
 ghost use Rattle.driver.specs.Leading.{is_older, is_that};
-ghost use Rattle.driver.specs.Links.{Connects as IsConnected, is_open, is_silent, node_of};
+ghost use Rattle.driver.specs.Links.{Connects as IsConnected, is_open, node_of};
+ghost use Rattle.driver.specs.Servers.{is_silent};
 ghost use Rattle.driver.specs.Sessions.{OpensBy, TakesIf, TellsAllOf, TellsIf};
 
 use crate::driver::Driver;
@@ -148,6 +149,13 @@ impl Driver {
     {
         let quit = Vec::from_slice(self.alloc, QUIT)?;
         self.orders.send(quit)
+    }
+
+    /// A server that says nothing is asked for a word.
+    pub fn ask_quiet(&mut self, now: &Now) -> Result<(), AllocError>
+        ensures { OnOk result (AsksServer now.now.ms self.old self.new) }
+    {
+        self.link.ask_quiet(now, &mut self.orders)
     }
 
     /// The connection to a server that is silent is left, and one that the server had time to close.

@@ -19,6 +19,7 @@ impl Driver {
         ensures { OnOk result (Ticks now.now.ms now.now.at self.old self.new) }
     {
         self.wake(now);
+        self.ask_quiet(now)?;
         self.leave_silent(now)?;
         let timeout = self.settings.timeout_ms;
         self.clients

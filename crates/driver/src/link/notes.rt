@@ -5,9 +5,14 @@ ghost use Rattle.driver.specs.Links.{note_of, notes_of};
 
 use crate::order::{Now, TowerNote};
 use buffer_commands::WireLine;
+use irc_line::is_same;
 use node_notes::Note;
 use std::alloc::{AllocError, Global};
 use uplink::UplinkInput;
+
+/// The answer to the question by which a server is asked for a word (RFC 2812, 3.7.3).
+// nobody at a client asked
+const PONG: &[u8] = b"PONG";
 
 /// What an uplink gave, as notes to its node.
 #[tactic(auto, unfolding(crate::specs::Links::notes_of))]
@@ -27,13 +32,17 @@ pub fn notes_of(
     Ok(notes)
 }
 
-/// What an uplink gave, as a note to its node; a line that has no spelling is none.
+/// What an uplink gave, as a note to its node; an answer to the driver's own question is none, nor a line that has no
+/// spelling.
 fn note_of(now: &Now, input: UplinkInput) -> Option<TowerNote>
     ensures { option_to_list result ≡ note_of now.now.at input }
 {
     match input {
         UplinkInput::Opened => Some(Note::Opened),
         UplinkInput::Heard(line) => {
+            if is_same(line.command(), PONG) {
+                return None;
+            }
             let line = WireLine::from_line(line)?;
             Some(Note::Heard(now.at, line))
         }

@@ -10,6 +10,7 @@ returns c =
       node_is = refl;
       since = search rules;
       heard = search rules;
+      is_unasked = refl;
       is_unopened = refl;
       uplink_is = search rules;
     }

@@ -13,4 +13,5 @@ returns c =
       since = refl;
       is_opened = refl;
       heard = search rules;
+      is_unasked = refl;
     }

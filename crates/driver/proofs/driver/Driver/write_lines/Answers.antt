@@ -1,4 +1,4 @@
-use Rattle.std.proofs.Common.{rules, ◌≤◌, ◌≡◌, ◌∙◌, Bool, false, sym}
+use Rattle.std.proofs.Common.{rules, ◌≤◌, ◌≡◌, false}
 use Rattle.std.specs.Option.{is_some}
 use Rattle.driver.specs.declared.driver.writing.TheConstants.{MOST_AT_ONCE}
 use Rattle.driver.specs.Writing.{piece_of}
