@@ -12,6 +12,8 @@ _bouncer() {
         esac
     elif [ "${COMP_WORDS[1]}" = renew ] && [ $((COMP_CWORD % 2)) = 1 ]; then
         mapfile -t COMPREPLY < <(compgen -W '--forget' -- "$word")
+    elif [ "${COMP_WORDS[1]}" = show ]; then
+        mapfile -t COMPREPLY < <(compgen -W '--all' -- "$word")
     fi
 }
 complete -F _bouncer bouncer

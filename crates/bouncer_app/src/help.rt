@@ -1,8 +1,10 @@
 //! What the program says of itself.
 
 /// How it is called, where it is called otherwise.
-pub const USAGE: &str = "usage: bouncer [init FOLDER | run CONFIG | check CONFIG | renew CONFIG | \
-show JOURNAL [TARGET] | fold | world N | replay FILE | draw FILE | help | --version]";
+pub const USAGE: &str =
+    "usage: bouncer [init FOLDER [NICK [SERVER [CHANNEL..]]] | run CONFIG | check CONFIG | \
+renew CONFIG [--forget NAME].. | show JOURNAL [TARGET] [--all] | fold | world N | replay FILE | draw FILE | \
+help | --version]";
 
 /// What a person at a terminal is told who is to type the input.
 pub const WAITING: &str =
@@ -33,9 +35,9 @@ bouncer keeps you on IRC while you are away. Words, each with an example:
                   bouncer replay examples/candidate.record
   draw FILE     draws the run of a record, as a sequence diagram in SVG
                   bouncer draw examples/failover.record > run.svg
-  show JOURNAL  prints the chat in a journal; a channel or a nick behind it, what
-                concerns that one
-                  bouncer show store/node-1 '#x'
+  show JOURNAL  prints the chat in a journal; with a channel or a nick behind it what
+                concerns that one, with --all what else the server said too
+                  bouncer show store/node-1 '#x' --all
   help          prints this page
   --version     prints the version
 

@@ -5,27 +5,28 @@
 #![tactic(auto)]
 
 mod help;
+mod recorded;
 mod show;
 mod words;
 
 use crate::help::{HELP, USAGE, VERSION, WAITING};
+use crate::recorded::{print_picture, replay};
 use crate::show::show;
 use crate::words::{Task, asked};
 use bouncer_run::{Hands, RunFault, check, read, run};
+use chat_log::Extent;
 use first_config::{Answers, InitFault, Written, ask, first_config, random_password, write_first};
 use fold_app::{FoldFault, fold};
 use irc_line::Name;
 use journal_folder::renew;
-use records::{ReplayFault, Verdict};
-use std::alloc::Global;
+use records::Verdict;
 use std::env::args;
 use std::fmt::Display;
-use std::io::{ErrorKind, IsTerminal, Read, Write};
+use std::io;
+use std::io::{ErrorKind, IsTerminal, Write};
 use std::process::ExitCode;
 use std::rt::Runtime;
-use std::{fs, io};
-use whole_input::read_whole;
-use world_app::{RecordFault, draw, replay_record, world};
+use world_app::world;
 
 /// The exit code where a record differs from a run of its events.
 const DIFFERS: u8 = 3;
@@ -54,11 +55,7 @@ fn run_world(rt: &HostRuntime, size: u32) -> ExitCode {
 /// Runs what is recorded in a file again. The exit code is 0 where the same comes out, 3 where it does not,
 /// or 1 with the fault on standard error.
 fn run_replay(rt: &HostRuntime, path: &str) -> ExitCode {
-    let mut file = match fs::open(rt, path) {
-        Ok(file) => file,
-        Err(error) => return failed(rt, unopened(error.kind())),
-    };
-    match replay_record(rt.alloc(), &mut file, &mut io::writer(rt)) {
+    match replay(rt, path) {
         Ok(Verdict::Same) => ExitCode::SUCCESS,
         Ok(Verdict::Differs(_)) => ExitCode::from(DIFFERS),
         Err(fault) => failed(rt, fault),
@@ -67,39 +64,15 @@ fn run_replay(rt: &HostRuntime, path: &str) -> ExitCode {
 
 /// Draws the run that is recorded in a file. The exit code is 0, or 1 with the fault on standard error.
 fn run_draw(rt: &HostRuntime, path: &str) -> ExitCode {
-    let mut file = match fs::open(rt, path) {
-        Ok(file) => file,
-        Err(error) => return failed(rt, unopened(error.kind())),
-    };
-    let picture = match drawn(rt.alloc(), &mut file) {
-        Ok(picture) => picture,
-        Err(fault) => return failed(rt, fault),
-    };
-    let mut output = io::writer(rt);
-    if output.write_all(&picture).is_err() || output.flush().is_err() {
-        return failed(rt, RecordFault::Write);
-    }
-    ExitCode::SUCCESS
-}
-
-/// The picture of the record that an input has.
-fn drawn<R: Read>(alloc: Global, input: &mut R) -> Result<Vec<u8>, RecordFault> {
-    let record = read_whole(alloc, input)?;
-    Ok(draw(alloc, &record)?)
-}
-
-/// Why a record is not read that cannot be opened.
-fn unopened(kind: ErrorKind) -> RecordFault {
-    if kind == ErrorKind::OutOfMemory {
-        RecordFault::Replay(ReplayFault::Memory)
-    } else {
-        RecordFault::Read
+    match print_picture(rt, path) {
+        Ok(()) => ExitCode::SUCCESS,
+        Err(fault) => failed(rt, fault),
     }
 }
 
 /// Shows the journal in a file. The exit code is 0, or 1 with the fault on standard error.
-fn run_show(rt: &HostRuntime, path: &str, target: Option<&Name>) -> ExitCode {
-    match show(rt, path, target) {
+fn run_show(rt: &HostRuntime, path: &str, extent: Extent, target: Option<&Name>) -> ExitCode {
+    match show(rt, path, extent, target) {
         Ok(()) => ExitCode::SUCCESS,
         Err(fault) => failed(rt, fault),
     }
@@ -193,7 +166,9 @@ fn main(rt: HostRuntime) -> ExitCode {
             Ok(Some(Task::World(size))) => run_world(&rt, size),
             Ok(Some(Task::Replay(path))) => run_replay(&rt, path.as_str()),
             Ok(Some(Task::Draw(path))) => run_draw(&rt, path.as_str()),
-            Ok(Some(Task::Show(path, target))) => run_show(&rt, path.as_str(), target.as_ref()),
+            Ok(Some(Task::Show(path, extent, target))) => {
+                run_show(&rt, path.as_str(), extent, target.as_ref())
+            }
             Ok(Some(Task::Run(path))) => match run(&rt, path.as_str(), rt.reader(), &Hands::new) {
                 Ok(()) => ExitCode::SUCCESS,
                 Err(fault) => failed(&rt, fault),

@@ -1,9 +1,9 @@
 //! What `bouncer show` does: the chat of a journal, as text.
-use chat_log::chat_log;
+use chat_log::{Extent, chat_log};
 use irc_line::Name;
 use stable_store::StoreFault;
 use std::io::{ErrorKind, Write};
-use std::rt::Files;
+use std::rt::Runtime;
 use std::{fs, io};
 use thiserror::Error;
 
@@ -38,14 +38,22 @@ impl From<StoreFault> for ShowFault {
     }
 }
 
-/// Prints the chat of the journal in a file: all of it, or what concerns a target. The file is read once and left as it is.
+/// Prints the chat of the journal in a file: of an extent all, or what concerns a target. The file is read once and left
+/// as it is. Where it is at fault, a line was written to standard error that names it and says why.
 pub fn show(
-    rt: &(impl Files + Print + AllocGlobal),
+    rt: &(impl Runtime + AllocGlobal),
     path: &str,
+    extent: Extent,
     target: Option<&Name>,
 ) -> Result<(), ShowFault> {
-    let journal = fs::read(rt, path).map_err(read_fault)?;
-    let text = chat_log(rt.alloc(), journal, target)?;
+    let journal = read_journal(rt, path)?;
+    let text = match chat_log(rt.alloc(), journal, extent, target) {
+        Ok(text) => text,
+        Err(fault) => {
+            tell(rt, path, fault);
+            return Err(ShowFault::from(fault));
+        }
+    };
     let mut output = io::writer(rt);
     if output.write_all(&text).is_err() || output.flush().is_err() {
         return Err(ShowFault::Write);
@@ -53,11 +61,25 @@ pub fn show(
     Ok(())
 }
 
-/// Why a file was not read.
-fn read_fault(error: io::Error) -> ShowFault {
-    if error.kind() == ErrorKind::OutOfMemory {
-        ShowFault::Memory
-    } else {
-        ShowFault::Read
+/// The bytes of a journal's file. Where it can't be read, a line was written to standard error that names it and says why.
+fn read_journal(rt: &(impl Runtime + AllocGlobal), path: &str) -> Result<Vec<u8>, ShowFault> {
+    match fs::read(rt, path) {
+        Ok(journal) => Ok(journal),
+        Err(error) if error.kind() == ErrorKind::OutOfMemory => Err(ShowFault::Memory),
+        Err(error) => {
+            let _ = eprintln!(rt; "{path}: {error}");
+            Err(ShowFault::Read)
+        }
     }
+}
+
+/// Says on standard error what is wrong with a file, unless memory was wanting.
+fn tell(rt: &impl Runtime, path: &str, fault: StoreFault) {
+    let _ = match fault {
+        StoreFault::NotAStore => eprintln!(rt; "{path}: is no journal"),
+        StoreFault::Version => eprintln!(rt; "{path}: is of another version"),
+        StoreFault::Damaged(place) => eprintln!(rt; "{path}: is damaged at byte {place}"),
+        StoreFault::Device => eprintln!(rt; "{path}: can't be read"),
+        StoreFault::Memory => Ok(()),
+    };
 }

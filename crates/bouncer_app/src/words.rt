@@ -1,4 +1,5 @@
 //! What the words behind the program's name ask for.
+use chat_log::Extent;
 use irc_line::Name;
 use std::alloc::{AllocError, Global};
 use std::env::Args;
@@ -15,8 +16,8 @@ pub enum Task {
     Replay(String),
     /// To draw the run that is recorded in the file of this path.
     Draw(String),
-    /// To show the journal in the file of this path: all of it, or what concerns a target.
-    Show(String, Option<Name>),
+    /// To show the journal in the file of this path: of an extent all, or what concerns a target.
+    Show(String, Extent, Option<Name>),
     /// To run the bouncer that the configuration in the file of this path says.
     Run(String),
     /// To say what that run would do.
@@ -32,9 +33,9 @@ pub enum Task {
 
 /// What the words, the program's name first, ask for: a fold where none follows, or `fold` alone; the
 /// events of a world where `world` and a number follow; a record's where `replay` and a path do, and its picture
-/// where `draw` and a path do; a journal's chat where `show`, a path and a name or none do; a bouncer's run, a
-/// check of its configuration, or a new log, where `run`, `check` or `renew` and a path do; a first configuration
-/// where `init` and a folder do.
+/// where `draw` and a path do; a journal's chat where `show` and a path do, and behind it a name, `--all` or both; a
+/// bouncer's run, a check of its configuration, or a new log, where `run`, `check` or `renew` and a path do; a first
+/// configuration where `init` and a folder do.
 pub fn asked(alloc: Global, words: Args) -> Result<Option<Task>, AllocError> {
     let mut words = words.skip(1);
     match words.next() {
@@ -52,7 +53,7 @@ fn task_of(word: &str, mut words: Skip<Args>) -> Option<Task> {
         "world" => Task::World(size_of(words.next()?.as_str())?),
         "replay" => Task::Replay(words.next()?),
         "draw" => Task::Draw(words.next()?),
-        "show" => Task::Show(words.next()?, target_of(words.next())?),
+        "show" => return showing(words),
         "run" => Task::Run(words.next()?),
         "check" => Task::Check(words.next()?),
         "help" | "--help" | "-h" => Task::Help,
@@ -101,10 +102,19 @@ fn beginning(alloc: Global, mut words: Skip<Args>) -> Result<Option<Task>, Alloc
     Ok(Some(Task::Init(folder, answers)))
 }
 
-/// The target that a word names, or none where there is no word. A word that is no name is refused.
-fn target_of(word: Option<String>) -> Option<Option<Name>> {
-    match word {
-        None => Some(None),
-        Some(word) => Some(Some(Name::from_bytes(word.into_bytes())?)),
+/// The chat of a journal, where a path follows, and behind it no more than a name and `--all`, in any order.
+fn showing(mut words: Skip<Args>) -> Option<Task> {
+    let path = words.next()?;
+    let mut extent = Extent::Chat;
+    let mut target = None;
+    for word in words {
+        if word.as_str() == "--all" {
+            extent = Extent::All;
+        } else if target.is_none() {
+            target = Some(Name::from_bytes(word.into_bytes())?);
+        } else {
+            return None;
+        }
     }
+    Some(Task::Show(path, extent, target))
 }

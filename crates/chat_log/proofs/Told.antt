@@ -7,14 +7,15 @@ use Rattle.buffer_commands.specs.Settings.{plain}
 use Rattle.bouncer_tower.specs.Bodies.{TowerBody}
 use Rattle.chat_log.specs.Chats.{chat_text}
 use Rattle.chat_log.specs.Logs.{bodies, chat_of, plain_commands}
+use Rattle.chat_log.specs.declared.choice.Extent.{Extent}
 use Rattle.chat_log.specs.declared.setup.ChatSetup.{ChatSetup}
 
-pub told_is : (t : Option (List ℕ)) (r : Result (Saved TowerBody) StoreFault) (saved : Saved TowerBody) (text : List ℕ)
-    → r ≡ Ok saved → text ≡ chat_text plain t (plain_commands (bodies saved)) → chat_of t r ≡ Ok text
+pub told_is : (x : Extent) (t : Option (List ℕ)) (r : Result (Saved TowerBody) StoreFault) (saved : Saved TowerBody) (text : List ℕ)
+    → r ≡ Ok saved → text ≡ chat_text plain x t (plain_commands (bodies saved)) → chat_of x t r ≡ Ok text
 unfolding chat_of
-told_is t r saved text e h = ap (chat_of t) e ∙ ap Ok (sym h)
+told_is x t r saved text e h = ap (chat_of x t) e ∙ ap Ok (sym h)
 
-pub same_text : (t : Option (List ℕ)) (entries : List (Entry TowerBody)) (saved : Saved TowerBody) (s : ChatSetup) (text : List ℕ)
-    → entries ≡ saved.log → s.buffers ≡ plain → s.target ≡ t
-    → text ≡ chat_text s.buffers s.target (plain_commands (map (λ e. e.body) entries)) → text ≡ chat_text plain t (plain_commands (bodies saved))
-same_text t entries saved s text log buffers target h = h ∙ (λ i. chat_text (buffers i) (target i) (plain_commands (map (λ e. e.body) (log i))))
+pub same_text : (x : Extent) (t : Option (List ℕ)) (entries : List (Entry TowerBody)) (saved : Saved TowerBody) (s : ChatSetup) (text : List ℕ)
+    → entries ≡ saved.log → s.buffers ≡ plain → s.choice.extent ≡ x → s.choice.target ≡ t
+    → text ≡ chat_text s.buffers s.choice.extent s.choice.target (plain_commands (map (λ e. e.body) entries)) → text ≡ chat_text plain x t (plain_commands (bodies saved))
+same_text x t entries saved s text log buffers extent target h = h ∙ (λ i. chat_text (buffers i) (extent i) (target i) (plain_commands (map (λ e. e.body) (log i))))

@@ -1,4 +1,5 @@
 pub mod Moments
+pub mod Controls
 pub mod Texts
 pub mod Chats
 pub mod Machine

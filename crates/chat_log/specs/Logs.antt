@@ -7,6 +7,7 @@ use Rattle.buffer_commands.specs.Settings as settings
 use Rattle.buffer_commands.specs.declared.command.Command.{Command}
 use Rattle.buffer_machine.specs.Held.{commands}
 use Rattle.bouncer_tower.specs.Bodies.{TowerBody, plain}
+use Rattle.chat_log.specs.declared.choice.Extent.{Extent}
 use Rattle.chat_log.specs.Chats.{chat_text}
 
 -- the bodies of a saved log, the oldest first
@@ -19,7 +20,8 @@ abbrev pub plain_commands : List TowerBody → List Command
 plain_commands list = commands (plain (run list))
 
 -- the chat of what a file stands for, or why the file is refused
-unfoldable pub chat_of : Option (List ℕ) → Result (Saved TowerBody) StoreFault
+unfoldable pub chat_of : Extent → Option (List ℕ) → Result (Saved TowerBody) StoreFault
     → Result (List ℕ) StoreFault
-chat_of target (Ok saved) = Ok (chat_text settings.plain target (plain_commands (bodies saved)))
-chat_of target (Err fault) = Err fault
+chat_of extent target (Ok saved) =
+    Ok (chat_text settings.plain extent target (plain_commands (bodies saved)))
+chat_of extent target (Err fault) = Err fault

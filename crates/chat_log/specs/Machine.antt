@@ -11,9 +11,9 @@ use Rattle.chat_log.specs.declared.setup.Silence.{Silence}
 
 -- the buffers stand after the history, the text is that of its commands, and no memory was wanting
 pub record Stands (m : Chat) (s : ChatSetup) (history : History Command) : Type 0 where
-  pub target : m.target ≡ s.target
+  pub choice : m.choice ≡ s.choice
   pub buffers : buffers.Stands m.buffers s.buffers history
-  pub text : m.text.items ≡ chat_text s.buffers s.target (commands history)
+  pub text : m.text.items ≡ chat_text s.buffers s.choice.extent s.choice.target (commands history)
   pub whole : m.spoilt ≡ false
 
 -- no command brings anything about

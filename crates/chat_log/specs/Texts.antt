@@ -1,13 +1,10 @@
 -- What is printed of one line.
-use Rattle.std.specs.Prelude.{ℕ, Bool, ◌&&◌, ◌||◌, if◌then◌else◌, ◌==◌, nat_lt, List, [], ◌∷◌, ◌++◌, drop, length, map, is_some, codes}
+use Rattle.std.specs.Prelude.{ℕ, Bool, ◌&&◌, if◌then◌else◌, ◌==◌, List, [], ◌∷◌, ◌++◌, drop, flat_map, length, is_some, codes}
 use Rattle.irc_line.specs.Names.{action_mark, begins_with}
 use Rattle.irc_line.specs.Lines.{Parts, parameter, spelling}
 use Rattle.buffer_machine.specs.Messages.{has_command, is_message, source}
+use Rattle.chat_log.specs.Controls.{printed}
 use Rattle.chat_log.specs.Moments.{stamp}
-
--- a byte as it is printed: a dot in place of one that a terminal may obey
-abbrev pub printed : ℕ → ℕ
-printed b = if nat_lt b 32 || b == 127 then 46 else b
 
 -- one byte 1 at the end is dropped
 abbrev pub without_mark : List ℕ → List ℕ
@@ -45,4 +42,8 @@ content line = if is_speech line then parameter 0 line ++ 32 ∷ speech line els
 
 -- a line of a moment, as a line of text
 unfoldable pub line_text : ℕ → Parts → List ℕ
-line_text at line = stamp at ++ (map printed (content line) ++ 10 ∷ [])
+line_text at line = stamp at ++ (printed (content line) ++ 10 ∷ [])
+
+-- lines of moments, as text
+abbrev pub text_of : List (ℕ × Parts) → List ℕ
+text_of lines = flat_map (λ k. line_text k.0 k.1) lines

@@ -6,20 +6,21 @@ ghost use Rattle.buffer_machine.specs.Machine as buffers_machine;
 ghost use Rattle.buffer_commands.specs.Settings.{Settings};
 ghost use Rattle.chat_log.specs.Chats.{chat_text};
 
-use crate::setup::{ChatSetup, Silence, copied_target};
+use crate::choice::Choice;
+use crate::setup::{ChatSetup, Silence};
 use crate::telling::push_told;
 use buffer_commands::{Action, Command, WireLine};
 use buffer_machine::BufferMachine;
-use irc_line::{Line, Name};
+use irc_line::Line;
 use machine_laws::{ApplyFault, HasClients, HasLines, Machine};
 use std::alloc::{AllocError, Global};
-use wire_bytes::{Moment, Number, Origin};
+use wire_bytes::{Copied, Moment, Number, Origin};
 
 /// The text of the commands that came. The buffers say what the own nick is and who is attached.
 #[derive(Drop)]
 pub struct Chat {
     alloc: Global,
-    target: Option<Name>,
+    choice: Choice,
     buffers: BufferMachine,
     text: Vec<u8>,
     spoilt: bool,
@@ -31,7 +32,7 @@ impl Chat {
     /// The text of the commands that came, the oldest first.
     pub fn text(&self) -> &[u8]
         ensures { (s : ChatSetup) (history : History Command) → Stands self.now s history
-            → result.now ≡ chat_text s.buffers s.target (commands history) }
+            → result.now ≡ chat_text s.buffers s.choice.extent s.choice.target (commands history) }
     {
         self.text.as_slice()
     }
@@ -55,7 +56,7 @@ impl Machine for Chat {
     fn start(alloc: Global, setup: &ChatSetup) -> Result<Self, AllocError> {
         Ok(Chat {
             alloc,
-            target: copied_target(alloc, &setup.target)?,
+            choice: setup.choice.copy(alloc)?,
             buffers: BufferMachine::start(alloc, &setup.buffers)?,
             text: Vec::new(alloc),
             spoilt: false,
@@ -70,7 +71,7 @@ impl Machine for Chat {
             self.alloc,
             &mut self.text,
             &mut self.buffers,
-            &self.target,
+            &self.choice,
             place,
             command,
         );
@@ -91,7 +92,7 @@ fn step(
     alloc: Global,
     text: &mut Vec<u8>,
     buffers: &mut BufferMachine,
-    target: &Option<Name>,
+    choice: &Choice,
     place: u64,
     command: &Command,
 ) -> Result<(), ApplyFault>
@@ -100,12 +101,12 @@ fn step(
         → OnOk result (buffers_machine.Stands buffers.new s ((place, command.now) ∷ history)) }
     ensures text { (s : Settings) (history : History Command)
         → buffers_machine.Stands buffers.old s history
-        → text.old.items ≡ chat_text s target.now (commands history)
-        → OnOk result (text.new.items ≡
-        chat_text s target.now (commands ((place, command.now) ∷ history))) }
+        → text.old.items ≡ chat_text s choice.now.extent choice.now.target (commands history)
+        → OnOk result (text.new.items ≡ chat_text s choice.now.extent choice.now.target
+        (commands ((place, command.now) ∷ history))) }
 {
     // what is told goes by what stood before
-    push_told(alloc, text, buffers, target, command)?;
+    push_told(alloc, text, buffers, choice, command)?;
     buffers.apply(place, command)?;
     Ok(())
 }

@@ -1,5 +1,5 @@
 //! The chat of a journal.
-ghost use Rattle.std.specs.Prelude.{◌≡◌, ◌≢◌, [], map, Ok, Err, IfErr, IfOk, OnOk};
+ghost use Rattle.std.specs.Prelude.{◌≡◌, ◌≢◌, [], false, map, List, ℕ, Ok, Err, IfErr, IfOk, OnOk};
 ghost use Rattle.machine_laws.specs.Runs.{History, run};
 ghost use Rattle.std.specs.Option.{option_map};
 ghost use Rattle.journal_store.specs.Journals.{found};
@@ -8,10 +8,14 @@ ghost use Rattle.stable_store.specs.Stores.{nothing_saved};
 ghost use Rattle.buffer_commands.specs.Settings as settings;
 ghost use Rattle.buffer_machine.specs.Held.{commands};
 ghost use Rattle.bouncer_tower.specs.Bodies.{TowerBody, plain};
+ghost use Rattle.irc_line.specs.Lines.{Parts};
 ghost use Rattle.chat_log.specs.Chats.{chat_text};
+ghost use Rattle.chat_log.specs.Controls.{has_control, printed};
 ghost use Rattle.chat_log.specs.Logs.{bodies, chat_of, plain_commands};
+ghost use Rattle.chat_log.specs.Texts.{content};
 
 use crate::chat::Chat;
+use crate::choice::{Choice, Extent};
 use crate::setup::ChatSetup;
 use bouncer_tower::TowerBody;
 use buffer_commands::Setup;
@@ -29,20 +33,25 @@ use wire_bytes::{Number, Wire};
 /// The layers of the tower over the chat: requests take effect once, lines are taken of the session in force.
 type Told = Once<Claims<Fence<Chat>>>;
 
-/// The text of a journal's chat, the oldest line first: all of it, or what concerns a target. The setup of the bouncer
-/// is not known: the own nick is `me` until the server's welcome, and any number of clients may be attached.
+/// The text of a journal's chat, the oldest line first: of the lines of an extent all, or those that concern a target.
+/// The setup of the bouncer is not known: the own nick is `me` until the server's welcome, and any number of clients may
+/// be attached. What a terminal would obey is a dot.
+#[tactic(auto, using(crate::proofs::Obeyed::nothing_is_obeyed, crate::proofs::Obeyed::text_stays))]
 pub fn chat_log(
     alloc: Global,
     journal: Vec<u8>,
+    extent: Extent,
     target: Option<&Name>,
 ) -> Result<Vec<u8>, StoreFault>
-    ensures text { IfOk result (λ v. chat_of (option_map (λ x. x.now) target.entry)
+    ensures text { IfOk result (λ v. chat_of extent (option_map (λ x. x.now) target.entry)
         (found (payloads (⟦<TowerBody as Wire>⟧.taken)) nothing_saved journal.items) ≡ Ok v.items) }
     ensures fault { IfErr result (λ e. e ≢ StoreFault.Memory
         → found (payloads (⟦<TowerBody as Wire>⟧.taken)) nothing_saved journal.items ≡ Err e) }
+    ensures clean { (line : Parts) → has_control (printed (content line)) ≡ false }
+    ensures kept { (bytes : List ℕ) → has_control bytes ≡ false → printed bytes ≡ bytes }
 {
     let saved = saved_in::<TowerBody>(alloc, journal)?;
-    let text = text_of(alloc, &saved, target)?;
+    let text = text_of(alloc, &saved, extent, target)?;
     Ok(text)
 }
 
@@ -78,21 +87,23 @@ fn refusal(fault: StoreFault) -> StoreFault
 fn text_of(
     alloc: Global,
     saved: &Saved<TowerBody>,
+    extent: Extent,
     target: Option<&Name>,
 ) -> Result<Vec<u8>, AllocError>
-    ensures { IfOk result (λ v. v.items ≡ chat_text settings.plain
+    ensures { IfOk result (λ v. v.items ≡ chat_text settings.plain extent
         (option_map (λ x. x.now) target.entry) (plain_commands (bodies saved.now))) }
 {
-    let setup = setup_for(alloc, target)?;
+    let setup = setup_for(alloc, extent, target)?;
     let mut layers = Told::start(alloc, &setup)?;
     let text = tell(alloc, &mut layers, &saved.log)?;
     Ok(text)
 }
 
-/// The plain setup of the buffers, and a target.
-fn setup_for(alloc: Global, target: Option<&Name>) -> Result<ChatSetup, AllocError>
+/// The plain setup of the buffers, and the lines of an extent that concern a target.
+fn setup_for(alloc: Global, extent: Extent, target: Option<&Name>) -> Result<ChatSetup, AllocError>
     ensures buffers { IfOk result (λ s. s.buffers ≡ settings.plain) }
-    ensures target { IfOk result (λ s. s.target ≡ option_map (λ x. x.now) target.entry) }
+    ensures extent { IfOk result (λ s. s.choice.extent ≡ extent) }
+    ensures target { IfOk result (λ s. s.choice.target ≡ option_map (λ x. x.now) target.entry) }
 {
     let target = match target {
         None => None,
@@ -100,14 +111,14 @@ fn setup_for(alloc: Global, target: Option<&Name>) -> Result<ChatSetup, AllocErr
     };
     Ok(ChatSetup {
         buffers: Setup::plain(alloc)?,
-        target,
+        choice: Choice { extent, target },
     })
 }
 
 /// Applies the bodies of a log, the first at place 1, to layers to which nothing came, and copies the text.
 fn tell(alloc: Global, layers: &mut Told, log: &Log<TowerBody>) -> Result<Vec<u8>, AllocError>
     ensures { (s : ChatSetup) → ⟦<Told as Machine>⟧.stands layers.old s []
-        → IfOk result (λ v. v.items ≡ chat_text s.buffers s.target
+        → IfOk result (λ v. v.items ≡ chat_text s.buffers s.choice.extent s.choice.target
         (plain_commands (map (λ e. e.body) log.now))) }
 {
     match apply_all(layers, log) {
@@ -120,7 +131,8 @@ fn tell(alloc: Global, layers: &mut Told, log: &Log<TowerBody>) -> Result<Vec<u8
 fn copied_text(alloc: Global, layers: &Told) -> Result<Vec<u8>, AllocError>
     ensures { (s : ChatSetup) (history : History TowerBody)
         → ⟦<Told as Machine>⟧.stands layers.now s history
-        → IfOk result (λ v. v.items ≡ chat_text s.buffers s.target (commands (plain history))) }
+        → IfOk result (λ v. v.items ≡ chat_text s.buffers s.choice.extent s.choice.target
+        (commands (plain history))) }
 {
     let chat = layers.machine().machine().machine();
     let copy = Vec::from_slice(alloc, chat.text())?;

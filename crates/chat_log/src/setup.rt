@@ -1,34 +1,22 @@
 //! What the chat is told from, and its effects, of which there are none.
-ghost use Rattle.std.specs.Prelude.{◌≡◌, IfOk};
-
+use crate::choice::Choice;
 use buffer_commands::Setup;
-use irc_line::Name;
 use std::alloc::{AllocError, Global};
 use wire_bytes::Copied;
 
-/// The setup of the buffers, and the one target whose lines are told; without it all lines are.
+/// The setup of the buffers, and which lines are told.
 #[derive(Drop)]
 pub struct ChatSetup {
     pub buffers: Setup,
-    pub target: Option<Name>,
+    pub choice: Choice,
 }
 
 impl Copied for ChatSetup {
     fn copy(&self, alloc: Global) -> Result<Self, AllocError> {
         Ok(ChatSetup {
             buffers: self.buffers.copy(alloc)?,
-            target: copied_target(alloc, &self.target)?,
+            choice: self.choice.copy(alloc)?,
         })
-    }
-}
-
-/// A copy of a target, where there is one.
-pub fn copied_target(alloc: Global, target: &Option<Name>) -> Result<Option<Name>, AllocError>
-    ensures { IfOk result (λ t. t ≡ target.now) }
-{
-    match target {
-        None => Ok(None),
-        Some(name) => Ok(Some(name.copy(alloc)?)),
     }
 }
 

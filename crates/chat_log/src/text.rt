@@ -1,8 +1,9 @@
 //! What is printed of one line.
-ghost use Rattle.std.specs.Prelude.{◌≡◌, ◌++◌, ◌∷◌, [], drop, map, IfOk, OnOk};
+ghost use Rattle.std.specs.Prelude.{◌≡◌, ◌++◌, ◌∷◌, [], drop, IfOk, OnOk};
 ghost use Rattle.chat_log.specs.Texts.{acted, content, is_speech, line_text, noticed};
-ghost use Rattle.chat_log.specs.Texts.{printed, said, speech, without_mark};
+ghost use Rattle.chat_log.specs.Texts.{said, speech, without_mark};
 
+use crate::printing::push_printed;
 use crate::stamp::push_stamp;
 use buffer_machine::{has_command, is_message, source_of};
 use irc_line::{ACTION_MARK, Line, is_action};
@@ -24,27 +25,6 @@ pub fn push_line(
     push_printed(out, &content)?;
     out.push(b'\n')?;
     Ok(())
-}
-
-/// Appends bytes as they are printed.
-fn push_printed(out: &mut Vec<u8>, bytes: &[u8]) -> Result<(), AllocError>
-    ensures { OnOk result (out.new.items ≡ out.old.items ++ map printed bytes.now) }
-{
-    for byte in bytes {
-        out.push(printed(*byte))?;
-    }
-    Ok(())
-}
-
-/// A byte as it is printed: a dot in place of one that a terminal may obey.
-fn printed(byte: u8) -> u8
-    ensures { result ≡ printed byte }
-{
-    if byte < b' ' || byte == 127 {
-        b'.'
-    } else {
-        byte
-    }
 }
 
 /// What is told of a line: of a message its target and who says what, of any other its canonical spelling.
