@@ -72,6 +72,7 @@ class StandIn:
         self.last = 0.0  # when something was said there last
         self.heard = []  # each line that came, with its moment
         self.live = []  # all sessions, those too that ended
+        self.is_mute = False  # it answers no PING
         self.open()
 
     def open(self):
@@ -180,7 +181,8 @@ class Session:
         elif line.startswith("NICK"):
             self.name(line[5:].lstrip(":"))
         elif line.startswith("PING"):
-            self.send("PONG" + line[4:])
+            if not self.server.is_mute:
+                self.send(":irc.test PONG irc.test" + line[4:])
         elif line.startswith("QUIT"):
             self.has_quit = True
         elif line.startswith("JOIN "):
