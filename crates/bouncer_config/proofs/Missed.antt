@@ -1,27 +1,28 @@
 -- Whatever is wrong with a table, something is told of the key with which it is.
-use Rattle.std.proofs.Common.{◌≡◌, ◌<◌, ℕ, ℤ, Bool, true, false, List, [], ◌∷◌, map, ◌⊎◌, inl, inr, Option, Some, None, refl, ap, sym, subst, ◌∙◌, arith}
-use Rattle.std.specs.Prelude.{if◌then◌else◌, IfSome, not, is_some, nat_lt, option_and_then}
+use Rattle.std.proofs.Common.{◌≡◌, ◌<◌, ◌&&◌, ℕ, ℤ, Bool, length, true, false, List, [], ◌∷◌, map, ◌⊎◌, inl, inr, Option, Some, None, refl, ap, sym, subst, ◌∙◌, arith}
+use Rattle.std.specs.Prelude.{if◌then◌else◌, IfSome, not, is_some, nat_lt, option_and_then, option_map}
 use Rattle.std.specs.List.{Contains, cons_option, filter_map}
-use Rattle.std.proofs.lemmas.Bool.{false≢true}
+use Rattle.std.proofs.lemmas.Bool.{and_parts, false≢true}
 use Rattle.std.proofs.lemmas.Bool.Decides.{nat_tests}
 use Rattle.std.proofs.lemmas.List.Elements.{Contains-append_left, Contains-append_right}
-use Rattle.toml.specs.Data.{Data, Items, Members, no_members, member, as_str, as_integer, as_bool, as_array}
+use Rattle.toml.specs.Data.{Data, Items, Members, no_members, member, as_str, as_integer, as_bool, as_array, as_table}
 use Rattle.raft_log.specs.Peers.{IsGroupSize}
 use Rattle.buffer_commands.specs.Settings.{channel_limit}
 use Rattle.buffer_commands.specs.declared.setup_fault.SetupFault.{SetupFault}
 use Rattle.bouncer_config.specs.KeyTexts.{kind_of}
-use Rattle.bouncer_config.specs.Found.{value_at, channels_in, item_count, names_after, ports_after}
-use Rattle.bouncer_config.specs.Wrong.{IsProblem, IsSetupFault, all_keys, IsTwice, breaks, fails, has_kind, is_known, is_needed, list_at, list_rule, number_rule, text_rule}
-use Rattle.bouncer_config.specs.Faults.{HasName, IsWhole, Tells, Told, is_group, key_of, server_of, told_of, unknown_names, wrong_at, wrong_channels, wrong_list, wrong_names, wrong_number, wrong_ports, wrong_text, wrong_truth, wrong_value, wrong_with}
+use Rattle.bouncer_config.specs.Found.{value_at, are_apart, channels_in, item_count, lines_after, names_after, pairs_after, paths_in, ports_after, serves}
+use Rattle.bouncer_config.specs.Wrong.{HasOtherCount, IsProblem, IsSetupFault, all_keys, IsTwice, breaks, fails, has_kind, is_known, is_needed, list_at, list_rule, number_rule, pairs_rule, text_rule}
+use Rattle.bouncer_config.specs.Faults.{HasName, IsWhole, Tells, Told, around_of, is_group, key_of, nodes_of, server_of, told_of, unknown_names, wrong_at, wrong_channels, wrong_folders, wrong_lines, wrong_list, wrong_names, wrong_number, wrong_pairs, wrong_ports, wrong_table, wrong_text, wrong_truth, wrong_value, wrong_with}
 use Rattle.bouncer_config.specs.Faults.Told.{NoKey}
 use Rattle.bouncer_config.proofs.Setups.{names_found, not_left_out}
 use Rattle.bouncer_config.proofs.Told.{all_so}
+use Rattle.bouncer_config.specs.declared.judging.Around.{Around}
 use Rattle.bouncer_config.specs.declared.key.Key.{Key}
-use Rattle.bouncer_config.specs.declared.key.Key.TheVariants.{Nick, Password, Upstream, UpstreamPassword, Listen, Store, Record, Channels, ChanBufferSize, QueryBufferSize, MaxQueryBuffers, OffsetMinutes, AutoClearChanBuffer, AutoClearQueryBuffer, MultiClients, BeatMs, TimeoutMs, FloodBurst, FloodMs, Log, Input, RenewAt}
+use Rattle.bouncer_config.specs.declared.key.Key.TheVariants.{Nick, Password, Upstream, UpstreamPassword, Listen, Store, Record, Channels, ChanBufferSize, QueryBufferSize, MaxQueryBuffers, OffsetMinutes, AutoClearChanBuffer, AutoClearQueryBuffer, MultiClients, BeatMs, TimeoutMs, FloodBurst, FloodMs, Log, Input, RenewAt, ChannelKeys, OnConnect}
 use Rattle.bouncer_config.specs.declared.key.Kind.{Kind}
-use Rattle.bouncer_config.specs.declared.key.Kind.TheVariants.{Text, Texts, Number, Truth}
+use Rattle.bouncer_config.specs.declared.key.Kind.TheVariants.{Text, Texts, Paths, Pairs, Number, Truth}
 use Rattle.bouncer_config.specs.declared.problem.Problem.{Problem}
-use Rattle.bouncer_config.specs.declared.problem.Problem.TheVariants.{Missing, Kind as KindOf, Refused, ListenCount, ListenTwice, ChannelCount, Setup}
+use Rattle.bouncer_config.specs.declared.problem.Problem.TheVariants.{Missing, Kind as KindOf, Refused, ListenCount, ListenTwice, StoreCount, StoreTwice, ChannelCount, Setup}
 
 abbrev IsFound : Option Problem → Type 0
 IsFound found = is_some found ≡ true
@@ -29,11 +30,11 @@ IsFound found = is_some found ≡ true
 -- a key that is not there
 missing : (t : Members) (key : Key) → is_needed key ≡ true → value_at key t ≡ None → IsFound (wrong_at t key)
 missing t key n e =
-    ap (λ v. is_some (wrong_with key (server_of t) v)) e ∙ ap (λ (b : Bool). is_some (if b then Some (Missing key) else None)) n
+    ap (λ v. is_some (wrong_with key (around_of t) v)) e ∙ ap (λ (b : Bool). is_some (if b then Some (Missing key) else None)) n
 
 -- a key whose value is there
-valued : (t : Members) (key : Key) (d : Data) → value_at key t ≡ Some d → IsFound (wrong_value (kind_of key) key (server_of t) d) → IsFound (wrong_at t key)
-valued t key d e found = ap (λ v. is_some (wrong_with key (server_of t) v)) e ∙ found
+valued : (t : Members) (key : Key) (d : Data) → value_at key t ≡ Some d → IsFound (wrong_value (kind_of key) key (around_of t) d) → IsFound (wrong_at t key)
+valued t key d e found = ap (λ v. is_some (wrong_with key (around_of t) v)) e ∙ found
 
 -- a value of another kind
 text_kind : (key : Key) (s : Option (List ℕ)) → is_some s ≡ false → IsFound (wrong_text key s)
@@ -52,11 +53,26 @@ list_kind : (key : Key) (server : Option ℕ) (s : Option Items) → is_some s �
 list_kind key server None h = refl
 list_kind key server (Some ds) h = absurd (false≢true (sym h))
 
-other_kind : (kind : Kind) (key : Key) (server : Option ℕ) (d : Data) → has_kind kind d ≡ false → IsFound (wrong_value kind key server d)
-other_kind Text key server d h = text_kind key (as_str d) h
-other_kind Texts key server d h = list_kind key server (as_array d) h
-other_kind Number key server d h = number_kind key (as_integer d) h
-other_kind Truth key server d h = truth_kind key (as_bool d) h
+table_kind : (key : Key) (s : Option Members) → is_some s ≡ false → IsFound (wrong_table key s)
+table_kind key None h = refl
+table_kind key (Some ms) h = absurd (false≢true (sym h))
+
+-- a test that fails, and one behind which something is wrong either way
+unless : (b : Bool) (found : Option Problem) (p : Problem) → b ≡ false → IsFound (if b then found else Some p)
+unless true found p h = absurd (false≢true (sym h))
+unless false found p h = refl
+
+either_way : (b : Bool) (found : Option Problem) (p : Problem) → IsFound found → IsFound (if b then found else Some p)
+either_way true found p h = h
+either_way false found p h = refl
+
+other_kind : (kind : Kind) (key : Key) (around : Around) (d : Data) → has_kind kind d ≡ false → IsFound (wrong_value kind key around d)
+other_kind Text key around d h = text_kind key (as_str d) h
+other_kind Texts key around d h = list_kind key around.server (as_array d) h
+other_kind Paths key around d h = unless (has_kind Paths d) (wrong_folders around.nodes (paths_in d)) (KindOf key) h
+other_kind Pairs key around d h = table_kind key (as_table d) h
+other_kind Number key around d h = number_kind key (as_integer d) h
+other_kind Truth key around d h = truth_kind key (as_bool d) h
 
 -- a value that a rule refuses
 ruled : (b : Bool) (p : Problem) → not b ≡ true → IsFound (if b then None else Some p)
@@ -87,27 +103,47 @@ channels_break : (b : Bool) (ds : Items) → IsFound (wrong_names (names_after [
 channels_break true ds h = refl
 channels_break false ds h = h
 
+lines_break : (lines : Option (List (List ℕ))) → not (is_some lines) ≡ true → IsFound (wrong_lines lines)
+lines_break None h = refl
+lines_break (Some lines) h = absurd (false≢true h)
+
+folders_break : (nodes : Option ℕ) (paths : Option (List (List ℕ))) → not (is_some paths) ≡ true → IsFound (wrong_folders nodes paths)
+folders_break nodes None h = refl
+folders_break nodes (Some paths) h = absurd (false≢true h)
+
+pairs_break : (pairs : Option (List (List ℕ × List ℕ))) → not (is_some pairs) ≡ true → IsFound (wrong_pairs pairs)
+pairs_break None h = refl
+pairs_break (Some pairs) h = absurd (false≢true h)
+
+table_breaks : (key : Key) (s : Option Members) → fails pairs_rule s ≡ true → IsFound (wrong_table key s)
+table_breaks key None h = refl
+table_breaks key (Some ms) h = pairs_break (pairs_after [] ms) h
+
 items_break : (key : Key) (server : Option ℕ) (ds : Items) → not (list_rule key ds) ≡ true → IsFound (wrong_list key server (Some ds))
 items_break Listen server ds h = listen_breaks (is_group (item_count ds)) server ds (ports_break server (ports_after [] ds) h)
 items_break Channels server ds h = channels_break (nat_lt channel_limit (item_count ds)) ds (names_break (names_after [] ds) h)
+items_break OnConnect server ds h = lines_break (lines_after [] ds) h
 items_break key server ds h = absurd (false≢true h)
 
 list_breaks : (key : Key) (server : Option ℕ) (s : Option Items) → fails (list_rule key) s ≡ true → IsFound (wrong_list key server s)
 list_breaks key server None h = refl
 list_breaks key server (Some ds) h = items_break key server ds h
 
-refused : (kind : Kind) (key : Key) (server : Option ℕ) (d : Data) → breaks kind key d ≡ true → IsFound (wrong_value kind key server d)
-refused Text key server d h = text_breaks key (as_str d) h
-refused Texts key server d h = list_breaks key server (as_array d) h
-refused Number key server d h = number_breaks key (as_integer d) h
-refused Truth key server d h = absurd (false≢true h)
+refused : (kind : Kind) (key : Key) (around : Around) (d : Data) → breaks kind key d ≡ true → IsFound (wrong_value kind key around d)
+refused Text key around d h = text_breaks key (as_str d) h
+refused Texts key around d h = list_breaks key around.server (as_array d) h
+refused Paths key around d h =
+    either_way (has_kind Paths d) (wrong_folders around.nodes (paths_in d)) (KindOf key) (folders_break around.nodes (paths_in d) (and_parts (has_kind Paths d) (not (is_some (paths_in d))) h).1)
+refused Pairs key around d h = table_breaks key (as_table d) h
+refused Number key around d h = number_breaks key (as_integer d) h
+refused Truth key around d h = absurd (false≢true h)
 
 -- a list of a key
 listed : (t : Members) (key : Key) (ds : Items) (found : Option Data) → value_at key t ≡ found → option_and_then as_array found ≡ Some ds → kind_of key ≡ Texts
     → IsFound (wrong_list key (server_of t) (Some ds)) → IsFound (wrong_at t key)
 listed t key ds None e at k h = absurd (cc at)
 listed t key ds (Some d) e at k h =
-    valued t key d e (ap (λ kind. is_some (wrong_value kind key (server_of t) d)) k ∙ (ap (λ s. is_some (wrong_list key (server_of t) s)) at ∙ h))
+    valued t key d e (ap (λ kind. is_some (wrong_value kind key (around_of t) d)) k ∙ (ap (λ s. is_some (wrong_list key (server_of t) s)) at ∙ h))
 
 count_breaks : (b : Bool) (found : Option Problem) → b ≡ false → IsFound (if b then found else Some ListenCount)
 count_breaks true found h = absurd (false≢true (sym h))
@@ -146,13 +182,24 @@ unset_by : (t : Members) (fault : SetupFault) (is : IsSetupFault t fault) (found
 unset_by t fault is None e = absurd (not_left_out t fault is e)
 unset_by t fault is (Some d) e = unset_items t fault is d e (as_array d) refl (sym (ap channels_in e) ∙ is.named)
 
+stored : (t : Members) (paths : List (List ℕ)) (found : Option Data) → value_at Store t ≡ found → option_and_then paths_in found ≡ Some paths
+    → IsFound (wrong_folders (nodes_of t) (Some paths)) → IsFound (wrong_at t Store)
+stored t paths None e at h = absurd (cc at)
+stored t paths (Some d) e at h =
+    valued t Store d e (either_way (has_kind Paths d) (wrong_folders (nodes_of t) (paths_in d)) (KindOf Store) (ap (λ ps. is_some (wrong_folders (nodes_of t) ps)) at ∙ h))
+
+other_count : (t : Members) (is : HasOtherCount t) → serves (nodes_of t) (length is.paths) ≡ false
+other_count t is = ap (λ (o : Option Items). serves (option_map item_count o) (length is.paths)) is.listen ∙ is.other
+
 -- what is wrong with a key is found
 found : (t : Members) (p : Problem) → IsProblem t p → IfSome (key_of p) (λ key. IsFound (wrong_at t key))
 found t (Missing key) h = missing t key h.0 h.1
-found t (KindOf key) h = valued t key h.0 h.1 (other_kind (kind_of key) key (server_of t) h.0 h.2)
-found t (Refused key) h = valued t key h.0 h.1 (refused (kind_of key) key (server_of t) h.0 h.2)
+found t (KindOf key) h = valued t key h.0 h.1 (other_kind (kind_of key) key (around_of t) h.0 h.2)
+found t (Refused key) h = valued t key h.0 h.1 (refused (kind_of key) key (around_of t) h.0 h.2)
 found t ListenCount h = listed t Listen h.0 (value_at Listen t) refl h.1 refl (count_breaks (is_group (item_count h.0)) _ (no_group_by (item_count h.0) (is_group (item_count h.0)) refl h.2))
 found t ListenTwice h = twice_by t h (list_at Listen t) refl
+found t StoreCount h = stored t h.paths (value_at Store t) refl h.store (unless (serves (nodes_of t) (length h.paths)) _ StoreCount (other_count t h))
+found t StoreTwice h = stored t h.paths (value_at Store t) refl h.store (either_way (serves (nodes_of t) (length h.paths)) _ StoreCount (unless (are_apart h.paths) None StoreTwice h.same))
 found t ChannelCount h = listed t Channels h.0 (value_at Channels t) refl h.1 refl (too_many (nat_lt channel_limit (item_count h.0)) _ (more channel_limit (item_count h.0) h.2))
 found t (Setup fault) h = unset_by t fault h (value_at Channels t) refl
 found t p h = tt
@@ -201,6 +248,8 @@ every FloodMs = inr (inr (inr (inr (inr (inr (inr (inr (inr (inr (inr (inr (inr 
 every Log = inr (inr (inr (inr (inr (inr (inr (inr (inr (inr (inr (inr (inr (inr (inr (inr (inr (inr (inr (inl refl)))))))))))))))))))
 every Input = inr (inr (inr (inr (inr (inr (inr (inr (inr (inr (inr (inr (inr (inr (inr (inr (inr (inr (inr (inr (inl refl))))))))))))))))))))
 every RenewAt = inr (inr (inr (inr (inr (inr (inr (inr (inr (inr (inr (inr (inr (inr (inr (inr (inr (inr (inr (inr (inr (inl refl)))))))))))))))))))))
+every ChannelKeys = inr (inr (inr (inr (inr (inr (inr (inr (inr (inr (inr (inr (inr (inr (inr (inr (inr (inr (inr (inr (inr (inr (inl refl))))))))))))))))))))))
+every OnConnect = inr (inr (inr (inr (inr (inr (inr (inr (inr (inr (inr (inr (inr (inr (inr (inr (inr (inr (inr (inr (inr (inr (inr (inl refl)))))))))))))))))))))))
 
 kept_by : (found : Option Problem) (ps : List Problem) (p : Told) → Contains (map told_of ps) p → Contains (map told_of (cons_option found ps)) p
 kept_by None ps p h = h

@@ -1,24 +1,25 @@
 -- What is told of a table is so.
-use Rattle.std.proofs.Common.{◌≡◌, ◌<◌, ◌≤◌, ℕ, ℤ, Bool, true, false, List, [], ◌∷◌, ◌++◌, map, inl, inr, Option, Some, None, refl, ap, sym, subst, ◌∙◌, arith}
+use Rattle.std.proofs.Common.{◌≡◌, ◌<◌, ◌≤◌, ◌&&◌, ℕ, ℤ, Bool, true, false, length, List, [], ◌∷◌, ◌++◌, map, inl, inr, Option, Some, None, refl, ap, sym, subst, ◌∙◌, arith}
 use Rattle.std.specs.Prelude.{if◌then◌else◌, IfSome, not, is_some, nat_lt, option_and_then, option_map}
 use Rattle.std.specs.List.{cons_option, filter_map}
+use Rattle.std.proofs.lemmas.Bool.{false≢true}
 use Rattle.std.proofs.lemmas.Bool.Decides.{nat_tests}
-use Rattle.toml.specs.Data.{Data, Items, Members, no_members, member, as_str, as_integer, as_bool, as_array}
+use Rattle.toml.specs.Data.{Data, Items, Members, no_members, member, as_str, as_integer, as_bool, as_array, as_table}
 use Rattle.raft_log.specs.Peers.{IsGroupSize}
 use Rattle.buffer_commands.specs.Settings.{channel_limit, default_options, fault_of}
 use Rattle.buffer_commands.specs.declared.setup_fault.SetupFault.{SetupFault}
 use Rattle.bouncer_config.specs.KeyTexts.{kind_of}
-use Rattle.bouncer_config.specs.Found.{value_at, item_count, ports_after, are_different, names_after, channels_in}
-use Rattle.bouncer_config.specs.Wrong.{HasFewChannels, all_keys, breaks, fails, has_kind, is_known, is_needed, list_at, list_rule, number_rule, text_rule}
-use Rattle.bouncer_config.specs.Faults.{AreTold, HasName, IsTold, Told, beside, faults_of, is_group, server_of, told, told_of, unknown_names, wrong_at, wrong_list, wrong_names, wrong_number, wrong_ports, wrong_text, wrong_truth, wrong_value, wrong_with}
+use Rattle.bouncer_config.specs.Found.{value_at, item_count, ports_after, are_apart, are_different, lines_after, names_after, channels_in, pairs_after, paths_at, paths_in, serves}
+use Rattle.bouncer_config.specs.Wrong.{HasFewChannels, all_keys, breaks, fails, has_kind, is_known, is_needed, list_at, list_rule, number_rule, pairs_rule, text_rule, HasOtherCount}
+use Rattle.bouncer_config.specs.Faults.{AreTold, HasName, IsTold, Told, around_of, beside, faults_of, is_group, nodes_of, server_of, told, told_of, unknown_names, wrong_at, wrong_folders, wrong_lines, wrong_list, wrong_names, wrong_number, wrong_pairs, wrong_paths, wrong_ports, wrong_table, wrong_text, wrong_truth, wrong_value, wrong_with}
 use Rattle.bouncer_config.specs.Faults.Told.{NoKey}
 use Rattle.bouncer_config.specs.declared.key.Key.{Key}
-use Rattle.bouncer_config.specs.declared.key.Key.TheVariants.{Listen, Channels}
+use Rattle.bouncer_config.specs.declared.key.Key.TheVariants.{Listen, Channels, ChannelKeys, OnConnect, Store}
 use Rattle.bouncer_config.specs.declared.key_fault.KeyFault.{KeyFault}
 use Rattle.bouncer_config.specs.declared.key.Kind.{Kind}
-use Rattle.bouncer_config.specs.declared.key.Kind.TheVariants.{Text, Texts, Number, Truth}
+use Rattle.bouncer_config.specs.declared.key.Kind.TheVariants.{Text, Texts, Paths, Pairs, Number, Truth}
 use Rattle.bouncer_config.specs.declared.problem.Problem.{Problem}
-use Rattle.bouncer_config.specs.declared.problem.Problem.TheVariants.{Missing, Refused, ListenCount, ListenTwice, ChannelCount, Setup}
+use Rattle.bouncer_config.specs.declared.problem.Problem.TheVariants.{Missing, Kind as KindOf, Refused, ListenCount, ListenTwice, StoreCount, StoreTwice, ChannelCount, Setup}
 
 -- what is wrong with a key, if anything, is so
 abbrev IsSo : Members → Option Problem → Type 0
@@ -95,22 +96,67 @@ count_by_limit : (t : Members) (d : Data) (ds : Items) (b : Bool) → nat_lt cha
 count_by_limit t d ds true c s e = (ds, ap (option_and_then as_array) e ∙ s, more channel_limit (item_count ds) c)
 count_by_limit t d ds false c s e = names_by t d ds (names_after [] ds) refl (few_of t ds (ap (option_and_then as_array) e ∙ s) (no_more channel_limit (item_count ds) c)) s e
 
+lines_by : (t : Members) (d : Data) (ds : Items) (lines : Option (List (List ℕ))) → lines_after [] ds ≡ lines → as_array d ≡ Some ds → value_at OnConnect t ≡ Some d → IsSo t (wrong_lines lines)
+lines_by t d ds None n s e = (d, e, ap (fails (list_rule OnConnect)) s ∙ ap (λ (o : Option (List (List ℕ))). not (is_some o)) n)
+lines_by t d ds (Some lines) n s e = tt
+
 items_by : (t : Members) (key : Key) (d : Data) (ds : Items) → as_array d ≡ Some ds → kind_of key ≡ Texts → value_at key t ≡ Some d → IsSo t (wrong_list key (server_of t) (Some ds))
 items_by t Listen d ds s k e = group_by t d ds (is_group (item_count ds)) refl s e
 items_by t Channels d ds s k e = count_by_limit t d ds (nat_lt channel_limit (item_count ds)) refl s e
+items_by t OnConnect d ds s k e = lines_by t d ds (lines_after [] ds) refl s e
 items_by t key d ds s k e = absurd (cc k)
 
 list_by : (t : Members) (key : Key) (d : Data) (s : Option Items) → as_array d ≡ s → kind_of key ≡ Texts → value_at key t ≡ Some d → IsSo t (wrong_list key (server_of t) s)
 list_by t key d None s k e = (d, e, ap (λ kind. has_kind kind d) k ∙ ap (λ (o : Option Items). is_some o) s)
 list_by t key d (Some ds) s k e = items_by t key d ds s k e
 
-value_by : (t : Members) (key : Key) (d : Data) (kind : Kind) → kind_of key ≡ kind → value_at key t ≡ Some d → IsSo t (wrong_value kind key (server_of t) d)
+apart_by : (t : Members) (paths : List (List ℕ)) (b : Bool) → are_apart paths ≡ b → paths_at Store t ≡ Some paths → IsSo t (if b then None else Some StoreTwice)
+apart_by t paths true a at = tt
+apart_by t paths false a at = record { paths = paths; store = at; same = a }
+
+other_by : (t : Members) (paths : List (List ℕ)) (found : Option Items) → list_at Listen t ≡ found → serves (nodes_of t) (length paths) ≡ false → paths_at Store t ≡ Some paths → HasOtherCount t
+other_by t paths None l s at = absurd (false≢true (sym s ∙ ap (λ (o : Option Items). serves (option_map item_count o) (length paths)) l))
+other_by t paths (Some ds) l s at =
+    record { paths = paths; nodes = ds; store = at; listen = l; other = sym (ap (λ (o : Option Items). serves (option_map item_count o) (length paths)) l) ∙ s }
+
+count_by : (t : Members) (paths : List (List ℕ)) (b : Bool) → serves (nodes_of t) (length paths) ≡ b → paths_at Store t ≡ Some paths
+    → IsSo t (if b then (if are_apart paths then None else Some StoreTwice) else Some StoreCount)
+count_by t paths true s at = apart_by t paths (are_apart paths) refl at
+count_by t paths false s at = other_by t paths (list_at Listen t) refl s at
+
+folders_by : (t : Members) (d : Data) (paths : Option (List (List ℕ))) → paths_in d ≡ paths → has_kind Paths d ≡ true → value_at Store t ≡ Some d → IsSo t (wrong_folders (nodes_of t) paths)
+folders_by t d None p h e = (d, e, ap (λ (b : Bool). b && not (is_some (paths_in d))) h ∙ ap (λ (o : Option (List (List ℕ))). not (is_some o)) p)
+folders_by t d (Some paths) p h e = count_by t paths (serves (nodes_of t) (length paths)) refl (ap (option_and_then paths_in) e ∙ p)
+
+store_by : (t : Members) (d : Data) (b : Bool) → has_kind Paths d ≡ b → value_at Store t ≡ Some d → IsSo t (if b then wrong_folders (nodes_of t) (paths_in d) else Some (KindOf Store))
+store_by t d true h e = folders_by t d (paths_in d) refl h e
+store_by t d false h e = (d, e, h)
+
+paths_by : (t : Members) (key : Key) (d : Data) → kind_of key ≡ Paths → value_at key t ≡ Some d → IsSo t (wrong_paths key (nodes_of t) d)
+paths_by t Store d k e = store_by t d (has_kind Paths d) refl e
+paths_by t key d k e = absurd (cc k)
+
+pairs_by : (t : Members) (d : Data) (ms : Members) (pairs : Option (List (List ℕ × List ℕ))) → pairs_after [] ms ≡ pairs → as_table d ≡ Some ms → value_at ChannelKeys t ≡ Some d → IsSo t (wrong_pairs pairs)
+pairs_by t d ms None n s e = (d, e, ap (fails pairs_rule) s ∙ ap (λ (o : Option (List (List ℕ × List ℕ))). not (is_some o)) n)
+pairs_by t d ms (Some pairs) n s e = tt
+
+members_by : (t : Members) (key : Key) (d : Data) (ms : Members) → as_table d ≡ Some ms → kind_of key ≡ Pairs → value_at key t ≡ Some d → IsSo t (wrong_table key (Some ms))
+members_by t ChannelKeys d ms s k e = pairs_by t d ms (pairs_after [] ms) refl s e
+members_by t key d ms s k e = absurd (cc k)
+
+table_by : (t : Members) (key : Key) (d : Data) (s : Option Members) → as_table d ≡ s → kind_of key ≡ Pairs → value_at key t ≡ Some d → IsSo t (wrong_table key s)
+table_by t key d None s k e = (d, e, ap (λ kind. has_kind kind d) k ∙ ap (λ (o : Option Members). is_some o) s)
+table_by t key d (Some ms) s k e = members_by t key d ms s k e
+
+value_by : (t : Members) (key : Key) (d : Data) (kind : Kind) → kind_of key ≡ kind → value_at key t ≡ Some d → IsSo t (wrong_value kind key (around_of t) d)
 value_by t key d Text k e = text_by t key d (as_str d) refl k e
 value_by t key d Texts k e = list_by t key d (as_array d) refl k e
+value_by t key d Paths k e = paths_by t key d k e
+value_by t key d Pairs k e = table_by t key d (as_table d) refl k e
 value_by t key d Number k e = number_by t key d (as_integer d) refl k e
 value_by t key d Truth k e = truth_by t key d (as_bool d) refl k e
 
-with_by : (t : Members) (key : Key) (found : Option Data) → value_at key t ≡ found → IsSo t (wrong_with key (server_of t) found)
+with_by : (t : Members) (key : Key) (found : Option Data) → value_at key t ≡ found → IsSo t (wrong_with key (around_of t) found)
 with_by t key None e = missing_by t key (is_needed key) refl e
 with_by t key (Some d) e = value_by t key d (kind_of key) refl e
 

@@ -1,21 +1,22 @@
 -- All that is wrong with a table: what is told of it at once.
-use Rattle.std.specs.Prelude.{◌≡◌, ◌-◌, ◌^◌, ℕ, ℤ, Bool, false, ◌||◌, ◌==◌, ◌⊎◌, nat_lt, if◌then◌else◌, List, [], ◌∷◌, ◌++◌, map, Option, Some, None, IfSome, option_map, option_and_then, string_bytes}
+use Rattle.std.specs.Prelude.{◌≡◌, ◌-◌, ◌^◌, ℕ, ℤ, Bool, false, ◌||◌, ◌==◌, ◌⊎◌, nat_lt, if◌then◌else◌, List, [], ◌∷◌, ◌++◌, length, map, Option, Some, None, IfSome, option_map, option_and_then, string_bytes}
 use Rattle.std.specs.List.{AllByRecursion, Contains, filter_map}
 use Rattle.std.specs.List.Sorted.{IsNonDecreasingBy, IsPermutation}
-use Rattle.toml.specs.Data.{Data, Items, Members, no_members, member, as_str, as_integer, as_bool, as_array}
+use Rattle.toml.specs.Data.{Data, Items, Members, no_members, member, as_str, as_integer, as_bool, as_array, as_table}
 use Rattle.buffer_commands.specs.Settings.{channel_limit, default_options, fault_of}
 use Rattle.buffer_commands.specs.declared.setup_fault.SetupFault.{SetupFault}
 use Rattle.bouncer_config.specs.KeyTexts.{kind_of}
 use Rattle.bouncer_config.specs.Texts.{address_of}
-use Rattle.bouncer_config.specs.Found.{value_at, item_count, ports_after, are_different, names_after, channels_in, text_at}
-use Rattle.bouncer_config.specs.Wrong.{HasFewChannels, IsProblem, all_keys, is_known, is_needed, list_at, number_rule, text_rule}
+use Rattle.bouncer_config.specs.Found.{value_at, item_count, ports_after, are_apart, are_different, lines_after, names_after, channels_in, pairs_after, paths_in, serves, text_at}
+use Rattle.bouncer_config.specs.Wrong.{HasFewChannels, IsProblem, all_keys, has_kind, is_known, is_needed, list_at, number_rule, text_rule}
 use Rattle.bouncer_config.specs.declared.key.Key.{Key}
-use Rattle.bouncer_config.specs.declared.key.Key.TheVariants.{Upstream, Listen, Channels}
+use Rattle.bouncer_config.specs.declared.judging.Around.{Around}
+use Rattle.bouncer_config.specs.declared.key.Key.TheVariants.{Upstream, Listen, Channels, ChannelKeys, OnConnect, Store}
 use Rattle.bouncer_config.specs.declared.key.Kind.{Kind}
-use Rattle.bouncer_config.specs.declared.key.Kind.TheVariants.{Text, Texts, Number, Truth}
+use Rattle.bouncer_config.specs.declared.key.Kind.TheVariants.{Text, Texts, Paths, Pairs, Number, Truth}
 use Rattle.bouncer_config.specs.declared.key_fault.KeyFault.{KeyFault}
 use Rattle.bouncer_config.specs.declared.problem.Problem.{Problem}
-use Rattle.bouncer_config.specs.declared.problem.Problem.TheVariants.{Unknown, Missing, Kind as KindOf, Refused, ListenCount, ListenTwice, ChannelCount, Setup}
+use Rattle.bouncer_config.specs.declared.problem.Problem.TheVariants.{Unknown, Missing, Kind as KindOf, Refused, ListenCount, ListenTwice, StoreCount, StoreTwice, ChannelCount, Setup}
 
 -- the names in a table that no key has
 abbrev pub unknown_names : Members → List (List ℕ)
@@ -68,31 +69,67 @@ abbrev pub wrong_channels : Items → Option Problem
 wrong_channels ds =
     if nat_lt channel_limit (item_count ds) then Some ChannelCount else wrong_names (names_after [] ds)
 
+-- what is wrong with lines that each session is to send first
+abbrev pub wrong_lines : Option (List (List ℕ)) → Option Problem
+wrong_lines None = Some (Refused OnConnect)
+wrong_lines (Some lines) = None
+
 -- what is wrong with what may be a list
 abbrev pub wrong_list : Key → Option ℕ → Option Items → Option Problem
 wrong_list key server None = Some (KindOf key)
 wrong_list Listen server (Some ds) = wrong_listen server ds
+wrong_list OnConnect server (Some ds) = wrong_lines (lines_after [] ds)
 wrong_list _ server (Some ds) = wrong_channels ds
 
+-- what is wrong with folders, where each is a path: their number, then two alike
+abbrev pub wrong_folders : Option ℕ → Option (List (List ℕ)) → Option Problem
+wrong_folders nodes None = Some (Refused Store)
+wrong_folders nodes (Some paths) =
+    if serves nodes (length paths) then (if are_apart paths then None else Some StoreTwice) else Some StoreCount
+
+-- what is wrong with what may be a path or a list of them
+abbrev pub wrong_paths : Key → Option ℕ → Data → Option Problem
+wrong_paths key nodes d = if has_kind Paths d then wrong_folders nodes (paths_in d) else Some (KindOf key)
+
+-- what is wrong with channels and their keys
+abbrev pub wrong_pairs : Option (List (List ℕ × List ℕ)) → Option Problem
+wrong_pairs None = Some (Refused ChannelKeys)
+wrong_pairs (Some pairs) = None
+
+-- what is wrong with what may be a table
+abbrev pub wrong_table : Key → Option Members → Option Problem
+wrong_table key None = Some (KindOf key)
+wrong_table key (Some ms) = wrong_pairs (pairs_after [] ms)
+
 -- what is wrong with a value of a key that is to be of this kind
-abbrev pub wrong_value : Kind → Key → Option ℕ → Data → Option Problem
-wrong_value Text key server d = wrong_text key (as_str d)
-wrong_value Texts key server d = wrong_list key server (as_array d)
-wrong_value Number key server d = wrong_number key (as_integer d)
-wrong_value Truth key server d = wrong_truth key (as_bool d)
+abbrev pub wrong_value : Kind → Key → Around → Data → Option Problem
+wrong_value Text key around d = wrong_text key (as_str d)
+wrong_value Texts key around d = wrong_list key around.server (as_array d)
+wrong_value Paths key around d = wrong_paths key around.nodes d
+wrong_value Pairs key around d = wrong_table key (as_table d)
+wrong_value Number key around d = wrong_number key (as_integer d)
+wrong_value Truth key around d = wrong_truth key (as_bool d)
 
 -- what is wrong with a key that has this value
-abbrev pub wrong_with : Key → Option ℕ → Option Data → Option Problem
-wrong_with key server None = if is_needed key then Some (Missing key) else None
-wrong_with key server (Some d) = wrong_value (kind_of key) key server d
+abbrev pub wrong_with : Key → Around → Option Data → Option Problem
+wrong_with key around None = if is_needed key then Some (Missing key) else None
+wrong_with key around (Some d) = wrong_value (kind_of key) key around d
 
 -- the upstream server's port, where the table has one
 abbrev pub server_of : Members → Option ℕ
 server_of table = option_and_then address_of (text_at Upstream table)
 
+-- how many addresses to listen at the table has, where it has a list of them
+abbrev pub nodes_of : Members → Option ℕ
+nodes_of table = option_map item_count (list_at Listen table)
+
+-- what a table says of the server and of the nodes, for other keys
+abbrev pub around_of : Members → Around
+around_of table = record { server = server_of table; nodes = nodes_of table }
+
 -- what is wrong with a key of a table
 abbrev pub wrong_at : Members → Key → Option Problem
-wrong_at table key = wrong_with key (server_of table) (value_at key table)
+wrong_at table key = wrong_with key (around_of table) (value_at key table)
 
 -- what is told: that no key has a name, or what is wrong with a key
 pub data Told : Type 0 where
@@ -161,6 +198,8 @@ key_of (KindOf key) = Some key
 key_of (Refused key) = Some key
 key_of ListenCount = Some Listen
 key_of ListenTwice = Some Listen
+key_of StoreCount = Some Store
+key_of StoreTwice = Some Store
 key_of ChannelCount = Some Channels
 key_of (Setup fault) = Some Channels
 key_of p = None

@@ -1,12 +1,12 @@
 -- What a table says of each key, and what is wrong with one.
-use Rattle.std.specs.Prelude.{◌≡◌, ℕ, ◌+◌, ◌-◌, ◌==◌, suc, ℤ, pos, negsuc, Bool, true, not, ◌&&◌, nat_le, nat_lt, if◌then◌else◌, List, [], ◌∷◌, ◌++◌, Option, Some, None, option_map, option_and_then}
+use Rattle.std.specs.Prelude.{◌≡◌, ℕ, false, length, ◌+◌, ◌-◌, ◌==◌, suc, ℤ, pos, negsuc, Bool, true, not, ◌&&◌, ◌||◌, nat_le, nat_lt, if◌then◌else◌, List, [], ◌∷◌, ◌++◌, Option, Some, None, option_map, option_and_then}
 use Rattle.std.specs.List.{list_any}
-use Rattle.irc_line.specs.Names.{is_channel, fold_name}
+use Rattle.irc_line.specs.Names.{is_channel, is_name, fold_name, same_bytes}
 use Rattle.irc_line.specs.Keys.{is_below, put_in}
-use Rattle.toml.specs.Data.{Data, Items, no_items, item, Members, get_member, as_str, as_integer, as_bool, as_array}
+use Rattle.toml.specs.Data.{Data, Items, no_items, item, Members, no_members, member, get_member, as_str, as_integer, as_bool, as_array, as_table}
 use Rattle.buffer_commands.specs.declared.options.Options.{Options}
 use Rattle.bouncer_config.specs.KeyTexts.{key_text, limits_of}
-use Rattle.bouncer_config.specs.Texts.{address_of, input_end_of, level_of}
+use Rattle.bouncer_config.specs.Texts.{address_of, input_end_of, is_first_line, is_path, level_of}
 use Rattle.bouncer_config.specs.declared.key.Key.{Key}
 use Rattle.bouncer_config.specs.declared.key.Key.TheVariants.{ChanBufferSize, QueryBufferSize, MaxQueryBuffers, OffsetMinutes, AutoClearChanBuffer, AutoClearQueryBuffer, MultiClients}
 use Rattle.bouncer_config.specs.declared.key.Limits.{Limits}
@@ -91,6 +91,71 @@ names_after done (item d ds) = option_and_then (λ c. names_after (put_in c done
 abbrev pub channels_in : Option Data → Option (List (List ℕ))
 channels_in None = Some []
 channels_in (Some d) = option_and_then (names_after []) (as_array d)
+
+-- a line that a session may send first
+abbrev pub line_of : List ℕ → Option (List ℕ)
+line_of text = if is_first_line text then Some text else None
+
+-- such lines, behind those that were read
+abbrev pub lines_after : List (List ℕ) → Items → Option (List (List ℕ))
+lines_after done no_items = Some done
+lines_after done (item d ds) = option_and_then (λ line. lines_after (done ++ line ∷ []) ds) (option_and_then line_of (as_str d))
+
+-- the lines that each session sends first, none by default
+abbrev pub lines_in : Option Data → Option (List (List ℕ))
+lines_in None = Some []
+lines_in (Some d) = option_and_then (lines_after []) (as_array d)
+
+-- the key of a channel
+abbrev pub key_of_channel : List ℕ → Option (List ℕ)
+key_of_channel text = if is_name text then Some text else None
+
+-- a channel and its key
+abbrev pub pair_in : List ℕ → Data → Option (List ℕ × List ℕ)
+pair_in channel d =
+    if is_channel channel then option_map (λ key. (channel, key)) (option_and_then key_of_channel (as_str d)) else None
+
+-- channels and their keys, behind those that were read
+abbrev pub pairs_after : List (List ℕ × List ℕ) → Members → Option (List (List ℕ × List ℕ))
+pairs_after done no_members = Some done
+pairs_after done (member channel d rest) = option_and_then (λ pair. pairs_after (done ++ pair ∷ []) rest) (pair_in channel d)
+
+-- channels and their keys, none by default
+abbrev pub pairs_in : Option Data → Option (List (List ℕ × List ℕ))
+pairs_in None = Some []
+pairs_in (Some d) = option_and_then (pairs_after []) (as_table d)
+
+-- a path
+abbrev pub path_of : List ℕ → Option (List ℕ)
+path_of text = if is_path text then Some text else None
+
+-- paths, behind those that were read
+abbrev pub paths_after : List (List ℕ) → Items → Option (List (List ℕ))
+paths_after done no_items = Some done
+paths_after done (item d ds) = option_and_then (λ path. paths_after (done ++ path ∷ []) ds) (option_and_then path_of (as_str d))
+
+-- one path, or a list of them
+abbrev pub one_or_list : Option (List ℕ) → Option Items → Option (List (List ℕ))
+one_or_list (Some text) ds = option_map (λ path. path ∷ []) (path_of text)
+one_or_list None (Some ds) = paths_after [] ds
+one_or_list None None = None
+
+abbrev pub paths_in : Data → Option (List (List ℕ))
+paths_in d = one_or_list (as_str d) (as_array d)
+
+-- the paths at a key
+abbrev pub paths_at : Key → Members → Option (List (List ℕ))
+paths_at key table = option_and_then paths_in (value_at key table)
+
+-- no path stands twice
+abbrev pub are_apart : List (List ℕ) → Bool
+are_apart [] = true
+are_apart (p ∷ ps) = not (list_any (λ q. same_bytes q p) ps) && are_apart ps
+
+-- one folder for all nodes, or one for each, where it is known how many there are
+abbrev pub serves : Option ℕ → ℕ → Bool
+serves None folders = true
+serves (Some nodes) folders = folders == 1 || folders == nodes
 
 -- the options of a setup are those that a table says
 pub record AreOptions (table : Members) (o : Options) : Type 0 where

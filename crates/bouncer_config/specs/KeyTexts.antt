@@ -3,9 +3,9 @@ use Rattle.std.specs.Prelude.{ℕ, List, codes}
 use Rattle.buffer_commands.specs.Settings.{query_limit, size_limit}
 use Rattle.raft_log.specs.Logs.{entry_limit}
 use Rattle.bouncer_config.specs.declared.key.Key.{Key}
-use Rattle.bouncer_config.specs.declared.key.Key.TheVariants.{Nick, Password, Upstream, UpstreamPassword, Listen, Store, Record, Channels, ChanBufferSize, QueryBufferSize, MaxQueryBuffers, OffsetMinutes, AutoClearChanBuffer, AutoClearQueryBuffer, MultiClients, BeatMs, TimeoutMs, FloodBurst, FloodMs, Log, Input, RenewAt}
+use Rattle.bouncer_config.specs.declared.key.Key.TheVariants.{Nick, Password, Upstream, UpstreamPassword, Listen, Store, Record, Channels, ChanBufferSize, QueryBufferSize, MaxQueryBuffers, OffsetMinutes, AutoClearChanBuffer, AutoClearQueryBuffer, MultiClients, BeatMs, TimeoutMs, FloodBurst, FloodMs, Log, Input, RenewAt, ChannelKeys, OnConnect}
 use Rattle.bouncer_config.specs.declared.key.Kind.{Kind}
-use Rattle.bouncer_config.specs.declared.key.Kind.TheVariants.{Text, Texts, Number, Truth}
+use Rattle.bouncer_config.specs.declared.key.Kind.TheVariants.{Text, Texts, Paths, Pairs, Number, Truth}
 use Rattle.bouncer_config.specs.declared.key.Limits.{Limits}
 
 -- the word under which a key stands
@@ -32,6 +32,8 @@ key_text FloodMs = codes "flood_ms"
 key_text Log = codes "log"
 key_text Input = codes "input"
 key_text RenewAt = codes "renew_at"
+key_text ChannelKeys = codes "channel_keys"
+key_text OnConnect = codes "on_connect"
 
 -- what the value of a key is to be
 abbrev pub kind_of : Key → Kind
@@ -39,12 +41,14 @@ kind_of Nick = Text
 kind_of Password = Text
 kind_of Upstream = Text
 kind_of UpstreamPassword = Text
-kind_of Store = Text
 kind_of Record = Text
 kind_of Log = Text
 kind_of Input = Text
 kind_of Listen = Texts
 kind_of Channels = Texts
+kind_of OnConnect = Texts
+kind_of Store = Paths
+kind_of ChannelKeys = Pairs
 kind_of AutoClearChanBuffer = Truth
 kind_of AutoClearQueryBuffer = Truth
 kind_of MultiClients = Truth

@@ -1,5 +1,5 @@
 -- Where the paths of a configuration lie: they go by the folder of the file that it is read from.
-use Rattle.std.specs.Prelude.{◌≡◌, ℕ, List, Option, Some, None, option_map, string_bytes}
+use Rattle.std.specs.Prelude.{◌≡◌, ◌-◌, ℕ, List, [], ◌∷◌, Option, Some, None, map, option_map, slice_get, string_bytes}
 use Rattle.std.specs.Path.{path_join, path_parent}
 use Rattle.bouncer_config.specs.declared.config.Config.{Config}
 
@@ -12,9 +12,20 @@ placed_in (Some folder) path = path_join folder path
 abbrev pub placed : List ℕ → List ℕ → List ℕ
 placed file path = placed_in (path_parent file) path
 
+-- a folder, where there is one
+abbrev pub folder_at : Option (List ℕ) → List ℕ
+folder_at None = []
+folder_at (Some folder) = folder
+
+-- the folder in which the journal of a node lies, of one for all nodes or one for each
+abbrev pub folder_of : List (List ℕ) → ℕ → List ℕ
+folder_of [] node = []
+folder_of (one ∷ []) node = one
+folder_of (one ∷ two ∷ rest) node = folder_at (slice_get (one ∷ two ∷ rest) (node - 1))
+
 -- a configuration whose store and record go by the folder of this file, and of which all else is as it was
 pub record IsPlaced (file : List ℕ) (was is : Config) : Type 0 where
-  pub store : string_bytes is.store ≡ placed file (string_bytes was.store)
+  pub store : map string_bytes is.store.items ≡ map (placed file) (map string_bytes was.store.items)
   pub record_file : option_map string_bytes is.record ≡ option_map (placed file) (option_map string_bytes was.record)
   pub setup : is.setup ≡ was.setup
   pub password : is.password ≡ was.password
@@ -28,3 +39,5 @@ pub record IsPlaced (file : List ℕ) (was is : Config) : Type 0 where
   pub log : is.log ≡ was.log
   pub input_end : is.input_end ≡ was.input_end
   pub renew_at : is.renew_at ≡ was.renew_at
+  pub channel_keys : is.channel_keys ≡ was.channel_keys
+  pub on_connect : is.on_connect ≡ was.on_connect

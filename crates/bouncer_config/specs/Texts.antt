@@ -1,7 +1,7 @@
 -- What texts of a configuration are: passwords, addresses, paths and the log's levels.
-use Rattle.std.specs.Prelude.{codes, ℕ, ◌+◌, ◌-◌, ◌*◌, Bool, not, ◌&&◌, ◌||◌, ◌==◌, nat_le, nat_lt, if◌then◌else◌, List, [], length, ◌∷◌, Option, Some, None, option_and_then}
+use Rattle.std.specs.Prelude.{codes, false, ℕ, ◌+◌, ◌-◌, ◌*◌, Bool, not, ◌&&◌, ◌||◌, ◌==◌, nat_le, nat_lt, if◌then◌else◌, List, [], length, ◌∷◌, Option, Some, None, option_and_then}
 use Rattle.std.specs.List.{list_all}
-use Rattle.irc_line.specs.Names.{is_content_byte, first_is, same_bytes}
+use Rattle.irc_line.specs.Names.{is_content_byte, is_text, first_is, same_bytes}
 use Rattle.irc_line.specs.Comparing.{behind}
 use Rattle.bouncer_config.specs.declared.input_end.InputEnd.{InputEnd}
 use Rattle.bouncer_config.specs.declared.input_end.InputEnd.TheVariants.{Stops, Ignored}
@@ -24,6 +24,15 @@ is_password bytes = nat_le 1 (length bytes) && nat_le (length bytes) password_li
 -- at least one byte, and none of them NUL
 abbrev pub is_path : List ℕ → Bool
 is_path bytes = nat_le 1 (length bytes) && list_all (λ b. not (b == 0)) bytes
+
+-- a letter stands first
+abbrev pub begins_with_letter : List ℕ → Bool
+begins_with_letter [] = false
+begins_with_letter (b ∷ bytes) = (nat_le 65 b && nat_le b 90) || (nat_le 97 b && nat_le b 122)
+
+-- a line that a session may send first: a text that begins with a command
+abbrev pub is_first_line : List ℕ → Bool
+is_first_line bytes = begins_with_letter bytes && is_text bytes
 
 -- the port that digits write behind those of a port, where it is at most 65535
 abbrev pub port_after : ℕ → List ℕ → Option ℕ

@@ -1,26 +1,26 @@
 -- What is wrong with a table.
-use Rattle.std.specs.Prelude.{◌≡◌, ◌<◌, ◌≤◌, IsTrue, ℕ, ℤ, Bool, true, false, not, List, [], ◌∷◌, length, Option, Some, None, is_some, option_and_then, string_bytes, if◌then◌else◌}
+use Rattle.std.specs.Prelude.{◌≡◌, ◌<◌, ◌≤◌, ◌&&◌, ◌||◌, IsTrue, ℕ, ℤ, Bool, true, false, not, List, [], ◌∷◌, length, Option, Some, None, is_some, option_and_then, string_bytes, if◌then◌else◌}
 use Rattle.std.specs.List.{list_any}
 use Rattle.irc_line.specs.Names.{is_name, same_bytes}
-use Rattle.toml.specs.Data.{Data, Items, Members, no_members, member, as_str, as_integer, as_bool, as_array}
+use Rattle.toml.specs.Data.{Data, Items, Members, no_members, member, as_str, as_integer, as_bool, as_array, as_table}
 use Rattle.raft_log.specs.Peers.{IsGroupSize}
 use Rattle.buffer_commands.specs.Settings.{fault_of}
 use Rattle.buffer_commands.specs.declared.options.Options.{Options}
 use Rattle.buffer_commands.specs.declared.setup_fault.SetupFault.{SetupFault}
 use Rattle.bouncer_config.specs.KeyTexts.{key_text, kind_of, limits_of}
 use Rattle.bouncer_config.specs.Texts.{is_password, is_path, address_of, input_end_of, level_of}
-use Rattle.bouncer_config.specs.Found.{value_at, within, above_least, item_count, ports_after, are_different, names_after, channels_in, AreOptions, text_at}
+use Rattle.bouncer_config.specs.Found.{value_at, within, above_least, item_count, ports_after, are_different, names_after, channels_in, AreOptions, text_at, are_apart, lines_after, pairs_after, paths_at, paths_in, serves}
 use Rattle.bouncer_config.specs.declared.key.Key.{Key}
-use Rattle.bouncer_config.specs.declared.key.Key.TheVariants.{Nick, Password, Upstream, UpstreamPassword, Listen, Store, Record, Channels, ChanBufferSize, QueryBufferSize, MaxQueryBuffers, OffsetMinutes, AutoClearChanBuffer, AutoClearQueryBuffer, MultiClients, BeatMs, TimeoutMs, FloodBurst, FloodMs, Log, Input, RenewAt}
+use Rattle.bouncer_config.specs.declared.key.Key.TheVariants.{Nick, Password, Upstream, UpstreamPassword, Listen, Store, Record, Channels, ChanBufferSize, QueryBufferSize, MaxQueryBuffers, OffsetMinutes, AutoClearChanBuffer, AutoClearQueryBuffer, MultiClients, BeatMs, TimeoutMs, FloodBurst, FloodMs, Log, Input, RenewAt, ChannelKeys, OnConnect}
 use Rattle.bouncer_config.specs.declared.key.Kind.{Kind}
-use Rattle.bouncer_config.specs.declared.key.Kind.TheVariants.{Text, Texts, Number, Truth}
+use Rattle.bouncer_config.specs.declared.key.Kind.TheVariants.{Text, Texts, Paths, Pairs, Number, Truth}
 use Rattle.buffer_commands.specs.Settings.{channel_limit}
 use Rattle.bouncer_config.specs.declared.problem.Problem.{Problem}
-use Rattle.bouncer_config.specs.declared.problem.Problem.TheVariants.{Memory, NotToml, Unknown, Missing, Kind as KindOf, Refused, ListenCount, ListenTwice, ChannelCount, Setup}
+use Rattle.bouncer_config.specs.declared.problem.Problem.TheVariants.{Memory, NotToml, Unknown, Missing, Kind as KindOf, Refused, ListenCount, ListenTwice, StoreCount, StoreTwice, ChannelCount, Setup}
 
 -- every key
 abbrev pub all_keys : List Key
-all_keys = Nick ∷ Password ∷ Upstream ∷ UpstreamPassword ∷ Listen ∷ Store ∷ Record ∷ Channels ∷ ChanBufferSize ∷ QueryBufferSize ∷ MaxQueryBuffers ∷ OffsetMinutes ∷ AutoClearChanBuffer ∷ AutoClearQueryBuffer ∷ MultiClients ∷ BeatMs ∷ TimeoutMs ∷ FloodBurst ∷ FloodMs ∷ Log ∷ Input ∷ RenewAt ∷ []
+all_keys = Nick ∷ Password ∷ Upstream ∷ UpstreamPassword ∷ Listen ∷ Store ∷ Record ∷ Channels ∷ ChanBufferSize ∷ QueryBufferSize ∷ MaxQueryBuffers ∷ OffsetMinutes ∷ AutoClearChanBuffer ∷ AutoClearQueryBuffer ∷ MultiClients ∷ BeatMs ∷ TimeoutMs ∷ FloodBurst ∷ FloodMs ∷ Log ∷ Input ∷ RenewAt ∷ ChannelKeys ∷ OnConnect ∷ []
 
 -- some key has this name
 abbrev pub is_known : List ℕ → Bool
@@ -44,6 +44,8 @@ is_needed _ = false
 abbrev pub has_kind : Kind → Data → Bool
 has_kind Text d = is_some (as_str d)
 has_kind Texts d = is_some (as_array d)
+has_kind Paths d = is_some (as_str d) || is_some (as_array d)
+has_kind Pairs d = is_some (as_table d)
 has_kind Number d = is_some (as_integer d)
 has_kind Truth d = is_some (as_bool d)
 
@@ -58,7 +60,6 @@ text_rule Nick text = is_name text
 text_rule Password text = is_password text
 text_rule UpstreamPassword text = is_password text
 text_rule Upstream text = is_some (address_of text)
-text_rule Store text = is_path text
 text_rule Record text = is_path text
 text_rule Log text = is_some (level_of text)
 text_rule Input text = is_some (input_end_of text)
@@ -73,12 +74,19 @@ number_rule key z = is_some (within (limits_of key) z)
 abbrev pub list_rule : Key → Items → Bool
 list_rule Listen ds = is_some (ports_after [] ds)
 list_rule Channels ds = is_some (names_after [] ds)
+list_rule OnConnect ds = is_some (lines_after [] ds)
 list_rule _ ds = true
+
+-- the tables that a key may have
+abbrev pub pairs_rule : Members → Bool
+pairs_rule ms = is_some (pairs_after [] ms)
 
 -- a value of a key's kind is not one that the key may have
 abbrev pub breaks : Kind → Key → Data → Bool
 breaks Text key d = fails (text_rule key) (as_str d)
 breaks Texts key d = fails (list_rule key) (as_array d)
+breaks Paths key d = has_kind Paths d && not (is_some (paths_in d))
+breaks Pairs key d = fails pairs_rule (as_table d)
 breaks Number key d = fails (number_rule key) (as_integer d)
 breaks Truth key d = false
 
@@ -117,6 +125,20 @@ pub record IsTwice (table : Members) : Type 0 where
   pub are : ArePorts table upstream ports
   pub same : are_different (upstream ∷ ports) ≡ false
 
+-- there are more folders than one, and not as many as addresses to listen at
+pub record HasOtherCount (table : Members) : Type 0 where
+  pub paths : List (List ℕ)
+  pub nodes : Items
+  pub store : paths_at Store table ≡ Some paths
+  pub listen : list_at Listen table ≡ Some nodes
+  pub other : serves (Some (item_count nodes)) (length paths) ≡ false
+
+-- two of the folders are the same
+pub record HasTwoAlike (table : Members) : Type 0 where
+  pub paths : List (List ℕ)
+  pub store : paths_at Store table ≡ Some paths
+  pub same : are_apart paths ≡ false
+
 -- this is wrong with a table
 abbrev pub IsProblem : Members → Problem → Type 0
 IsProblem table Memory = Unit {0}
@@ -127,5 +149,7 @@ IsProblem table (KindOf key) = (d : Data) × (value_at key table ≡ Some d) × 
 IsProblem table (Refused key) = (d : Data) × (value_at key table ≡ Some d) × (breaks (kind_of key) key d ≡ true)
 IsProblem table ListenCount = (ds : Items) × (list_at Listen table ≡ Some ds) × (¬ IsGroupSize (item_count ds))
 IsProblem table ListenTwice = IsTwice table
+IsProblem table StoreCount = HasOtherCount table
+IsProblem table StoreTwice = HasTwoAlike table
 IsProblem table ChannelCount = (ds : Items) × (list_at Channels table ≡ Some ds) × (channel_limit < item_count ds)
 IsProblem table (Setup fault) = IsSetupFault table fault

@@ -1,13 +1,17 @@
-ghost use Rattle.std.specs.Prelude.{◌≡◌, Some, IfOk, IfErr, option_and_then};
+ghost use Rattle.std.specs.Prelude.{◌≡◌, Some, IfOk, IfErr, map, option_and_then, string_bytes};
 ghost use Rattle.toml.specs.View.{table_view};
 ghost use Rattle.bouncer_config.specs.KeyTexts.{kind_of, limits_of};
 ghost use Rattle.bouncer_config.specs.Texts.{address_of};
 ghost use Rattle.bouncer_config.specs.Found.{AreOptions, input_end_in, level_in, number_in, text_at, text_in, value_at};
 ghost use Rattle.bouncer_config.specs.Judged.{IsConfig, IsSetup};
+ghost use Rattle.bouncer_config.specs.Placing.{folder_of};
 ghost use Rattle.bouncer_config.specs.Wrong.{IsProblem, Listens};
 
 use crate::address::Address;
-use crate::disk_paths::read_paths;
+use crate::channel_keys::{ChannelKey, channel_keys};
+use crate::disk_paths::record;
+use crate::first_lines::on_connect;
+use crate::folders::{folder_of, store};
 use crate::input_end::InputEnd;
 use crate::key::Key;
 use crate::lists::{channels, listen};
@@ -17,7 +21,8 @@ use crate::problem::Problem;
 use crate::reading::{input_end, log, needed_text, number, offset, text, truth};
 use crate::unknown::check_names;
 use buffer_commands::{Options, Setup};
-use irc_line::Name;
+use irc_line::{Name, Text};
+use raft_log::NodeId;
 use std::alloc::Global;
 use toml::Table;
 
@@ -35,8 +40,8 @@ pub struct Config {
     /// Where each node listens for clients: three, five or seven addresses, all different, none of
     /// them the server's.
     pub listen: Vec<Address>,
-    /// The path of the folder of the nodes' journals.
-    pub store: String,
+    /// The paths of the folders of the nodes' journals: one for all nodes, or one for each, node 1's first.
+    pub store: Vec<String>,
     /// The path of the file that the record of a run is written to, if one is.
     pub record: Option<String>,
     /// How often a leader is heard, in milliseconds, 10 to 10,000.
@@ -53,12 +58,17 @@ pub struct Config {
     pub input_end: InputEnd,
     /// A start over a log of more entries than this begins it anew; 0 is never. At most 1,000,000.
     pub renew_at: u32,
+    /// The keys of channels, each by a channel's name; where it stands twice, the last counts.
+    pub channel_keys: Vec<ChannelKey>,
+    /// What each session sends first, without the ends of the lines.
+    pub on_connect: Vec<Text>,
 }
 
 impl Config {
     /// The configuration that a table says. The first problem is told: a name that no key has, by
     /// their order, and else what is wrong with the keys, in the order of the fields here, a
     /// setup's nick, options and channels in turn.
+    #[tactic(auto, using(crate::proofs::Places::listed_nodes))]
     pub fn from_table(alloc: Global, table: &Table) -> Result<Config, Problem>
         ensures ok { IfOk result (IsConfig (table_view table.now)) }
         ensures err { IfErr result (IsProblem (table_view table.now)) }
@@ -66,7 +76,8 @@ impl Config {
         check_names(alloc, table)?;
         let setup = setup(alloc, table)?;
         let links = read_links(alloc, table)?;
-        let paths = read_paths(alloc, table)?;
+        let store = store(alloc, table, links.listen.len())?;
+        let record = record(alloc, table)?;
         let pace = read_pace(table)?;
         Ok(Config {
             setup,
@@ -74,8 +85,8 @@ impl Config {
             upstream: links.upstream,
             upstream_password: links.upstream_password,
             listen: links.listen,
-            store: paths.store,
-            record: paths.record,
+            store,
+            record,
             beat_ms: pace.beat_ms,
             timeout_ms: pace.timeout_ms,
             flood_burst: pace.flood_burst,
@@ -83,7 +94,18 @@ impl Config {
             log: pace.log,
             input_end: input_end(table)?,
             renew_at: number(table, Key::RenewAt)?,
+            channel_keys: channel_keys(alloc, table)?,
+            on_connect: on_connect(alloc, table)?,
         })
+    }
+}
+
+impl Config {
+    /// The path of the folder in which the journal of a node lies.
+    pub fn folder(&self, node: NodeId) -> &str
+        ensures { result.now ≡ folder_of (map string_bytes self.now.store.items) node }
+    {
+        folder_of(self.store.as_slice(), node)
     }
 }
 

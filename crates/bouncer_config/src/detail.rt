@@ -27,6 +27,8 @@ pub enum Detail {
 pub(crate) fn detail_of(alloc: Global, table: &Table, problem: &Problem) -> Option<Detail> {
     match problem {
         Problem::Unknown(name) => Some(Detail::Near(nearest_key(alloc, name.as_str())?)),
+        // a line that a session sends first may have a password in it
+        Problem::Refused(Key::OnConnect) => None,
         Problem::Refused(_) => {
             let element = refused_element(table, problem)?;
             Some(Detail::Element(String::from_str(alloc, element).ok()?))

@@ -1,15 +1,18 @@
 //! What is wrong with each key of a table, whatever is wrong with the others.
-ghost use Rattle.std.specs.Prelude.{◌≡◌, IfOk};
-ghost use Rattle.toml.specs.Data.{as_array, as_bool, as_integer, as_str};
+ghost use Rattle.std.specs.Prelude.{◌≡◌, [], IfOk, Some, map, string_bytes};
+ghost use Rattle.toml.specs.Data.{as_array, as_bool, as_integer, as_str, as_table};
 ghost use Rattle.toml.specs.View.{items_view, table_view, view};
 ghost use Rattle.buffer_commands.specs.Settings.{default_options, fault_of};
 ghost use Rattle.bouncer_config.specs.KeyTexts.{kind_of};
-ghost use Rattle.bouncer_config.specs.Found.{are_different};
+ghost use Rattle.bouncer_config.specs.Found.{are_different, lines_after};
 ghost use Rattle.bouncer_config.specs.Wrong.{number_rule, text_rule};
-ghost use Rattle.bouncer_config.specs.Faults.{beside, server_of, wrong_at, wrong_channels, wrong_list, wrong_listen, wrong_number, wrong_text, wrong_truth, wrong_value};
+ghost use Rattle.bouncer_config.specs.Faults.{around_of, beside, nodes_of, server_of, wrong_at, wrong_channels, wrong_folders, wrong_lines, wrong_list, wrong_listen, wrong_number, wrong_paths, wrong_table, wrong_text, wrong_truth, wrong_value};
 
 use crate::address::Address;
+use crate::channel_keys::pairs_of;
 use crate::disk_paths::is_a_path;
+use crate::first_lines::lines_of;
+use crate::folders::{are_apart, may_say_paths, paths_in, serves};
 use crate::input_end::InputEnd;
 use crate::key::{Key, Kind};
 use crate::lists::{address_at, are_different, is_among, is_group, named_channels, read_addresses};
@@ -31,10 +34,37 @@ pub(crate) fn wrong_at(
     ensures { IfOk result (λ problem. problem ≡ wrong_at (table_view table.now) key) }
 {
     match find(table, key) {
-        Some(value) => wrong_value(alloc, server_of(table), key, value),
+        Some(value) => wrong_value(alloc, around_of(table), key, value),
         None if key.is_needed() => Ok(Some(Problem::Missing(key))),
         None => Ok(None),
     }
+}
+
+/// What a table says of the server and of the nodes, by which other keys are judged.
+#[derive(Clone, Copy)]
+pub(crate) struct Around {
+    pub server: Option<Address>,
+    /// How many addresses to listen at there are.
+    pub nodes: Option<usize>,
+}
+
+/// What a table says of the server and of the nodes.
+fn around_of(table: &Table) -> Around
+    ensures { result ≡ around_of (table_view table.now) }
+{
+    Around {
+        server: server_of(table),
+        nodes: nodes_of(table),
+    }
+}
+
+/// How many addresses to listen at the table has, where it has a list of them.
+#[tactic(auto, using(crate::proofs::Places::count_of_items))]
+fn nodes_of(table: &Table) -> Option<usize>
+    ensures { result ≡ nodes_of (table_view table.now) }
+{
+    let values = find(table, Key::Listen)?.as_array()?;
+    Some(values.len())
 }
 
 /// The address of the upstream server, where the table has one.
@@ -47,18 +77,20 @@ fn server_of(table: &Table) -> Option<Address>
 /// What is wrong with the value of a key.
 fn wrong_value(
     alloc: Global,
-    server: Option<Address>,
+    around: Around,
     key: Key,
     value: &Value,
 ) -> Result<Option<Problem>, AllocError>
     ensures { IfOk result (λ problem.
-        problem ≡ wrong_value (kind_of key) key server (view value.now)) }
+        problem ≡ wrong_value (kind_of key) key around (view value.now)) }
 {
     match key.kind() {
         Kind::Text => Ok(wrong_text(key, value)),
         Kind::Number => Ok(wrong_number(key, value)),
         Kind::Truth => Ok(wrong_truth(key, value)),
-        Kind::Texts => wrong_list(alloc, server, key, value),
+        Kind::Texts => wrong_list(alloc, around.server, key, value),
+        Kind::Paths => wrong_paths(alloc, around.nodes, key, value),
+        Kind::Pairs => wrong_table(alloc, key, value),
     }
 }
 
@@ -81,7 +113,7 @@ fn may_have_text(key: Key, text: &[u8]) -> bool
         Key::Nick => is_a_name(text),
         Key::Password | Key::UpstreamPassword => is_a_password(text),
         Key::Upstream => Address::from_text(text).is_some(),
-        Key::Store | Key::Record => is_a_path(text),
+        Key::Record => is_a_path(text),
         Key::Log => LogLevel::from_text(text).is_some(),
         Key::Input => InputEnd::from_text(text).is_some(),
         _ => true,
@@ -135,6 +167,7 @@ fn wrong_list(
     };
     match key {
         Key::Listen => wrong_listen(alloc, server, values),
+        Key::OnConnect => wrong_lines(alloc, values),
         _ => wrong_channels(alloc, values),
     }
 }
@@ -183,6 +216,62 @@ fn wrong_channels(alloc: Global, values: &[Value]) -> Result<Option<Problem>, Al
     match named_channels(alloc, values)? {
         Some(names) => Ok(setup_fault(alloc, names)?.map(Problem::Setup)),
         None => Ok(Some(Problem::Refused(Key::Channels))),
+    }
+}
+
+/// What is wrong with the values of lines that each session is to send first.
+fn wrong_lines(alloc: Global, values: &[Value]) -> Result<Option<Problem>, AllocError>
+    ensures { IfOk result (λ problem.
+        problem ≡ wrong_lines (lines_after [] (items_view values.now))) }
+{
+    match lines_of(alloc, values)? {
+        Some(_) => Ok(None),
+        None => Ok(Some(Problem::Refused(Key::OnConnect))),
+    }
+}
+
+/// What is wrong with the value of a key that is to be a path or a list of them, beside so many nodes where that is
+/// known.
+fn wrong_paths(
+    alloc: Global,
+    nodes: Option<usize>,
+    key: Key,
+    value: &Value,
+) -> Result<Option<Problem>, AllocError>
+    ensures { IfOk result (λ problem. problem ≡ wrong_paths key nodes (view value.now)) }
+{
+    if !may_say_paths(value) {
+        return Ok(Some(Problem::Kind(key)));
+    }
+    match paths_in(alloc, value)? {
+        Some(paths) => Ok(wrong_folders(nodes, paths.as_slice())),
+        None => Ok(Some(Problem::Refused(Key::Store))),
+    }
+}
+
+/// What is wrong with folders beside so many nodes, where that is known.
+fn wrong_folders(nodes: Option<usize>, paths: &[String]) -> Option<Problem>
+    ensures { result ≡ wrong_folders nodes (Some (map string_bytes paths.now)) }
+{
+    if !serves(nodes, paths.len()) {
+        Some(Problem::StoreCount)
+    } else if !are_apart(paths) {
+        Some(Problem::StoreTwice)
+    } else {
+        None
+    }
+}
+
+/// What is wrong with the value of a key that is to be a table.
+fn wrong_table(alloc: Global, key: Key, value: &Value) -> Result<Option<Problem>, AllocError>
+    ensures { IfOk result (λ problem. problem ≡ wrong_table key (as_table (view value.now))) }
+{
+    let Some(pairs) = value.as_table() else {
+        return Ok(Some(Problem::Kind(key)));
+    };
+    match pairs_of(alloc, pairs)? {
+        Some(_) => Ok(None),
+        None => Ok(Some(Problem::Refused(Key::ChannelKeys))),
     }
 }
 

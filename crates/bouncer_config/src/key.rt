@@ -30,6 +30,8 @@ pub enum Key {
     Log,
     Input,
     RenewAt,
+    ChannelKeys,
+    OnConnect,
 }
 
 /// What the value of a key is.
@@ -37,6 +39,10 @@ pub enum Key {
 pub enum Kind {
     Text,
     Texts,
+    /// A path, or a list of them.
+    Paths,
+    /// A table of texts.
+    Pairs,
     Number,
     Truth,
 }
@@ -85,6 +91,8 @@ impl Key {
             Key::Log => "log",
             Key::Input => "input",
             Key::RenewAt => "renew_at",
+            Key::ChannelKeys => "channel_keys",
+            Key::OnConnect => "on_connect",
         }
     }
 
@@ -94,8 +102,10 @@ impl Key {
     {
         match self {
             Key::Nick | Key::Password | Key::Upstream | Key::UpstreamPassword => Kind::Text,
-            Key::Store | Key::Record | Key::Log | Key::Input => Kind::Text,
-            Key::Listen | Key::Channels => Kind::Texts,
+            Key::Record | Key::Log | Key::Input => Kind::Text,
+            Key::Listen | Key::Channels | Key::OnConnect => Kind::Texts,
+            Key::Store => Kind::Paths,
+            Key::ChannelKeys => Kind::Pairs,
             Key::AutoClearChanBuffer | Key::AutoClearQueryBuffer => Kind::Truth,
             Key::MultiClients => Kind::Truth,
             _ => Kind::Number,

@@ -5,10 +5,13 @@
 #![tactic(auto)]
 
 mod address;
+mod channel_keys;
 mod config;
 mod config_fault;
 mod detail;
 mod disk_paths;
+mod first_lines;
+mod folders;
 mod gathering;
 mod input_end;
 mod judging;
@@ -27,9 +30,11 @@ mod saying;
 mod unknown;
 
 pub use address::Address;
+pub use channel_keys::ChannelKey;
 pub use config::Config;
 pub use config_fault::ConfigFault;
 pub use detail::Detail;
+pub use folders::folder_of;
 pub use input_end::InputEnd;
 pub use key::{Key, Kind, Limits};
 pub use key_fault::KeyFault;

@@ -1,5 +1,6 @@
 //! In which line of a text something stands.
 use crate::address::Address;
+use crate::first_lines::is_a_first_line;
 use crate::key::Key;
 use crate::problem::Problem;
 use irc_line::is_channel_name;
@@ -47,6 +48,7 @@ pub(crate) fn refused_element<'a>(table: &'a Table, problem: &Problem) -> Option
     let key = match problem {
         Problem::Refused(Key::Listen) => Key::Listen,
         Problem::Refused(Key::Channels) => Key::Channels,
+        Problem::Refused(Key::OnConnect) => Key::OnConnect,
         _ => return None,
     };
     let values = table.get(key.text())?.as_array()?;
@@ -61,6 +63,7 @@ fn is_refused(key: Key, value: &Value) -> bool {
     };
     match key {
         Key::Listen => Address::from_text(text.as_bytes()).is_none(),
+        Key::OnConnect => !is_a_first_line(text.as_bytes()),
         _ => !is_channel_name(text.as_bytes()),
     }
 }

@@ -50,7 +50,7 @@ pub(crate) fn read_addresses(
 
 /// The channel of this name, where it is one's.
 #[tactic(auto, using(crate::proofs::Places::named_channel))]
-fn channel_named(alloc: Global, name: &[u8]) -> Result<Option<Name>, AllocError>
+pub(crate) fn channel_named(alloc: Global, name: &[u8]) -> Result<Option<Name>, AllocError>
     ensures { IfOk result (λ c. c ≡ channel_of name.now) }
 {
     if !is_channel_name(name) {

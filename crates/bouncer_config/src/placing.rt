@@ -1,5 +1,5 @@
 //! The paths of a configuration, which go by the folder of its file.
-ghost use Rattle.std.specs.Prelude.{◌≡◌, IfOk, OnErr, OnOk, option_map, string_bytes};
+ghost use Rattle.std.specs.Prelude.{◌≡◌, ◌++◌, IfOk, OnErr, OnOk, map, option_map, string_bytes};
 ghost use Rattle.bouncer_config.specs.Placing.{IsPlaced, placed};
 
 use crate::config::Config;
@@ -13,11 +13,40 @@ impl Config {
         ensures ok { OnOk result (IsPlaced file.now self.old self.new) }
         ensures err { OnErr result (self.new ≡ self.old) }
     {
-        let store = placed(alloc, file, self.store.as_str())?;
+        let store = placed_all(alloc, file, self.store.as_slice())?;
         let record = placed_record(alloc, file, &self.record)?;
         self.store = store;
         self.record = record;
         Ok(())
+    }
+}
+
+/// Paths, as a file places each.
+fn placed_all(alloc: Global, file: &str, paths: &[String]) -> Result<Vec<String>, AllocError>
+    ensures { IfOk result (λ all.
+        map string_bytes all.items ≡ map (placed file.now) (map string_bytes paths.now)) }
+{
+    let mut all = Vec::new(alloc);
+    push_placed(alloc, file, paths, &mut all)?;
+    Ok(all)
+}
+
+/// Puts paths behind others, as a file places each.
+fn push_placed(
+    alloc: Global,
+    file: &str,
+    paths: &[String],
+    all: &mut Vec<String>,
+) -> Result<(), AllocError>
+    ensures { OnOk result (map string_bytes all.new.items ≡ map string_bytes all.old.items
+        ++ map (placed file.now) (map string_bytes paths.now)) }
+{
+    match paths {
+        [] => Ok(()),
+        [first, paths @ ..] => {
+            all.push(placed(alloc, file, first.as_str())?)?;
+            push_placed(alloc, file, paths, all)
+        }
     }
 }
 

@@ -22,6 +22,10 @@ pub enum Problem {
     ListenCount,
     /// Two addresses to listen at are the same, or one of them is the upstream server's.
     ListenTwice,
+    /// There are more folders than one, and not as many as addresses to listen at.
+    StoreCount,
+    /// Two folders are the same.
+    StoreTwice,
     /// There are more than 100 channels.
     ChannelCount,
     /// No setup has these channels: one stands twice among them.
@@ -47,6 +51,7 @@ impl Problem {
             Problem::Unknown(name) => Some(name.as_str()),
             Problem::Missing(key) | Problem::Kind(key) | Problem::Refused(key) => Some(key.text()),
             Problem::ListenCount | Problem::ListenTwice => Some("listen"),
+            Problem::StoreCount | Problem::StoreTwice => Some("store"),
             Problem::ChannelCount | Problem::Setup(_) => Some("channels"),
         }
     }

@@ -53,6 +53,8 @@ fn reason(problem: &Problem) -> &'static str {
         Problem::Refused(key) => rule_text(*key),
         Problem::ListenCount => "needs three, five or seven addresses",
         Problem::ListenTwice => "needs addresses that differ, and none of upstream's",
+        Problem::StoreCount => "needs one folder, or one for each address of listen",
+        Problem::StoreTwice => "needs folders that differ",
         Problem::ChannelCount => "takes at most 100 names",
         Problem::Setup(_) => "names a channel twice",
     }
@@ -63,6 +65,8 @@ fn kind_text(kind: Kind) -> &'static str {
     match kind {
         Kind::Text => "needs a text",
         Kind::Texts => "needs a list of texts",
+        Kind::Paths => "needs a text or a list of texts",
+        Kind::Pairs => "needs a table, as { \"#channel\" = \"key\" }",
         Kind::Number => "needs a whole number",
         Kind::Truth => "needs true or false",
     }
@@ -89,6 +93,8 @@ fn rule_text(key: Key) -> &'static str {
         Key::Log => "needs quiet, info or debug",
         Key::Input => "needs stop or ignore",
         Key::RenewAt => "needs 0 to 1000000",
+        Key::ChannelKeys => "needs channels and their keys, as { \"#channel\" = \"key\" }",
+        Key::OnConnect => "needs lines of IRC, as \"PRIVMSG NickServ :IDENTIFY secret\"",
         _ => "needs true or false",
     }
 }

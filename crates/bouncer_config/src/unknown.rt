@@ -10,7 +10,7 @@ use std::alloc::Global;
 use toml::Table;
 
 /// Every key.
-pub(crate) const ALL_KEYS: [Key; 22] = [
+pub(crate) const ALL_KEYS: [Key; 24] = [
     Key::Nick,
     Key::Password,
     Key::Upstream,
@@ -33,6 +33,8 @@ pub(crate) const ALL_KEYS: [Key; 22] = [
     Key::Log,
     Key::Input,
     Key::RenewAt,
+    Key::ChannelKeys,
+    Key::OnConnect,
 ];
 
 /// Whether some key has this name.

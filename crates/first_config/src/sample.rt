@@ -25,8 +25,9 @@ pub const BEFORE_CHANNELS: &str = "\n
 # Where each node listens for clients: three, five or seven addresses 127.0.0.1:PORT, one for each node.
 listen = [\"127.0.0.1:6701\", \"127.0.0.1:6702\", \"127.0.0.1:6703\"]
 
-# The folder of the nodes' journals; it is made if it is missing, the folder around it is not. Node N's journal is the file
-# `node-N` in it. A path that does not begin with / goes by the folder of this file.
+# The folder of the nodes' journals, or a list with a folder for each node, so that each may be on a disk of its own. A folder
+# is made if it is missing, the one around it is not. Node N's journal is the file `node-N`. A path that does not begin with /
+# goes by the folder of this file.
 store = \"store\"
 
 # What the server is sent in PASS, if it asks for a password.
@@ -42,6 +43,12 @@ channels = ";
 
 /// Behind the channels.
 pub const BEHIND: &str = "\n
+# The keys of channels. A key that a client joins with is known as long as the program runs.
+# channel_keys = { \"#hukbarg\" = \"sesame\" }
+
+# Lines that each session sends before all else; they are in no log and no journal.
+# on_connect = [\"PRIVMSG NickServ :IDENTIFY secret\"]
+
 # How many lines a channel and a query keep, 0 to 500, and how many queries are kept, 1 to 50.
 chan_buffer_size = 50
 query_buffer_size = 50
