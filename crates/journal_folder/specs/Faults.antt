@@ -1,10 +1,10 @@
 -- Why a log is not begun anew.
-use Rattle.std.specs.Prelude.{◌≡◌, ◌≤◌, ◌*◌, ℕ, List, None, codes, length, string_bytes, ⊤}
-use Rattle.journal_folder.specs.Beside.{beside}
+use Rattle.std.specs.Prelude.{◌≡◌, ◌≤◌, ◌*◌, ℕ, List, length, string_bytes, ⊤}
+use Rattle.journal_folder.specs.Beside.{IsNameless}
 use Rattle.journal_folder.specs.Losses.{IsPastLast, losses_among}
 use Rattle.journal_folder.specs.declared.standing.NodeJournal.{NodeJournal}
 use Rattle.journal_folder.specs.declared.fault.RenewFault.{RenewFault}
-use Rattle.journal_folder.specs.declared.fault.RenewFault.TheVariants.{Busy, Change, Journal, Loss, Memory, NoFreeName, Renewal, Setup, Spent, StillLong, System, TooFew, UnknownName, Unnamed, Unread}
+use Rattle.journal_folder.specs.declared.fault.RenewFault.TheVariants.{Busy, Change, Journal, Loss, Memory, Mixed, NoFreeName, Renewal, Setup, Spent, StillLong, System, TooFew, UnknownName, Unnamed, Unread}
 
 -- the system refuses it, or there is no memory
 abbrev pub IsOfFiles : RenewFault → Type 0
@@ -12,6 +12,7 @@ IsOfFiles (Journal refused) = ⊤
 IsOfFiles (System path error) = ⊤
 IsOfFiles (Unread path error) = ⊤
 IsOfFiles (Setup path fault) = ⊤
+IsOfFiles (Mixed mixed) = ⊤
 IsOfFiles (Busy path) = ⊤
 IsOfFiles (NoFreeName path) = ⊤
 IsOfFiles Memory = ⊤
@@ -31,6 +32,7 @@ IsOfHolding (TooFew few) = ⊤
 IsOfHolding (System path error) = ⊤
 IsOfHolding (Unread path error) = ⊤
 IsOfHolding (Setup path fault) = ⊤
+IsOfHolding (Mixed mixed) = ⊤
 IsOfHolding (Busy path) = ⊤
 IsOfHolding (NoFreeName path) = ⊤
 IsOfHolding (UnknownName name) = ⊥
@@ -49,6 +51,7 @@ IsOfStanding group (TooFew few) = (few.lost.journals.items ≡ losses_among grou
 IsOfStanding group (System path error) = ⊥
 IsOfStanding group (Unread path error) = ⊥
 IsOfStanding group (Setup path fault) = ⊥
+IsOfStanding group (Mixed mixed) = ⊥
 IsOfStanding group (Busy path) = ⊥
 IsOfStanding group (NoFreeName path) = ⊥
 IsOfStanding group (UnknownName name) = ⊥
@@ -74,24 +77,26 @@ IsOfLists (TooFew few) = ⊥
 IsOfLists (System path error) = ⊥
 IsOfLists (Unread path error) = ⊥
 IsOfLists (Setup path fault) = ⊥
+IsOfLists (Mixed mixed) = ⊥
 IsOfLists (Busy path) = ⊥
 IsOfLists (NoFreeName path) = ⊥
 IsOfLists (Unnamed path) = ⊥
 
--- that a folder has no name comes with this folder, which has none
-abbrev pub IsUnnamedAt : List ℕ → RenewFault → Type 0
-IsUnnamedAt folder (Unnamed path) = (string_bytes path ≡ folder) × (beside folder (codes "renewing") ≡ None)
-IsUnnamedAt folder (Journal refused) = ⊤
-IsUnnamedAt folder (System path error) = ⊤
-IsUnnamedAt folder (Unread path error) = ⊤
-IsUnnamedAt folder (Setup path fault) = ⊤
-IsUnnamedAt folder (Busy path) = ⊤
-IsUnnamedAt folder (UnknownName name) = ⊤
-IsUnnamedAt folder (StillLong entries) = ⊤
-IsUnnamedAt folder (Change keys fault) = ⊤
-IsUnnamedAt folder (Loss lost fault) = ⊤
-IsUnnamedAt folder (TooFew few) = ⊤
-IsUnnamedAt folder (NoFreeName path) = ⊤
-IsUnnamedAt folder (Renewal fault) = ⊤
-IsUnnamedAt folder Spent = ⊤
-IsUnnamedAt folder Memory = ⊤
+-- that a folder has no name comes with one of these folders, which has none
+abbrev pub IsUnnamedIn : List (List ℕ) → RenewFault → Type 0
+IsUnnamedIn folders (Unnamed path) = IsNameless folders (string_bytes path)
+IsUnnamedIn folders (Journal refused) = ⊤
+IsUnnamedIn folders (System path error) = ⊤
+IsUnnamedIn folders (Unread path error) = ⊤
+IsUnnamedIn folders (Setup path fault) = ⊤
+IsUnnamedIn folders (Mixed mixed) = ⊤
+IsUnnamedIn folders (Busy path) = ⊤
+IsUnnamedIn folders (UnknownName name) = ⊤
+IsUnnamedIn folders (StillLong entries) = ⊤
+IsUnnamedIn folders (Change keys fault) = ⊤
+IsUnnamedIn folders (Loss lost fault) = ⊤
+IsUnnamedIn folders (TooFew few) = ⊤
+IsUnnamedIn folders (NoFreeName path) = ⊤
+IsUnnamedIn folders (Renewal fault) = ⊤
+IsUnnamedIn folders Spent = ⊤
+IsUnnamedIn folders Memory = ⊤

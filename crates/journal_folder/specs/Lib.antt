@@ -2,9 +2,11 @@ pub mod Beside
 pub mod Contents
 pub mod Counting
 pub mod Faults
+pub mod Folders
 pub mod Holding
 pub mod Looking
 pub mod Losses
+pub mod Marks
 pub mod Naming
 pub mod Nodes
 pub mod Planning

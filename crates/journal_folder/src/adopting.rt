@@ -1,10 +1,11 @@
-//! What stands in the journals of a folder, which stay locked.
-ghost use Rattle.std.specs.Prelude.{◌≡◌, ◌∷◌, ◌++◌, [], IfErr, IfOk, OnOk, length, map, take};
+//! What stands in the journals of a store, which stay locked.
+ghost use Rattle.std.specs.Prelude.{◌≡◌, ◌≤◌, ◌∷◌, ◌++◌, [], IfErr, IfOk, OnOk, length, map, take};
 ghost use Rattle.journal_folder.specs.Faults.{IsOfFiles, IsOfHolding};
 ghost use Rattle.journal_folder.specs.Holding.{StandsForSome};
 ghost use Rattle.journal_folder.specs.Nodes.{all_nodes};
 
 use crate::fault::RenewFault;
+use crate::folders::folder_of;
 use crate::journal_bytes::{bytes_of, journal_of};
 use crate::locking::{NodeLock, lock_journal};
 use crate::loss::Loss;
@@ -28,12 +29,13 @@ pub struct Group {
 }
 
 impl Group {
-    /// The journals in a folder of a group of this size, more than half of which are whole. None is made or written.
+    /// The journals in the folders of a group of this size, more than half of which are whole. None is made or written.
     pub fn adopt<R: Files<File = File> + AllocGlobal>(
         rt: &R,
-        folder: &str,
+        folders: &[String],
         size: GroupSize,
     ) -> Result<Group, RenewFault>
+        requires { 1 ≤ length folders.now }
         ensures stands { IfOk result (λ group. StandsForSome size group.standing) }
         ensures count { IfOk result (λ group. length group.standing.saved.items ≡ size) }
         ensures locks { IfOk result
@@ -47,10 +49,10 @@ impl Group {
         };
         let nodes = nodes_of(alloc, size)?;
         for node in &nodes {
-            gathered.add(rt, folder, *node)?;
+            gathered.add(rt, folder_of(folders, *node), *node)?;
         }
         let Gathered { journals, locks } = gathered;
-        let standing = stand_for(alloc, folder, &journals)?;
+        let standing = stand_for(alloc, folders, &journals)?;
         Ok(Group { standing, locks })
     }
 }

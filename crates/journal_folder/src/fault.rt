@@ -6,6 +6,7 @@ ghost use Rattle.journal_folder.specs.declared.fault.RenewFault.TheVariants.{Mem
 use crate::changed_keys::ChangedKeys;
 use crate::folder_fault::FolderFault;
 use crate::loss::{LostJournals, TooFew};
+use crate::mixed::Mixed;
 use file_disk::OpenFault;
 use renewal::RenewalFault;
 use stable_store::StoreFault;
@@ -36,6 +37,9 @@ pub enum RenewFault {
     /// A file does not say what the store is.
     #[error("{0}: {1}")]
     Setup(String, SetupFileFault),
+    /// The folders are not those of one store.
+    #[error("{0}")]
+    Mixed(Mixed),
     /// Another program changes what the store is.
     #[error("{0}: another program changed it just now: end that one first")]
     Busy(String),
@@ -125,6 +129,7 @@ impl RenewFault {
             RenewFault::Unnamed(_)
             | RenewFault::TooFew(_)
             | RenewFault::Setup(_, _)
+            | RenewFault::Mixed(_)
             | RenewFault::Busy(_)
             | RenewFault::NoFreeName(_)
             | RenewFault::UnknownName(_)
@@ -153,6 +158,7 @@ impl From<FolderFault> for RenewFault {
             FolderFault::Journal(path, fault) => RenewFault::of_journal(path, fault),
             FolderFault::System(path, error) => RenewFault::System(path, error),
             FolderFault::NoFreeName(path) => RenewFault::NoFreeName(path),
+            FolderFault::Unfinished(path) => RenewFault::Mixed(Mixed::Unfinished(path)),
             FolderFault::Memory => RenewFault::Memory,
         }
     }

@@ -16,6 +16,9 @@ pub enum FolderFault {
     System(String, io::Error),
     #[error("{0}: too many old folders lie beside it: move them away")]
     NoFreeName(String),
+    /// A renewed folder lies at this path, and no old journals and not all renewed ones lie in the folders.
+    #[error("{0}: it was renewed together with other folders: name those in the configuration")]
+    Unfinished(String),
     #[error("out of memory")]
     Memory,
 }
@@ -35,7 +38,7 @@ impl FolderFault {
             FolderFault::Memory => true,
             FolderFault::Journal(_, fault) => fault.is_memory(),
             FolderFault::System(_, error) => error.kind() == ErrorKind::OutOfMemory,
-            FolderFault::NoFreeName(_) => false,
+            FolderFault::NoFreeName(_) | FolderFault::Unfinished(_) => false,
         }
     }
 }

@@ -1,4 +1,4 @@
-//! What the next start will do with the store in a folder. Nothing is written, and no lock is taken.
+//! What the next start will do with the store in some folders. Nothing is written, and no lock is taken.
 ghost use Rattle.std.specs.Prelude.{◌≡◌, ◌<◌, ◌≤◌, ◌∷◌, ◌++◌, [], IfOk, OnOk, length, map};
 ghost use Rattle.raft_log.specs.Peers.{IsGroupSize};
 ghost use Rattle.store_setup.specs.Changes.{IsOf};
@@ -10,10 +10,11 @@ use crate::changed_keys::ChangedKeys;
 use crate::coming::{Coming, Foretold};
 use crate::counting::most_entries;
 use crate::fault::RenewFault;
+use crate::folders::folder_of;
 use crate::journal_bytes::journal_of;
 use crate::loss::Loss;
 use crate::nodes::nodes_of;
-use crate::placing::folder_in_use;
+use crate::placing::folders_in_use;
 use crate::renewing::{plan_for, short_plan};
 use crate::standing::{Journal, NodeJournal, Standing, stand_for};
 use crate::store::{Next, find, next_of, size_of, store_of};
@@ -33,22 +34,24 @@ use store_setup::StoreSetup;
 /// changed, and a bouncer that runs is not disturbed.
 pub fn foretold<R: Files + AllocGlobal>(
     rt: &R,
+    folders: &[String],
     config: &Config,
     renew_at: u64,
 ) -> Result<Foretold, RenewFault>
-    requires { IsGroupSize (length config.now.listen.items) }
+    requires some { 1 ≤ length folders.now }
+    requires nodes { IsGroupSize (length config.now.listen.items) }
     ensures { IfOk result (λ told.
         IsComing config.now.setup (length config.now.listen.items) renew_at told.coming) }
 {
     let alloc = rt.alloc();
-    let folder = folder_in_use(rt, config.store.as_str())?;
-    let found = find(rt, folder.as_str())?;
+    let used = folders_in_use(rt, folders)?;
+    let found = find(rt, &used)?;
     let next = next_of(alloc, &found, &config.setup, size_of(config))?;
     let store = store_of(alloc, found, &config.setup)?;
     if next == Next::Make {
         return Ok(Foretold::of_none(alloc));
     }
-    let standing = read_group(rt, folder.as_str(), store.nodes)?;
+    let standing = read_group(rt, &used, store.nodes)?;
     let coming = coming_of(alloc, config, next, &store, &standing, renew_at)?;
     Foretold::of(alloc, coming, &store, &standing.saved)
 }
@@ -114,12 +117,13 @@ fn coming_length(
     }
 }
 
-/// What stands for the journals in a folder of a group of this size.
+/// What stands for the journals in the folders of a group of this size.
 fn read_group<R: Files + AllocGlobal>(
     rt: &R,
-    folder: &str,
+    folders: &[String],
     size: GroupSize,
 ) -> Result<Standing, RenewFault>
+    requires { 1 ≤ length folders.now }
     ensures stands { IfOk result (StandsForSome size) }
     ensures count { IfOk result (λ standing. length standing.saved.items ≡ size) }
 {
@@ -127,10 +131,10 @@ fn read_group<R: Files + AllocGlobal>(
     let mut journals = Vec::new(alloc);
     let nodes = nodes_of(alloc, size)?;
     for node in &nodes {
-        let journal = read_journal(rt, folder, *node, &journals)?;
+        let journal = read_journal(rt, folder_of(folders, *node), *node, &journals)?;
         add(&mut journals, journal)?;
     }
-    let standing = stand_for(alloc, folder, &journals)?;
+    let standing = stand_for(alloc, folders, &journals)?;
     Ok(standing)
 }
 

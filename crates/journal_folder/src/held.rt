@@ -5,9 +5,11 @@ ghost use Rattle.journal_folder.specs.Holding.{StandsForSome};
 
 use crate::adopting::Group;
 use crate::fault::RenewFault;
+use crate::folders::folder_of;
 use crate::store::{find, store_of};
 use crate::store_file::setup_path;
 use bouncer_config::Config;
+use raft_log::NodeId;
 use std::fs::{File, Files};
 use store_setup::StoreSetup;
 
@@ -18,12 +20,14 @@ pub struct Held {
     pub group: Group,
 }
 
-/// The store in the folder of a configuration, more than half of whose journals are whole. What it is is read once
+/// The store in the folders of a configuration, more than half of whose journals are whole. What it is is read once
 /// more behind the locks, since another program may have begun its log anew before.
 pub fn hold<R: Files<File = File> + AllocGlobal>(
     rt: &R,
+    folders: &[String],
     config: &Config,
 ) -> Result<Held, RenewFault>
+    requires { 1 ≤ length folders.now }
     ensures stands { IfOk result
         (λ held. StandsForSome held.store.nodes held.group.standing) }
     ensures count { IfOk result
@@ -32,20 +36,24 @@ pub fn hold<R: Files<File = File> + AllocGlobal>(
     ensures few { IfOk result (λ held. length held.group.standing.saved.items ≤ 7) }
     ensures fault { IfErr result IsOfHolding }
 {
-    let folder = config.store.as_str();
-    let nodes = store_in(rt, config)?.nodes;
-    let group = Group::adopt(rt, folder, nodes)?;
-    let store = store_in(rt, config)?;
+    let nodes = store_in(rt, folders, config)?.nodes;
+    let group = Group::adopt(rt, folders, nodes)?;
+    let store = store_in(rt, folders, config)?;
     if store.nodes.value() != nodes.value() {
-        return Err(RenewFault::Busy(setup_path(rt.alloc(), folder)?));
+        return Err(RenewFault::Busy(setup_path(rt.alloc(), folder_of(folders, NodeId::new(1)))?));
     }
     Ok(Held { store, group })
 }
 
-/// What the store in the folder of a configuration is taken to be.
-fn store_in<R: Files + AllocGlobal>(rt: &R, config: &Config) -> Result<StoreSetup, RenewFault>
+/// What the store in the folders of a configuration is taken to be.
+fn store_in<R: Files + AllocGlobal>(
+    rt: &R,
+    folders: &[String],
+    config: &Config,
+) -> Result<StoreSetup, RenewFault>
+    requires { 1 ≤ length folders.now }
     ensures { IfErr result IsOfFiles }
 {
-    let found = find(rt, config.store.as_str())?;
+    let found = find(rt, folders)?;
     Ok(store_of(rt.alloc(), found, &config.setup)?)
 }

@@ -1,6 +1,7 @@
-//! The folder of the journals of a bouncer's nodes: what they tell of earlier runs, what the store in it is, and how a
-//! folder whose log is begun anew takes its place. Stands under bouncer_run and bouncer_app.
-//! A renewed folder is decided by its name alone, so that a program that is killed at any moment leaves either folder whole.
+//! The folders of the journals of a bouncer's nodes, one for all or one for each: what they tell of earlier runs, what the
+//! store in them is, and how folders whose log is begun anew take their place. Stands under bouncer_run and bouncer_app.
+//! Renewed folders are decided by their names alone, once each of them is whole, so that a program that is killed at any
+//! moment leaves all of the old folders whole or all of the new ones.
 //! Of the journals the log counts that a leader among all nodes would have; each new journal holds the renewed log,
 //! a term and a run that never were, and a vote for node 1. A log that came about under another setup or another number
 //! of nodes than the configuration's is begun anew before any node starts, and so is that of a store some of whose
@@ -15,6 +16,7 @@ mod earlier_runs;
 mod fault;
 mod folder;
 mod folder_fault;
+mod folders;
 mod foretelling;
 mod held;
 mod journal_bytes;
@@ -22,8 +24,11 @@ mod locking;
 mod looking;
 mod loss;
 mod making;
+mod marks;
+mod mixed;
 mod naming;
 mod nodes;
+mod old_folders;
 mod older;
 mod paths;
 mod placing;
@@ -44,12 +49,16 @@ pub use earlier_runs::{boot_in, greatest_boot};
 pub use fault::{Refused, RenewFault};
 pub use folder::{make_folder, sync_around};
 pub use folder_fault::FolderFault;
+pub use folders::folder_of;
 pub use foretelling::foretold;
 pub use journal_bytes::is_lost;
 pub use loss::{Loss, LostJournal, LostJournals, TooFew};
+pub use marks::{Marks, Stage, marks_of};
+pub use mixed::Mixed;
 pub use naming::{names_in, names_of};
+pub use old_folders::{OldFolder, OldFolders};
 pub use older::first_older;
-pub use paths::Paths;
+pub use paths::{NoPaths, Paths};
 pub use placing::{decide, finish_renewal, put_in_place};
 pub use planning::{Plan, planned};
 pub use renewed::Renewed;

@@ -1,9 +1,11 @@
 //! The locks of a folder's journals.
-ghost use Rattle.std.specs.Prelude.{◌≡◌, ◌∷◌, ◌++◌, [], IfOk, OnOk, map};
-ghost use Rattle.journal_folder.specs.Nodes.{all_nodes};
+ghost use Rattle.std.specs.Prelude.{◌≡◌, ◌∷◌, ◌++◌, [], IfOk, OnOk, length, map};
+ghost use Rattle.std.specs.List.{All};
+ghost use Rattle.journal_folder.specs.Nodes.{AreOfAllNodes, all_nodes};
 
 use crate::folder_fault::FolderFault;
 use crate::nodes::all_nodes;
+use crate::paths::Paths;
 use file_disk::{FileDisk, OpenFault, SystemFile};
 use raft_log::NodeId;
 use run_plan::journal_path;
@@ -16,6 +18,49 @@ use std::io::ErrorKind;
 pub struct NodeLock {
     pub node: NodeId,
     pub disk: Option<FileDisk<SystemFile>>,
+}
+
+/// The journals of a folder and of the renewed one beside it, each locked until this is dropped.
+#[derive(Drop)]
+pub struct FolderLocks {
+    pub old: Vec<NodeLock>,
+    pub renewed: Vec<NodeLock>,
+}
+
+/// Those of each of these folders, and of each node that a group may have.
+pub fn lock_folders<R: Files<File = File> + AllocGlobal>(
+    rt: &R,
+    all: &[Paths],
+) -> Result<Vec<FolderLocks>, FolderFault>
+    ensures count { IfOk result (λ locks. length locks.items ≡ length all.now) }
+    ensures nodes { IfOk result (λ locks. All AreOfAllNodes locks.items) }
+{
+    let mut locks = Vec::new(rt.alloc());
+    for paths in all {
+        let old = lock_journals(rt, paths.folder.as_str())?;
+        let renewed = lock_journals(rt, paths.renewed.as_str())?;
+        locks
+            .push(FolderLocks { old, renewed })
+            .map_err(|_| FolderFault::Memory)?;
+    }
+    Ok(locks)
+}
+
+/// The journals of these folders, of each node that a group may have. So no bouncer runs over them meanwhile.
+pub fn lock_all<R: Files<File = File> + AllocGlobal>(
+    rt: &R,
+    folders: &[String],
+) -> Result<Vec<Vec<NodeLock>>, FolderFault>
+    ensures count { IfOk result (λ locks. length locks.items ≡ length folders.now) }
+    ensures nodes { IfOk result (λ locks. All
+        (λ of_one. map (λ lock. lock.node) of_one.items ≡ all_nodes) locks.items) }
+{
+    let mut locks = Vec::new(rt.alloc());
+    for folder in folders {
+        let of_one = lock_journals(rt, folder.as_str())?;
+        locks.push(of_one).map_err(|_| FolderFault::Memory)?;
+    }
+    Ok(locks)
 }
 
 /// The journals of a folder, of each node that a group may have. So no bouncer runs over them meanwhile.

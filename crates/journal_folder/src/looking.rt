@@ -1,9 +1,10 @@
 //! A look at the files of a group's journals, none of which is read.
-ghost use Rattle.std.specs.Prelude.{◌≡◌, ◌≤◌, IfErr};
+ghost use Rattle.std.specs.Prelude.{◌≡◌, ◌≤◌, IfErr, length};
 ghost use Rattle.journal_folder.specs.Faults.{IsOfFiles};
 ghost use Rattle.journal_folder.specs.Looking.{seen};
 
 use crate::fault::RenewFault;
+use crate::folders::folder_of;
 use crate::journal_bytes::EMPTY_LEN;
 use crate::nodes::nodes_of;
 use raft_log::{GroupSize, NodeId};
@@ -23,18 +24,19 @@ pub enum Look {
     Partly,
 }
 
-/// A look at the journals in a folder of a group of this size.
+/// A look at the journals in the folders of a group of this size.
 pub fn look_at<R: Files + AllocGlobal>(
     rt: &R,
-    folder: &str,
+    folders: &[String],
     size: GroupSize,
 ) -> Result<Look, RenewFault>
+    requires { 1 ≤ length folders.now }
     ensures { IfErr result IsOfFiles }
 {
     let mut full = 0u8;
     let nodes = nodes_of(rt.alloc(), size)?;
     for node in &nodes {
-        if is_longer(rt, folder, *node)? {
+        if is_longer(rt, folder_of(folders, *node), *node)? {
             full += 1;
         }
     }

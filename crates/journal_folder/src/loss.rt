@@ -1,6 +1,7 @@
 //! Journals that are lost, and why.
-ghost use Rattle.std.specs.Prelude.{◌≡◌, ◌≢◌, [], false, IfOk, IsTrue, string_bytes};
+ghost use Rattle.std.specs.Prelude.{◌≡◌, ◌≢◌, [], false, IfOk, IsTrue, map, string_bytes};
 
+use crate::folders::{copies_of, folder_of};
 use raft_log::NodeId;
 use std::alloc::{AllocError, Global};
 use std::fmt;
@@ -81,29 +82,37 @@ impl fmt::Display for LostJournals {
 /// Too few journals of a store are whole for any start.
 #[derive(Debug, Drop)]
 pub struct TooFew {
-    folder: String,
+    folders: Vec<String>,
     lost: LostJournals,
 }
 
 impl TooFew {
-    /// These journals of a folder are lost.
-    pub fn new(alloc: Global, folder: &str, lost: LostJournals) -> Result<TooFew, AllocError>
+    /// These journals of these folders are lost.
+    pub fn new(alloc: Global, folders: &[String], lost: LostJournals) -> Result<TooFew, AllocError>
         ensures lost { IfOk result (λ few. few.lost ≡ lost) }
-        ensures folder { IfOk result (λ few. string_bytes few.folder ≡ folder.now) }
+        ensures folders { IfOk result (λ few.
+            map string_bytes few.folders.items ≡ map string_bytes folders.now) }
     {
-        let folder = String::from_str(alloc, folder)?;
-        Ok(TooFew { folder, lost })
+        let folders = copies_of(alloc, folders)?;
+        Ok(TooFew { folders, lost })
+    }
+
+    /// The folder of a node, as it is told.
+    fn folder_of(&self, node: NodeId) -> &str {
+        match self.folders.as_slice() {
+            [] => "",
+            folders => folder_of(folders, node),
+        }
     }
 }
 
 /// Each file that is wrong, and what to do.
 impl fmt::Display for TooFew {
     fn fmt<W: fmt::Write>(&self, f: &mut fmt::Formatter<W>) -> fmt::Result {
-        let folder = self.folder.as_str();
         for index in 0..self.lost.journals.len() {
             f.write_str(joint(index))?;
             let LostJournal { node, loss } = self.lost.journals[index];
-            write!(f, "{folder}/node-{} {loss}", node.value())?;
+            write!(f, "{}/node-{} {loss}", self.folder_of(node), node.value())?;
         }
         f.write_str(
             ": more than half of the journals have to be whole, so nothing was changed: put these files back, or the whole folder from a backup",

@@ -1,17 +1,18 @@
-//! New journals in a folder of their own.
-ghost use Rattle.std.specs.Prelude.{◌≡◌, ◌∷◌, ◌++◌, ◌+◌, [], IfErr, IfOk, OnOk, length, take};
+//! New journals in folders of their own.
+ghost use Rattle.std.specs.Prelude.{◌≡◌, ◌≤◌, ◌∷◌, ◌++◌, ◌+◌, [], IfErr, IfOk, OnOk, length, take};
 ghost use Rattle.journal_folder.specs.Faults.{IsOfFiles};
 ghost use Rattle.journal_folder.specs.Nodes.{all_nodes};
 
 use crate::fault::RenewFault;
 use crate::folder::make_folder;
 use crate::folder_fault::FolderFault;
+use crate::folders::folder_of;
 use crate::nodes::nodes_of;
 use crate::planning::Plan;
 use crate::saving::save_group;
-use crate::store_file::{Described, describe};
+use crate::store_file::describe;
 use bouncer_tower::TowerBody;
-use file_disk::{FileJournal, OpenFault, open_journal};
+use file_disk::{FileJournal, MadeFile, OpenFault, open_journal};
 use raft_log::{GroupSize, Log, NodeId};
 use run_plan::journal_path;
 use stable_store::StoreFault;
@@ -20,26 +21,23 @@ use std::fs::{File, Files};
 use std::io::ErrorKind;
 use store_setup::StoreSetup;
 
-/// New journals in a folder of their own, synced, each locked until it is dropped: of each node of a group, as it
-/// was planned. What lay in the folder is removed first. The store says what it is before a journal is made.
+/// New journals in folders of their own, synced, each locked until it is dropped: of each node of a group, as it
+/// was planned. What lay in the folders is removed first. The store says what it is before a journal is made.
 pub fn make_journals<R: Files<File = File> + AllocGlobal>(
     rt: &R,
-    folder: &str,
+    folders: &[String],
     plan: &Plan,
     store: &StoreSetup,
 ) -> Result<Opened, RenewFault>
-    requires { length plan.now.boots.items ≡ store.now.nodes }
+    requires some { 1 ≤ length folders.now }
+    requires boots { length plan.now.boots.items ≡ store.now.nodes }
     ensures nodes { IfOk result
         (λ opened. opened.nodes.items ≡ take store.now.nodes all_nodes) }
     ensures fault { IfErr result IsOfFiles }
 {
     let alloc = rt.alloc();
-    remove(rt, folder)?;
-    if let Err(error) = make_folder(rt, folder) {
-        return Err(RenewFault::from(FolderFault::of_system(alloc, folder, error)));
-    }
-    let described = describe(rt, folder, store)?;
-    let mut opened = Opened::of_nodes(rt, &described, store.nodes)?;
+    let _described = make_folders(rt, folders, store)?;
+    let mut opened = Opened::of_nodes(rt, folders, store.nodes)?;
     match save_group(
         alloc,
         &mut opened.journals,
@@ -49,10 +47,34 @@ pub fn make_journals<R: Files<File = File> + AllocGlobal>(
     ) {
         Ok(()) => Ok(opened),
         Err(unsaved) => {
-            let path = journal_path(alloc, folder, opened.nodes[unsaved.index])?;
+            let node = opened.nodes[unsaved.index];
+            let path = journal_path(alloc, folder_of(folders, node), node)?;
             Err(unwritten(&opened.journals[unsaved.index], path, unsaved.fault))
         }
     }
+}
+
+/// These folders are there anew, and in each of them the store says what it is.
+fn make_folders<R: Files<File = File> + AllocGlobal>(
+    rt: &R,
+    folders: &[String],
+    store: &StoreSetup,
+) -> Result<Vec<MadeFile>, RenewFault>
+    ensures count { IfOk result (λ described. length described.items ≡ length folders.now) }
+    ensures fault { IfErr result IsOfFiles }
+{
+    let alloc = rt.alloc();
+    let mut described = Vec::new(alloc);
+    for folder in folders {
+        let folder = folder.as_str();
+        remove(rt, folder)?;
+        if let Err(error) = make_folder(rt, folder) {
+            return Err(RenewFault::from(FolderFault::of_system(alloc, folder, error)));
+        }
+        let file = describe(rt, folder, store)?;
+        described.push(file).map_err(|_| RenewFault::Memory)?;
+    }
+    Ok(described)
 }
 
 /// New journals of some nodes, each locked until it is dropped.
@@ -64,12 +86,13 @@ pub struct Opened {
 }
 
 impl Opened {
-    /// Those of a group of this size, of a store that says what it is.
+    /// Those of a group of this size, in folders that say what the store is.
     fn of_nodes<R: Files<File = File> + AllocGlobal>(
         rt: &R,
-        described: &Described,
+        folders: &[String],
         size: GroupSize,
     ) -> Result<Opened, RenewFault>
+        requires { 1 ≤ length folders.now }
         ensures nodes { IfOk result (λ opened. opened.nodes.items ≡ take size all_nodes) }
         ensures count { IfOk result (λ opened. length opened.journals.items ≡ size) }
         ensures places { IfOk result (λ opened. length opened.nodes.items ≡ size) }
@@ -82,7 +105,7 @@ impl Opened {
         };
         let nodes = nodes_of(alloc, size)?;
         for node in &nodes {
-            opened.add(rt, described, *node)?;
+            opened.add(rt, folder_of(folders, *node), *node)?;
         }
         Ok(opened)
     }
@@ -91,7 +114,7 @@ impl Opened {
     fn add<R: Files<File = File> + AllocGlobal>(
         &mut self,
         rt: &R,
-        described: &Described,
+        folder: &str,
         node: NodeId,
     ) -> Result<(), RenewFault>
         ensures nodes { OnOk result (self.new.nodes.items ≡ self.old.nodes.items ++ node ∷ []) }
@@ -102,7 +125,7 @@ impl Opened {
         ensures fault { IfErr result IsOfFiles }
     {
         let alloc = rt.alloc();
-        let path = journal_path(alloc, described.folder(), node)?;
+        let path = journal_path(alloc, folder, node)?;
         match open_journal(rt, alloc, path.as_str(), &Log::new(alloc)) {
             Ok(journal) => self.journals.push(journal).map_err(|_| RenewFault::Memory)?,
             Err(fault) => return Err(RenewFault::of_journal(path, fault)),

@@ -1,11 +1,15 @@
-//! A renewed folder takes the place of the folder of the journals.
-ghost use Rattle.std.specs.Prelude.{◌≡◌, IfOk, IfSome, option_map, string_bytes};
-ghost use Rattle.journal_folder.specs.Beside.{IsOldName, beside, old_ending};
+//! Renewed folders take the place of the folders of the journals.
+ghost use Rattle.std.specs.Prelude.{◌≡◌, ◌++◌, IfOk, IfSome, OnOk, length, map, option_map, string_bytes};
+ghost use Rattle.std.specs.List.{All};
+ghost use Rattle.journal_folder.specs.Beside.{AreOldFolders, IsOldFolder, IsOldName, beside, old_ending};
 
 use crate::folder::sync_around;
 use crate::folder_fault::FolderFault;
-use crate::locking::{NodeLock, are_missing, lock_journals};
-use crate::paths::{Paths, beside};
+use crate::folders::copies_of;
+use crate::locking::{FolderLocks, are_missing, lock_folders};
+use crate::marks::{Marks, is_marked, marks_at};
+use crate::old_folders::{OldFolder, OldFolders};
+use crate::paths::{NoPaths, Paths, beside};
 use std::alloc::Global;
 use std::fs;
 use std::fs::{File, Files};
@@ -14,85 +18,204 @@ use std::io::ErrorKind;
 /// How many old folders may lie beside the folder of the journals: more than anybody keeps.
 const MOST_OLD: u32 = 1000;
 
-/// A renewal that was decided, and whose program was ended before the renewed folder was in its place, is
-/// finished: what runs next uses that folder. Where the old folder lies now, if one was moved. An error where a
-/// program has a journal of either folder open, also one that finishes the renewal just now.
+/// A renewal that was decided, and whose program was ended before each renewed folder was in its place, is
+/// finished: what runs next uses those folders. One that was not decided is as if it had never been. What became of
+/// the old folders, where it was finished. An error where a program has a journal of any folder open, also one that
+/// finishes the renewal just now.
 pub fn finish_renewal<R: Files<File = File> + AllocGlobal>(
     rt: &R,
-    folder: &str,
-) -> Result<Option<String>, FolderFault>
-    ensures { IfOk result (λ old. IfSome old (λ name. IsOldName folder.now (string_bytes name))) }
+    folders: &[String],
+) -> Result<Option<OldFolders>, FolderFault>
+    ensures { IfOk result
+        (λ old. IfSome old (AreOldFolders (map string_bytes folders.now))) }
 {
-    let Some(paths) = Paths::of(rt.alloc(), folder)? else {
-        return Ok(None);
+    let all = match Paths::of_all(rt.alloc(), folders) {
+        Ok(all) => all,
+        Err(NoPaths::Nameless(_)) => return Ok(None),
+        Err(NoPaths::Memory) => return Err(FolderFault::Memory),
     };
-    if !is_decided(rt, &paths)? {
+    if marks_at(rt, &all)? == Marks::Absent {
         return Ok(None);
     }
-    let old = lock_journals(rt, paths.folder.as_str())?;
-    let _new = lock_journals(rt, paths.renewed.as_str())?;
+    let locks = lock_folders(rt, &all)?;
     // another program may have finished it before these locks were there
-    if !is_decided(rt, &paths)? {
-        return Ok(None);
-    }
-    put_in_place(rt, &paths, &old)
-}
-
-/// The folder whose journals the next run uses: the renewed one, where a renewal was decided and is not finished.
-pub fn folder_in_use<R: Files + AllocGlobal>(rt: &R, folder: &str) -> Result<String, FolderFault> {
-    let alloc = rt.alloc();
-    if let Some(paths) = Paths::of(alloc, folder)? {
-        if is_decided(rt, &paths)? {
-            return Ok(paths.renewed);
+    match marks_at(rt, &all)? {
+        Marks::Absent => Ok(None),
+        Marks::Open => {
+            take_back(rt, &all, &locks)?;
+            Ok(None)
+        }
+        Marks::Decided => {
+            sync_marks(rt, &all)?;
+            Ok(Some(put_in_place(rt, &all, have_journals(&locks))?))
         }
     }
-    Ok(String::from_str(alloc, folder)?)
 }
 
-/// Whether the renewed folder is to be used.
-fn is_decided<R: Files + AllocGlobal>(rt: &R, paths: &Paths) -> Result<bool, FolderFault> {
-    let renewed = paths.renewed.as_str();
-    match fs::exists(rt, renewed) {
-        Ok(is_there) => Ok(is_there),
-        Err(error) => Err(FolderFault::of_system(rt.alloc(), renewed, error)),
+/// Whether journals lie in each of these folders, so that none was moved away.
+fn have_journals(locks: &[FolderLocks]) -> bool {
+    locks.iter().all(|folder| !are_missing(&folder.old))
+}
+
+/// The folders whose journals the next run uses: where a renewal was decided and is not finished, the renewed ones
+/// that are not in their place.
+pub fn folders_in_use<R: Files + AllocGlobal>(
+    rt: &R,
+    folders: &[String],
+) -> Result<Vec<String>, FolderFault>
+    ensures { IfOk result (λ used. length used.items ≡ length folders.now) }
+{
+    let alloc = rt.alloc();
+    let all = match Paths::of_all(alloc, folders) {
+        Ok(all) => all,
+        Err(NoPaths::Nameless(_)) => return Ok(copies_of(alloc, folders)?),
+        Err(NoPaths::Memory) => return Err(FolderFault::Memory),
+    };
+    if marks_at(rt, &all)? != Marks::Decided {
+        return Ok(copies_of(alloc, folders)?);
     }
+    let mut used = Vec::new(alloc);
+    for paths in &all {
+        let path = if is_marked(rt, paths)? {
+            paths.renewed.as_str()
+        } else {
+            paths.folder.as_str()
+        };
+        let path = String::from_str(alloc, path)?;
+        used.push(path).map_err(|_| FolderFault::Memory)?;
+    }
+    Ok(used)
 }
 
-/// From here on the new journals are to be used in place of those in the folder: all of them are whole and synced.
+/// From here on the new journals are to be used in place of those in the folders: all of them are whole and synced.
 /// Where it fails they are used by nobody.
 pub fn decide<R: Files<File = File> + AllocGlobal>(
     rt: &R,
-    paths: &Paths,
+    all: &[Paths],
 ) -> Result<(), FolderFault> {
+    for paths in all {
+        let marked = mark(rt, paths);
+        if marked.is_err() {
+            undo(rt, all);
+            return marked;
+        }
+    }
+    Ok(())
+}
+
+/// The new journals of a folder are marked as whole.
+fn mark<R: Files<File = File> + AllocGlobal>(rt: &R, paths: &Paths) -> Result<(), FolderFault> {
     let (renewing, renewed) = (paths.renewing.as_str(), paths.renewed.as_str());
     if let Err(error) = fs::rename(rt, renewing, renewed) {
         return Err(FolderFault::of_system(rt.alloc(), renewing, error));
     }
-    let synced = sync(rt, renewed);
-    if synced.is_err() {
-        undo(rt, paths);
+    sync(rt, renewed)
+}
+
+/// The renewed folders are used by nobody, as far as the system does as it is told.
+fn undo<R: Files<File = File>>(rt: &R, all: &[Paths]) {
+    for paths in all {
+        let (renewing, renewed) = (paths.renewing.as_str(), paths.renewed.as_str());
+        if fs::rename(rt, renewed, renewing).is_ok() {
+            let _ = sync_around(rt, renewed);
+        }
     }
-    synced
 }
 
-/// The renewed folder is used by nobody, as far as the system does as it is told.
-fn undo<R: Files<File = File>>(rt: &R, paths: &Paths) {
-    let (renewing, renewed) = (paths.renewing.as_str(), paths.renewed.as_str());
-    let _ = fs::rename(rt, renewed, renewing);
-    let _ = sync_around(rt, renewed);
+/// The renewed folders, not all of which are there, are used by nobody from here on. Refused where no journals lie in
+/// any of the folders, which are locked so: then they were renewed with others.
+fn take_back<R: Files<File = File> + AllocGlobal>(
+    rt: &R,
+    all: &[Paths],
+    locks: &[FolderLocks],
+) -> Result<(), FolderFault> {
+    let is_empty = locks.iter().all(|folder| are_missing(&folder.old));
+    for paths in all {
+        let (renewing, renewed) = (paths.renewing.as_str(), paths.renewed.as_str());
+        if is_marked(rt, paths)? {
+            if is_empty {
+                return Err(FolderFault::Unfinished(String::from_str(rt.alloc(), renewed)?));
+            }
+            // nobody uses what lies there
+            let _ = fs::remove_dir_all(rt, renewing);
+            if let Err(error) = fs::rename(rt, renewed, renewing) {
+                return Err(FolderFault::of_system(rt.alloc(), renewed, error));
+            }
+        }
+        sync(rt, renewed)?;
+    }
+    Ok(())
 }
 
-/// The renewed folder takes the place of the folder of the journals, which are these, locked. Where anything is in
-/// that one, it is kept under another name, which is answered. Where it can't be moved, and has journals, the renewed
-/// folder is one that nobody uses, and nothing else changed.
+/// A crash leaves the marks of a renewal that was decided.
+fn sync_marks<R: Files<File = File> + AllocGlobal>(
+    rt: &R,
+    all: &[Paths],
+) -> Result<(), FolderFault> {
+    for paths in all {
+        sync(rt, paths.renewed.as_str())?;
+    }
+    Ok(())
+}
+
+/// The renewed folders take the place of those of the journals, which are locked. Where anything is in one of those,
+/// it is kept under another name, which is answered. Where the first can't be moved, and there is a way back since none
+/// was moved before, the renewed folders are ones that nobody uses, and nothing else changed. Where a later one can't,
+/// the next start goes on.
 pub fn put_in_place<R: Files<File = File> + AllocGlobal>(
     rt: &R,
+    all: &[Paths],
+    has_way_back: bool,
+) -> Result<OldFolders, FolderFault>
+    ensures { IfOk result
+        (AreOldFolders (map (λ paths. string_bytes paths.folder) all.now)) }
+{
+    let undone: &[Paths] = if has_way_back { all } else { &[] };
+    let mut folders = Vec::new(rt.alloc());
+    place_all(rt, &mut folders, all, undone)?;
+    Ok(OldFolders { folders })
+}
+
+/// Each of these renewed folders takes its place. The marks of the second ones are taken back where the first can't
+/// take its own.
+#[tactic(auto, using(crate::proofs::Numbered::one_more))]
+fn place_all<R: Files<File = File> + AllocGlobal>(
+    rt: &R,
+    placed: &mut Vec<OldFolder>,
+    all: &[Paths],
+    undone: &[Paths],
+) -> Result<(), FolderFault>
+    requires { All IsOldFolder placed.old.items }
+    ensures folders { OnOk result (map (λ one. string_bytes one.folder) placed.new.items
+        ≡ map (λ one. string_bytes one.folder) placed.old.items
+        ++ map (λ paths. string_bytes paths.folder) all.now) }
+    ensures named { OnOk result (All IsOldFolder placed.new.items) }
+{
+    match all {
+        [] => Ok(()),
+        [paths, all @ ..] => {
+            let folder = String::from_str(rt.alloc(), paths.folder.as_str())?;
+            let old = place(rt, paths, undone)?;
+            placed
+                .push(OldFolder { folder, old })
+                .map_err(|_| FolderFault::Memory)?;
+            place_all(rt, placed, all, &[])
+        }
+    }
+}
+
+/// A renewed folder takes its place, unless it is there. The marks of these are taken back where it can't.
+fn place<R: Files<File = File> + AllocGlobal>(
+    rt: &R,
     paths: &Paths,
-    journals: &[NodeLock],
+    undone: &[Paths],
 ) -> Result<Option<String>, FolderFault>
     ensures { IfOk result (λ old. IfSome old
         (λ name. IsOldName (string_bytes paths.now.folder) (string_bytes name))) }
 {
+    if !is_marked(rt, paths)? {
+        return Ok(None);
+    }
     let (folder, renewed) = (paths.folder.as_str(), paths.renewed.as_str());
     // where the folder is empty, or not there, this is all
     if fs::rename(rt, renewed, folder).is_ok() {
@@ -102,10 +225,7 @@ pub fn put_in_place<R: Files<File = File> + AllocGlobal>(
     let old = match move_away(rt, folder) {
         Ok(old) => old,
         Err(fault) => {
-            // a folder without journals is one whose journals were moved away before: there is no way back
-            if !are_missing(journals) {
-                undo(rt, paths);
-            }
+            undo(rt, undone);
             return Err(fault);
         }
     };

@@ -1,5 +1,6 @@
 //! What a renewal did.
 use crate::loss::LostJournals;
+use crate::old_folders::OldFolders;
 use std::fmt;
 use wire_bytes::Number;
 
@@ -12,7 +13,7 @@ pub struct Renewed {
     pub targets: u64,
     pub lines: u64,
     pub lost: LostJournals,
-    pub old: Option<String>,
+    pub old: OldFolders,
 }
 
 impl fmt::Display for Renewed {
@@ -24,9 +25,11 @@ impl fmt::Display for Renewed {
         if !self.lost.is_none() {
             write!(f, "\nlost: {}", self.lost)?;
         }
-        match &self.old {
-            Some(old) => write!(f, "\nold folder: {old}"),
-            None => Ok(()),
+        for folder in &self.old.folders {
+            if let Some(old) = &folder.old {
+                write!(f, "\nold folder: {old}")?;
+            }
         }
+        Ok(())
     }
 }

@@ -1,15 +1,16 @@
 //! `bouncer renew`, and what a start does where a log came about under another setup.
-ghost use Rattle.std.specs.Prelude.{◌≡◌, ◌≤◌, [], IfErr, IfOk, IfSome, length, string_bytes};
+ghost use Rattle.std.specs.Prelude.{◌≡◌, ◌≤◌, [], IfErr, IfOk, length, map, string_bytes};
 ghost use Rattle.raft_log.specs.Peers.{IsGroupSize};
-ghost use Rattle.journal_folder.specs.Beside.{IsOldName};
-ghost use Rattle.journal_folder.specs.Faults.{IsOfFiles, IsOfLists, IsUnnamedAt};
+ghost use Rattle.journal_folder.specs.Beside.{AreOldFolders};
+ghost use Rattle.journal_folder.specs.Faults.{IsOfFiles, IsOfLists, IsUnnamedIn};
 ghost use Rattle.journal_folder.specs.Planning.{IsPlan, IsToldOfSome, Tells};
 
 use crate::fault::RenewFault;
 use crate::held::{Held, hold};
+use crate::locking::are_missing;
 use crate::making::{make_journals, remove};
 use crate::naming::first_unknown;
-use crate::paths::Paths;
+use crate::paths::{NoPaths, Paths, renewing_of};
 use crate::placing::{decide, finish_renewal, put_in_place};
 use crate::planning::{Plan, behind, planned};
 use crate::renewed::Renewed;
@@ -22,29 +23,28 @@ use std::alloc::Global;
 use std::fs::{File, Files};
 use store_setup::StoreSetup;
 
-/// Begins the log of a configuration's bouncer anew, which must not run: from the setup and the number of nodes that
+/// Begins the log of a configuration's bouncer anew in these folders, which must not run: from the setup and the number of nodes that
 /// its store is of to the configuration's. `forgotten` are names of clients that go with what they have seen. At any
 /// moment the old journals or the new ones are whole, and are those that the next run uses; the old ones are kept
 /// beside them. Where it fails, what was begun is finished by the next run, or was as if it had never been.
 pub fn renew<R: Files<File = File> + AllocGlobal>(
     rt: &R,
+    folders: &[String],
     config: &Config,
     forgotten: &[Name],
 ) -> Result<Renewed, RenewFault>
-    requires { IsGroupSize (length config.now.listen.items) }
+    requires some { 1 ≤ length folders.now }
+    requires nodes { IsGroupSize (length config.now.listen.items) }
     ensures told { IfOk result (IsToldOfSome config.now.setup forgotten.now
         (length config.now.listen.items)) }
-    ensures old { IfOk result (λ told. IfSome told.old
-        (λ name. IsOldName (string_bytes config.now.store) (string_bytes name))) }
-    ensures unnamed { IfErr result (IsUnnamedAt (string_bytes config.now.store)) }
+    ensures old { IfOk result
+        (λ told. AreOldFolders (map string_bytes folders.now) told.old) }
+    ensures unnamed { IfErr result (IsUnnamedIn (map string_bytes folders.now)) }
 {
     let alloc = rt.alloc();
-    let folder = config.store.as_str();
-    if Paths::of(alloc, folder)?.is_none() {
-        return Err(RenewFault::Unnamed(String::from_str(alloc, folder)?));
-    }
-    finish_renewal(rt, folder)?;
-    let held = hold(rt, config)?;
+    paths_of(alloc, folders)?;
+    finish_renewal(rt, folders)?;
+    let held = hold(rt, folders, config)?;
     let plan = plan_for(
         alloc,
         config,
@@ -52,7 +52,21 @@ pub fn renew<R: Files<File = File> + AllocGlobal>(
         &held.store,
         &held.group.standing.saved,
     )?;
-    carry_out(rt, config, &held, &plan)
+    carry_out(rt, folders, config, &held, &plan)
+}
+
+/// The paths of each of these folders.
+fn paths_of(alloc: Global, folders: &[String]) -> Result<Vec<Paths>, RenewFault>
+    ensures folders { IfOk result (λ all. map (λ paths. string_bytes paths.folder) all.items
+        ≡ map string_bytes folders.now) }
+    ensures count { IfOk result (λ all. length all.items ≡ length folders.now) }
+    ensures unnamed { IfErr result (IsUnnamedIn (map string_bytes folders.now)) }
+{
+    match Paths::of_all(alloc, folders) {
+        Ok(all) => Ok(all),
+        Err(NoPaths::Nameless(path)) => Err(RenewFault::Unnamed(path)),
+        Err(NoPaths::Memory) => Err(RenewFault::Memory),
+    }
 }
 
 /// What a store, with what stands in its journals, is begun anew with for a configuration.
@@ -101,33 +115,35 @@ pub fn short_plan(
 }
 
 /// The log of a store begun anew as it was planned for a configuration, in journals that take the place of the old
-/// ones, which are locked meanwhile.
+/// ones in these folders, which are locked meanwhile.
 pub fn carry_out<R: Files<File = File> + AllocGlobal>(
     rt: &R,
+    folders: &[String],
     config: &Config,
     held: &Held,
     plan: &Plan,
 ) -> Result<Renewed, RenewFault>
+    requires some { 1 ≤ length folders.now }
     requires nodes { IsGroupSize (length config.now.listen.items) }
     requires boots { length plan.now.boots.items ≡ length config.now.listen.items }
     ensures told { IfOk result (Tells plan.now) }
     ensures lost { IfOk result
         (λ told. told.lost.journals.items ≡ held.now.group.standing.lost.journals.items) }
-    ensures old { IfOk result (λ told. IfSome told.old
-        (λ name. IsOldName (string_bytes config.now.store) (string_bytes name))) }
-    ensures unnamed { IfErr result (IsUnnamedAt (string_bytes config.now.store)) }
+    ensures old { IfOk result
+        (λ told. AreOldFolders (map string_bytes folders.now) told.old) }
+    ensures unnamed { IfErr result (IsUnnamedIn (map string_bytes folders.now)) }
 {
     let alloc = rt.alloc();
-    let folder = config.store.as_str();
-    let Some(paths) = Paths::of(alloc, folder)? else {
-        return Err(RenewFault::Unnamed(String::from_str(alloc, folder)?));
-    };
+    let all = paths_of(alloc, folders)?;
+    let renewing = renewing_of(alloc, &all)?;
     let renewals = behind(held.store.renewals)?;
     let now = StoreSetup::of(alloc, size_of(config), renewals, &config.setup)?;
-    let outcome = replace(rt, &paths, held, plan, &now);
+    let outcome = replace(rt, &all, &renewing, held, plan, &now);
     if outcome.is_err() {
-        // nobody uses what lies there
-        let _ = remove(rt, paths.renewing.as_str());
+        for folder in &renewing {
+            // nobody uses what lies there
+            let _ = remove(rt, folder.as_str());
+        }
     }
     outcome
 }
@@ -135,23 +151,25 @@ pub fn carry_out<R: Files<File = File> + AllocGlobal>(
 /// Journals as they were planned take the place of the old ones at these paths.
 fn replace<R: Files<File = File> + AllocGlobal>(
     rt: &R,
-    paths: &Paths,
+    all: &[Paths],
+    renewing: &[String],
     held: &Held,
     plan: &Plan,
     now: &StoreSetup,
 ) -> Result<Renewed, RenewFault>
-    requires { length plan.now.boots.items ≡ now.now.nodes }
+    requires some { 1 ≤ length renewing.now }
+    requires boots { length plan.now.boots.items ≡ now.now.nodes }
     ensures told { IfOk result (Tells plan.now) }
     ensures lost { IfOk result
         (λ told. told.lost.journals.items ≡ held.now.group.standing.lost.journals.items) }
-    ensures old { IfOk result (λ told. IfSome told.old
-        (λ name. IsOldName (string_bytes paths.now.folder) (string_bytes name))) }
+    ensures old { IfOk result (λ told.
+        AreOldFolders (map (λ paths. string_bytes paths.folder) all.now) told.old) }
     ensures fault { IfErr result IsOfFiles }
 {
     let lost = held.group.standing.lost.again(rt.alloc())?;
-    let _journals = make_journals(rt, paths.renewing.as_str(), plan, now)?;
-    decide(rt, paths)?;
-    let old = put_in_place(rt, paths, &held.group.locks)?;
+    let _journals = make_journals(rt, renewing, plan, now)?;
+    decide(rt, all)?;
+    let old = put_in_place(rt, all, !are_missing(&held.group.locks))?;
     Ok(Renewed {
         before: plan.before,
         now: plan.renewal.log.len(),

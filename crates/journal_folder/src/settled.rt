@@ -1,16 +1,16 @@
-//! What a start did with a folder.
+//! What a start did with its folders.
 use crate::changed_keys::ChangedKeys;
 use crate::fault::RenewFault;
 use crate::renewed::Renewed;
 use file_disk::MadeFile;
 
-/// What a start did with the store in its folder.
+/// What a start did with the store in its folders.
 #[derive(Drop)]
 pub enum Settled {
-    /// It is new, and this is the file in which it says what it is.
-    Made(MadeFile),
-    /// It is of before stores said what they are, and says so in this file from now on.
-    Described(MadeFile),
+    /// It is new, and these are the files in which it says what it is.
+    Made(Vec<MadeFile>),
+    /// It is of before stores said what they are, and says so in these files from now on.
+    Described(Vec<MadeFile>),
     /// It goes on.
     Same,
     /// Its log came about under another setup or another number of nodes, and was begun anew.

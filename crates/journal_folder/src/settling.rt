@@ -1,7 +1,7 @@
 //! What a start does before any journal is opened: the store is of the configuration's setup from then on.
-ghost use Rattle.std.specs.Prelude.{◌≡◌, ◌≢◌, ◌<◌, ◌≤◌, ℕ, [], IfErr, IfOk, length, string_bytes};
+ghost use Rattle.std.specs.Prelude.{◌≡◌, ◌≢◌, ◌<◌, ◌≤◌, ℕ, [], IfErr, IfOk, length, map, string_bytes};
 ghost use Rattle.raft_log.specs.Peers.{IsGroupSize};
-ghost use Rattle.journal_folder.specs.Faults.{IsOfFiles, IsUnnamedAt};
+ghost use Rattle.journal_folder.specs.Faults.{IsOfFiles, IsUnnamedIn};
 ghost use Rattle.journal_folder.specs.Counting.{most_entries};
 ghost use Rattle.journal_folder.specs.Settling.{IsChanged, IsSettled, IsWithout};
 ghost use Rattle.store_setup.specs.Changes.{IsOf, changed_keys};
@@ -11,85 +11,94 @@ use crate::changed_keys::ChangedKeys;
 use crate::counting::most_entries;
 use crate::fault::RenewFault;
 use crate::held::{Held, hold};
-use crate::locking::lock_journals;
+use crate::locking::lock_all;
 use crate::looking::{Look, look_at};
 use crate::renewed::Renewed;
 use crate::renewing::{carry_out, plan_for, short_plan};
 use crate::settled::Settled;
 use crate::standing::Standing;
 use crate::store::{Next, find, next_of, size_of};
-use crate::store_file::{Described, describe, read_setup, setup_path};
+use crate::store_file::{describe_all, first_described};
 use bouncer_config::Config;
+use file_disk::MadeFile;
 use std::fs::{File, Files};
 use store_setup::StoreSetup;
 use wire_bytes::Number;
 
-/// The store in the folder of a configuration, which is there and in which no renewal waits to be finished, is made
-/// one of its setup and of as many nodes. A log that came about under others is begun anew, and so is one of more
+/// The store in these folders, which are there and in which no renewal waits to be finished, is made
+/// one of a configuration's setup and of as many nodes. A log that came about under others is begun anew, and so is one of more
 /// than `renew_at` entries, if that is not 0, and one some of whose journals are missing or empty. Where it fails, the
-/// folder is as it was, or what was begun is finished by the next start.
+/// folders are as they were, or what was begun is finished by the next start.
 pub fn settle<R: Files<File = File> + AllocGlobal>(
     rt: &R,
+    folders: &[String],
     config: &Config,
     renew_at: u64,
 ) -> Result<Settled, RenewFault>
-    requires { IsGroupSize (length config.now.listen.items) }
+    requires folders { 1 ≤ length folders.now }
+    requires nodes { IsGroupSize (length config.now.listen.items) }
     ensures settled { IfOk result
         (IsSettled config.now.setup (length config.now.listen.items) renew_at) }
-    ensures unnamed { IfErr result (IsUnnamedAt (string_bytes config.now.store)) }
+    ensures unnamed { IfErr result (IsUnnamedIn (map string_bytes folders.now)) }
 {
     let alloc = rt.alloc();
     let nodes = size_of(config);
-    let found = find(rt, config.store.as_str())?;
+    let found = find(rt, folders)?;
     match next_of(alloc, &found, &config.setup, nodes)? {
-        Next::Make => make(rt, config),
-        Next::Describe => settle_older(rt, config, renew_at),
+        Next::Make => make(rt, folders, config),
+        Next::Describe => settle_older(rt, folders, config, renew_at),
         Next::GoOn => {
             // journals are read here only where one may be lost, or too long
-            match look_at(rt, config.store.as_str(), nodes)? {
+            match look_at(rt, folders, nodes)? {
                 Look::New => Ok(Settled::Same),
                 Look::Full if renew_at == 0 => Ok(Settled::Same),
-                Look::Full | Look::Partly => settle_by_reading(rt, config, renew_at),
+                Look::Full | Look::Partly => settle_by_reading(rt, folders, config, renew_at),
             }
         }
-        Next::BeginAnew => settle_by_reading(rt, config, renew_at),
+        Next::BeginAnew => settle_by_reading(rt, folders, config, renew_at),
     }
 }
 
 /// The same of a store of before, of the configuration's number of nodes.
 fn settle_older<R: Files<File = File> + AllocGlobal>(
     rt: &R,
+    folders: &[String],
     config: &Config,
     renew_at: u64,
 ) -> Result<Settled, RenewFault>
-    requires { IsGroupSize (length config.now.listen.items) }
+    requires folders { 1 ≤ length folders.now }
+    requires nodes { IsGroupSize (length config.now.listen.items) }
     ensures settled { IfOk result
         (IsSettled config.now.setup (length config.now.listen.items) renew_at) }
-    ensures unnamed { IfErr result (IsUnnamedAt (string_bytes config.now.store)) }
+    ensures unnamed { IfErr result (IsUnnamedIn (map string_bytes folders.now)) }
 {
-    if look_at(rt, config.store.as_str(), size_of(config))? == Look::Partly {
-        match settle_by_reading(rt, config, renew_at)? {
+    if look_at(rt, folders, size_of(config))? == Look::Partly {
+        match settle_by_reading(rt, folders, config, renew_at)? {
             Settled::Same => {}
             settled => return Ok(settled),
         }
     }
-    describe_locked(rt, config)
+    describe_locked(rt, folders, config)
 }
 
 /// A new store says what it is.
-fn make<R: Files<File = File> + AllocGlobal>(rt: &R, config: &Config) -> Result<Settled, RenewFault>
+fn make<R: Files<File = File> + AllocGlobal>(
+    rt: &R,
+    folders: &[String],
+    config: &Config,
+) -> Result<Settled, RenewFault>
     requires { IsGroupSize (length config.now.listen.items) }
     ensures settled { (renew_at : ℕ) → IfOk result
         (IsSettled config.now.setup (length config.now.listen.items) renew_at) }
     ensures fault { IfErr result IsOfFiles }
 {
-    let described = describe_as(rt, config)?;
-    Ok(Settled::Made(described.made(rt.alloc())?))
+    Ok(Settled::Made(describe_as(rt, folders, config)?))
 }
 
 /// A store of before says what it is, while its journals are locked.
 fn describe_locked<R: Files<File = File> + AllocGlobal>(
     rt: &R,
+    folders: &[String],
     config: &Config,
 ) -> Result<Settled, RenewFault>
     requires { IsGroupSize (length config.now.listen.items) }
@@ -97,52 +106,53 @@ fn describe_locked<R: Files<File = File> + AllocGlobal>(
         (IsSettled config.now.setup (length config.now.listen.items) renew_at) }
     ensures fault { IfErr result IsOfFiles }
 {
-    let folder = config.store.as_str();
-    let _locks = lock_journals(rt, folder)?;
-    if read_setup(rt, folder)?.is_some() {
+    let _locks = lock_all(rt, folders)?;
+    if let Some(described) = first_described(rt, folders)? {
         // another program was about it before these locks were there
-        return Err(RenewFault::Busy(setup_path(rt.alloc(), folder)?));
+        return Err(RenewFault::Busy(described.path));
     }
-    let described = describe_as(rt, config)?;
-    Ok(Settled::Described(described.made(rt.alloc())?))
+    Ok(Settled::Described(describe_as(rt, folders, config)?))
 }
 
 /// A store says that it is of a configuration, and that its log was never begun anew.
 fn describe_as<R: Files<File = File> + AllocGlobal>(
     rt: &R,
+    folders: &[String],
     config: &Config,
-) -> Result<Described, RenewFault>
+) -> Result<Vec<MadeFile>, RenewFault>
     requires { IsGroupSize (length config.now.listen.items) }
     ensures { IfErr result IsOfFiles }
 {
     let none = Number::new(0);
     let store = StoreSetup::of(rt.alloc(), size_of(config), none, &config.setup)?;
-    describe(rt, config.store.as_str(), &store)
+    describe_all(rt, folders, &store)
 }
 
 /// The same of a store each of whose journals is read, behind their locks: its log is begun anew also where one is
 /// damaged.
 pub fn settle_by_reading<R: Files<File = File> + AllocGlobal>(
     rt: &R,
+    folders: &[String],
     config: &Config,
     renew_at: u64,
 ) -> Result<Settled, RenewFault>
-    requires { IsGroupSize (length config.now.listen.items) }
+    requires folders { 1 ≤ length folders.now }
+    requires nodes { IsGroupSize (length config.now.listen.items) }
     ensures settled { IfOk result
         (IsSettled config.now.setup (length config.now.listen.items) renew_at) }
-    ensures unnamed { IfErr result (IsUnnamedAt (string_bytes config.now.store)) }
+    ensures unnamed { IfErr result (IsUnnamedIn (map string_bytes folders.now)) }
 {
-    let held = hold(rt, config)?;
+    let held = hold(rt, folders, config)?;
     let keys = ChangedKeys::of(rt.alloc(), &held.store, config)?;
     let standing = &held.group.standing;
     if !standing.lost.is_none() {
-        let renewed = begin_without(rt, config, &held, &keys)?;
+        let renewed = begin_without(rt, folders, config, &held, &keys)?;
         Ok(Settled::Lost(keys, renewed))
     } else if !keys.is_none() {
-        let (keys, renewed) = begin_changed(rt, config, &held, keys)?;
+        let (keys, renewed) = begin_changed(rt, folders, config, &held, keys)?;
         Ok(Settled::Changed(keys, renewed))
     } else if renew_at > 0 && most_entries(&standing.saved).value() > renew_at {
-        settle_long(rt, config, renew_at, &held)
+        settle_long(rt, folders, config, renew_at, &held)
     } else {
         Ok(Settled::Same)
     }
@@ -152,10 +162,12 @@ pub fn settle_by_reading<R: Files<File = File> + AllocGlobal>(
 /// any do.
 fn begin_without<R: Files<File = File> + AllocGlobal>(
     rt: &R,
+    folders: &[String],
     config: &Config,
     held: &Held,
     keys: &ChangedKeys,
 ) -> Result<Renewed, RenewFault>
+    requires folders { 1 ≤ length folders.now }
     requires nodes { IsGroupSize (length config.now.listen.items) }
     requires keys { keys.now.keys.items
         ≡ changed_keys held.now.store config.now.setup (length config.now.listen.items) }
@@ -165,7 +177,7 @@ fn begin_without<R: Files<File = File> + AllocGlobal>(
     requires lost { held.now.group.standing.lost.journals.items ≢ [] }
     ensures without { IfOk result
         (IsWithout config.now.setup (length config.now.listen.items) keys.now) }
-    ensures unnamed { IfErr result (IsUnnamedAt (string_bytes config.now.store)) }
+    ensures unnamed { IfErr result (IsUnnamedIn (map string_bytes folders.now)) }
 {
     let alloc = rt.alloc();
     let Standing { saved, lost } = &held.group.standing;
@@ -173,17 +185,19 @@ fn begin_without<R: Files<File = File> + AllocGlobal>(
         Ok(plan) => plan,
         Err(fault) => return Err(fault.for_loss(lost.again(alloc)?)),
     };
-    let renewed = carry_out(rt, config, held, &plan)?;
+    let renewed = carry_out(rt, folders, config, held, &plan)?;
     Ok(renewed)
 }
 
 /// The log of a store of which the values of these keys differ is begun anew.
 fn begin_changed<R: Files<File = File> + AllocGlobal>(
     rt: &R,
+    folders: &[String],
     config: &Config,
     held: &Held,
     keys: ChangedKeys,
 ) -> Result<(ChangedKeys, Renewed), RenewFault>
+    requires folders { 1 ≤ length folders.now }
     requires nodes { IsGroupSize (length config.now.listen.items) }
     requires keys { keys.keys.items
         ≡ changed_keys held.now.store config.now.setup (length config.now.listen.items) }
@@ -193,24 +207,26 @@ fn begin_changed<R: Files<File = File> + AllocGlobal>(
     requires few { length held.now.group.standing.saved.items ≤ 7 }
     ensures changed { IfOk result
         (λ begun. IsChanged config.now.setup (length config.now.listen.items) begun.0 begun.1) }
-    ensures unnamed { IfErr result (IsUnnamedAt (string_bytes config.now.store)) }
+    ensures unnamed { IfErr result (IsUnnamedIn (map string_bytes folders.now)) }
 {
     let saved = &held.group.standing.saved;
     let plan = match plan_for(rt.alloc(), config, &[], &held.store, saved) {
         Ok(plan) => plan,
         Err(fault) => return Err(fault.for_change(keys)),
     };
-    let renewed = carry_out(rt, config, held, &plan)?;
+    let renewed = carry_out(rt, folders, config, held, &plan)?;
     Ok((keys, renewed))
 }
 
 /// A store goes on, a log of which has more entries than so many: begun anew, where that is shorter.
 fn settle_long<R: Files<File = File> + AllocGlobal>(
     rt: &R,
+    folders: &[String],
     config: &Config,
     renew_at: u64,
     held: &Held,
 ) -> Result<Settled, RenewFault>
+    requires folders { 1 ≤ length folders.now }
     requires nodes { IsGroupSize (length config.now.listen.items) }
     requires count { length held.now.group.standing.saved.items ≡ held.now.store.nodes }
     requires first { 1 ≤ length held.now.group.standing.saved.items }
@@ -220,11 +236,11 @@ fn settle_long<R: Files<File = File> + AllocGlobal>(
     requires long { renew_at < most_entries held.now.group.standing.saved.items }
     ensures settled { IfOk result
         (IsSettled config.now.setup (length config.now.listen.items) renew_at) }
-    ensures unnamed { IfErr result (IsUnnamedAt (string_bytes config.now.store)) }
+    ensures unnamed { IfErr result (IsUnnamedIn (map string_bytes folders.now)) }
 {
     let (store, group) = (&held.store, held.group.standing.saved.as_slice());
     match short_plan(rt.alloc(), config, store, group, renew_at) {
-        Ok(plan) => Ok(Settled::Long(carry_out(rt, config, held, &plan)?)),
+        Ok(plan) => Ok(Settled::Long(carry_out(rt, folders, config, held, &plan)?)),
         Err(fault) if fault.is_of_log() => Ok(Settled::StaysLong(fault)),
         Err(fault) => Err(fault),
     }

@@ -44,10 +44,10 @@ pub struct Standing {
     pub lost: LostJournals,
 }
 
-/// What stands for the journals of a group in a folder, more than half of which are whole.
+/// What stands for the journals of a group in these folders, more than half of which are whole.
 pub fn stand_for(
     alloc: Global,
-    folder: &str,
+    folders: &[String],
     journals: &[NodeJournal],
 ) -> Result<Standing, RenewFault>
     requires few { length journals.now ≤ 7 }
@@ -59,7 +59,7 @@ pub fn stand_for(
     push_losses(&mut lost, journals, journals)?;
     if lost.len() * 2 >= journals.len() {
         let lost = LostJournals { journals: lost };
-        return Err(RenewFault::TooFew(TooFew::new(alloc, folder, lost)?));
+        return Err(RenewFault::TooFew(TooFew::new(alloc, folders, lost)?));
     }
     let mut saved = Vec::new(alloc);
     push_standing(alloc, &mut saved, journals, journals)?;

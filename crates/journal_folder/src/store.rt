@@ -1,12 +1,14 @@
-//! The store in a folder: what it says of itself, or what it is taken to be.
+//! The store in some folders: what it says of itself, or what it is taken to be.
 ghost use Rattle.std.specs.Prelude.{◌≡◌, ◌≤◌, IfErr, IfOk, length};
 ghost use Rattle.raft_log.specs.Peers.{IsGroupSize};
 ghost use Rattle.journal_folder.specs.Faults.{IsOfFiles};
 ghost use Rattle.journal_folder.specs.Stores.{IsNext, holding, next_of_before, store_of};
 
 use crate::fault::RenewFault;
+use crate::folders::folder_of;
+use crate::mixed::Mixed;
 use crate::nodes::all_nodes;
-use crate::store_file::read_setup;
+use crate::store_file::{Described, first_described, read_setup, setup_path};
 use bouncer_config::Config;
 use buffer_commands::Setup;
 use raft_log::{GroupSize, NodeId};
@@ -14,10 +16,10 @@ use run_plan::journal_path;
 use std::alloc::{AllocError, Global};
 use std::fs;
 use std::fs::Files;
-use store_setup::{StoreSetup, changed};
+use store_setup::{StoreSetup, changed, spell};
 use wire_bytes::Number;
 
-/// What lies in a folder.
+/// What lies in the folders of a store.
 #[derive(Drop)]
 pub struct Found {
     /// What the store says of itself, if it does.
@@ -50,21 +52,103 @@ pub fn size_of(config: &Config) -> GroupSize
     size
 }
 
-/// What lies in a folder.
-pub fn find<R: Files + AllocGlobal>(rt: &R, folder: &str) -> Result<Found, RenewFault>
+/// What lies in the folders of a store. `Mixed` where they are not those of one.
+pub fn find<R: Files + AllocGlobal>(rt: &R, folders: &[String]) -> Result<Found, RenewFault>
+    requires { 1 ≤ length folders.now }
     ensures limit { IfOk result (λ found. found.journals ≤ 7) }
     ensures fault { IfErr result IsOfFiles }
 {
     let mut journals = 0u8;
     for node in &all_nodes(rt.alloc())? {
-        if is_there(rt, folder, *node)? {
+        if is_in_place(rt, folders, *node)? {
             journals = node.value();
         }
     }
-    Ok(Found {
-        store: read_setup(rt, folder)?,
-        journals,
-    })
+    // where there are no journals, each folder is described anew
+    let store = if journals == 0 {
+        first_store(rt, folders)?
+    } else {
+        store_in_all(rt, folders)?
+    };
+    Ok(Found { store, journals })
+}
+
+/// Whether a node's journal lies in its folder. `Mixed` where it lies in another one.
+fn is_in_place<R: Files + AllocGlobal>(
+    rt: &R,
+    folders: &[String],
+    node: NodeId,
+) -> Result<bool, RenewFault>
+    requires { 1 ≤ length folders.now }
+    ensures { IfErr result IsOfFiles }
+{
+    let alloc = rt.alloc();
+    let own = folder_of(folders, node);
+    for folder in folders {
+        let other = folder.as_str();
+        if other != own && is_there(rt, other, node)? {
+            return Err(RenewFault::Mixed(Mixed::Misplaced(
+                journal_path(alloc, other, node)?,
+                String::from_str(alloc, own)?,
+            )));
+        }
+    }
+    is_there(rt, own, node)
+}
+
+/// What the store says of itself in the first of these folders in which it does.
+fn first_store<R: Files + AllocGlobal>(
+    rt: &R,
+    folders: &[String],
+) -> Result<Option<StoreSetup>, RenewFault>
+    ensures { IfErr result IsOfFiles }
+{
+    match first_described(rt, folders)? {
+        Some(described) => Ok(Some(described.store)),
+        None => Ok(None),
+    }
+}
+
+/// What the store in these folders says of itself, if it does. `Mixed` where two of them say something else, and where
+/// one that has a journal says nothing while another one does.
+fn store_in_all<R: Files + AllocGlobal>(
+    rt: &R,
+    folders: &[String],
+) -> Result<Option<StoreSetup>, RenewFault>
+    ensures { IfErr result IsOfFiles }
+{
+    let alloc = rt.alloc();
+    let Some(Described { path, store }) = first_described(rt, folders)? else {
+        return Ok(None);
+    };
+    let spelled = spell(alloc, &store)?;
+    for folder in folders {
+        let other = setup_path(alloc, folder.as_str())?;
+        if other.as_str() == path.as_str() {
+            continue;
+        }
+        match read_setup(rt, folder.as_str())? {
+            Some(setup) if *spell(alloc, &setup)? == *spelled => {}
+            Some(_) => return Err(RenewFault::Mixed(Mixed::Differ(path, other))),
+            None if has_journal(rt, folder.as_str())? => {
+                return Err(RenewFault::Mixed(Mixed::Undescribed(other, path)));
+            }
+            None => {}
+        }
+    }
+    Ok(Some(store))
+}
+
+/// Whether a journal of any node lies in a folder.
+fn has_journal<R: Files + AllocGlobal>(rt: &R, folder: &str) -> Result<bool, RenewFault>
+    ensures { IfErr result IsOfFiles }
+{
+    for node in &all_nodes(rt.alloc())? {
+        if is_there(rt, folder, *node)? {
+            return Ok(true);
+        }
+    }
+    Ok(false)
 }
 
 /// Whether a node's journal lies in a folder.

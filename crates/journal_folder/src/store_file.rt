@@ -1,5 +1,5 @@
 //! The file in which a store says what it is.
-ghost use Rattle.std.specs.Prelude.{◌≡◌, IfErr, IfOk, string_bytes};
+ghost use Rattle.std.specs.Prelude.{◌≡◌, IfErr, IfOk, length, string_bytes};
 ghost use Rattle.journal_folder.specs.Faults.{IsOfFiles};
 ghost use Rattle.journal_folder.specs.Stores.{setup_path};
 
@@ -17,31 +17,11 @@ use store_setup::{StoreSetup, read, spell};
 /// Nobody but its owner reads it: the nick and the channels stand in it.
 const OWNERS: u32 = 0o600;
 
-/// A folder whose store says what it is, and the file in which it does, open and locked.
+/// What a store says of itself in the file of a path.
 #[derive(Drop)]
 pub struct Described {
-    folder: String,
-    file: File,
-}
-
-impl Described {
-    /// The folder.
-    pub fn folder(&self) -> &str
-        ensures { result.now ≡ string_bytes self.now.folder }
-    {
-        self.folder.as_str()
-    }
-
-    /// The file, so that it may be removed again.
-    pub fn made(&self, alloc: Global) -> Result<MadeFile, RenewFault>
-        ensures { IfErr result IsOfFiles }
-    {
-        let path = setup_path(alloc, self.folder.as_str())?;
-        match MadeFile::new(alloc, &self.file, path.as_str()) {
-            Ok(made) => Ok(made),
-            Err(error) => Err(RenewFault::System(path, error)),
-        }
-    }
+    pub path: String,
+    pub store: StoreSetup,
 }
 
 /// The path of the file in a folder.
@@ -70,21 +50,71 @@ pub fn read_setup<R: Files + AllocGlobal>(
     }
 }
 
-/// The store in a folder says this of itself from here on. A crash leaves what it said before, or this.
+/// What the store says of itself in the first of these folders in which it does.
+pub fn first_described<R: Files + AllocGlobal>(
+    rt: &R,
+    folders: &[String],
+) -> Result<Option<Described>, RenewFault>
+    ensures { IfErr result IsOfFiles }
+{
+    for folder in folders {
+        if let Some(store) = read_setup(rt, folder.as_str())? {
+            let path = setup_path(rt.alloc(), folder.as_str())?;
+            return Ok(Some(Described { path, store }));
+        }
+    }
+    Ok(None)
+}
+
+/// The store in each of these folders says this of itself from here on. The files in which it does, open and locked.
+/// Where it fails they are gone again.
+pub fn describe_all<R: Files<File = File> + AllocGlobal>(
+    rt: &R,
+    folders: &[String],
+    store: &StoreSetup,
+) -> Result<Vec<MadeFile>, RenewFault>
+    ensures count { IfOk result (λ made. length made.items ≡ length folders.now) }
+    ensures fault { IfErr result IsOfFiles }
+{
+    let mut made = Vec::with_capacity(rt.alloc(), folders.len())?;
+    for folder in folders {
+        let described = describe(rt, folder.as_str(), store);
+        match described {
+            Ok(file) => made.push(file).map_err(|_| RenewFault::Memory)?,
+            Err(fault) => {
+                remove_all(rt, &made);
+                return Err(fault);
+            }
+        }
+    }
+    Ok(made)
+}
+
+/// Files that were made are gone again, as far as the system does as it is told.
+fn remove_all<R: Files>(rt: &R, made: &[MadeFile]) {
+    for file in made {
+        let _ = file.remove(rt);
+    }
+}
+
+/// The store in a folder says this of itself from here on. A crash leaves what it said before, or this. The file in
+/// which it does, open and locked.
 pub fn describe<R: Files<File = File> + AllocGlobal>(
     rt: &R,
     folder: &str,
     store: &StoreSetup,
-) -> Result<Described, RenewFault>
+) -> Result<MadeFile, RenewFault>
     ensures { IfErr result IsOfFiles }
 {
     let alloc = rt.alloc();
     let path = setup_path(alloc, folder)?;
     let new = format!(in alloc; "{folder}/setup.new")?;
     let bytes = spell(alloc, store)?;
-    let folder = String::from_str(alloc, folder)?;
     match put_in_place(rt, new.as_str(), path.as_str(), &bytes) {
-        Ok(Some(file)) => Ok(Described { folder, file }),
+        Ok(Some(file)) => match MadeFile::new(alloc, &file, path.as_str()) {
+            Ok(made) => Ok(made),
+            Err(error) => Err(RenewFault::System(path, error)),
+        },
         Ok(None) => Err(RenewFault::Busy(path)),
         Err(error) => {
             // nobody uses what lies there

@@ -1,9 +1,10 @@
 -- What a plan says: who the bouncer is, where the server and its own nodes are, and what it writes where. No password is among what it is made from.
-use Rattle.std.specs.Prelude.{ℕ, suc, Bool, true, false, List, [], ◌∷◌, ◌++◌, Option, Some, None, is_some, option_map, string_bytes, codes, decimal}
+use Rattle.std.specs.Prelude.{ℕ, suc, Bool, true, false, List, [], ◌∷◌, ◌++◌, Option, Some, None, is_some, map, option_map, string_bytes, codes, decimal}
 use Rattle.buffer_commands.specs.Settings.{Settings}
 use Rattle.bouncer_config.specs.declared.config.Config.{Config}
 use Rattle.bouncer_config.specs.declared.input_end.InputEnd.{InputEnd}
 use Rattle.bouncer_config.specs.declared.input_end.InputEnd.TheVariants.{Stops, Ignored}
+use Rattle.bouncer_config.specs.Placing.{folder_of}
 use Rattle.run_plan.specs.Paths.{journal_path}
 
 -- a line of this name and this content
@@ -38,10 +39,10 @@ abbrev pub node_content : List ℕ → ℕ → ℕ → List ℕ
 node_content folder node port = codes "clients at " ++ address port ++ codes ", journal " ++ journal_path folder node
 
 -- a line for each node, from this one on
-abbrev pub node_lines : List ℕ → ℕ → List ℕ → List ℕ
-node_lines folder node [] = []
-node_lines folder node (port ∷ ports) =
-    line (codes "node " ++ decimal node) (node_content folder node port) ++ node_lines folder (suc node) ports
+abbrev pub node_lines : List (List ℕ) → ℕ → List ℕ → List ℕ
+node_lines folders node [] = []
+node_lines folders node (port ∷ ports) =
+    line (codes "node " ++ decimal node) (node_content (folder_of folders node) node port) ++ node_lines folders (suc node) ports
 
 -- where the record is written, if one is
 abbrev pub record_path : Option (List ℕ) → List ℕ
@@ -67,8 +68,8 @@ pub record Planned : Type 0 where
   pub sends_password : Bool
   -- the nodes' ports, node 1's first
   pub listen : List ℕ
-  -- the folder of the journals, and the file of the record, if there is one
-  pub store : List ℕ
+  -- the folders of the journals, and the file of the record, if there is one
+  pub store : List (List ℕ)
   pub record_file : Option (List ℕ)
   pub input_end : InputEnd
 
@@ -80,7 +81,7 @@ planned_of c =
       upstream = c.upstream;
       sends_password = is_some c.upstream_password;
       listen = c.listen.items;
-      store = string_bytes c.store;
+      store = map string_bytes c.store.items;
       record_file = option_map string_bytes c.record;
       input_end = c.input_end;
     }

@@ -1,11 +1,11 @@
 //! The lines of a plan.
-ghost use Rattle.std.specs.Prelude.{◌≡◌, ◌++◌, ◌+◌, ◌≤◌, IfOk, OnOk, is_some, length, option_map, string_bytes};
+ghost use Rattle.std.specs.Prelude.{◌≡◌, ◌++◌, ◌+◌, ◌≤◌, IfOk, OnOk, is_some, length, map, option_map, string_bytes};
 ghost use Rattle.raft_log.specs.Peers.{IsGroupSize};
 ghost use Rattle.run_plan.specs.Plans.{all_names, input_word, node_content, node_lines, plan, planned_of, record_path, server, sizes};
 
 use crate::paths::journal_path;
 use crate::text::{push_address, push_line, push_names, push_number};
-use bouncer_config::{Address, Config, InputEnd};
+use bouncer_config::{Address, Config, InputEnd, folder_of};
 use buffer_commands::Setup;
 use raft_log::NodeId;
 use std::alloc::{AllocError, Global};
@@ -20,7 +20,7 @@ pub fn plan(alloc: Global, config: &Config) -> Result<Vec<u8>, AllocError>
     push_line(&mut out, b"nick", setup.nick().as_bytes())?;
     push_line(&mut out, b"channels", &channels(alloc, setup)?)?;
     push_line(&mut out, b"server", &server(alloc, config)?)?;
-    push_nodes(&mut out, alloc, config.store.as_str(), 1, &config.listen)?;
+    push_nodes(&mut out, alloc, &config.store, 1, &config.listen)?;
     push_line(&mut out, b"record", record(&config.record))?;
     push_line(&mut out, b"buffers", &buffers(alloc, setup)?)?;
     push_line(&mut out, b"standard input", input(config.input_end))?;
@@ -55,14 +55,14 @@ fn server(alloc: Global, config: &Config) -> Result<Vec<u8>, AllocError>
 fn push_nodes(
     out: &mut Vec<u8>,
     alloc: Global,
-    folder: &str,
+    folders: &[String],
     first: u8,
     listen: &[Address],
 ) -> Result<(), AllocError>
     requires first { 1 ≤ first }
     requires last { first + length listen.now ≤ 8 }
     ensures { OnOk result (out.new.items ≡ out.old.items
-        ++ node_lines folder.now first listen.now) }
+        ++ node_lines (map string_bytes folders.now) first listen.now) }
 {
     match listen {
         [] => Ok(()),
@@ -70,8 +70,9 @@ fn push_nodes(
             let node = NodeId::new(first);
             let mut name = Vec::from_slice(alloc, b"node ")?;
             push_number(&mut name, first as u64)?;
-            push_line(out, &name, &node_content(alloc, folder, node, *at)?)?;
-            push_nodes(out, alloc, folder, first + 1, listen)
+            let content = node_content(alloc, folder_of(folders, node), node, *at)?;
+            push_line(out, &name, &content)?;
+            push_nodes(out, alloc, folders, first + 1, listen)
         }
     }
 }
