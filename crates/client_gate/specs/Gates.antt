@@ -1,5 +1,5 @@
 -- What a gate is between calls, and what each call makes of it and answers.
-use Rattle.std.specs.Prelude.{ℕ, ◌+◌, Bool, true, false, if◌then◌else◌, nat_le, List, [], ◌∷◌, ◌++◌, length, Option, Some, None, codes, ⊤}
+use Rattle.std.specs.Prelude.{ℕ, ◌+◌, Bool, true, false, ◌&&◌, if◌then◌else◌, nat_le, List, [], ◌∷◌, ◌++◌, length, Option, Some, None, codes, ⊤}
 use Rattle.machine_laws.specs.Origins.{same_origin}
 use Rattle.irc_line.specs.declared.item.Item.{Item}
 use Rattle.buffer_commands.specs.declared.command.Action.TheVariants as action
@@ -36,6 +36,11 @@ pub record Given : Type 0 where
 abbrev pub fresh : Gate
 fresh =
     record { phase = Arriving (record { password = None; nick = false; user = false }); waiting = []; numbered = 0; closed = false }
+
+-- the password of a client that has come so far was looked at, and did not let it in: NICK and USER were seen, and it is not attached
+abbrev pub is_turned_down : Phase → Bool
+is_turned_down (Arriving arrival) = arrival.nick && arrival.user
+is_turned_down _ = false
 
 -- nothing
 abbrev pub nothing : Given

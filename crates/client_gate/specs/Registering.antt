@@ -48,14 +48,14 @@ abbrev pub last_admission : List ℕ → Option (List ℕ) → Option (Option (L
 last_admission right None = None
 last_admission right (Some pass) = admission right pass
 
--- the client is registered and attaches, by its name, if it gave one; or the connection closes
-abbrev pub let_in : Settings → Option (Option (List ℕ)) → List Deed
-let_in s None = Write incorrect ∷ Close ∷ []
-let_in s (Some id) = Write (welcome s.nick) ∷ Move Attached ∷ Ask (action.Attach id) ∷ []
+-- the client is registered and attaches, by its name, if it gave one; or the connection closes, of a client of which it is kept what came
+abbrev pub let_in : Settings → Arrival → Option (Option (List ℕ)) → List Deed
+let_in s arrival None = Write incorrect ∷ Move (Arriving arrival) ∷ Close ∷ []
+let_in s arrival (Some id) = Write (welcome s.nick) ∷ Move Attached ∷ Ask (action.Attach id) ∷ []
 
 -- NICK and USER were seen
 abbrev pub admitted : Settings → Arrival → List Deed
-admitted s arrival = let_in s (last_admission s.password arrival.password)
+admitted s arrival = let_in s arrival (last_admission s.password arrival.password)
 
 -- NICK or USER was seen now
 abbrev pub seen : Settings → Arrival → List Deed

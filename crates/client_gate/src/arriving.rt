@@ -125,7 +125,7 @@ fn see(
         (seen settings.now arrival)) }
 {
     if arrival.nick && arrival.user {
-        admit(alloc, turn, settings, &arrival)
+        admit(alloc, turn, settings, arrival)
     } else {
         turn.move_to(Phase::Arriving(arrival));
         Ok(())
@@ -137,11 +137,11 @@ fn admit(
     alloc: Global,
     turn: &mut Turn,
     settings: &Settings,
-    arrival: &Arrival,
+    arrival: Arrival,
 ) -> Result<(), AllocError>
     requires { has_left turn.old.phase ≡ false }
     ensures { OnOk result (turn.new ≡ all_done settings.now.nick turn.old
-        (admitted settings.now arrival.now)) }
+        (admitted settings.now arrival)) }
 {
     match arrival.admission(alloc, &settings.password)? {
         Some(id) => {
@@ -151,6 +151,7 @@ fn admit(
         }
         None => {
             turn.reply(b"464", &[ANYONE, INCORRECT])?;
+            turn.move_to(Phase::Arriving(arrival));
             turn.close();
             Ok(())
         }

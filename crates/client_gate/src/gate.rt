@@ -70,7 +70,7 @@ impl ClientGate {
     ghost use Rattle.client_gate.specs.declared.settings.Settings.{Settings};
     ghost use Rattle.client_gate.specs.Answers.{given_in};
     ghost use Rattle.client_gate.specs.Calls.{Call, End, Feed, Hear, KeepsGate, Refused, Stands, Takes, fed_answer, gate};
-    ghost use Rattle.client_gate.specs.Gates.{WritesNothing, after_end, after_items, begun, given_effect, given_items, last_request, shut};
+    ghost use Rattle.client_gate.specs.Gates.{WritesNothing, after_end, after_items, begun, given_effect, given_items, is_turned_down, last_request, shut};
     ghost use Rattle.client_gate.specs.Made.{made};
     ghost use Rattle.client_gate.specs.Outcomes.{HasPlace, IsOutcome, kept_of};
     ghost use Rattle.client_gate.specs.Serving.{all_fed};
@@ -160,6 +160,17 @@ impl ClientGate {
         ensures limit { result ≤ waiting_room }
     {
         self.waiting.len()
+    }
+
+    /// Whether the client's password was looked at, and did not let it in.
+    pub fn is_turned_down(&self) -> bool
+        ensures { (s : Settings) (calls : List Call) → Stands s calls self.now →
+            result ≡ is_turned_down (gate s calls).phase }
+    {
+        match &self.phase {
+            Phase::Arriving(arrival) => arrival.nick && arrival.user,
+            Phase::Attached | Phase::Left => false,
+        }
     }
 
     /// Ends the gate of a connection that is gone: the Leave of a client that attached and did not

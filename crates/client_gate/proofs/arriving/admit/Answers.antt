@@ -1,6 +1,7 @@
 use Rattle.std.proofs.Common.{◌≡◌, sym, ap, ◌∙◌}
 use Rattle.client_gate.specs.Replies.{welcome}
-use Rattle.client_gate.specs.Turns.{closed, written}
+use Rattle.client_gate.specs.declared.phase.Phase.TheVariants.{Arriving}
+use Rattle.client_gate.specs.Turns.{closed, moved, written}
 use Rattle.client_gate.proofs.arriving.admit.Goals as goal
 
 pub returns-in_ok-reply-in-Some : goal.returns-in_ok-reply-in-Some
@@ -12,4 +13,4 @@ returns-in_ok-reply-in-Some c =
 pub returns-in_ok-reply-in-None : goal.returns-in_ok-reply-in-None
 returns-in_ok-reply-in-None c =
     let wrong = sym c.in_ok-id.ensures ∙ c.in-None.is in
-    rw wrong (c.close.ensures ∙ ap closed c.in_ok-reply-in-None.ensures)
+    rw wrong (c.close.ensures ∙ ap closed (c.move_to-in-None.ensures ∙ ap (moved (Arriving c.args.arrival)) c.in_ok-reply-in-None.ensures))
