@@ -1,5 +1,5 @@
 -- Each request of a client is told once, where nothing is asked again.
-use Rattle.std.proofs.Common.{◌≡◌, ◌∙◌, ◌++◌, ℕ, Bool, true, false, List, [], ◌∷◌, Option, Some, None, refl, sym, ap, subst, ⊎_elim}
+use Rattle.std.proofs.Common.{◌≡◌, ◌∙◌, ◌++◌, ℕ, Bool, true, false, ◌||◌, List, [], ◌∷◌, Option, Some, None, refl, sym, ap, subst, ⊎_elim}
 use Rattle.std.specs.Prelude.{option_to_list, if◌then◌else◌}
 use Rattle.std.specs.Global.{Vec}
 use Rattle.std.proofs.lemmas.List.{append_assoc, append-nil, map-append}
@@ -15,19 +15,20 @@ use Rattle.client_gate.specs.declared.fed.Fed.{Fed}
 use Rattle.client_gate.specs.declared.request.Request.{Request}
 use Rattle.client_gate.specs.declared.settings.Settings.{Settings}
 use Rattle.client_gate.specs.Calls.{Call, End, Feed, Hear, Refused, Stands, fed_answer, gate}
-use Rattle.client_gate.specs.Gates.{GateEffect, Given, given_effect, last_request}
+use Rattle.client_gate.specs.Gates.{GateEffect, Given, given_effect, is_turned_down, last_request}
+use Rattle.client_gate.specs.Answers.{given_in}
 use Rattle.client_gate.specs.Numbers.{all_requests}
 use Rattle.driver.specs.declared.client.Client.{Client}
 use Rattle.driver.specs.declared.order.Order.{Order}
 use Rattle.driver.specs.declared.order.Order.TheVariants.{Write}
 use Rattle.driver.specs.Asking.{HearsNode, anew_if, asks_if, held_if, is_stuck, may_be_lost, now_asked}
-use Rattle.driver.specs.Clients.{asked_all, asks_of, is_cut, is_leaving, last_asks, parting_unless, passed, welcome, write_some, written}
+use Rattle.driver.specs.Clients.{asked_all, asks_of, is_cut, is_leaving, is_shut, is_some_asked, last_asks, parting_unless, passed, welcome, write_some, written}
 use Rattle.driver.specs.Crowds.{Ticks}
 use Rattle.driver.specs.Once.{AreQuiet, AsksOnce, Event, Happens, TellsOnce, asks_again, number_told, numbers_of, numbers_told}
 use Rattle.driver.specs.Leaving.{IsDismissed, Leaves, is_overdue}
 use Rattle.driver.specs.Once.{Dismissed, Goes, Learns, Speaks, Waits, Words}
-use Rattle.driver.specs.Serving.{HasPassed, Hears, HearsEffect, IsCutOff, IsLost, IsParted, PartsIf, Receives, ended, ended_if, is_done}
-use Rattle.driver.specs.Silence.{IsKept, IsPing, IsSentOff, held_back, is_silent, is_too_slow, waited}
+use Rattle.driver.specs.Serving.{HasPassed, Hears, HearsEffect, IsCutOff, IsLost, IsParted, PartsIf, Receives, TakesBy, ended, ended_if, is_done}
+use Rattle.driver.specs.Silence.{IsKept, IsPing, IsSentOff, held_back, is_silent, is_to_go, waited}
 use Rattle.driver.specs.Telling.{Ordered, ordered}
 
 -- what orders tell, and those behind them
@@ -60,36 +61,39 @@ told_written : (gone : Bool) (client : ℕ) (bytes : Vec ℕ) → numbers_told (
 told_written true client bytes = refl
 told_written false client bytes = told_some client bytes bytes.items
 
-told_last : (origin : Origin) (at : Moment) (last : Option Request) → numbers_told (parting_unless false origin at last) ≡ numbers_of (option_to_list last)
+told_last : (attached : Bool) (origin : Origin) (at : Moment) (last : Option Request) → numbers_told (parting_unless false attached origin at last) ≡ numbers_of (option_to_list last)
 unfolding parting_unless
-told_last origin at None = refl
-told_last origin at (Some request) = refl
+told_last true origin at None = refl
+told_last true origin at (Some request) = refl
+told_last false origin at None = refl
+told_last false origin at (Some request) = refl
 
 -- a gate that is ended numbers what the parting tells
-ended_once : (gone : Bool) (s : Settings) (calls : List Call) (origin : Origin) (at : Moment) → numbers_of (all_requests s (ended gone calls)) ≡ numbers_of (all_requests s calls) ++ numbers_told (parting_unless gone origin at (last_request (gate s calls)))
+ended_once : (gone attached : Bool) (s : Settings) (calls : List Call) (origin : Origin) (at : Moment) → numbers_of (all_requests s (ended gone calls)) ≡ numbers_of (all_requests s calls) ++ numbers_told (parting_unless gone attached origin at (last_request (gate s calls)))
 unfolding all_requests parting_unless
-ended_once true s calls origin at = sym (append-nil (numbers_of (all_requests s calls)))
-ended_once false s calls origin at =
+ended_once true attached s calls origin at = sym (append-nil (numbers_of (all_requests s calls)))
+ended_once false attached s calls origin at =
     map-append (λ (request : Request). request.number) (all_requests s calls) (option_to_list (last_request (gate s calls)))
-    ∙ ap (λ numbers. numbers_of (all_requests s calls) ++ numbers) (sym (told_last origin at (last_request (gate s calls))))
+    ∙ ap (λ numbers. numbers_of (all_requests s calls) ++ numbers) (sym (told_last attached origin at (last_request (gate s calls))))
 
 -- where it is closed
-closed_once : (close gone : Bool) (s : Settings) (calls : List Call) (origin : Origin) (at : Moment) → numbers_of (all_requests s (ended_if close gone calls)) ≡ numbers_of (all_requests s calls) ++ numbers_told (if close then parting_unless gone origin at (last_request (gate s calls)) else [])
-closed_once false gone s calls origin at = sym (append-nil (numbers_of (all_requests s calls)))
-closed_once true gone s calls origin at = ended_once gone s calls origin at
+closed_once : (close gone attached : Bool) (s : Settings) (calls : List Call) (origin : Origin) (at : Moment) → numbers_of (all_requests s (ended_if close gone calls)) ≡ numbers_of (all_requests s calls) ++ numbers_told (if close then parting_unless gone attached origin at (last_request (gate s calls)) else [])
+closed_once false gone attached s calls origin at = sym (append-nil (numbers_of (all_requests s calls)))
+closed_once true gone attached s calls origin at = ended_once gone attached s calls origin at
 
 -- what a gate answered is told, where it numbered just that
 numbered_once : (s : Settings) (calls : List Call) (c : Client) (at : Moment) (fed : Fed) (earlier : List ℕ) → numbers_of (all_requests s calls) ≡ earlier ++ numbers_of fed.requests.items → numbers_of (all_requests s (ended_if (is_cut fed) c.is_gone calls)) ≡ earlier ++ numbers_told (passed c at (last_request (gate s calls)) fed)
 numbered_once s calls c at fed earlier is =
     let bytes = written c.is_gone c.origin.2 fed.reply in
     let asks = asked_all c.is_attached c.origin at fed.requests.items in
-    let end = if is_cut fed then parting_unless c.is_gone c.origin at (last_request (gate s calls)) else [] in
+    let attached = c.is_attached || is_some_asked fed.requests.items in
+    let end = if is_cut fed then parting_unless c.is_gone attached c.origin at (last_request (gate s calls)) else [] in
     let requests = numbers_of fed.requests.items in
     let told =
     told_append (bytes ++ asks) end
     ∙ ap (λ numbers. numbers ++ numbers_told end) (told_append bytes asks ∙ ap (λ numbers. numbers ++ numbers_told asks) (told_written c.is_gone c.origin.2 fed.reply) ∙ told_all c.is_attached c.origin at fed.requests.items)
     in
-    closed_once (is_cut fed) c.is_gone s calls c.origin at
+    closed_once (is_cut fed) c.is_gone attached s calls c.origin at
     ∙ ap (λ numbers. numbers ++ numbers_told end) is
     ∙ append_assoc earlier requests (numbers_told end)
     ∙ ap (λ numbers. earlier ++ numbers) (sym told)
@@ -138,13 +142,13 @@ refused_numbers s calls = ap (λ (requests : List Request). numbers_of requests)
 -- it is parted from
 parted_once : (s : Settings) (calls behind : List Call) (at : Moment) (c new : Client) (before after : Ordered) → numbers_of (all_requests s behind) ≡ numbers_of (all_requests s calls) → IsParted at s behind c before new after → TellsOnce s calls before new after
 parted_once s calls behind at c new before after same h =
-    let told = parting_unless c.is_gone c.origin at (last_request (gate s behind)) in
+    let told = parting_unless c.is_gone c.is_attached c.origin at (last_request (gate s behind)) in
     record {
       behind = ended c.is_gone behind;
       stands = h.stands.gate;
       told = told;
       orders = h.orders;
-      once = ended_once c.is_gone s behind c.origin at ∙ ap (λ numbers. numbers ++ numbers_told told) same;
+      once = ended_once c.is_gone c.is_attached s behind c.origin at ∙ ap (λ numbers. numbers ++ numbers_told told) same;
     }
 
 cut_once : (s : Settings) (calls : List Call) (at : Moment) (c new : Client) (before after : Ordered) → IsCutOff s calls at c before new after → TellsOnce s calls before new after
@@ -182,12 +186,27 @@ parts_once : (parts : Bool) (at : Moment) (s : Settings) (calls : List Call) (ol
 parts_once false at s calls old new before after stands (same, none) = nothing_once s calls old new before after stands same none
 parts_once true at s calls old new before after stands h = parted_once s calls calls at old new before after refl h
 
-reads_by : (gone : Bool) (bytes : List ℕ) (now : ℕ) (at : Moment) (s : Settings) (calls : List Call) (old new : Client) (before after : Ordered) → is_leaving old ≡ gone → Stands s calls old.gate → Receives bytes now at s calls old before new after → TellsOnce s calls before new after
-reads_by true bytes now at s calls old new before after is stands h =
-    let (same, none) = h.leaving is in nothing_once s calls old new before after stands same none
-reads_by false bytes now at s calls old new before after is stands h =
+-- what a gate answered went on, or is kept back
+takes_once : (wrong : Bool) (answer : Given) (now : ℕ) (at : Moment) (due : ℕ) (s : Settings) (calls behind : List Call) (fed : Fed) (c new : Client) (before after : Ordered) → numbers_of (all_requests s behind) ≡ numbers_of (all_requests s calls) ++ numbers_of answer.requests → given_in fed ≡ answer → TakesBy wrong s behind fed now at due c before new after → TellsOnce s calls before new after
+takes_once false answer now at due s calls behind fed c new before after more is (orders, stands) =
+    passed_once s calls behind answer now at c new before after more (record { fed = fed; is = is; orders = orders; stands = stands })
+takes_once true answer now at due s calls behind fed c new before after more is (orders, stands) = record {
+  behind = behind;
+  stands = stands.gate;
+  told = asked_all c.is_attached c.origin at fed.requests.items;
+  orders = orders;
+  once =
+      more
+      ∙ ap (λ (given : Given). numbers_of (all_requests s calls) ++ numbers_of given.requests) (sym is)
+      ∙ ap (λ numbers. numbers_of (all_requests s calls) ++ numbers) (sym (told_all c.is_attached c.origin at fed.requests.items));
+}
+
+reads_by : (shut : Bool) (bytes : List ℕ) (now : ℕ) (at : Moment) (due : ℕ) (s : Settings) (calls : List Call) (old new : Client) (before after : Ordered) → is_shut old ≡ shut → Stands s calls old.gate → Receives bytes now at due s calls old before new after → TellsOnce s calls before new after
+reads_by true bytes now at due s calls old new before after is stands h =
+    let (same, none) = h.shut is in nothing_once s calls old new before after stands same none
+reads_by false bytes now at due s calls old new before after is stands h =
     ⊎_elim
-    (λ p. passed_once s calls (Feed bytes ∷ calls) (fed_answer s calls bytes) now at _ new before after (feed_numbers s calls bytes) p)
+    (λ p. takes_once (is_turned_down (gate s (Feed bytes ∷ calls)).phase) (fed_answer s calls bytes) now at due s calls (Feed bytes ∷ calls) p.fed _ new before after (feed_numbers s calls bytes) p.is p.takes)
     (λ p. cut_once s calls at _ new before after p)
     (h.hears is)
 
@@ -234,16 +253,16 @@ lost_by : (gone : Bool) (now : ℕ) (at : Moment) (s : Settings) (calls : List C
 lost_by true now at s calls old new before after is stands h = record {
   behind = calls;
   stands = subst (λ (client : Client). Stands s calls client.gate) (sym (h.gone is)) stands;
-  told = parting_unless old.is_gone old.origin at (last_request (gate s calls));
+  told = parting_unless old.is_gone old.is_attached old.origin at (last_request (gate s calls));
   orders = h.orders;
-  once = subst (λ (gone : Bool). numbers_of (all_requests s calls) ≡ numbers_of (all_requests s calls) ++ numbers_told (parting_unless gone old.origin at (last_request (gate s calls)))) (sym is) (ended_once true s calls old.origin at);
+  once = subst (λ (gone : Bool). numbers_of (all_requests s calls) ≡ numbers_of (all_requests s calls) ++ numbers_told (parting_unless gone old.is_attached old.origin at (last_request (gate s calls)))) (sym is) (ended_once true old.is_attached s calls old.origin at);
 }
 lost_by false now at s calls old new before after is stands h = record {
   behind = End ∷ calls;
   stands = (h.stays is).gate;
-  told = parting_unless old.is_gone old.origin at (last_request (gate s calls));
+  told = parting_unless old.is_gone old.is_attached old.origin at (last_request (gate s calls));
   orders = h.orders;
-  once = subst (λ (gone : Bool). numbers_of (all_requests s (End ∷ calls)) ≡ numbers_of (all_requests s calls) ++ numbers_told (parting_unless gone old.origin at (last_request (gate s calls)))) (sym is) (ended_once false s calls old.origin at);
+  once = subst (λ (gone : Bool). numbers_of (all_requests s (End ∷ calls)) ≡ numbers_of (all_requests s calls) ++ numbers_told (parting_unless gone old.is_attached old.origin at (last_request (gate s calls)))) (sym is) (ended_once false old.is_attached s calls old.origin at);
 }
 
 words_once : (lost : ℕ) (refused : Bool) (now : ℕ) (at : Moment) (s : Settings) (calls : List Call) (old new : Client) (before after : Ordered) → may_be_lost lost old ≡ false → Stands s calls old.gate → HearsNode lost refused now at s calls old before new after → TellsOnce s calls before new after
@@ -289,7 +308,7 @@ sent_once now at s calls old new before after stands sent =
       once = h.once;
     }
 
-ticks_by : (overdue reads slow : Bool) (timeout now : ℕ) (at : Moment) (s : Settings) (calls : List Call) (old new : Client) (before after : Ordered) → is_overdue old now ≡ overdue → is_too_slow (waited reads now old) now ≡ slow → is_stuck timeout now old ≡ false → Stands s calls old.gate → Ticks reads timeout now at s calls old before new after → TellsOnce s calls before new after
+ticks_by : (overdue reads slow : Bool) (timeout now : ℕ) (at : Moment) (s : Settings) (calls : List Call) (old new : Client) (before after : Ordered) → is_overdue old now ≡ overdue → is_to_go (waited reads now old) now ≡ slow → is_stuck timeout now old ≡ false → Stands s calls old.gate → Ticks reads timeout now at s calls old before new after → TellsOnce s calls before new after
 ticks_by true reads slow timeout now at s calls old new before after late is quiet stands t =
     lost_by old.is_gone now at s calls old new before after refl stands (t.overdue late)
 ticks_by false true true timeout now at s calls old new before after late is quiet stands t =
@@ -302,8 +321,8 @@ ticks_by false false false timeout now at s calls old new before after late is q
     kept_once timeout now at s calls (held_back now old) new before after quiet stands (t.kept late is)
 
 event_once : (event : Event) (now : ℕ) (at : Moment) (s : Settings) (calls : List Call) (old new : Client) (before after : Ordered) → asks_again event now old ≡ false → Happens event now at old before new after → Stands s calls old.gate → TellsOnce s calls before new after
-event_once (Speaks bytes) now at s calls old new before after quiet h stands =
-    reads_by (is_leaving old) bytes now at s calls old new before after refl stands (h s calls stands)
+event_once (Speaks bytes due) now at s calls old new before after quiet h stands =
+    reads_by (is_shut old) bytes now at due s calls old new before after refl stands (h s calls stands)
 event_once (Learns effect nick) now at s calls old new before after quiet h stands =
     hears_once effect nick now at s calls old new before after (h s calls stands)
 event_once Goes now at s calls old new before after quiet h stands =
@@ -313,7 +332,7 @@ event_once Dismissed now at s calls old new before after quiet h stands =
 event_once (Words lost refused) now at s calls old new before after quiet h stands =
     words_once lost refused now at s calls old new before after quiet stands (h s calls stands)
 event_once (Waits reads timeout) now at s calls old new before after quiet h stands =
-    ticks_by (is_overdue old now) reads (is_too_slow (waited reads now old) now) timeout now at s calls old new before after refl refl quiet stands (h s calls stands)
+    ticks_by (is_overdue old now) reads (is_to_go (waited reads now old) now) timeout now at s calls old new before after refl refl quiet stands (h s calls stands)
 
 pub asks_once : AsksOnce
 unfolding AreQuiet

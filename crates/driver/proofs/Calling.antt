@@ -1,6 +1,6 @@
 -- What comes of each call of a driver for the claims of a node.
 use Rattle.std.proofs.Common.{◌≡◌, ◌∙◌, ◌++◌, ℕ, ◌-◌, Bool, true, false, List, [], ◌∷◌, length, Option, Some, None, refl, sym, ap, subst, slice_get}
-use Rattle.std.specs.Prelude.{◌^◌, if◌then◌else◌, nat_lt, IfSome}
+use Rattle.std.specs.Prelude.{◌^◌, if◌then◌else◌, nat_lt, IfSome, is_some}
 use Rattle.std.specs.BTreeMap.{keys}
 use Rattle.std.specs.Global.{Vec}
 use Rattle.wire_bytes.specs.declared.moment.Moment.{Moment}
@@ -13,6 +13,10 @@ use Rattle.node_notes.specs.declared.note.Note.{Note}
 use Rattle.node_notes.specs.declared.note.Note.TheVariants as note
 use Rattle.uplink.specs.declared.input.UplinkInput.{UplinkInput}
 use Rattle.uplink.specs.declared.input.UplinkInput.TheVariants as input
+use Rattle.wire_bytes.specs.declared.origin.Origin.{Origin}
+use Rattle.driver.specs.declared.guard.Guard.{Guard}
+use Rattle.driver.specs.Guarding.{NotesIf, due_at, is_first}
+use Rattle.driver.specs.Coming.{Comes}
 use Rattle.driver.specs.declared.client.Client.{Client}
 use Rattle.driver.specs.declared.clients.Clients.{Clients}
 use Rattle.driver.specs.declared.node_monitor.NodeMonitor.{NodeMonitor}
@@ -20,7 +24,7 @@ use Rattle.driver.specs.declared.driver.Driver.{Driver}
 use Rattle.driver.specs.declared.level.Level.{Level}
 use Rattle.driver.specs.declared.link.Stage.{Stage}
 use Rattle.driver.specs.declared.link.Stage.TheVariants.{Closing, Connecting, Idle, Open}
-use Rattle.driver.specs.declared.news.News.TheVariants.{LogFills, TurnedAway}
+use Rattle.driver.specs.declared.news.News.TheVariants.{LogFills, TurnedAway, WrongPassword, WrongPasswords}
 use Rattle.driver.specs.declared.order.Order.{Order}
 use Rattle.driver.specs.declared.order.Order.TheVariants as order
 use Rattle.driver.specs.declared.settings.Settings.{Settings}
@@ -32,9 +36,9 @@ use Rattle.driver.specs.Filling.{TellsLevelIf, WatchesFor}
 use Rattle.driver.specs.Retiring.{with_seen}
 use Rattle.driver.specs.Hearing.{turned_away, turned_away_news}
 use Rattle.driver.specs.Links.{Connects, Receives, is_answer, notes_of, send_some}
-use Rattle.driver.specs.Nicks.{IsGreeted, IsWarned, RenamesBy, RenamesIf, is_renamed, nick_in}
-use Rattle.driver.specs.Clients.{is_leaving}
-use Rattle.driver.specs.Rosters.{AreOthersSame, client_at, is_attached_in}
+use Rattle.driver.specs.Nicks.{IsGreeted, IsToldOf, IsWarned, Warned, RenamesBy, RenamesIf, is_renamed, nick_in, warned}
+use Rattle.driver.specs.Clients.{is_leaving, is_shut}
+use Rattle.driver.specs.Rosters.{AreOthersSame, client_at, is_attached_in, refused_in}
 use Rattle.driver.specs.Sessions.{TakesIf, TellsAllOf, TellsIf, opened_of}
 use Rattle.driver.specs.Filling.{is_left_out}
 use Rattle.driver.specs.Telling.{Ordered, ordered}
@@ -111,14 +115,43 @@ warned_adds : (P : Order → Type 0) (short : Bool) (clients : Clients) (number 
 warned_adds P false clients number nick before after good none = nothing_adds P before after none
 warned_adds P true clients number nick before after good warned = written_adds P clients number (client_at clients number) _ before after refl good warned
 
-pub greeted_adds : (P : Order → Type 0) (was short : Bool) (clients : Clients) (number : ℕ) (nick : List ℕ) (before after : Ordered) → AllGood P clients → IsGreeted was short (client_at clients number) nick before after → Adds P before after
-greeted_adds P true short clients number nick before after good none = nothing_adds P before after none
-greeted_adds P false short clients number nick before after good g =
+told_adds : (P : Order → Type 0) (text : Option (List ℕ)) (clients : Clients) (number : ℕ) (nick : List ℕ) (before after : Ordered) → AllGood P clients → IsToldOf text (client_at clients number) nick before after → Adds P before after
+told_adds P None clients number nick before after good none = nothing_adds P before after none
+told_adds P (Some text) clients number nick before after good told = written_adds P clients number (client_at clients number) _ before after refl good told
+
+pub greeted_adds : (P : Order → Type 0) (was : Bool) (warned : Warned) (clients : Clients) (number : ℕ) (nick : List ℕ) (before after : Ordered) → AllGood P clients → IsGreeted was warned (client_at clients number) nick before after → Adds P before after
+greeted_adds P true warned clients number nick before after good none = nothing_adds P before after none
+greeted_adds P false warned clients number nick before after good g =
     adds_both P before g.ended after
     (adds_both P before g.named g.ended
     (named_adds P clients number (client_at clients number) nick before g.named refl good g.names)
     (written_adds P clients number (client_at clients number) _ g.named g.ended refl good g.ends))
-    (warned_adds P short clients number nick g.ended after good g.warns)
+    (adds_both P g.ended g.short after
+    (warned_adds P warned.short clients number nick g.ended g.short good g.warns)
+    (told_adds P warned.missing clients number nick g.short after good g.misses))
+
+-- a wrong password may be told to an operator
+first_adds : (P : Order → Type 0) (first : Bool) (origin : Origin) (before after : Ordered) → P (order.Log (WrongPassword origin)) → after ≡ ordered before (if first then order.Log (WrongPassword origin) ∷ [] else []) → Adds P before after
+unfolding AllAre
+first_adds P true origin before after good is = one_adds P (order.Log (WrongPassword origin)) before after is good
+first_adds P false origin before after good is = record { told = []; orders = is; all = tt }
+
+pub noted_adds : (P : Order → Type 0) (was : Bool) (found : Option Origin) (now : ℕ) (guard new : Guard) (before after : Ordered) → ((origin : Origin) → P (order.Log (WrongPassword origin))) → NotesIf was found now guard before new after → Adds P before after
+noted_adds P true found now guard new before after good (same, none) = nothing_adds P before after none
+noted_adds P false None now guard new before after good (same, none) = nothing_adds P before after none
+noted_adds P false (Some origin) now guard new before after good (same, is) = first_adds P (is_first guard) origin before after (good origin) is
+
+pub more_adds : (P : Order → Type 0) (none : Bool) (count : ℕ) (before after : Ordered) → P (order.Log (WrongPasswords count)) → after ≡ ordered before (if none then [] else order.Log (WrongPasswords count) ∷ []) → Adds P before after
+unfolding AllAre
+more_adds P true count before after good is = record { told = []; orders = is; all = tt }
+more_adds P false count before after good is = one_adds P (order.Log (WrongPasswords count)) before after is good
+
+-- what comes of a client's bytes besides
+pub comes_add : (P : Order → Type 0) (bytes : List ℕ) (now : ℕ) (at : Moment) (number : ℕ) (old new : Driver) → AllGood P new.clients → ((origin : Origin) → P (order.Log (WrongPassword origin))) → (c : Comes bytes now at number old new) → Adds P c.told new.orders
+comes_add P bytes now at number old new good log c =
+    adds_both P c.told c.greeted new.orders
+    (greeted_adds P (is_attached_in (client_at old.clients number)) (warned old now) new.clients number (nick_in old) c.told c.greeted good c.greets)
+    (noted_adds P (is_some (refused_in (client_at old.clients number))) (refused_in (client_at new.clients number)) now old.guard new.guard c.greeted new.orders log c.notes)
 
 pub speaks_by : (n : ℕ) (bytes : List ℕ) (now : ℕ) (at : Moment) (number : ℕ) (found : Option Client) (old new : Driver) → client_at old.clients number ≡ found → Sound n old → Speaks bytes now at number old new → Keeps n old new
 speaks_by n bytes now at number None old new is sound s =
@@ -128,9 +161,9 @@ speaks_by n bytes now at number (Some c) old new is sound s =
     let behind = crowd new.clients s.comes.told in
     let g =
     one_grows (NoClaim n) number _ _ (told_of old) behind c is is sound.good s.others s.comes.served
-    (λ gs calls client stands h. reads_own (is_leaving c) bytes now at gs calls c client old.orders s.comes.told refl stands h)
+    (λ gs calls client stands h. reads_own (is_shut c) bytes now at (due_at old.guard now) gs calls c client old.orders s.comes.told refl stands h)
     in
-    let greeted = greeted_adds (NoClaim n) (is_attached_in (client_at old.clients number)) old.is_short new.clients number (nick_in old) s.comes.told new.orders g.good s.comes.greeted in
+    let greeted = comes_add (NoClaim n) bytes now at number old new g.good (λ origin. refl) s.comes in
     let all = adds_both (NoClaim n) old.orders s.comes.told new.orders (record { told = g.told; orders = g.orders; all = g.all }) greeted in
     grows_keep n old new sound (ap (λ (driver : Driver). driver.monitors) s.rest) (record { told = all.told; orders = all.orders; all = all.all; good = g.good })
 

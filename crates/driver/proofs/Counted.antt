@@ -4,9 +4,9 @@ use Rattle.std.specs.Prelude.{◌^◌, min, not, if◌then◌else◌}
 use Rattle.std.proofs.lemmas.List.{length-append}
 use Rattle.irc_line.specs.Lines.{Parts}
 use Rattle.driver.specs.declared.outgoing.Piece.{Piece}
-use Rattle.driver.specs.declared.outgoing.Piece.TheVariants.{Joins, Says}
+use Rattle.driver.specs.declared.outgoing.Piece.TheVariants.{Joins, Opens, Says}
 use Rattle.driver.specs.Outgoing.{Waiting, asks_names, next_piece}
-use Rattle.driver.specs.Queueing.{Go, Hand, Join, SaidAreCounted, Turn, said_by, said_in, said_out, unheard_at_last, unheard_by, unheard_if, waiting_behind}
+use Rattle.driver.specs.Queueing.{Go, Hand, Join, Open, SaidAreCounted, Turn, said_by, said_in, said_out, unheard_at_last, unheard_by, unheard_if, waiting_behind}
 use Rattle.driver.specs.Telling.{one_more}
 
 abbrev most : ℕ
@@ -27,12 +27,14 @@ says_counted false line count small = refl
 
 found_counted : (found : Option Piece) (count : ℕ) → count ≤ most → unheard_if found count ≡ min (count + length (said_in found)) most
 found_counted None count small = counts_none count small
-found_counted (Some (Joins text)) count small = counts_none count small
+found_counted (Some (Opens line)) count small = counts_none count small
+found_counted (Some (Joins line)) count small = counts_none count small
 found_counted (Some (Says line)) count small = says_counted (asks_names line) line count small
 
 turn_counted : (turn : Turn) (waiting : Waiting) (count : ℕ) → count ≤ most → unheard_by turn waiting count ≡ min (count + length (said_by turn waiting)) most
+turn_counted (Open lines) waiting count small = counts_none count small
 turn_counted (Hand line) waiting count small = counts_none count small
-turn_counted (Join channel) waiting count small = counts_none count small
+turn_counted (Join channel key) waiting count small = counts_none count small
 turn_counted (Go due) waiting count small = found_counted (next_piece due waiting) count small
 
 turns_counted : (turns : List Turn) (waiting : Waiting) (count : ℕ) → count ≤ most → unheard_at_last turns waiting count ≡ min (count + length (said_out turns waiting)) most

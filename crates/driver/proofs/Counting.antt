@@ -6,7 +6,7 @@ use Rattle.driver.specs.declared.driver.Driver.{Driver}
 use Rattle.driver.specs.declared.order.Order.{Order}
 use Rattle.driver.specs.declared.order.Order.TheVariants as order
 use Rattle.driver.specs.Calls.{Call, Does, DoesAll, IsTold, Step}
-use Rattle.driver.specs.Calls.{Connect, Connected, Dismiss, End, Hand, Hear, Lose, Notice, Receive, ReceiveLine, Refuse, Take, Tick, Watch, WatchNodes}
+use Rattle.driver.specs.Calls.{Connect, Connected, Dismiss, End, Hand, Hear, Lose, Notice, Receive, ReceiveLine, Refuse, Take, Tick, Watch, WatchNodes, WatchPasswords}
 use Rattle.driver.specs.Counting.{NotesAreCounted, all_told, notes_in, notes_told}
 use Rattle.driver.specs.Telling.{Ordered, counted, counts, none_told, one_more, ordered, told_to}
 use Rattle.driver.proofs.Claiming.{apart_eq, same_eq}
@@ -123,6 +123,7 @@ step_all (Notice text) told old new does is = ordered_all old.orders new.orders 
 step_all (Dismiss now at) told old new does is = ordered_all old.orders new.orders told is
 step_all Watch told old new does is = ordered_all old.orders new.orders told is
 step_all (WatchNodes now) told old new does is = ordered_all old.orders new.orders told is
+step_all (WatchPasswords now) told old new does is = ordered_all old.orders new.orders told is
 step_all (Refuse number) told old new does is = ordered_all old.orders new.orders told is
 step_all Take told old new does is = ap in_all does.given ∙ ap (counts (in_all old.orders)) (sym is)
 

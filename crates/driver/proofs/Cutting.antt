@@ -8,12 +8,13 @@ use Rattle.std.proofs.lemmas.List.{append_assoc, append-nil}
 use Rattle.std.proofs.lemmas.List.Elements.{All-cons, All-contains, All-nil}
 use Rattle.std.proofs.lemmas.Map.Lookups.{exact_unsigned}
 use Rattle.std.proofs.lemmas.Map.Views.{btree_map_contains_key_iff}
+use Rattle.wire_bytes.specs.declared.origin.Origin.{Origin}
 use Rattle.driver.specs.declared.absence.Absence.{Absence}
 use Rattle.driver.specs.declared.client.Client.{Client}
 use Rattle.driver.specs.declared.clients.Clients.{Clients}
-use Rattle.driver.specs.declared.news.News.{News}
 use Rattle.driver.specs.declared.order.Order.{Order}
-use Rattle.driver.specs.declared.order.Order.TheVariants.{Close, Log, Write}
+use Rattle.driver.specs.declared.order.Order.TheVariants.{Close, Write}
+use Rattle.driver.specs.Clients.{left_news}
 use Rattle.driver.specs.Crowds.{CutEach, CutsClient, IsSame, Told, is_of}
 use Rattle.driver.specs.Outages.{IsToldIf}
 use Rattle.driver.specs.Rosters.{AreOthersSame, client_at}
@@ -62,6 +63,12 @@ gone_old number old new others gone n c is =
     (λ same. none_some c (client_at old n ≡ Some c) (sym (subst (λ (k : ℕ). client_at new k ≡ None) same gone) ∙ is))
     (λ apart. sym (others n apart) ∙ is)
 
+-- nor is a node up or down where a client left
+left_plain : (node : ℕ) (attached : Bool) (origin : Origin) → AllAre (Plain node true) (left_news attached origin)
+unfolding AllAre
+left_plain node true origin = ((tt, refl), tt)
+left_plain node false origin = tt
+
 told_cut : (why : Absence) (node number : ℕ) (gone : Bool) (c : Client) (old new : Told) → AreOld old.clients new.clients → client_at new.clients number ≡ None → IsToldIf gone why c old.orders new.orders → Cut node number old new
 unfolding AllAre
 told_cut why node number true c old new left none same = record {
@@ -72,9 +79,9 @@ told_cut why node number true c old new left none same = record {
   away = λ d is. none_some d (is_of d.origin node ≡ false) (sym none ∙ is);
 }
 told_cut why node number false c old new left none (line, says, orders) = record {
-  told = Write c.origin.2 line ∷ Close c.origin.2 ∷ Log (News.Left c.origin) ∷ [];
+  told = Write c.origin.2 line ∷ Close c.origin.2 ∷ left_news c.is_attached c.origin;
   orders = orders;
-  all = ((tt, refl), ((tt, refl), ((tt, refl), tt)));
+  all = ((tt, refl), ((tt, refl), left_plain node c.is_attached c.origin));
   left = left;
   away = λ d is. none_some d (is_of d.origin node ≡ false) (sym none ∙ is);
 }

@@ -12,6 +12,7 @@ use Rattle.buffer_commands.specs.declared.wire_line.WireLine.{WireLine}
 use Rattle.bouncer_tower.specs.Bodies.{TowerBody}
 use Rattle.node_notes.specs.declared.note.Note.{Note}
 use Rattle.node_notes.specs.declared.note.Note.TheVariants as note
+use Rattle.driver.specs.Guarding.{due_at}
 use Rattle.driver.specs.declared.client.Client.{Client}
 use Rattle.driver.specs.declared.clients.Clients.{Clients}
 use Rattle.driver.specs.declared.node_monitor.NodeMonitor.{NodeMonitor}
@@ -30,13 +31,13 @@ use Rattle.driver.specs.Retiring.{with_seen}
 use Rattle.driver.specs.Hearing.{boot_up, turned_away, turned_away_news}
 use Rattle.driver.specs.Links.{Receives, send_some}
 use Rattle.driver.specs.Nicks.{nick_in}
-use Rattle.driver.specs.Clients.{is_leaving}
+use Rattle.driver.specs.Clients.{is_leaving, is_shut}
 use Rattle.driver.specs.Links.{status_in}
 use Rattle.driver.specs.Rosters.{AreOthersSame, client_at, is_attached_in}
 use Rattle.driver.specs.Sessions.{TakesIf, TellsAllOf, TellsIf, opened_of}
 use Rattle.driver.specs.Telling.{Ordered, ordered}
 use Rattle.driver.proofs.Adding.{Adds, adds_both, all_written_add, nothing_adds, one_adds}
-use Rattle.driver.proofs.Calling.{greeted_adds, or_client, renames_by, visited_look}
+use Rattle.driver.proofs.Calling.{greeted_adds, or_client, renames_by, visited_look, comes_add}
 use Rattle.driver.proofs.Monitors.{ids_kept, look_at}
 use Rattle.driver.proofs.Growing.{AllAre, AllGood, Good, by_number, one_grows}
 use Rattle.driver.proofs.Owning.{lost_own, reads_own}
@@ -125,9 +126,9 @@ speaks_stay n down bytes now at number (Some c) old new is steady s =
     let behind = crowd new.clients s.comes.told in
     let g =
     one_grows (Plain n down) number _ _ (told_of old) behind c is is steady.good s.others s.comes.served
-    (λ gs calls client stands h. reads_own (is_leaving c) bytes now at gs calls c client old.orders s.comes.told refl stands h)
+    (λ gs calls client stands h. reads_own (is_shut c) bytes now at (due_at old.guard now) gs calls c client old.orders s.comes.told refl stands h)
     in
-    let greeted = greeted_adds (Plain n down) (is_attached_in (client_at old.clients number)) old.is_short new.clients number (nick_in old) s.comes.told new.orders g.good s.comes.greeted in
+    let greeted = comes_add (Plain n down) bytes now at number old new g.good (λ origin. (tt, refl)) s.comes in
     let all = adds_both (Plain n down) old.orders s.comes.told new.orders (record { told = g.told; orders = g.orders; all = g.all }) greeted in
     grows_stay n down old new steady (ap (λ (driver : Driver). driver.monitors) s.rest) (record { told = all.told; orders = all.orders; all = all.all; good = g.good })
 

@@ -1,11 +1,14 @@
 -- A node that is down is told nothing but to start again, whatever is called.
 use Rattle.std.proofs.Common.{◌≡◌, ◌∙◌, ℕ, zero, suc, ◌-◌, ◌≤◌, Bool, true, false, List, [], ◌∷◌, Option, Some, None, refl, sym, ap, subst, slice_get}
 use Rattle.std.specs.BTreeMap.{keys}
+use Rattle.irc_line.specs.Lines.{Parts}
 use Rattle.wire_bytes.specs.declared.moment.Moment.{Moment}
 use Rattle.buffer_commands.specs.declared.wire_line.WireLine.{WireLine}
 use Rattle.bouncer_tower.specs.Bodies.{TowerBody}
 use Rattle.node_notes.specs.declared.note.Note.{Note}
 use Rattle.node_notes.specs.declared.note.Note.TheVariants as note
+use Rattle.std.specs.Prelude.{nat_eq}
+use Rattle.driver.specs.Guarding.{untold}
 use Rattle.driver.specs.declared.clients.Clients.{Clients}
 use Rattle.driver.specs.declared.node_monitor.NodeMonitor.{NodeMonitor}
 use Rattle.driver.specs.declared.driver.Driver.{Driver}
@@ -16,7 +19,7 @@ use Rattle.driver.specs.declared.order.Order.{Order}
 use Rattle.driver.specs.declared.settings.Settings.{Settings}
 use Rattle.driver.specs.Arriving.{IsNewDriver, new_monitors}
 use Rattle.driver.specs.Calls.{Call, Does, DoesAll, IsTold, Step}
-use Rattle.driver.specs.Calls.{Connect, Connected, Dismiss, End, Hand, Hear, Lose, Notice, Receive, ReceiveLine, Refuse, Take, Tick, Watch, WatchNodes}
+use Rattle.driver.specs.Calls.{Connect, Connected, Dismiss, End, Hand, Hear, Lose, Notice, Receive, ReceiveLine, Refuse, Take, Tick, Watch, WatchNodes, WatchPasswords}
 use Rattle.driver.specs.Counting.{all_told}
 use Rattle.driver.specs.Downtime.{DownIsOnlyRestarted}
 use Rattle.driver.specs.Filling.{TellsLevelIf, WatchesFor, is_left_out}
@@ -27,7 +30,7 @@ use Rattle.driver.specs.Rosters.{client_at}
 use Rattle.driver.specs.Sessions.{TakesIf, TellsAllOf, TellsIf, link_behind}
 use Rattle.driver.specs.Telling.{Ordered, ordered}
 use Rattle.driver.proofs.Adding.{all_written_add, nothing_adds, written_adds}
-use Rattle.driver.proofs.Calling.{stands_add}
+use Rattle.driver.proofs.Calling.{stands_add, more_adds}
 use Rattle.driver.proofs.Monitors.{Ids}
 use Rattle.driver.proofs.Dialing.{connect_stays, given_stay, goes_stay, speaks_stay, takes_stay, watch_stays}
 use Rattle.driver.proofs.Falling.{Turns}
@@ -81,24 +84,24 @@ opened_node (Closing since wait) = refl
 opened_node (Connecting node) = refl
 opened_node (Open session) = refl
 
-behind_node : (came : Note TowerBody WireLine) (link : Link) → node_of (link_behind came link).stage ≡ node_of link.stage
-behind_node note.Opened link = opened_node link.stage
-behind_node (note.Heard at line) link = refl
-behind_node (note.Timeout contacts) link = refl
-behind_node note.Beat link = refl
-behind_node (note.Ask body) link = refl
-behind_node note.Closed link = refl
-behind_node note.Claim link = refl
-behind_node note.Wake link = refl
-behind_node note.Restart link = refl
-behind_node note.End link = refl
+behind_node : (lines : List Parts) (came : Note TowerBody WireLine) (link : Link) → node_of (link_behind lines came link).stage ≡ node_of link.stage
+behind_node lines note.Opened link = opened_node link.stage
+behind_node lines (note.Heard at line) link = refl
+behind_node lines (note.Timeout contacts) link = refl
+behind_node lines note.Beat link = refl
+behind_node lines (note.Ask body) link = refl
+behind_node lines note.Closed link = refl
+behind_node lines note.Claim link = refl
+behind_node lines note.Wake link = refl
+behind_node lines note.Restart link = refl
+behind_node lines note.End link = refl
 
 tells_node : (out : Bool) (node : ℕ) (came : Note TowerBody WireLine) (old new : Driver) → TellsIf out node came old new → node_of new.link.stage ≡ node_of old.link.stage
 tells_node true node came old new same = ap (λ (driver : Driver). node_of driver.link.stage) same
 tells_node false node came old new t =
     ap (λ (driver : Driver). node_of driver.link.stage) t.rest
     ∙ ap (λ (driver : Driver). node_of driver.link.stage) t.opens.rest
-    ∙ behind_node came t.named.link
+    ∙ behind_node t.named.settings.on_connect.items came t.named.link
     ∙ ap (λ (driver : Driver). node_of driver.link.stage) t.nick.rest
 
 tells_all_node : (node : ℕ) (notes : List (Note TowerBody WireLine)) (old new : Driver) → TellsAllOf node notes old new → node_of new.link.stage ≡ node_of old.link.stage
@@ -195,6 +198,13 @@ call_result n down Watch told old new low steady up w is =
     kept n down old new told (watch_stays n down w.leader old new steady w.watches) (watch_link w.leader old new w.watches) up is
 call_result n down (WatchNodes now) told old new low steady up w is =
     kept n down old new told (nodes_stay n now down old new steady w) (nodes_link now old new w) up is
+call_result n down (WatchPasswords now) told old new low steady up w is =
+    kept n down old new told
+    (orders_stay n down old new steady
+    (ap (λ (driver : Driver). driver.monitors) w.rest)
+    (ap (λ (driver : Driver). driver.clients) w.rest)
+    (more_adds (Plain n down) (nat_eq (untold now old.guard) 0) (untold now old.guard) old.orders new.orders (tt, refl) w.orders))
+    (ap (λ (driver : Driver). driver.link) w.rest) up is
 call_result n down (Refuse number) told old new low steady up o is =
     kept n down old new told
     (given_stay n down _ old new steady o (written_adds (Plain n down) old.clients number (client_at old.clients number) _ old.orders new.orders refl steady.good o.given))

@@ -193,8 +193,8 @@ ticks_gone reads timeout now at s calls old new before after gone t =
     kept_gone timeout now at s calls w new before after (t.kept early quick) ∙ still
 
 event_gone : (event : Event) (now : ℕ) (at : Moment) (s : Settings) (calls : List Call) (old new : Client) (before after : Ordered) → Happens event now at old before new after → Stands s calls old.gate → old.is_gone ≡ true → new.is_gone ≡ true
-event_gone (Speaks bytes) now at s calls old new before after h stands gone =
-    let (same, none) = (h s calls stands).leaving (gone_so old.is_gone old.leaving gone) in ap (λ (client : Client). client.is_gone) same ∙ gone
+event_gone (Speaks bytes due) now at s calls old new before after h stands gone =
+    let (same, none) = (h s calls stands).shut (or_gone (is_leaving old) (is_some old.refused) (gone_so old.is_gone old.leaving gone)) in ap (λ (client : Client). client.is_gone) same ∙ gone
 event_gone (Learns effect nick) now at s calls old new before after h stands gone =
     let e = h s calls stands in
     let o = effect_own effect nick now at s calls old e.told before e.orders e.hears in
@@ -279,9 +279,10 @@ passed_there e now at s calls since c told before orders here is p stays =
     let client = c.origin.2 in
     let bytes = written c.is_gone client fed.reply in
     let asks = asked_all c.is_attached c.origin at fed.requests.items in
-    let end = if is_cut fed then parting_unless c.is_gone c.origin at last else [] in
+    let attached = c.is_attached || is_some_asked fed.requests.items in
+    let end = if is_cut fed then parting_unless c.is_gone attached c.origin at last else [] in
     let no_asks : asks ≡ [] = none_asked c.is_attached c.origin at fed.requests.items none in
-    let no_more : end ≡ [] = no_end (is_cut fed) (parting_unless c.is_gone c.origin at last) whole in
+    let no_more : end ≡ [] = no_end (is_cut fed) (parting_unless c.is_gone attached c.origin at last) whole in
     let just : passed c at last fed ≡ bytes =
     ap (λ (orders : List Order). (bytes ++ asks) ++ orders) no_more
     ∙ append-nil (bytes ++ asks)
@@ -376,8 +377,8 @@ ticks_there reads false timeout now at s calls since old new before after remain
     (kept_there timeout now at s calls since w new before after held leaving (t.kept late quick))
 
 event_there : (event : Event) (now : ℕ) (at : Moment) (s : Settings) (calls : List Call) (since : Timer) (old new : Client) (before after : Ordered) → new.is_gone ≡ false → old.is_gone ≡ false → Happens event now at old before new after → Stands s calls old.gate → old.leaving ≡ Some since → There s since (shown_by s event) old before new after
-event_there (Speaks bytes) now at s calls since old new before after remains here h stands is =
-    let (same, none) = (h s calls stands).leaving (leaving_so old.is_gone old.leaving since is) in
+event_there (Speaks bytes due) now at s calls since old new before after remains here h stands is =
+    let (same, none) = (h s calls stands).shut (or_gone (is_leaving old) (is_some old.refused) (leaving_so old.is_gone old.leaving since is)) in
     same_there s calls since old new before after stands is same none
 event_there (Learns effect nick) now at s calls since old new before after remains here h stands is =
     let e = h s calls stands in

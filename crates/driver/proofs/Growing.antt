@@ -11,19 +11,18 @@ use Rattle.client_gate.specs.Gates.{last_request}
 use Rattle.driver.specs.declared.absence.Absence.{Absence}
 use Rattle.driver.specs.declared.client.Client.{Client}
 use Rattle.driver.specs.declared.clients.Clients.{Clients}
-use Rattle.driver.specs.declared.news.News.{News}
 use Rattle.driver.specs.declared.order.Order.{Order}
-use Rattle.driver.specs.declared.order.Order.TheVariants.{Close, Log, Write}
+use Rattle.driver.specs.declared.order.Order.TheVariants.{Close, Write}
 use Rattle.driver.specs.Asking.{is_idle}
-use Rattle.driver.specs.Clients.{is_leaving, parting_unless}
+use Rattle.driver.specs.Clients.{is_leaving, left_news, parting_unless}
 use Rattle.driver.specs.Crowds.{CutEach, CutsClient, DismissEach, DismissesClient, IsSame, LeaveEach, LeavesClient, TickEach, TicksClient, Told, WordEach, WordsClient, is_below, is_of}
 use Rattle.driver.specs.Leaving.{is_overdue}
 use Rattle.driver.specs.Once.{IsFor, TellsOnly}
 use Rattle.driver.specs.Outages.{IsToldIf}
 use Rattle.driver.specs.Rosters.{AreOthersSame, Serves, client_at, kept}
-use Rattle.driver.specs.Silence.{is_too_slow, waited}
+use Rattle.driver.specs.Silence.{is_to_go, waited}
 use Rattle.driver.specs.Telling.{Ordered, ordered}
-use Rattle.driver.proofs.Owning.{Owns, dismissed_own, only_parting, ticks_own, words_own}
+use Rattle.driver.proofs.Owning.{Owns, dismissed_own, only_left, only_parting, ticks_own, words_own}
 
 -- all orders are so
 unfoldable pub AllAre : (Order → Type 0) → List Order → Type 0
@@ -138,7 +137,7 @@ tick_by P at timeout now monitors number None old new is good t = same_grows P o
 tick_by P at timeout now monitors number (Some c) old new is good t =
     one_grows P number _ _ old new c is is good t.others t.served
     (λ s calls client stands h.
-    ticks_own (is_overdue c now) h.reads (is_too_slow (waited h.reads now c) now) timeout now at s calls c client old.orders new.orders refl refl stands h.ticks)
+    ticks_own (is_overdue c now) h.reads (is_to_go (waited h.reads now c) now) timeout now at s calls c client old.orders new.orders refl refl stands h.ticks)
 
 pub ticks_grow : (P : Order → Type 0) (at : Moment) (timeout now : ℕ) (monitors : List _) (numbers : List ℕ) (old new : Told) → AllGood P old.clients → TickEach at timeout now monitors numbers old new → Grows P old new
 unfolding TickEach
@@ -182,9 +181,9 @@ leave_of P at node boot number c true old new is below good l =
     let g = good number c is in
     let last = last_request (gate g.settings g.calls) in
     record {
-      told = parting_unless c.is_gone c.origin at last;
+      told = parting_unless c.is_gone c.is_attached c.origin at last;
       orders = l.orders g.settings g.calls c is below g.stands;
-      all = only_all_are P c.origin (parting_unless c.is_gone c.origin at last) g.fits (only_parting c.is_gone c.origin at last);
+      all = only_all_are P c.origin (parting_unless c.is_gone c.is_attached c.origin at last) g.fits (only_parting c.is_gone c.is_attached c.origin at last);
       good = gone_good P number old.clients new.clients good l.others (l.leaves c is below);
     }
 
@@ -210,9 +209,12 @@ cut_told P why true c old new g good none = record {
   good = good;
 }
 cut_told P why false c old new g good (line, says, orders) = record {
-  told = Write c.origin.2 line ∷ Close c.origin.2 ∷ Log (News.Left c.origin) ∷ [];
+  told = Write c.origin.2 line ∷ Close c.origin.2 ∷ left_news c.is_attached c.origin;
   orders = orders;
-  all = (g.fits (Write c.origin.2 line) refl, (g.fits (Close c.origin.2) refl, (g.fits (Log (News.Left c.origin)) refl, tt)));
+  all = (
+    g.fits (Write c.origin.2 line) refl,
+    (g.fits (Close c.origin.2) refl, only_all_are P c.origin (left_news c.is_attached c.origin) g.fits (only_left c.is_attached c.origin)),
+  );
   good = good;
 }
 

@@ -4,6 +4,7 @@ use Rattle.std.specs.Prelude.{if◌then◌else◌, ◌+◌}
 use Rattle.std.specs.BTreeMap.{keys}
 use Rattle.wire_bytes.specs.declared.moment.Moment.{Moment}
 use Rattle.wire_bytes.specs.declared.origin.Origin.{Origin}
+use Rattle.driver.specs.Guarding.{due_at}
 use Rattle.driver.specs.declared.absence.Absence.TheVariants as absence
 use Rattle.driver.specs.declared.client.Client.{Client}
 use Rattle.driver.specs.declared.clients.Clients.{Clients}
@@ -17,18 +18,18 @@ use Rattle.driver.specs.Once.{IsFor}
 use Rattle.driver.specs.Absences.{CutsBy, HangNodes, HangsIf, TellsGroupIf, WatchesNodes, begins_in, goes_on, group_news, hang_limit, hangs_news, is_new, is_short}
 use Rattle.driver.specs.Arriving.{boot_at, next_number, turned_away_by}
 use Rattle.driver.specs.Calls.{ConnectsTo, Goes as GoesCall, Orders, Speaks}
-use Rattle.driver.specs.Clients.{is_leaving}
+use Rattle.driver.specs.Clients.{is_leaving, is_shut}
 use Rattle.driver.specs.Crowds.{told as crowd}
 use Rattle.driver.specs.Driving.{orders_at, told_of}
 use Rattle.driver.specs.Filling.{TellsLevelIf, WatchesFor}
 use Rattle.driver.specs.Hearing.{turned_away_news}
 use Rattle.driver.specs.Monitors.{is_over}
-use Rattle.driver.specs.Nicks.{nick_in}
+use Rattle.driver.specs.Nicks.{nick_in, warned}
 use Rattle.driver.specs.Quitting.{Connection}
 use Rattle.driver.specs.Rosters.{client_at, is_attached_in}
 use Rattle.driver.specs.Telling.{Ordered, ordered}
 use Rattle.driver.proofs.Adding.{Adds, adds_both, all_written_add, nothing_adds, one_adds}
-use Rattle.driver.proofs.Calling.{arrive_good, greeted_adds}
+use Rattle.driver.proofs.Calling.{arrive_good, greeted_adds, comes_add}
 use Rattle.driver.proofs.Growing.{AllAre, AllGood, cuts_grow, one_grows}
 use Rattle.driver.proofs.Owning.{lost_own, reads_own}
 use Rattle.driver.proofs.Quiet.{NoClaim, quiet_client}
@@ -76,9 +77,9 @@ speaks_go bytes now at number (Some client) c old new is fits good s =
     let behind = crowd new.clients s.comes.told in
     let g =
     one_grows Inner number _ _ (told_of old) behind client is is good s.others s.comes.served
-    (λ gs calls next stands h. reads_own (is_leaving client) bytes now at gs calls client next old.orders s.comes.told refl stands h)
+    (λ gs calls next stands h. reads_own (is_shut client) bytes now at (due_at old.guard now) gs calls client next old.orders s.comes.told refl stands h)
     in
-    let greeted = greeted_adds Inner (is_attached_in (client_at old.clients number)) old.is_short new.clients number (nick_in old) s.comes.told new.orders g.good s.comes.greeted in
+    let greeted = comes_add Inner bytes now at number old new g.good (λ origin. tt) s.comes in
     let all = adds_both Inner old.orders s.comes.told new.orders (record { told = g.told; orders = g.orders; all = g.all }) greeted in
     inner_goes 0 c old new fits (ap (λ (driver : Driver). driver.link) s.rest)
     (record { told = all.told; orders = all.orders; all = all.all; good = g.good })

@@ -1,13 +1,15 @@
 -- What comes of each call for the connection to the server: over all calls sessions end first.
 use Rattle.std.proofs.Common.{◌≡◌, ◌∙◌, ℕ, zero, suc, Bool, true, false, List, [], ◌∷◌, Option, Some, None, refl, sym, ap, subst}
-use Rattle.std.specs.Prelude.{◌+◌}
+use Rattle.std.specs.Prelude.{◌+◌, if◌then◌else◌, nat_eq}
 use Rattle.std.specs.BTreeMap.{keys}
 use Rattle.std.specs.Global.{Vec}
+use Rattle.irc_line.specs.Lines.{Parts}
 use Rattle.wire_bytes.specs.declared.moment.Moment.{Moment}
 use Rattle.buffer_commands.specs.declared.wire_line.WireLine.{WireLine}
 use Rattle.bouncer_tower.specs.Bodies.{TowerBody}
 use Rattle.node_notes.specs.declared.note.Note.{Note}
 use Rattle.node_notes.specs.declared.note.Note.TheVariants as note
+use Rattle.driver.specs.Guarding.{untold}
 use Rattle.driver.specs.declared.clients.Clients.{Clients}
 use Rattle.driver.specs.declared.driver.Driver.{Driver}
 use Rattle.driver.specs.declared.link.Link.{Link}
@@ -19,9 +21,9 @@ use Rattle.driver.specs.declared.order.Order.{Order}
 use Rattle.driver.specs.declared.order.Order.TheVariants as order
 use Rattle.driver.specs.declared.retirement.Retirement.{Retirement}
 use Rattle.driver.specs.declared.settings.Settings.{Settings}
-use Rattle.driver.specs.Links.{node_of, Connects, Receives, is_open, is_session_of, opened as opened_stage, send_some}
+use Rattle.driver.specs.Links.{node_of, Connects, Receives, is_fresh, is_open, is_session_of, opened as opened_stage, send_some}
 use Rattle.driver.specs.Writing.{handed}
-use Rattle.driver.specs.Calls.{Call, Does, DoesAll, IsTold, Step, Connect, Connected, Dismiss, End, Hand, Hear, Lose, Notice, Receive, ReceiveLine, Refuse, Take, Tick, Watch, WatchNodes}
+use Rattle.driver.specs.Calls.{Call, Does, DoesAll, IsTold, Step, Connect, Connected, Dismiss, End, Hand, Hear, Lose, Notice, Receive, ReceiveLine, Refuse, Take, Tick, Watch, WatchNodes, WatchPasswords}
 use Rattle.driver.specs.Driving.{AsksServer, Ticks, round_of, told_of}
 use Rattle.driver.specs.Filling.{is_left_out}
 use Rattle.driver.specs.Quitting.{AllLead, Connection, Gone, Leads, SessionsEndFirst, met_by, moment_of}
@@ -29,11 +31,12 @@ use Rattle.driver.specs.Retiring.{retirement_at}
 use Rattle.driver.specs.Rosters.{client_at}
 use Rattle.driver.specs.Rounds.{Round, SpreadsAll, SpreadsBy, ask_orders, retired, retirement_due}
 use Rattle.driver.specs.Servers.{AsksForWord, is_quiet}
-use Rattle.driver.specs.Sessions.{TakesIf, TellsAllOf, TellsIf, link_behind, opened_of}
+use Rattle.driver.specs.Sessions.{TakesIf, TellsAllOf, TellsIf, link_behind, opened_of, opened_with}
+use Rattle.driver.specs.Outgoing.{with_opening}
 use Rattle.driver.specs.Telling.{ordered}
 use Rattle.driver.specs.Waking.{awake}
 use Rattle.driver.proofs.Adding.{Adds, adds_both, adds_grow, all_written_add, nothing_adds, one_adds, written_adds}
-use Rattle.driver.proofs.Calling.{renames_by}
+use Rattle.driver.proofs.Calling.{renames_by, more_adds}
 use Rattle.driver.proofs.Growing.{AllAre, AllGood, Good, dismisses_grow, none_some, ticks_grow}
 use Rattle.driver.proofs.Inside.{connect_goes, given_goes, loses_go, speaks_go, watch_goes, watches_go}
 use Rattle.driver.proofs.Parted.{ends_go, silent_goes}
@@ -145,17 +148,31 @@ opened_is (Closing since wait) = refl
 opened_is (Connecting node) = refl
 opened_is (Open session) = refl
 
-behind_fits : (c : Connection) (came : Note TowerBody WireLine) (link : Link) → Fits c link → Fits c (link_behind came link)
-behind_fits c note.Opened link fits = record { stands = opened_stands c link.stage fits.stands; empty = λ closed. fits.empty (sym (opened_is link.stage) ∙ closed) }
-behind_fits c (note.Heard at line) link fits = fits
-behind_fits c (note.Timeout contacts) link fits = fits
-behind_fits c note.Beat link fits = fits
-behind_fits c (note.Ask body) link fits = fits
-behind_fits c note.Closed link fits = fits
-behind_fits c note.Claim link fits = fits
-behind_fits c note.Wake link fits = fits
-behind_fits c note.Restart link fits = fits
-behind_fits c note.End link fits = fits
+opened_fresh : (stage : Stage) → is_open stage ≡ false → is_fresh stage ≡ false
+opened_fresh (Idle since wait) closed = refl
+opened_fresh (Closing since wait) closed = refl
+opened_fresh (Connecting node) closed = refl
+opened_fresh (Open session) closed = absurd (cc closed)
+
+opened_fits : (c : Connection) (lines : List Parts) (link : Link) → Fits c link → Fits c (opened_with lines link)
+opened_fits c lines link fits = record {
+  stands = opened_stands c link.stage fits.stands;
+  empty = λ closed.
+      let was : is_open link.stage ≡ false = sym (opened_is link.stage) ∙ closed in
+      ap (λ (fresh : Bool). if fresh then with_opening lines link.waiting else link.waiting) (opened_fresh link.stage was) ∙ fits.empty was;
+}
+
+behind_fits : (c : Connection) (lines : List Parts) (came : Note TowerBody WireLine) (link : Link) → Fits c link → Fits c (link_behind lines came link)
+behind_fits c lines note.Opened link fits = opened_fits c lines link fits
+behind_fits c lines (note.Heard at line) link fits = fits
+behind_fits c lines (note.Timeout contacts) link fits = fits
+behind_fits c lines note.Beat link fits = fits
+behind_fits c lines (note.Ask body) link fits = fits
+behind_fits c lines note.Closed link fits = fits
+behind_fits c lines note.Claim link fits = fits
+behind_fits c lines note.Wake link fits = fits
+behind_fits c lines note.Restart link fits = fits
+behind_fits c lines note.End link fits = fits
 
 opened_inner : (node : ℕ) (came : Note TowerBody WireLine) → AllAre Inner (opened_of node came)
 unfolding AllAre
@@ -177,10 +194,11 @@ tells_go c false node came old new fits good t =
     adds_goes 0 c old t.named fits good (ap (λ (driver : Driver). driver.link) t.nick.rest) (ap (λ (driver : Driver). driver.clients) t.nick.rest)
     (renames_by Inner came old t.named.orders good t.nick.renames)
     in
+    let lines = t.named.settings.on_connect.items in
     let link = ap (λ (driver : Driver). driver.link) t.opens.rest in
     let opened =
     moved_goes 0 named.last t.named t.opened named.fits
-    (λ d is. same_fits d (link_behind came t.named.link) t.opened.link link (behind_fits d came t.named.link is))
+    (λ d is. same_fits d (link_behind lines came t.named.link) t.opened.link link (behind_fits d lines came t.named.link is))
     (adds_grow Inner (told_of t.named) (told_of t.opened) named.good (ap (λ (driver : Driver). driver.clients) t.opens.rest)
     (record { told = opened_of node came; orders = t.opens.orders; all = opened_inner node came }))
     in
@@ -250,6 +268,11 @@ call_goes c (Dismiss now at) told old new fits good d is =
     is
 call_goes c Watch told old new fits good w is = of_goes 0 c told old new (watch_goes w.leader c old new fits good w.watches) is
 call_goes c (WatchNodes now) told old new fits good w is = of_goes 0 c told old new (watches_go now c old new fits good w) is
+call_goes c (WatchPasswords now) told old new fits good w is =
+    of_goes 0 c told old new
+    (adds_goes 0 c old new fits good (ap (λ (driver : Driver). driver.link) w.rest) (ap (λ (driver : Driver). driver.clients) w.rest)
+    (more_adds Inner (nat_eq (untold now old.guard) 0) (untold now old.guard) old.orders new.orders tt w.orders))
+    is
 call_goes c (Refuse number) told old new fits good o is =
     of_goes 0 c told old new
     (given_goes _ c old new fits good o (written_adds Inner old.clients number (client_at old.clients number) _ old.orders new.orders refl good o.given))

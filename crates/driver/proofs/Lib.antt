@@ -15,6 +15,7 @@ mod Farewells
 mod Growing
 mod Hanging
 mod Heard
+mod Idle
 mod Inside
 mod Keeping
 mod Kicks
@@ -36,6 +37,7 @@ mod Passing
 mod Queueing
 mod Quiet
 mod Quitting
+mod Refusing
 mod Reaching
 mod Reported
 mod Reporting
@@ -50,3 +52,6 @@ mod Used
 mod Waiting
 mod Watching
 mod Writing
+mod Joining
+mod Keys
+mod Opened

@@ -1,8 +1,9 @@
 -- What two claims of a line have between them.
 use Rattle.std.proofs.Common.{◌≡◌, ◌∙◌, ◌++◌, ℕ, zero, suc, ◌+◌, ◌-◌, ◌≤◌, Bool, true, false, List, [], ◌∷◌, Option, Some, None, refl, sym, ap, subst}
-use Rattle.std.specs.Prelude.{◌||◌}
+use Rattle.std.specs.Prelude.{◌||◌, nat_eq}
 use Rattle.std.specs.BTreeMap.{keys}
 use Rattle.std.specs.List.{list_any}
+use Rattle.driver.specs.Guarding.{untold}
 use Rattle.driver.specs.declared.clients.Clients.{Clients}
 use Rattle.driver.specs.declared.node_monitor.NodeMonitor.{NodeMonitor}
 use Rattle.driver.specs.declared.driver.Driver.{Driver}
@@ -10,7 +11,7 @@ use Rattle.driver.specs.declared.order.Order.{Order}
 use Rattle.driver.specs.declared.settings.Settings.{Settings}
 use Rattle.driver.specs.Arriving.{IsNewDriver, new_monitors}
 use Rattle.driver.specs.Calls.{Call, Does, DoesAll, IsTold, Step}
-use Rattle.driver.specs.Calls.{Connect, Connected, Dismiss, End, Hand, Hear, Lose, Notice, Receive, ReceiveLine, Refuse, Take, Tick, Watch, WatchNodes}
+use Rattle.driver.specs.Calls.{Connect, Connected, Dismiss, End, Hand, Hear, Lose, Notice, Receive, ReceiveLine, Refuse, Take, Tick, Watch, WatchNodes, WatchPasswords}
 use Rattle.driver.specs.Claiming.{Claims, OneClaimWaits, applies_all, claims, tells_claim}
 use Rattle.driver.specs.Links.{node_of}
 use Rattle.driver.specs.Rosters.{client_at}
@@ -22,7 +23,7 @@ use Rattle.driver.proofs.Quiet.{NoClaim}
 use Rattle.driver.proofs.Reporting.{report_outcome, tick_outcome}
 use Rattle.driver.proofs.Watching.{dismissed_keep, nodes_keep}
 use Rattle.driver.proofs.Waiting.{Fresh, Outcome, Waits, or_status, outcome_keeps, true_false, waits_kept}
-use Rattle.driver.proofs.Calling.{connect_keeps, goes_by, orders_of_call, speaks_by, stands_add, takes_keep, watch_keeps}
+use Rattle.driver.proofs.Calling.{connect_keeps, goes_by, orders_of_call, speaks_by, stands_add, takes_keep, watch_keeps, more_adds}
 
 -- What comes of a call.
 pub outcome : (n : ℕ) (call : Call) (told : List Order) (old new : Driver) → 1 ≤ n → Sound n old → Does call old new → IsTold call told old.orders new.orders → Outcome n (applies_all n call) old new told
@@ -44,6 +45,11 @@ outcome n (Notice text) told old new low sound o is =
 outcome n (Dismiss now at) told old new low sound d is = outcome_keeps n false old new told (dismissed_keep n now at old new sound d) is
 outcome n Watch told old new low sound w is = outcome_keeps n false old new told (watch_keeps n w.leader old new sound w.watches) is
 outcome n (WatchNodes now) told old new low sound w is = outcome_keeps n false old new told (nodes_keep n now old new sound w) is
+outcome n (WatchPasswords now) told old new low sound w is =
+    outcome_keeps n false old new told
+    (orders_keep n old new sound (ap (λ (driver : Driver). driver.monitors) w.rest) (ap (λ (driver : Driver). driver.clients) w.rest)
+    (more_adds (NoClaim n) (nat_eq (untold now old.guard) 0) (untold now old.guard) old.orders new.orders refl w.orders))
+    is
 outcome n (Refuse number) told old new low sound o is =
     outcome_keeps n false old new told (orders_of_call n _ old new sound o (written_adds (NoClaim n) old.clients number (client_at old.clients number) _ old.orders new.orders refl sound.good o.given)) is
 outcome n Take told old new low sound o is = record {

@@ -1,5 +1,5 @@
 -- What a client asks goes to its own node alone.
-use Rattle.std.proofs.Common.{◌≡◌, ◌∙◌, ◌++◌, ℕ, Bool, true, false, List, [], ◌∷◌, Option, Some, None, refl, sym, ap, subst, ⊎_elim}
+use Rattle.std.proofs.Common.{◌≡◌, ◌∙◌, ◌++◌, ℕ, Bool, true, false, ◌||◌, List, [], ◌∷◌, Option, Some, None, refl, sym, ap, subst, ⊎_elim}
 use Rattle.std.specs.Prelude.{if◌then◌else◌}
 use Rattle.std.specs.Global.{Vec}
 use Rattle.std.proofs.lemmas.List.{append_assoc, append-nil}
@@ -9,18 +9,18 @@ use Rattle.client_gate.specs.declared.fed.Fed.{Fed}
 use Rattle.client_gate.specs.declared.request.Request.{Request}
 use Rattle.client_gate.specs.declared.settings.Settings.{Settings}
 use Rattle.client_gate.specs.Calls.{Call, End, Feed, Hear, Refused, Stands, fed_answer, gate}
-use Rattle.client_gate.specs.Gates.{GateEffect, Given, given_effect, last_request}
+use Rattle.client_gate.specs.Gates.{GateEffect, Given, given_effect, is_turned_down, last_request}
 use Rattle.driver.specs.declared.client.Asked.{Asked}
 use Rattle.driver.specs.declared.client.Client.{Client}
 use Rattle.driver.specs.declared.order.Order.{Order}
 use Rattle.driver.specs.declared.order.Order.TheVariants.{Write}
 use Rattle.driver.specs.Asking.{HearsNode, anew_if, held_if, is_stuck, may_be_lost, now_asked}
-use Rattle.driver.specs.Clients.{asked_all, asks_of, is_cut, is_leaving, last_asks, parting_unless, passed, write_some, written}
+use Rattle.driver.specs.Clients.{asked_all, asks_of, is_cut, is_leaving, is_shut, is_some_asked, last_asks, left_news, parting_unless, passed, write_some, written}
 use Rattle.driver.specs.Crowds.{Ticks}
 use Rattle.driver.specs.Leaving.{IsDismissed, Leaves, is_overdue}
 use Rattle.driver.specs.Once.{AsksOwn, Dismissed, Event, Goes, HappenAll, Happens, Learns, Speaks, TellsOnly, Waits, Words}
-use Rattle.driver.specs.Serving.{HasPassed, Hears, HearsEffect, IsCutOff, IsLost, IsParted, PartsIf, Receives, ended, ended_if, is_done}
-use Rattle.driver.specs.Silence.{IsKept, IsPing, IsSentOff, held_back, is_silent, is_too_slow, waited}
+use Rattle.driver.specs.Serving.{HasPassed, Hears, HearsEffect, IsCutOff, IsLost, IsParted, PartsIf, Receives, TakesBy, ended, ended_if, is_done}
+use Rattle.driver.specs.Silence.{IsKept, IsPing, IsSentOff, held_back, is_silent, is_to_go, waited}
 use Rattle.driver.specs.Telling.{Ordered, ordered}
 
 -- the same of orders behind others
@@ -50,25 +50,34 @@ unfolding TellsOnly
 only_written origin true bytes = tt
 only_written origin false bytes = only_some origin bytes bytes.items
 
-pub only_parting : (gone : Bool) (origin : Origin) (at : Moment) (last : Option Request) → TellsOnly origin (parting_unless gone origin at last)
-unfolding TellsOnly parting_unless
-only_parting true origin at last = tt
-only_parting false origin at None = (refl, (refl, tt))
-only_parting false origin at (Some request) = (refl, (refl, ((refl, refl), tt)))
-
-only_end : (close gone : Bool) (origin : Origin) (at : Moment) (last : Option Request) → TellsOnly origin (if close then parting_unless gone origin at last else [])
+-- an operator may be told that a client left
+pub only_left : (attached : Bool) (origin : Origin) → TellsOnly origin (left_news attached origin)
 unfolding TellsOnly
-only_end false gone origin at last = tt
-only_end true gone origin at last = only_parting gone origin at last
+only_left true origin = (refl, tt)
+only_left false origin = tt
+
+pub only_parting : (gone attached : Bool) (origin : Origin) (at : Moment) (last : Option Request) → TellsOnly origin (parting_unless gone attached origin at last)
+unfolding TellsOnly parting_unless
+only_parting true attached origin at last = tt
+only_parting false true origin at None = (refl, (refl, tt))
+only_parting false true origin at (Some request) = (refl, (refl, ((refl, refl), tt)))
+only_parting false false origin at None = (refl, tt)
+only_parting false false origin at (Some request) = (refl, ((refl, refl), tt))
+
+only_end : (close gone attached : Bool) (origin : Origin) (at : Moment) (last : Option Request) → TellsOnly origin (if close then parting_unless gone attached origin at last else [])
+unfolding TellsOnly
+only_end false gone attached origin at last = tt
+only_end true gone attached origin at last = only_parting gone attached origin at last
 
 only_passed : (c : Client) (at : Moment) (last : Option Request) (fed : Fed) → TellsOnly c.origin (passed c at last fed)
 only_passed c at last fed =
     let bytes = written c.is_gone c.origin.2 fed.reply in
     let asks = asked_all c.is_attached c.origin at fed.requests.items in
-    let end = if is_cut fed then parting_unless c.is_gone c.origin at last else [] in
+    let attached = c.is_attached || is_some_asked fed.requests.items in
+    let end = if is_cut fed then parting_unless c.is_gone attached c.origin at last else [] in
     only_append c.origin (bytes ++ asks) end
     (only_append c.origin bytes asks (only_written c.origin c.is_gone fed.reply) (only_all c.is_attached c.origin at fed.requests.items))
-    (only_end (is_cut fed) c.is_gone c.origin at last)
+    (only_end (is_cut fed) c.is_gone attached c.origin at last)
 
 only_again : (again : Bool) (origin : Origin) (at : Moment) (waiting : List Request) → TellsOnly origin (if again then asks_of origin at waiting else [])
 unfolding TellsOnly
@@ -104,9 +113,9 @@ parted_own s behind at c new before after h = record {
   behind = ended c.is_gone behind;
   stands = h.stands.gate;
   origin = ap (λ (client : Client). client.origin) h.stands.rest;
-  told = parting_unless c.is_gone c.origin at (last_request (gate s behind));
+  told = parting_unless c.is_gone c.is_attached c.origin at (last_request (gate s behind));
   orders = h.orders;
-  own = only_parting c.is_gone c.origin at (last_request (gate s behind));
+  own = only_parting c.is_gone c.is_attached c.origin at (last_request (gate s behind));
 }
 
 cut_own : (s : Settings) (calls : List Call) (at : Moment) (c new : Client) (before after : Ordered) → IsCutOff s calls at c before new after → Owns s c before new after
@@ -152,12 +161,31 @@ parts_own : (parts : Bool) (at : Moment) (s : Settings) (calls : List Call) (old
 parts_own false at s calls old new before after stands (same, none) = nothing_own s calls old new before after stands same none
 parts_own true at s calls old new before after stands h = parted_own s calls at old new before after h
 
-pub reads_own : (gone : Bool) (bytes : List ℕ) (now : ℕ) (at : Moment) (s : Settings) (calls : List Call) (old new : Client) (before after : Ordered) → is_leaving old ≡ gone → Stands s calls old.gate → Receives bytes now at s calls old before new after → Owns s old before new after
-reads_own true bytes now at s calls old new before after is stands h =
-    let (same, none) = h.leaving is in nothing_own s calls old new before after stands same none
-reads_own false bytes now at s calls old new before after is stands h =
+-- what a gate answered went on, or is kept back
+takes_own : (wrong : Bool) (now : ℕ) (at : Moment) (due : ℕ) (s : Settings) (calls : List Call) (fed : Fed) (c new : Client) (before after : Ordered) → TakesBy wrong s calls fed now at due c before new after → Owns s c before new after
+takes_own false now at due s calls fed c new before after (orders, stands) = record {
+  behind = ended_if (is_cut fed) c.is_gone calls;
+  stands = stands.gate;
+  origin = ap (λ (client : Client). client.origin) stands.rest;
+  told = passed c at (last_request (gate s calls)) fed;
+  orders = orders;
+  own = only_passed c at (last_request (gate s calls)) fed;
+}
+takes_own true now at due s calls fed c new before after (orders, stands) = record {
+  behind = calls;
+  stands = stands.gate;
+  origin = ap (λ (client : Client). client.origin) stands.rest;
+  told = asked_all c.is_attached c.origin at fed.requests.items;
+  orders = orders;
+  own = only_all c.is_attached c.origin at fed.requests.items;
+}
+
+pub reads_own : (shut : Bool) (bytes : List ℕ) (now : ℕ) (at : Moment) (due : ℕ) (s : Settings) (calls : List Call) (old new : Client) (before after : Ordered) → is_shut old ≡ shut → Stands s calls old.gate → Receives bytes now at due s calls old before new after → Owns s old before new after
+reads_own true bytes now at due s calls old new before after is stands h =
+    let (same, none) = h.shut is in nothing_own s calls old new before after stands same none
+reads_own false bytes now at due s calls old new before after is stands h =
     ⊎_elim
-    (λ p. renamed s old _ new before after refl (passed_own s (Feed bytes ∷ calls) (fed_answer s calls bytes) now at _ new before after p))
+    (λ p. renamed s old _ new before after refl (takes_own (is_turned_down (gate s (Feed bytes ∷ calls)).phase) now at due s (Feed bytes ∷ calls) p.fed _ new before after p.takes))
     (λ p. renamed s old _ new before after refl (cut_own s calls at _ new before after p))
     (h.hears is)
 
@@ -203,17 +231,17 @@ lost_own true now at s calls old new before after is stands h = record {
   behind = calls;
   stands = subst (λ (client : Client). Stands s calls client.gate) (sym (h.gone is)) stands;
   origin = ap (λ (client : Client). client.origin) (h.gone is);
-  told = parting_unless old.is_gone old.origin at (last_request (gate s calls));
+  told = parting_unless old.is_gone old.is_attached old.origin at (last_request (gate s calls));
   orders = h.orders;
-  own = only_parting old.is_gone old.origin at (last_request (gate s calls));
+  own = only_parting old.is_gone old.is_attached old.origin at (last_request (gate s calls));
 }
 lost_own false now at s calls old new before after is stands h = record {
   behind = End ∷ calls;
   stands = (h.stays is).gate;
   origin = ap (λ (client : Client). client.origin) (h.stays is).rest;
-  told = parting_unless old.is_gone old.origin at (last_request (gate s calls));
+  told = parting_unless old.is_gone old.is_attached old.origin at (last_request (gate s calls));
   orders = h.orders;
-  own = only_parting old.is_gone old.origin at (last_request (gate s calls));
+  own = only_parting old.is_gone old.is_attached old.origin at (last_request (gate s calls));
 }
 
 anew_gate : (again : Bool) (asked : Asked) (c : Client) → (anew_if again asked c).gate ≡ c.gate
@@ -271,7 +299,7 @@ sent_own now at s calls old new before after stands sent =
       own = (refl, h.own);
     }
 
-pub ticks_own : (overdue reads slow : Bool) (timeout now : ℕ) (at : Moment) (s : Settings) (calls : List Call) (old new : Client) (before after : Ordered) → is_overdue old now ≡ overdue → is_too_slow (waited reads now old) now ≡ slow → Stands s calls old.gate → Ticks reads timeout now at s calls old before new after → Owns s old before new after
+pub ticks_own : (overdue reads slow : Bool) (timeout now : ℕ) (at : Moment) (s : Settings) (calls : List Call) (old new : Client) (before after : Ordered) → is_overdue old now ≡ overdue → is_to_go (waited reads now old) now ≡ slow → Stands s calls old.gate → Ticks reads timeout now at s calls old before new after → Owns s old before new after
 ticks_own true reads slow timeout now at s calls old new before after late is stands t =
     lost_own old.is_gone now at s calls old new before after refl stands (t.overdue late)
 ticks_own false true true timeout now at s calls old new before after late is stands t =
@@ -284,8 +312,8 @@ ticks_own false false false timeout now at s calls old new before after late is 
     renamed s old (held_back now old) new before after refl (kept_own timeout now at s calls (held_back now old) new before after stands (t.kept late is))
 
 pub event_own : (event : Event) (now : ℕ) (at : Moment) (s : Settings) (calls : List Call) (old new : Client) (before after : Ordered) → Happens event now at old before new after → Stands s calls old.gate → Owns s old before new after
-event_own (Speaks bytes) now at s calls old new before after h stands =
-    reads_own (is_leaving old) bytes now at s calls old new before after refl stands (h s calls stands)
+event_own (Speaks bytes due) now at s calls old new before after h stands =
+    reads_own (is_shut old) bytes now at due s calls old new before after refl stands (h s calls stands)
 event_own (Learns effect nick) now at s calls old new before after h stands =
     hears_own effect nick now at s calls old new before after (h s calls stands)
 event_own Goes now at s calls old new before after h stands =
@@ -295,7 +323,7 @@ event_own Dismissed now at s calls old new before after h stands =
 event_own (Words lost refused) now at s calls old new before after h stands =
     words_own lost refused now at s calls old new before after stands (h s calls stands)
 event_own (Waits reads timeout) now at s calls old new before after h stands =
-    ticks_own (is_overdue old now) reads (is_too_slow (waited reads now old) now) timeout now at s calls old new before after refl refl stands (h s calls stands)
+    ticks_own (is_overdue old now) reads (is_to_go (waited reads now old) now) timeout now at s calls old new before after refl refl stands (h s calls stands)
 
 pub asks_own : AsksOwn
 unfolding HappenAll TellsOnly

@@ -7,9 +7,10 @@ use Rattle.std.proofs.lemmas.List.{append_assoc, append-nil}
 use Rattle.std.proofs.lemmas.List.Folds.{list_any-append}
 use Rattle.irc_line.specs.Lines.{Parts, parameter}
 use Rattle.driver.specs.declared.outgoing.Piece.{Piece}
-use Rattle.driver.specs.declared.outgoing.Piece.TheVariants.{Joins, Says}
-use Rattle.driver.specs.Outgoing.{Waiting, asks_names, fits_in, is_about, is_asked, is_dropped, join_by, join_text, next_of, nothing_waits, rest_of}
-use Rattle.driver.specs.Queueing.{AreApart, Go, Hand, Join, QuestionsWait, SaidGoInOrder, Turn, said_by, said_handed, said_in, said_out, waiting_at_last, waiting_behind}
+use Rattle.driver.specs.declared.outgoing.Piece.TheVariants.{Joins, Opens, Says}
+use Rattle.driver.specs.Joining.{Joined, fits_in, no_channels, with_channel}
+use Rattle.driver.specs.Outgoing.{Waiting, asks_names, is_about, is_asked, is_dropped, join_by, next_of, nothing_waits, piece_by, rest_by, rest_of}
+use Rattle.driver.specs.Queueing.{AreApart, Go, Hand, Join, Open, OpeningGoesFirst, QuestionsWait, SaidGoInOrder, Turn, opened_at, opened_by, opened_in, opened_out, said_by, said_handed, said_in, said_out, waiting_at_last, waiting_behind}
 
 -- a line does not ask who is in a channel
 abbrev is_other : Parts → Bool
@@ -59,23 +60,27 @@ handed_sorted false dropped line waiting is sorted = record {
 
 -- A channel is joined.
 
-joined_lines : (fits : Bool) (text channel : List ℕ) (waiting : Waiting)
-    → ((if fits then record waiting { joining = Some (text ++ 44 ∷ channel) } else record waiting { joins = waiting.joins ++ text ∷ []; joining = Some (join_text channel) }).said ≡ waiting.said)
-    × ((if fits then record waiting { joining = Some (text ++ 44 ∷ channel) } else record waiting { joins = waiting.joins ++ text ∷ []; joining = Some (join_text channel) }).questions ≡ waiting.questions)
-joined_lines true text channel waiting = (refl, refl)
-joined_lines false text channel waiting = (refl, refl)
+joined_lines : (fits : Bool) (last one more : Joined) (waiting : Waiting)
+    → ((if fits then record waiting { joining = Some one } else record waiting { joins = waiting.joins ++ last ∷ []; joining = Some more }).said ≡ waiting.said)
+    × ((if fits then record waiting { joining = Some one } else record waiting { joins = waiting.joins ++ last ∷ []; joining = Some more }).questions ≡ waiting.questions)
+    × ((if fits then record waiting { joining = Some one } else record waiting { joins = waiting.joins ++ last ∷ []; joining = Some more }).opening ≡ waiting.opening)
+joined_lines true last one more waiting = (refl, refl, refl)
+joined_lines false last one more waiting = (refl, refl, refl)
 
-join_lines : (joining : Option (List ℕ)) (channel : List ℕ) (waiting : Waiting)
-    → ((join_by joining channel waiting).said ≡ waiting.said) × ((join_by joining channel waiting).questions ≡ waiting.questions)
-join_lines None channel waiting = (refl, refl)
-join_lines (Some text) channel waiting = joined_lines (fits_in text channel) text channel waiting
+join_lines : (joining : Option Joined) (channel key : List ℕ) (waiting : Waiting)
+    → ((join_by joining channel key waiting).said ≡ waiting.said)
+    × ((join_by joining channel key waiting).questions ≡ waiting.questions)
+    × ((join_by joining channel key waiting).opening ≡ waiting.opening)
+join_lines None channel key waiting = (refl, refl, refl)
+join_lines (Some line) channel key waiting =
+    joined_lines (fits_in line channel key) line (with_channel channel key line) (with_channel channel key no_channels) waiting
 
 -- What goes next goes out.
 
-gone_said : (due : Bool) (joins : List (List ℕ)) (joining : Option (List ℕ)) (said questions : List Parts) → list_any asks_names said ≡ false → list_any is_other questions ≡ false
+gone_said : (due : Bool) (joins : List Joined) (joining : Option Joined) (said questions : List Parts) → list_any asks_names said ≡ false → list_any is_other questions ≡ false
     → said_in (next_of due joins joining said questions) ++ (rest_of due joins joining said questions).said ≡ said
-gone_said due (text ∷ joins) joining said questions none others = refl
-gone_said due [] (Some text) said questions none others = refl
+gone_said due (join ∷ joins) joining said questions none others = refl
+gone_said due [] (Some join) said questions none others = refl
 gone_said due [] None (line ∷ said) questions none others =
     ap (λ (asks : Bool). (if asks then [] else line ∷ []) ++ said) (first_none (asks_names line) (list_any asks_names said) none)
 gone_said false [] None [] questions none others = refl
@@ -83,10 +88,10 @@ gone_said true [] None [] [] none others = refl
 gone_said true [] None [] (line ∷ questions) none others =
     ap (λ (asks : Bool). (if asks then [] else line ∷ []) ++ []) (shown (asks_names line) (first_none (is_other line) (list_any is_other questions) others))
 
-gone_sorted : (due : Bool) (joins : List (List ℕ)) (joining : Option (List ℕ)) (said questions : List Parts) → list_any asks_names said ≡ false → list_any is_other questions ≡ false
+gone_sorted : (due : Bool) (joins : List Joined) (joining : Option Joined) (said questions : List Parts) → list_any asks_names said ≡ false → list_any is_other questions ≡ false
     → Sorted (rest_of due joins joining said questions)
-gone_sorted due (text ∷ joins) joining said questions none others = record { said = none; questions = others }
-gone_sorted due [] (Some text) said questions none others = record { said = none; questions = others }
+gone_sorted due (join ∷ joins) joining said questions none others = record { said = none; questions = others }
+gone_sorted due [] (Some join) said questions none others = record { said = none; questions = others }
 gone_sorted due [] None (line ∷ said) questions none others =
     record { said = rest_none (asks_names line) (list_any asks_names said) none; questions = others }
 gone_sorted false [] None [] questions none others = record { said = refl; questions = others }
@@ -94,31 +99,44 @@ gone_sorted true [] None [] [] none others = record { said = refl; questions = r
 gone_sorted true [] None [] (line ∷ questions) none others =
     record { said = refl; questions = rest_none (is_other line) (list_any is_other questions) others }
 
+go_said : (due : Bool) (opening : List Parts) (waiting : Waiting) → Sorted waiting
+    → said_in (piece_by due opening waiting) ++ (rest_by due opening waiting).said ≡ waiting.said
+go_said due [] waiting sorted = gone_said due waiting.joins waiting.joining waiting.said waiting.questions sorted.said sorted.questions
+go_said due (line ∷ opening) waiting sorted = refl
+
+go_sorted : (due : Bool) (opening : List Parts) (waiting : Waiting) → Sorted waiting → Sorted (rest_by due opening waiting)
+go_sorted due [] waiting sorted = gone_sorted due waiting.joins waiting.joining waiting.said waiting.questions sorted.said sorted.questions
+go_sorted due (line ∷ opening) waiting sorted = record { said = sorted.said; questions = sorted.questions }
+
 -- Turns.
 
 -- the line that is said, if one is handed out in this turn
 abbrev handed_by : Turn → List Parts
+handed_by (Open lines) = []
 handed_by (Hand line) = if asks_names line then [] else line ∷ []
-handed_by (Join channel) = []
+handed_by (Join channel key) = []
 handed_by (Go due) = []
 
 turn_said : (turn : Turn) (waiting : Waiting) → Sorted waiting → said_by turn waiting ++ (waiting_behind turn waiting).said ≡ waiting.said ++ handed_by turn
+turn_said (Open lines) waiting sorted = sym (append-nil waiting.said)
 turn_said (Hand line) waiting sorted = handed_said (asks_names line) (is_dropped line waiting) line waiting
-turn_said (Join channel) waiting sorted = let (said, questions) = join_lines waiting.joining channel waiting in said ∙ sym (append-nil waiting.said)
-turn_said (Go due) waiting sorted =
-    gone_said due waiting.joins waiting.joining waiting.said waiting.questions sorted.said sorted.questions ∙ sym (append-nil waiting.said)
+turn_said (Join channel key) waiting sorted =
+    let (said, questions, opening) = join_lines waiting.joining channel key waiting in said ∙ sym (append-nil waiting.said)
+turn_said (Go due) waiting sorted = go_said due waiting.opening waiting sorted ∙ sym (append-nil waiting.said)
 
 turn_sorted : (turn : Turn) (waiting : Waiting) → Sorted waiting → Sorted (waiting_behind turn waiting)
+turn_sorted (Open lines) waiting sorted = record { said = sorted.said; questions = sorted.questions }
 turn_sorted (Hand line) waiting sorted = handed_sorted (asks_names line) (is_dropped line waiting) line waiting refl sorted
-turn_sorted (Join channel) waiting sorted =
-    let (said, questions) = join_lines waiting.joining channel waiting in
+turn_sorted (Join channel key) waiting sorted =
+    let (said, questions, opening) = join_lines waiting.joining channel key waiting in
     record { said = ap (list_any asks_names) said ∙ sorted.said; questions = ap (list_any is_other) questions ∙ sorted.questions }
-turn_sorted (Go due) waiting sorted = gone_sorted due waiting.joins waiting.joining waiting.said waiting.questions sorted.said sorted.questions
+turn_sorted (Go due) waiting sorted = go_sorted due waiting.opening waiting sorted
 
 handed_first : (turn : Turn) (turns : List Turn) → said_handed (turn ∷ turns) ≡ handed_by turn ++ said_handed turns
 unfolding said_handed
+handed_first (Open lines) turns = refl
 handed_first (Hand line) turns = refl
-handed_first (Join channel) turns = refl
+handed_first (Join channel key) turns = refl
 handed_first (Go due) turns = refl
 
 turns_said : (turns : List Turn) (waiting : Waiting) → Sorted waiting → said_out turns waiting ++ (waiting_at_last turns waiting).said ≡ waiting.said ++ said_handed turns
@@ -148,18 +166,24 @@ said_in_order turns = turns_said turns nothing_waits nothing_sorted
 
 abbrev or_line : Parts → Option Piece → Parts
 or_line line (Some (Says other)) = other
-or_line line (Some (Joins text)) = line
+or_line line (Some (Opens other)) = line
+or_line line (Some (Joins join)) = line
 or_line line None = line
 
-behind_said : (due : Bool) (joins : List (List ℕ)) (joining : Option (List ℕ)) (said questions : List Parts) (line : Parts) → list_any asks_names said ≡ false
+behind_said : (due : Bool) (joins : List Joined) (joining : Option Joined) (said questions : List Parts) (line : Parts) → list_any asks_names said ≡ false
     → next_of due joins joining said questions ≡ Some (Says line) → asks_names line ≡ true → said ≡ []
-behind_said due (text ∷ joins) joining said questions line none is asks = absurd (cc is)
-behind_said due [] (Some text) said questions line none is asks = absurd (cc is)
+behind_said due (join ∷ joins) joining said questions line none is asks = absurd (cc is)
+behind_said due [] (Some join) said questions line none is asks = absurd (cc is)
 behind_said due [] None [] questions line none is asks = refl
 behind_said due [] None (other ∷ said) questions line none is asks =
     let same : other ≡ line = ap (or_line line) is in
     let none_here = first_none (asks_names other) (list_any asks_names said) none in
     absurd (cc (sym (ap asks_names same ∙ asks) ∙ none_here))
+
+go_behind : (due : Bool) (opening : List Parts) (waiting : Waiting) (line : Parts) → list_any asks_names waiting.said ≡ false
+    → piece_by due opening waiting ≡ Some (Says line) → asks_names line ≡ true → waiting.said ≡ []
+go_behind due [] waiting line none is asks = behind_said due waiting.joins waiting.joining waiting.said waiting.questions line none is asks
+go_behind due (first ∷ opening) waiting line none is asks = absurd (cc is)
 
 apart_less : (first : Parts) (before lines : List Parts) → AreApart (first ∷ before) lines → AreApart before lines
 unfolding AreApart
@@ -185,22 +209,27 @@ handed_apart true true full line waiting is apart = apart
 handed_apart true false true line waiting is apart = apart
 handed_apart true false false line waiting is apart = apart_more [] waiting.questions line is apart
 
-gone_apart : (due : Bool) (joins : List (List ℕ)) (joining : Option (List ℕ)) (said questions : List Parts) → AreApart [] questions → AreApart [] (rest_of due joins joining said questions).questions
+gone_apart : (due : Bool) (joins : List Joined) (joining : Option Joined) (said questions : List Parts) → AreApart [] questions → AreApart [] (rest_of due joins joining said questions).questions
 unfolding AreApart
-gone_apart due (text ∷ joins) joining said questions apart = apart
-gone_apart due [] (Some text) said questions apart = apart
+gone_apart due (join ∷ joins) joining said questions apart = apart
+gone_apart due [] (Some join) said questions apart = apart
 gone_apart due [] None (line ∷ said) questions apart = apart
 gone_apart false [] None [] questions apart = apart
 gone_apart true [] None [] [] apart = tt
 gone_apart true [] None [] (line ∷ questions) (none, apart) = apart_less line [] questions apart
 
+go_apart : (due : Bool) (opening : List Parts) (waiting : Waiting) → AreApart [] waiting.questions → AreApart [] (rest_by due opening waiting).questions
+go_apart due [] waiting apart = gone_apart due waiting.joins waiting.joining waiting.said waiting.questions apart
+go_apart due (line ∷ opening) waiting apart = apart
+
 turn_apart : (turn : Turn) (waiting : Waiting) → AreApart [] waiting.questions → AreApart [] (waiting_behind turn waiting).questions
+turn_apart (Open lines) waiting apart = apart
 turn_apart (Hand line) waiting apart =
     handed_apart (asks_names line) (is_asked line waiting) (nat_le MOST_QUESTIONS (length waiting.questions)) line waiting refl apart
-turn_apart (Join channel) waiting apart =
-    let (said, questions) = join_lines waiting.joining channel waiting in
+turn_apart (Join channel key) waiting apart =
+    let (said, questions, opening) = join_lines waiting.joining channel key waiting in
     subst (λ (lines : List Parts). AreApart [] lines) (sym questions) apart
-turn_apart (Go due) waiting apart = gone_apart due waiting.joins waiting.joining waiting.said waiting.questions apart
+turn_apart (Go due) waiting apart = go_apart due waiting.opening waiting apart
 
 turns_apart : (turns : List Turn) (waiting : Waiting) → AreApart [] waiting.questions → AreApart [] (waiting_at_last turns waiting).questions
 unfolding waiting_at_last
@@ -215,6 +244,67 @@ pub questions_wait : QuestionsWait
 questions_wait = record {
   behind = λ turns due line is asks.
       let last = waiting_at_last turns nothing_waits in
-      behind_said due last.joins last.joining last.said last.questions line (turns_sorted turns nothing_waits nothing_sorted).said is asks;
+      go_behind due last.opening last line (turns_sorted turns nothing_waits nothing_sorted).said is asks;
   apart = λ turns. turns_apart turns nothing_waits none_apart;
+}
+
+-- What goes before all else.
+
+gone_opened : (due : Bool) (joins : List Joined) (joining : Option Joined) (said questions : List Parts)
+    → opened_in (next_of due joins joining said questions) ++ (rest_of due joins joining said questions).opening ≡ []
+gone_opened due (join ∷ joins) joining said questions = refl
+gone_opened due [] (Some join) said questions = refl
+gone_opened due [] None (line ∷ said) questions = refl
+gone_opened false [] None [] questions = refl
+gone_opened true [] None [] [] = refl
+gone_opened true [] None [] (line ∷ questions) = refl
+
+go_opened : (due : Bool) (opening : List Parts) (waiting : Waiting) → opened_in (piece_by due opening waiting) ++ (rest_by due opening waiting).opening ≡ opening
+go_opened due [] waiting = gone_opened due waiting.joins waiting.joining waiting.said waiting.questions
+go_opened due (line ∷ opening) waiting = refl
+
+handed_opening : (asks dropped : Bool) (line : Parts) (waiting : Waiting)
+    → (if asks then (if dropped then waiting else record waiting { questions = waiting.questions ++ line ∷ [] }) else record waiting { said = waiting.said ++ line ∷ [] }).opening
+    ≡ waiting.opening
+handed_opening true true line waiting = refl
+handed_opening true false line waiting = refl
+handed_opening false dropped line waiting = refl
+
+-- the lines that are to go before all else in this turn
+abbrev opening_of : Turn → List Parts
+opening_of (Open lines) = lines
+opening_of (Hand line) = []
+opening_of (Join channel key) = []
+opening_of (Go due) = []
+
+turn_opened : (turn : Turn) (waiting : Waiting) → opened_by turn waiting ++ (waiting_behind turn waiting).opening ≡ waiting.opening ++ opening_of turn
+turn_opened (Open lines) waiting = refl
+turn_opened (Hand line) waiting = handed_opening (asks_names line) (is_dropped line waiting) line waiting ∙ sym (append-nil waiting.opening)
+turn_opened (Join channel key) waiting =
+    let (said, questions, opening) = join_lines waiting.joining channel key waiting in opening ∙ sym (append-nil waiting.opening)
+turn_opened (Go due) waiting = go_opened due waiting.opening waiting ∙ sym (append-nil waiting.opening)
+
+opened_first : (turn : Turn) (turns : List Turn) → opened_at (turn ∷ turns) ≡ opening_of turn ++ opened_at turns
+unfolding opened_at
+opened_first (Open lines) turns = refl
+opened_first (Hand line) turns = refl
+opened_first (Join channel key) turns = refl
+opened_first (Go due) turns = refl
+
+turns_opened : (turns : List Turn) (waiting : Waiting) → opened_out turns waiting ++ (waiting_at_last turns waiting).opening ≡ waiting.opening ++ opened_at turns
+unfolding opened_out waiting_at_last opened_at
+turns_opened [] waiting = sym (append-nil waiting.opening)
+turns_opened (turn ∷ turns) waiting =
+    let behind = waiting_behind turn waiting in
+    append_assoc (opened_by turn waiting) (opened_out turns behind) (waiting_at_last turns behind).opening
+    ∙ ap (λ (lines : List Parts). opened_by turn waiting ++ lines) (turns_opened turns behind)
+    ∙ sym (append_assoc (opened_by turn waiting) behind.opening (opened_at turns))
+    ∙ ap (λ (lines : List Parts). lines ++ opened_at turns) (turn_opened turn waiting)
+    ∙ append_assoc waiting.opening (opening_of turn) (opened_at turns)
+    ∙ ap (λ (lines : List Parts). waiting.opening ++ lines) (sym (opened_first turn turns))
+
+pub opening_first : OpeningGoesFirst
+opening_first = record {
+  order = λ turns. turns_opened turns nothing_waits;
+  first = λ turns due line more is. ap (λ (opening : List Parts). piece_by due opening (waiting_at_last turns nothing_waits)) is;
 }

@@ -49,6 +49,8 @@ news_kept now news.TooFew c is = refl
 news_kept now news.Enough c is = refl
 news_kept now (news.TurnedAway node) c is = refl
 news_kept now (news.LogFills node level) c is = refl
+news_kept now (news.WrongPassword origin) c is = refl
+news_kept now (news.WrongPasswords count) c is = refl
 
 inner_kept : (now : ℕ) (o : Order) (c : Connection) → Inner o → behind now o c ≡ Some (kept c)
 inner_kept now (order.Submit node came) c is = refl
@@ -75,6 +77,8 @@ client_news origin news.TooFew is = absurd is
 client_news origin news.Enough is = absurd is
 client_news origin (news.TurnedAway node) is = absurd is
 client_news origin (news.LogFills node level) is = absurd is
+client_news origin (news.WrongPassword other) is = absurd is
+client_news origin (news.WrongPasswords count) is = absurd is
 
 pub inner_client : (origin : Origin) (o : Order) → IsFor origin o → Inner o
 inner_client origin (order.Submit node came) is = tt

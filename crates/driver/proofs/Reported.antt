@@ -24,6 +24,7 @@ use Rattle.driver.specs.declared.node_monitor.standing.Outage.{Outage}
 use Rattle.driver.specs.declared.order.Order.{Order}
 use Rattle.driver.specs.declared.order.Order.TheVariants as order
 use Rattle.driver.specs.declared.retirement.Retirement.{Retirement}
+use Rattle.driver.specs.Keys.{KeyOf}
 use Rattle.driver.specs.Learning.{LearnsIf, nick_learnt}
 use Rattle.driver.specs.Links.{is_open, is_session_of}
 use Rattle.driver.specs.Opening.{joined_as}
@@ -54,15 +55,15 @@ session_open (Open session) node is = refl
 pub open_fits : (c : Connection) (old new : Link) → is_open new.stage ≡ true → StandsAs c new.stage → Fits c new
 open_fits c old new up stands = record { stands = stands; empty = λ closed. not_both (is_open new.stage) (new.waiting ≡ nothing_waits) up closed }
 
-joined_fits : (c : Connection) (is : Bool) (node : ℕ) (channel : List ℕ) (link : Link) → is_session_of link.stage node ≡ is → Fits c link → Fits c (if is then joined channel link else link)
-joined_fits c true node channel link is fits = open_fits c link (joined channel link) (session_open link.stage node is) fits.stands
-joined_fits c false node channel link is fits = fits
+joined_fits : (c : Connection) (is : Bool) (node : ℕ) (keys : List KeyOf) (channel : List ℕ) (link : Link) → is_session_of link.stage node ≡ is → Fits c link → Fits c (if is then joined keys channel link else link)
+joined_fits c true node keys channel link is fits = open_fits c link (joined keys channel link) (session_open link.stage node is) fits.stands
+joined_fits c false node keys channel link is fits = fits
 
-passed_fits : (c : Connection) (class : Class Parts) (node : ℕ) (link : Link) → Fits c link → Fits c (link_passed class node link)
-passed_fits c (Rejoin session line) node link fits = joined_fits c (is_session_of link.stage node) node (parameter 0 line) link refl fits
-passed_fits c (To origin) node link fits = fits
-passed_fits c (HandClass session number line) node link fits = fits
-passed_fits c Nowhere node link fits = fits
+passed_fits : (c : Connection) (keys : List KeyOf) (class : Class Parts) (node : ℕ) (link : Link) → Fits c link → Fits c (link_passed keys class node link)
+passed_fits c keys (Rejoin session line) node link fits = joined_fits c (is_session_of link.stage node) node keys (parameter 0 line) link refl fits
+passed_fits c keys (To origin) node link fits = fits
+passed_fits c keys (HandClass session number line) node link fits = fits
+passed_fits c keys Nowhere node link fits = fits
 
 pub handed_fits : (c : Connection) (is : Bool) (node : ℕ) (line : Parts) (link : Link) → is_session_of link.stage node ≡ is → Fits c link → Fits c (record link { waiting = if is then with_line line link.waiting else link.waiting })
 handed_fits c true node line link is fits = open_fits c link (record link { waiting = with_line line link.waiting }) (session_open link.stage node is) fits.stands
@@ -77,8 +78,9 @@ unfolding PassEach
 passes_fit c now at node [] old new same fits = same_fits c old.link new.link (ap (λ (driver : Driver). driver.link) same) fits
 passes_fit c now at node (effect ∷ effects) old new (mid, p, more) fits =
     let learnt = same_fits c old.link p.learnt.link (learnt_link (nick_learnt old.given old.settings.nick (joined_as effect)) old p.learnt p.learns) fits in
-    let passed = passed_fits c (class_of effect) node p.learnt.link learnt in
-    passes_fit c now at node effects mid new more (same_fits c (link_passed (class_of effect) node p.learnt.link) mid.link (ap (λ (driver : Driver). driver.link) p.rest) passed)
+    let keys = p.learnt.settings.channel_keys.items in
+    let passed = passed_fits c keys (class_of effect) node p.learnt.link learnt in
+    passes_fit c now at node effects mid new more (same_fits c (link_passed keys (class_of effect) node p.learnt.link) mid.link (ap (λ (driver : Driver). driver.link) p.rest) passed)
 
 -- A worker reports.
 

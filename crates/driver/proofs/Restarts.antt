@@ -84,6 +84,8 @@ said_still n news.TooFew is = refl
 said_still n news.Enough is = refl
 said_still n (news.TurnedAway node) is = refl
 said_still n (news.LogFills node level) is = refl
+said_still n (news.WrongPassword origin) is = refl
+said_still n (news.WrongPasswords count) is = refl
 
 still_down : (n : ℕ) (o : Order) → tells_up n o ≡ false → down_by n true o ≡ true
 still_down n (order.Submit other came) is = refl
@@ -159,6 +161,8 @@ client_news n down origin news.TooFew is = absurd is
 client_news n down origin news.Enough is = absurd is
 client_news n down origin (news.TurnedAway node) is = absurd is
 client_news n down origin (news.LogFills node level) is = absurd is
+client_news n down origin (news.WrongPassword other) is = absurd is
+client_news n down origin (news.WrongPasswords count) is = absurd is
 
 pub client_plain : (n : ℕ) (down : Bool) (origin : Origin) (o : Order) → (down && nat_eq origin.0 n) ≡ false → IsFor origin o → Plain n down o
 client_plain n down origin (order.Submit other came) apart (is, own) =

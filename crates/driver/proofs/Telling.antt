@@ -22,6 +22,12 @@ tell_counts told before items node note number is next =
     ∙ ap (λ (number : ℕ). set (counts before items) (node - 1) number) next
     ∙ sym (counts_push before items (Submit node note))
 
+-- two orders, one after another, and more behind them
+pub two_and_more : (orders : Ordered) (first second : Order) (more : List Order) → ordered (ordered (ordered orders (first ∷ [])) (second ∷ [])) more ≡ ordered orders (first ∷ second ∷ more)
+two_and_more orders first second more =
+    ap (λ (items : List Order). record orders { items = items })
+    (append_assoc (orders.items ++ first ∷ []) (second ∷ []) more ∙ append_assoc orders.items (first ∷ []) (second ∷ more))
+
 -- three orders, one after another
 pub three_ordered : (orders : Ordered) (first second third : Order) → ordered (ordered (ordered orders (first ∷ [])) (second ∷ [])) (third ∷ []) ≡ ordered orders (first ∷ second ∷ third ∷ [])
 three_ordered orders first second third =

@@ -9,9 +9,9 @@ use Rattle.driver.specs.declared.outgoing.Piece.{Piece}
 use Rattle.driver.specs.Writing.{GoesOutIf, WriteLines, WritesLine, are_due, piece_of}
 use Rattle.driver.proofs.Adding.{Adds, adds_both, nothing_adds, one_adds}
 
--- a driver, with the orders, the pace, what waits and what may not have arrived of another
+-- a driver, with the orders, the pace, what waits, what is known of keys and what may not have arrived of another
 abbrev pub written_as : Driver → Driver → Driver
-written_as new old = record old { orders = new.orders; pace = new.pace; unheard = new.unheard; link = record old.link { waiting = new.link.waiting } }
+written_as new old = record old { orders = new.orders; pace = new.pace; unheard = new.unheard; link = record old.link { waiting = new.link.waiting; keys = new.link.keys } }
 
 one_rest : (now : ℕ) (due : Bool) (found : Option Piece) (old new : Driver) → GoesOutIf now due found old new → new ≡ written_as new old
 one_rest now due None old new same = subst (λ (driver : Driver). driver ≡ written_as driver old) (sym same) refl
@@ -22,7 +22,7 @@ one_sent P now due None old new fits same = nothing_adds P old.orders new.orders
 one_sent P now due (Some piece) old new fits goes =
     one_adds P (Send goes.sent.bytes) old.orders new.orders goes.sent.orders (fits goes.sent.bytes)
 
--- only the orders, the pace and what waits change
+-- only these change
 pub lines_rest : (count now node : ℕ) (old new : Driver) → WriteLines count now node old new → new ≡ written_as new old
 unfolding WriteLines
 lines_rest zero now node old new same = subst (λ (driver : Driver). driver ≡ written_as driver old) (sym same) refl

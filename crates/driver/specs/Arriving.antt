@@ -16,6 +16,7 @@ use Rattle.driver.specs.Driving.{changed_at, orders_at}
 use Rattle.driver.specs.Retiring.{no_retirements, with_seen}
 use Rattle.driver.specs.Hearing.{turned_away, turned_away_news}
 use Rattle.driver.specs.Absences.{boot_open}
+use Rattle.driver.specs.Guarding.{new_guard}
 use Rattle.driver.specs.Links.{first_backoff}
 use Rattle.driver.specs.Rosters.{IsNew, client_at}
 use Rattle.driver.specs.Outgoing.{nothing_waits}
@@ -41,9 +42,12 @@ pub record IsNewDriver (settings : Settings) (now : ℕ) (new : Driver) : Type 0
   pub retirements : new.retirements.all ≡ no_retirements
   pub clients : (number : ℕ) → client_at new.clients number ≡ None
   pub numbered : new.numbered ≡ 0
+  pub guard : new.guard ≡ new_guard now
   pub stage : new.link.stage ≡ Idle (at now) 0
   pub backoff : new.link.backoff ≡ first_backoff
+  pub ended : new.link.ended ≡ None
   pub waiting : new.link.waiting ≡ nothing_waits
+  pub keys : new.link.keys ≡ []
   pub given : new.given ≡ None
   pub level : new.level ≡ Roomy
   pub pace : new.pace ≡ record { burst = settings.flood_burst; line_ms = settings.flood_ms; free_at = 0 }

@@ -15,6 +15,7 @@ use Rattle.driver.specs.Coming.{Comes}
 use Rattle.driver.specs.Absences.{WatchesNodes}
 use Rattle.driver.specs.Driving.{Dismisses, Ends, Ticks}
 use Rattle.driver.specs.Filling.{Watches, words_of}
+use Rattle.driver.specs.Guarding.{WatchesPasswords}
 use Rattle.driver.specs.Links.{Connects, node_of}
 use Rattle.driver.specs.Nicks.{AllAreWritten, IsWritten, nick_in, notice}
 use Rattle.driver.specs.Reports.{Hears}
@@ -26,7 +27,7 @@ use Rattle.driver.specs.Writing.{Hands}
 
 -- A call: a client connects to a node, sends bytes or is gone; a node hands out a line for the server; a node's worker reports; time
 -- passes; the server is connected to, sends bytes or is gone; all clients are told something, or are to leave; the log is looked at, or the
--- nodes are; what a client sent is not taken; the orders are taken.
+-- nodes are, or how many wrong passwords came; what a client sent is not taken; the orders are taken.
 pub data Call : Type 0 where
   Connect : ℕ → ℕ → Call
   Receive : List ℕ → ℕ → Moment → ℕ → Call
@@ -41,6 +42,7 @@ pub data Call : Type 0 where
   Dismiss : ℕ → Moment → Call
   Watch : Call
   WatchNodes : ℕ → Call
+  WatchPasswords : ℕ → Call
   Refuse : ℕ → Call
   Take : Call
 
@@ -57,7 +59,7 @@ pub record Speaks (bytes : List ℕ) (now : ℕ) (at : Moment) (number : ℕ) (o
   pub others : AreOthersSame number old.clients new.clients
   pub nobody : client_at old.clients number ≡ None → (new.clients ≡ old.clients) × (new.orders ≡ old.orders)
   pub comes : Comes bytes now at number old new
-  pub rest : new ≡ record old { clients = new.clients; orders = new.orders }
+  pub rest : new ≡ record old { clients = new.clients; orders = new.orders; guard = new.guard }
 
 -- A client's connection is gone.
 pub record Goes (now : ℕ) (at : Moment) (number : ℕ) (old new : Driver) : Type 0 where
@@ -102,6 +104,7 @@ Does (Notice text) old new = Orders (λ before after. AllAreWritten old.clients 
 Does (Dismiss now at) old new = Dismisses now at old new
 Does Watch old new = Watches old new
 Does (WatchNodes now) old new = WatchesNodes now old new
+Does (WatchPasswords now) old new = WatchesPasswords now old new
 Does (Refuse number) old new =
     Orders (λ before after. IsWritten (client_at old.clients number) (notice (nick_in old) (words_of Full)) before after) old new
 Does Take old new = Orders (λ before after. after ≡ emptied before) old new

@@ -1,5 +1,5 @@
 -- What a client's requests are to its node.
-use Rattle.std.specs.Prelude.{◌&&◌, ◌||◌, not, is_some, ℕ, Bool, true, false, if◌then◌else◌, List, [], ◌∷◌, ◌++◌, Option, Some, None}
+use Rattle.std.specs.Prelude.{◌&&◌, ◌||◌, not, is_some, ℕ, Bool, true, false, nat_le, if◌then◌else◌, List, [], ◌∷◌, ◌++◌, Option, Some, None}
 use Rattle.std.specs.Global.{Vec}
 use Rattle.bouncer_tower.specs.Bodies.{TowerBody}
 use Rattle.buffer_commands.specs.declared.wire_line.WireLine.{WireLine}
@@ -11,6 +11,7 @@ use Rattle.wire_bytes.specs.declared.moment.Moment.{Moment}
 use Rattle.node_notes.specs.declared.note.Note.{Note}
 use Rattle.node_notes.specs.declared.note.Note.TheVariants.{Ask}
 use Rattle.driver.specs.declared.client.Client.{Client}
+use Rattle.driver.specs.declared.client.refusal.Refusal.{Refusal}
 use Rattle.driver.specs.declared.timer.Timer.{Timer}
 use Rattle.driver.specs.declared.news.News.TheVariants.{Attached, Left}
 use Rattle.driver.specs.declared.order.Order.{Order}
@@ -49,14 +50,19 @@ abbrev pub last_asks : Origin → Moment → Option Request → List Order
 last_asks origin at None = []
 last_asks origin at (Some request) = ask_of origin at request ∷ []
 
--- a client's connection is closed, an operator is told, and its last request goes to its node
-abbrev pub parting : Origin → Moment → Option Request → List Order
-parting origin at request = (Close origin.2 ∷ Log (Left origin) ∷ []) ++ last_asks origin at request
+-- an operator is told that a client left that had registered
+abbrev pub left_news : Bool → Origin → List Order
+left_news false origin = []
+left_news true origin = Log (Left origin) ∷ []
+
+-- a client's connection is closed, an operator is told where it had registered, and its last request goes to its node
+abbrev pub parting : Bool → Origin → Moment → Option Request → List Order
+parting attached origin at request = Close origin.2 ∷ (left_news attached origin ++ last_asks origin at request)
 
 -- nothing comes of it where the connection is gone already
-unfoldable pub parting_unless : Bool → Origin → Moment → Option Request → List Order
-parting_unless true origin at request = []
-parting_unless false origin at request = parting origin at request
+unfoldable pub parting_unless : Bool → Bool → Origin → Moment → Option Request → List Order
+parting_unless true attached origin at request = []
+parting_unless false attached origin at request = parting attached origin at request
 
 -- bytes are written, if there are some
 abbrev pub write_some : ℕ → Vec ℕ → List ℕ → List Order
@@ -81,7 +87,7 @@ is_cut fed = fed.close && not (is_some_asked fed.requests.items)
 abbrev pub passed : Client → Moment → Option Request → Fed → List Order
 passed c at last fed =
     (written c.is_gone c.origin.2 fed.reply ++ asked_all c.is_attached c.origin at fed.requests.items)
-    ++ (if is_cut fed then parting_unless c.is_gone c.origin at last else [])
+    ++ (if is_cut fed then parting_unless c.is_gone (c.is_attached || is_some_asked fed.requests.items) c.origin at last else [])
 
 -- since when a client leaves that asked to leave now, or did not
 abbrev pub leaves_since : Bool → ℕ → Option Timer → Option Timer
@@ -97,6 +103,22 @@ behind_fed now c fed = record c {
   is_gone = c.is_gone || is_cut fed;
 }
 
+-- a client whose password was wrong: what its gate wrote is kept back until this moment
+abbrev pub kept_back : ℕ → Client → Fed → Client
+kept_back due c fed = record c {
+  is_attached = c.is_attached || is_some_asked fed.requests.items;
+  refused = Some (record { answer = fed.reply; due = due });
+}
+
 -- nothing more is read of a client: it leaves, or its connection is gone
 abbrev pub is_leaving : Client → Bool
 is_leaving c = c.is_gone || is_some c.leaving
+
+-- nothing more is taken of a client: it leaves, its connection is gone, or its password was wrong
+abbrev pub is_shut : Client → Bool
+is_shut c = is_leaving c || is_some c.refused
+
+-- what a client whose password was wrong is told at this moment, if it is told it
+abbrev pub due_answer : Option Refusal → ℕ → Option (List ℕ)
+due_answer None now = None
+due_answer (Some refusal) now = if nat_le refusal.due now then Some refusal.answer.items else None

@@ -15,7 +15,7 @@ use Rattle.driver.specs.Leaving.{IsDismissed, is_overdue}
 use Rattle.driver.specs.Outages.{IsToldOff}
 use Rattle.driver.specs.Rosters.{AreOthersSame, IsReadOf, Serves, client_at}
 use Rattle.driver.specs.Serving.{IsLost}
-use Rattle.driver.specs.Silence.{IsKept, IsSentOff, is_too_slow, waited}
+use Rattle.driver.specs.Silence.{IsKept, IsSentOff, is_to_go, waited}
 use Rattle.driver.specs.Telling.{Ordered, ordered}
 
 -- the clients, and what was ordered
@@ -30,8 +30,8 @@ told clients orders = record { clients = clients; orders = orders }
 -- Time brought a client what it brings, where it was read or was not: one that leaves for too long, or is too slow, is parted from.
 pub record Ticks (reads : Bool) (timeout now : ℕ) (at : Moment) (s : Settings) (calls : List Call) (old : Client) (before : Ordered) (new : Client) (after : Ordered) : Type 0 where
   pub overdue : is_overdue old now ≡ true → IsLost now at s calls old before new after
-  pub slow : is_overdue old now ≡ false → is_too_slow (waited reads now old) now ≡ true → IsSentOff now at s calls (waited reads now old) before new after
-  pub kept : is_overdue old now ≡ false → is_too_slow (waited reads now old) now ≡ false → IsKept timeout now at s calls (waited reads now old) before new after
+  pub slow : is_overdue old now ≡ false → is_to_go (waited reads now old) now ≡ true → IsSentOff now at s calls (waited reads now old) before new after
+  pub kept : is_overdue old now ≡ false → is_to_go (waited reads now old) now ≡ false → IsKept timeout now at s calls (waited reads now old) before new after
 
 -- A client is read or not, and time brings it what it brings.
 pub record TicksRead (timeout now : ℕ) (at : Moment) (monitors : List NodeMonitor) (s : Settings) (calls : List Call) (old : Client) (before : Ordered) (new : Client) (after : Ordered) : Type 0 where
@@ -77,7 +77,7 @@ pub record LeavesClient (at : Moment) (node boot number : ℕ) (old new : Told) 
   pub leaves : (c : Client) → client_at old.clients number ≡ Some c → is_below c.origin node boot ≡ true → client_at new.clients number ≡ None
   pub orders :
       (s : Settings) (calls : List Call) (c : Client) → client_at old.clients number ≡ Some c → is_below c.origin node boot ≡ true
-      → Stands s calls c.gate → new.orders ≡ ordered old.orders (parting_unless c.is_gone c.origin at (last_request (gate s calls)))
+      → Stands s calls c.gate → new.orders ≡ ordered old.orders (parting_unless c.is_gone c.is_attached c.origin at (last_request (gate s calls)))
 
 -- the same of the clients of these numbers, in this order
 unfoldable pub LeaveEach : Moment → ℕ → ℕ → List ℕ → Told → Told → Type 0

@@ -19,7 +19,7 @@ use Rattle.driver.specs.Monitors.{claim_at, claim_due, monitor_behind, monitor_c
 use Rattle.driver.specs.Retiring.{restart_at, restart_behind}
 use Rattle.driver.specs.Leading.{IsLeader, is_older, is_that}
 use Rattle.driver.specs.Hearing.{boot_up}
-use Rattle.driver.specs.Links.{IsLost, backoff_behind, ending, idle_behind, is_open, lingering, may_connect, node_of, status_at, waiting_behind}
+use Rattle.driver.specs.Links.{IsLost, backoff_behind, ended_behind, ending, idle_behind, is_open, lingering, may_connect, node_of, status_at, waiting_behind}
 use Rattle.driver.specs.Servers.{AsksForWord, is_quiet, is_silent}
 use Rattle.driver.specs.Rounds.{GoesRound, Round, round}
 use Rattle.driver.specs.Telling.{Ordered, ordered}
@@ -89,8 +89,10 @@ pub record Ends (now : ℕ) (why : Ending) (old new : Driver) : Type 0 where
   pub orders :
       new.orders ≡ ordered old.orders (ending old.link.stage why ++ closed_orders (closed_of old.monitors (node_of old.link.stage) lost))
   pub stage : new.link.stage ≡ idle_behind old.link.stage old.link.backoff now
-  pub backoff : new.link.backoff ≡ backoff_behind old.link.stage old.link.backoff now
+  pub backoff : new.link.backoff ≡ backoff_behind old.link.stage why old.link.backoff now
+  pub ended : new.link.ended ≡ ended_behind old.link.stage why old.link.ended
   pub waiting : new.link.waiting ≡ waiting_behind old.link.stage old.link.waiting
+  pub keys : new.link.keys ≡ old.link.keys
   pub rest : new ≡ record old { orders = new.orders; link = new.link }
 
 -- The connection to the server is closed, and then it is gone.

@@ -13,6 +13,7 @@ pub mod Deeds
 pub mod Driving
 pub mod Farewells
 pub mod Filling
+pub mod Guarding
 pub mod Retiring
 pub mod Rewording
 pub mod Hearing
@@ -43,3 +44,6 @@ pub mod Silence
 pub mod Telling
 pub mod Waking
 pub mod Writing
+pub mod Joining
+pub mod Keys
+pub mod Missing

@@ -1,5 +1,5 @@
 -- The connection to the server, and the numbers of clients.
-use Rattle.std.specs.Prelude.{◌≡◌, ℕ, ◌-◌, Bool, true, false, codes, nat_eq, nat_lt, if◌then◌else◌, List, [], ◌∷◌, ◌++◌, length, Option, Some, None, slice_get}
+use Rattle.std.specs.Prelude.{◌≡◌, ℕ, ◌-◌, Bool, true, false, not, codes, nat_eq, nat_lt, if◌then◌else◌, List, [], ◌∷◌, ◌++◌, length, Option, Some, None, slice_get}
 use Rattle.std.specs.Global.{Vec}
 use Rattle.std.specs.Option.{is_some, option_to_list}
 use Rattle.irc_line.specs.Lines.{Parts, spelling}
@@ -22,6 +22,7 @@ use Rattle.driver.specs.declared.link.Session.{Session}
 use Rattle.driver.specs.declared.link.Stage.{Stage}
 use Rattle.driver.specs.declared.link.Stage.TheVariants.{Closing, Idle, Connecting, Open}
 use Rattle.driver.specs.declared.news.Ending.{Ending}
+use Rattle.driver.specs.declared.news.Ending.TheVariants.{ByServer, LedNoMore, Lost, Refused, Silent, Unreachable}
 use Rattle.driver.specs.declared.news.News.{News}
 use Rattle.driver.specs.declared.news.News.TheVariants.{Closed, Unopened}
 use Rattle.driver.specs.declared.order.Order.{Order}
@@ -30,7 +31,8 @@ use Rattle.driver.specs.declared.settings.Settings.{Settings}
 use Rattle.driver.specs.Monitors.{at, is_over}
 use Rattle.driver.specs.Outgoing.{Waiting, nothing_waits}
 use Rattle.driver.specs.Telling.{Ordered, ordered}
-use Rattle.driver.specs.declared.link.TheConstants.{FIRST_WAIT, LONGEST_WAIT, GOOD_SESSION}
+use Rattle.driver.specs.declared.link.TheConstants.{FIRST_WAIT, LONGEST_WAIT}
+use Rattle.driver.specs.declared.link.losing.TheConstants.{GOOD_SESSION}
 use Rattle.irc_line.specs.Limits.{line_limit}
 
 -- the node that a connection is of, if there is one
@@ -69,6 +71,13 @@ opened (Closing since wait) = Closing since wait
 opened (Connecting node) = Connecting node
 opened (Open session) = Open (record session { is_opened = true })
 
+-- there is a session that the server has not given yet
+abbrev pub is_fresh : Stage → Bool
+is_fresh (Idle since wait) = false
+is_fresh (Closing since wait) = false
+is_fresh (Connecting node) = false
+is_fresh (Open session) = not session.is_opened
+
 -- what waits to go out behind a connection that is gone: nothing
 abbrev pub waiting_behind : Stage → Waiting → Waiting
 waiting_behind (Idle since wait) waiting = waiting
@@ -90,12 +99,33 @@ idle_behind (Closing since wait) backoff now = Idle (at now) wait
 idle_behind (Connecting node) backoff now = Idle (at now) backoff.next
 idle_behind (Open session) backoff now = Idle (at now) (wait_behind (Open session) backoff now)
 
--- how long is waited behind the next one that is gone: twice as long as behind this one, up to a limit
-abbrev pub backoff_behind : Stage → Backoff → ℕ → Backoff
-backoff_behind (Idle since wait) backoff now = backoff
-backoff_behind (Closing since wait) backoff now = backoff
-backoff_behind (Connecting node) backoff now = record backoff { next = doubled backoff.most backoff.next }
-backoff_behind (Open session) backoff now = record backoff { next = doubled backoff.most (wait_behind (Open session) backoff now) }
+-- the end of a connection is a failure: any but that its node leads no more
+abbrev pub is_failure : Ending → Bool
+is_failure Refused = true
+is_failure Unreachable = true
+is_failure ByServer = true
+is_failure Lost = true
+is_failure Silent = true
+is_failure LedNoMore = false
+
+-- how long is waited the next time: behind a failure twice as long, up to a limit
+abbrev pub next_wait : Bool → ℕ → ℕ → ℕ
+next_wait failed most wait = if failed then doubled most wait else wait
+
+-- why the last connection ended, behind one that is gone
+abbrev pub ended_behind : Stage → Ending → Option Ending → Option Ending
+ended_behind (Idle since wait) why ended = ended
+ended_behind (Closing since wait) why ended = ended
+ended_behind (Connecting node) why ended = Some why
+ended_behind (Open session) why ended = Some why
+
+-- how long is waited behind the next one that is gone: behind a failure twice as long as behind this one, up to a limit
+abbrev pub backoff_behind : Stage → Ending → Backoff → ℕ → Backoff
+backoff_behind (Idle since wait) why backoff now = backoff
+backoff_behind (Closing since wait) why backoff now = backoff
+backoff_behind (Connecting node) why backoff now = record backoff { next = next_wait (is_failure why) backoff.most backoff.next }
+backoff_behind (Open session) why backoff now =
+    record backoff { next = next_wait (is_failure why) backoff.most (wait_behind (Open session) backoff now) }
 
 -- a connection that is gone, where the server was told that its session is over: the server is to close it
 abbrev pub lingering : Stage → Stage

@@ -13,6 +13,7 @@ use Rattle.driver.specs.declared.client.Client.{Client}
 use Rattle.driver.specs.declared.clients.Clients.{Clients}
 use Rattle.driver.specs.declared.driver.Driver.{Driver}
 use Rattle.driver.specs.declared.order.Order.TheVariants.{Write}
+use Rattle.driver.specs.Missing.{missing}
 use Rattle.driver.specs.Rosters.{client_at}
 use Rattle.driver.specs.Telling.{Ordered, ordered}
 
@@ -97,19 +98,39 @@ abbrev pub IsWarned : Bool → Option Client → List ℕ → Ordered → Ordere
 IsWarned false found nick before after = after ≡ before
 IsWarned true found nick before after = IsWritten found (notice nick (group_words true)) before after
 
+-- a client is told this by `*status`, if it is something
+abbrev pub IsToldOf : Option (List ℕ) → Option Client → List ℕ → Ordered → Ordered → Type 0
+IsToldOf None found nick before after = after ≡ before
+IsToldOf (Some text) found nick before after = IsWritten found (notice nick text) before after
+
+-- what who attaches is warned of: too few nodes are up; and there is no server, by these words
+pub record Warned : Type 0 where
+  pub short : Bool
+  pub missing : Option (List ℕ)
+
+-- what people are told at this moment where there is no server
+abbrev pub missing_in : Driver → ℕ → Option (List ℕ)
+missing_in driver now = missing driver.link.stage driver.link.ended now
+
+-- what who attaches at this moment is warned of
+abbrev pub warned : Driver → ℕ → Warned
+warned driver now = record { short = driver.is_short; missing = missing_in driver now }
+
 -- A client registered: it is told of the nick in force where it was greeted by another, then that there is no MOTD, by which its welcome
--- ends, and that too few nodes are up, where that is so.
-pub record IsWelcomed (short : Bool) (found : Option Client) (nick : List ℕ) (before after : Ordered) : Type 0 where
+-- ends, that too few nodes are up, where that is so, and that there is no server, where there is none.
+pub record IsWelcomed (warned : Warned) (found : Option Client) (nick : List ℕ) (before after : Ordered) : Type 0 where
   pub named : Ordered
   pub ended : Ordered
   pub names : IsNamedIn found nick before named
   pub ends : IsWritten found (no_motd nick) named ended
-  pub warns : IsWarned short found nick ended after
+  pub short : Ordered
+  pub warns : IsWarned warned.short found nick ended short
+  pub misses : IsToldOf warned.missing found nick short after
 
 -- the same of a client that had not registered before, and may have now
-abbrev pub IsGreeted : Bool → Bool → Option Client → List ℕ → Ordered → Ordered → Type 0
-IsGreeted true short found nick before after = after ≡ before
-IsGreeted false short found nick before after = IsWelcomed short found nick before after
+abbrev pub IsGreeted : Bool → Warned → Option Client → List ℕ → Ordered → Ordered → Type 0
+IsGreeted true warned found nick before after = after ≡ before
+IsGreeted false warned found nick before after = IsWelcomed warned found nick before after
 
 -- all clients are told of another nick where they are to be
 abbrev pub RenamesIf : Bool → Clients → List ℕ → Ordered → Ordered → Type 0

@@ -49,10 +49,10 @@ pub record TellsOnce (s : Settings) (calls : List Call) (before : Ordered) (new 
   pub orders : after ≡ ordered before told
   pub once : numbers_of (all_requests s behind) ≡ numbers_of (all_requests s calls) ++ numbers_told told
 
--- What happens to a client at a moment: bytes of it come, something comes of a request, under a nick, its connection is gone, it is to leave, its
+-- What happens to a client at a moment: bytes of it come, which are answered at a later one where its password is wrong, something comes of a request, under a nick, its connection is gone, it is to leave, its
 -- node tells what may be lost and whether it refused a turn, or time passes, in which it is read or not.
 pub data Event : Type 0 where
-  Speaks : List ℕ → Event
+  Speaks : List ℕ → ℕ → Event
   Learns : GateEffect → List ℕ → Event
   Goes : Event
   Dismissed : Event
@@ -61,8 +61,8 @@ pub data Event : Type 0 where
 
 -- This happens to a client, whatever calls its gate stands behind.
 abbrev pub Happens : Event → ℕ → Moment → Client → Ordered → Client → Ordered → Type 0
-Happens (Speaks bytes) now at old before new after =
-    (s : Settings) (calls : List Call) → Stands s calls old.gate → Receives bytes now at s calls old before new after
+Happens (Speaks bytes due) now at old before new after =
+    (s : Settings) (calls : List Call) → Stands s calls old.gate → Receives bytes now at due s calls old before new after
 Happens (Learns effect nick) now at old before new after =
     (s : Settings) (calls : List Call) → Stands s calls old.gate → Hears effect nick now at s calls old before new after
 Happens Goes now at old before new after =

@@ -1,7 +1,7 @@
 -- What an operator is told.
 use Rattle.std.specs.Prelude.{ℕ, Option, Some, None}
 use Rattle.driver.specs.declared.news.News.{News}
-use Rattle.driver.specs.declared.news.News.TheVariants.{Attached, Left, Elected, Opened, Unopened, Closed, Down, Up, Hangs, Answers, TooFew, Enough, TurnedAway, LogFills}
+use Rattle.driver.specs.declared.news.News.TheVariants.{Attached, Left, Elected, Opened, Unopened, Closed, Down, Up, Hangs, Answers, TooFew, Enough, TurnedAway, LogFills, WrongPassword, WrongPasswords}
 
 -- the node that a line is of, where it is of one
 abbrev pub node_of : News → Option ℕ
@@ -19,3 +19,5 @@ node_of TooFew = None
 node_of Enough = None
 node_of (TurnedAway node) = Some node
 node_of (LogFills node level) = Some node
+node_of (WrongPassword origin) = Some origin.0
+node_of (WrongPasswords count) = None

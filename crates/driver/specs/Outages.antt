@@ -4,8 +4,8 @@ use Rattle.std.specs.Global.{Vec}
 use Rattle.driver.specs.declared.absence.Absence.{Absence}
 use Rattle.driver.specs.declared.absence.Absence.TheVariants.{Down, Hanging}
 use Rattle.driver.specs.declared.client.Client.{Client}
-use Rattle.driver.specs.declared.news.News.TheVariants.{Left}
-use Rattle.driver.specs.declared.order.Order.TheVariants.{Close, Log, Write}
+use Rattle.driver.specs.declared.order.Order.TheVariants.{Close, Write}
+use Rattle.driver.specs.Clients.{left_news}
 use Rattle.driver.specs.Telling.{Ordered, ordered}
 
 -- why a node serves nobody, in words, to the end of the line
@@ -22,7 +22,7 @@ abbrev pub IsToldIf : Bool → Absence → Client → Ordered → Ordered → Ty
 IsToldIf true why c before after = after ≡ before
 IsToldIf false why c before after =
     (line : Vec ℕ) × (line.items ≡ absence_line why c.origin.0)
-    × (after ≡ ordered before (Write c.origin.2 line ∷ Close c.origin.2 ∷ Log (Left c.origin) ∷ []))
+    × (after ≡ ordered before (Write c.origin.2 line ∷ Close c.origin.2 ∷ left_news c.is_attached c.origin))
 
 -- a client is told why its node serves nobody, and is closed, unless its connection is gone already
 abbrev pub IsToldOff : Absence → Client → Ordered → Ordered → Type 0

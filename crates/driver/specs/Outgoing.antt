@@ -1,4 +1,4 @@
--- What waits to go to the server in a session: JOINs of its channels go first, then what people say, and behind it questions who is in a
+-- What waits to go to the server in a session: what each session sends first, JOINs of its channels, then what people say, and behind it questions who is in a
 -- channel, which are asked of each channel as a client attaches.
 use Rattle.std.specs.Prelude.{ℕ, ◌+◌, Bool, false, ◌&&◌, ◌||◌, not, nat_eq, nat_le, nat_lt, if◌then◌else◌, codes, List, [], ◌∷◌, ◌++◌, drop, length, Option, Some, None}
 use Rattle.std.specs.List.{list_any}
@@ -6,41 +6,38 @@ use Rattle.irc_line.specs.Lines.{Parts, cut_spelling, parameter}
 use Rattle.irc_line.specs.Names.{same_name}
 use Rattle.buffer_machine.specs.Messages.{has_command}
 use Rattle.driver.specs.declared.outgoing.Piece.{Piece}
-use Rattle.driver.specs.declared.outgoing.Piece.TheVariants.{Joins, Says}
+use Rattle.driver.specs.declared.outgoing.Piece.TheVariants.{Joins, Opens, Says}
 use Rattle.driver.specs.declared.outgoing.TheConstants.{MOST_QUESTIONS}
-use Rattle.driver.specs.declared.join_line.TheConstants.{MOST_BYTES}
+use Rattle.driver.specs.Joining.{Joined, fits_in, join_bytes, no_channels, with_channel}
 
--- what waits, what goes first first: JOINs, and the last of them, which takes more channels; lines that are said; and lines that ask who is
+-- what waits, what goes first first: what each session sends first; JOINs, and the last of them, which takes more channels; lines that are said; and lines that ask who is
 -- in a channel
 pub record Waiting : Type 0 where
-  pub joins : List (List ℕ)
-  pub joining : Option (List ℕ)
+  pub opening : List Parts
+  pub joins : List Joined
+  pub joining : Option Joined
   pub said : List Parts
   pub questions : List Parts
 
 -- nothing waits
 abbrev pub nothing_waits : Waiting
-nothing_waits = record { joins = []; joining = None; said = []; questions = [] }
+nothing_waits = record { opening = []; joins = []; joining = None; said = []; questions = [] }
 
--- the line that joins this channel
-abbrev pub join_text : List ℕ → List ℕ
-join_text channel = codes "JOIN " ++ channel
-
--- a comma and a channel more fit into a line that joins others
-abbrev pub fits_in : List ℕ → List ℕ → Bool
-fits_in text channel = nat_lt (length text + length channel) MOST_BYTES
+-- lines go before all else
+abbrev pub with_opening : List Parts → Waiting → Waiting
+with_opening lines waiting = record waiting { opening = waiting.opening ++ lines }
 
 -- a channel is joined by the last JOIN, where there is one and it fits in there, and else by one of its own
-abbrev pub join_by : Option (List ℕ) → List ℕ → Waiting → Waiting
-join_by None channel waiting = record waiting { joining = Some (join_text channel) }
-join_by (Some text) channel waiting =
-    if fits_in text channel
-    then record waiting { joining = Some (text ++ 44 ∷ channel) }
-    else record waiting { joins = waiting.joins ++ text ∷ []; joining = Some (join_text channel) }
+abbrev pub join_by : Option Joined → List ℕ → List ℕ → Waiting → Waiting
+join_by None channel key waiting = record waiting { joining = Some (with_channel channel key no_channels) }
+join_by (Some line) channel key waiting =
+    if fits_in line channel key
+    then record waiting { joining = Some (with_channel channel key line) }
+    else record waiting { joins = waiting.joins ++ line ∷ []; joining = Some (with_channel channel key no_channels) }
 
--- a channel waits to be joined
-abbrev pub with_join : List ℕ → Waiting → Waiting
-with_join channel waiting = join_by waiting.joining channel waiting
+-- a channel waits to be joined, by a key, or by none where it has no bytes
+abbrev pub with_join : List ℕ → List ℕ → Waiting → Waiting
+with_join channel key waiting = join_by waiting.joining channel key waiting
 
 -- a line asks who is in a channel: a NAMES with the channel alone
 abbrev pub asks_names : Parts → Bool
@@ -80,37 +77,51 @@ abbrev pub next_line : Bool → List Parts → List Parts → Option Piece
 next_line due [] questions = if due then first_of questions else None
 next_line due (line ∷ said) questions = Some (Says line)
 
--- what goes next: the first JOIN, and behind all of them a line
-abbrev pub next_of : Bool → List (List ℕ) → Option (List ℕ) → List Parts → List Parts → Option Piece
-next_of due (text ∷ joins) joining said questions = Some (Joins text)
-next_of due [] (Some text) said questions = Some (Joins text)
+-- what goes next, where nothing goes before all else: the first JOIN, and behind all of them a line
+abbrev pub next_of : Bool → List Joined → Option Joined → List Parts → List Parts → Option Piece
+next_of due (line ∷ joins) joining said questions = Some (Joins line)
+next_of due [] (Some line) said questions = Some (Joins line)
 next_of due [] None said questions = next_line due said questions
 
 -- what waits behind a line that goes
 abbrev pub rest_lines : Bool → List Parts → List Parts → Waiting
-rest_lines due [] questions = record { joins = []; joining = None; said = []; questions = if due then drop 1 questions else questions }
-rest_lines due (line ∷ said) questions = record { joins = []; joining = None; said = said; questions = questions }
+rest_lines due [] questions =
+    record { opening = []; joins = []; joining = None; said = []; questions = if due then drop 1 questions else questions }
+rest_lines due (line ∷ said) questions = record { opening = []; joins = []; joining = None; said = said; questions = questions }
 
--- what waits behind what goes
-abbrev pub rest_of : Bool → List (List ℕ) → Option (List ℕ) → List Parts → List Parts → Waiting
-rest_of due (text ∷ joins) joining said questions = record { joins = joins; joining = joining; said = said; questions = questions }
-rest_of due [] (Some text) said questions = record { joins = []; joining = None; said = said; questions = questions }
+-- what waits behind what goes, where nothing goes before all else
+abbrev pub rest_of : Bool → List Joined → Option Joined → List Parts → List Parts → Waiting
+rest_of due (line ∷ joins) joining said questions =
+    record { opening = []; joins = joins; joining = joining; said = said; questions = questions }
+rest_of due [] (Some line) said questions = record { opening = []; joins = []; joining = None; said = said; questions = questions }
 rest_of due [] None said questions = rest_lines due said questions
+
+-- what goes next of what waits, where these lines go before all else
+abbrev pub piece_by : Bool → List Parts → Waiting → Option Piece
+piece_by due [] waiting = next_of due waiting.joins waiting.joining waiting.said waiting.questions
+piece_by due (line ∷ opening) waiting = Some (Opens line)
+
+-- what waits behind it
+abbrev pub rest_by : Bool → List Parts → Waiting → Waiting
+rest_by due [] waiting = rest_of due waiting.joins waiting.joining waiting.said waiting.questions
+rest_by due (line ∷ opening) waiting = record waiting { opening = opening }
 
 -- what goes next of what waits
 abbrev pub next_piece : Bool → Waiting → Option Piece
-next_piece due waiting = next_of due waiting.joins waiting.joining waiting.said waiting.questions
+next_piece due waiting = piece_by due waiting.opening waiting
 
 -- what waits behind it
 abbrev pub without_next : Bool → Waiting → Waiting
-without_next due waiting = rest_of due waiting.joins waiting.joining waiting.said waiting.questions
+without_next due waiting = rest_by due waiting.opening waiting
 
 -- it is a line that is said
 abbrev pub is_said : Piece → Bool
-is_said (Joins text) = false
+is_said (Opens line) = false
+is_said (Joins line) = false
 is_said (Says line) = not (asks_names line)
 
 -- the bytes of what goes, cut to what fits into a line
 abbrev pub piece_bytes : Piece → List ℕ
-piece_bytes (Joins text) = text ++ 13 ∷ 10 ∷ []
+piece_bytes (Opens line) = cut_spelling line
+piece_bytes (Joins line) = join_bytes line
 piece_bytes (Says line) = cut_spelling line

@@ -49,7 +49,7 @@ pub record Passes (now : ℕ) (at : Moment) (node : ℕ) (effect : GateEffect) (
   pub learnt : Driver
   pub learns : LearnsNick effect old learnt
   pub passes : PassesBy (class_of effect) now at learnt.link.stage (nick_in learnt) node effect (told_of learnt) (told_of new)
-  pub rest : new ≡ record learnt { clients = new.clients; orders = new.orders; link = link_passed (class_of effect) node learnt.link }
+  pub rest : new ≡ record learnt { clients = new.clients; orders = new.orders; link = link_passed learnt.settings.channel_keys.items (class_of effect) node learnt.link }
 
 -- effects pass in turn
 unfoldable pub PassEach : ℕ → Moment → ℕ → List GateEffect → Driver → Driver → Type 0

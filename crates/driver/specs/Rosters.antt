@@ -7,11 +7,12 @@ use Rattle.client_gate.specs.Calls.{Call, Held, Stands, gate}
 use Rattle.machine_laws.specs.Origins.{same_origin}
 use Rattle.wire_bytes.specs.declared.origin.Origin.{Origin}
 use Rattle.driver.specs.declared.client.Client.{Client}
+use Rattle.driver.specs.declared.client.refusal.Refusal.{Refusal}
 use Rattle.driver.specs.declared.clients.Clients.{Clients}
 use Rattle.driver.specs.declared.node_monitor.NodeMonitor.{NodeMonitor}
 use Rattle.driver.specs.Monitors.{at, is_full}
 use Rattle.driver.specs.Asking.{is_idle}
-use Rattle.driver.specs.Clients.{is_leaving}
+use Rattle.driver.specs.Clients.{is_shut}
 use Rattle.driver.specs.Telling.{Ordered, told_to}
 use Rattle.driver.specs.declared.client.TheConstants.{MOST_WAITING}
 
@@ -34,10 +35,19 @@ abbrev pub is_attached_in : Option Client → Bool
 is_attached_in None = false
 is_attached_in (Some client) = client.is_attached
 
--- nothing more is read of a client, if there is one: it leaves, or its connection is gone
+-- nothing more is taken of a client, if there is one: it leaves, its connection is gone, or its password was wrong
 abbrev pub is_leaving_in : Option Client → Bool
 is_leaving_in None = false
-is_leaving_in (Some client) = is_leaving client
+is_leaving_in (Some client) = is_shut client
+
+-- the password of a client, if there is one, was wrong: by this origin it is still to be told so
+abbrev pub refused_by : Option Refusal → Origin → Option Origin
+refused_by None origin = None
+refused_by (Some refusal) origin = Some origin
+
+abbrev pub refused_in : Option Client → Option Origin
+refused_in None = None
+refused_in (Some client) = refused_by client.refused client.origin
 
 -- bytes are read that may bring notes to a node of which this is known: not while as many as may wait already
 abbrev pub takes_notes : Ordered → Option NodeMonitor → Bool
@@ -101,3 +111,4 @@ pub record IsNew (origin : Origin) (held : Held) (nick : List ℕ) (now : ℕ) (
   pub is_not_pinged : client.is_pinged ≡ false
   pub is_not_leaving : client.leaving ≡ None
   pub is_not_gone : client.is_gone ≡ false
+  pub is_not_refused : client.refused ≡ None

@@ -5,12 +5,12 @@ use Rattle.client_gate.specs.declared.request.Request.{Request}
 use Rattle.client_gate.specs.declared.settings.Settings.{Settings}
 use Rattle.client_gate.specs.Answers.{given_in}
 use Rattle.client_gate.specs.Calls.{Call, End, Feed, Hear, Refused, Stands, fed_answer, gate}
-use Rattle.client_gate.specs.Gates.{GateEffect, Given, given_effect, last_request}
+use Rattle.client_gate.specs.Gates.{GateEffect, Given, given_effect, is_turned_down, last_request}
 use Rattle.wire_bytes.specs.declared.moment.Moment.{Moment}
 use Rattle.driver.specs.declared.client.Asked.{Asked}
 use Rattle.driver.specs.declared.client.Client.{Client}
 use Rattle.driver.specs.Asking.{begun, held_behind, is_idle, now_asked}
-use Rattle.driver.specs.Clients.{behind_fed, is_cut, is_leaving, parting_unless, passed}
+use Rattle.driver.specs.Clients.{asked_all, behind_fed, is_cut, is_shut, kept_back, parting_unless, passed}
 use Rattle.driver.specs.Monitors.{at}
 use Rattle.driver.specs.Opening.{open_behind}
 use Rattle.driver.specs.Telling.{Ordered, ordered}
@@ -53,7 +53,7 @@ pub record HasPassed (s : Settings) (calls : List Call) (answer : Given) (now : 
 
 -- A client whose gate stands behind these calls is parted from, unless its connection is gone already.
 pub record IsParted (at : Moment) (s : Settings) (calls : List Call) (old : Client) (before : Ordered) (new : Client) (after : Ordered) : Type 0 where
-  pub orders : after ≡ ordered before (parting_unless old.is_gone old.origin at (last_request (gate s calls)))
+  pub orders : after ≡ ordered before (parting_unless old.is_gone old.is_attached old.origin at (last_request (gate s calls)))
   pub stands : StandsSo s (ended old.is_gone calls) (record old { is_gone = true }) new
 
 -- the same where this is so; else nothing changes
@@ -69,14 +69,28 @@ is_done waiting c = is_some c.leaving && is_idle waiting
 abbrev pub IsCutOff : Settings → List Call → Moment → Client → Ordered → Client → Ordered → Type 0
 IsCutOff s calls at c before new after = IsParted at s (Refused ∷ calls) c before new after
 
--- Bytes came from a client, which may leave, or whose connection may be gone: then nothing comes of them.
-pub record Receives (bytes : List ℕ) (now : ℕ) (moment : Moment) (s : Settings) (calls : List Call) (old : Client) (before : Ordered) (new : Client) (after : Ordered) : Type 0 where
+-- What a gate answered goes on; where the password is wrong, what it wrote is kept back until this moment, and nothing is closed.
+abbrev pub TakesBy : Bool → Settings → List Call → Fed → ℕ → Moment → ℕ → Client → Ordered → Client → Ordered → Type 0
+TakesBy false s calls fed now moment due c before new after =
+    (after ≡ ordered before (passed c moment (last_request (gate s calls)) fed))
+    × StandsSo s (ended_if (is_cut fed) c.is_gone calls) (behind_fed now c fed) new
+TakesBy true s calls fed now moment due c before new after =
+    (after ≡ ordered before (asked_all c.is_attached c.origin moment fed.requests.items)) × StandsSo s calls (kept_back due c fed) new
+
+-- The gate, behind these calls, gave this answer, and it went on, or is kept back.
+pub record HasTaken (s : Settings) (calls : List Call) (answer : Given) (now : ℕ) (moment : Moment) (due : ℕ) (c : Client) (before : Ordered) (new : Client) (after : Ordered) : Type 0 where
+  pub fed : Fed
+  pub is : given_in fed ≡ answer
+  pub takes : TakesBy (is_turned_down (gate s calls).phase) s calls fed now moment due c before new after
+
+-- Bytes came from a client, of which nothing more may be taken: then nothing comes of them.
+pub record Receives (bytes : List ℕ) (now : ℕ) (moment : Moment) (due : ℕ) (s : Settings) (calls : List Call) (old : Client) (before : Ordered) (new : Client) (after : Ordered) : Type 0 where
   pub hears :
       let heard = spoke (now_asked before now old) now (gate s calls).waiting old in
-      is_leaving old ≡ false
-      → HasPassed s (Feed bytes ∷ calls) (fed_answer s calls bytes) now moment heard before new after
+      is_shut old ≡ false
+      → HasTaken s (Feed bytes ∷ calls) (fed_answer s calls bytes) now moment due heard before new after
       ⊎ IsCutOff s calls moment heard before new after
-  pub leaving : is_leaving old ≡ true → (new ≡ old) × (after ≡ before)
+  pub shut : is_shut old ≡ true → (new ≡ old) × (after ≡ before)
 
 -- Something came of a request of a client; what was left out is not asked for again at once.
 abbrev pub HearsEffect : GateEffect → List ℕ → ℕ → Moment → Settings → List Call → Client → Ordered → Client → Ordered → Type 0
@@ -95,6 +109,6 @@ pub record Hears (effect : GateEffect) (nick : List ℕ) (now : ℕ) (moment : M
 
 -- A client's connection is gone, or is closed; where it was gone before nothing changes.
 pub record IsLost (now : ℕ) (moment : Moment) (s : Settings) (calls : List Call) (old : Client) (before : Ordered) (new : Client) (after : Ordered) : Type 0 where
-  pub orders : after ≡ ordered before (parting_unless old.is_gone old.origin moment (last_request (gate s calls)))
+  pub orders : after ≡ ordered before (parting_unless old.is_gone old.is_attached old.origin moment (last_request (gate s calls)))
   pub gone : old.is_gone ≡ true → new ≡ old
   pub stays : old.is_gone ≡ false → StandsSo s (End ∷ calls) (gone_from (now_asked before now old) (gate s calls).waiting old) new

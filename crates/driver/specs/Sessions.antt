@@ -1,5 +1,6 @@
 -- What comes of the connection to the server, at the driver.
-use Rattle.std.specs.Prelude.{◌≡◌, ℕ, Bool, true, false, List, [], ◌∷◌, Option, Some, None}
+use Rattle.std.specs.Prelude.{◌≡◌, ℕ, Bool, true, false, if◌then◌else◌, List, [], ◌∷◌, Option, Some, None}
+use Rattle.irc_line.specs.Lines.{Parts}
 use Rattle.wire_bytes.specs.declared.moment.Moment.{Moment}
 use Rattle.buffer_commands.specs.declared.wire_line.WireLine.{WireLine}
 use Rattle.bouncer_tower.specs.Bodies.{TowerBody}
@@ -10,7 +11,8 @@ use Rattle.driver.specs.declared.news.News.TheVariants.{Opened}
 use Rattle.driver.specs.declared.order.Order.{Order}
 use Rattle.driver.specs.declared.order.Order.TheVariants.{Submit, Log}
 use Rattle.driver.specs.declared.link.Link.{Link}
-use Rattle.driver.specs.Links.{Receives, opened as opened_stage}
+use Rattle.driver.specs.Links.{Receives, is_fresh, opened as opened_stage}
+use Rattle.driver.specs.Outgoing.{with_opening}
 use Rattle.driver.specs.Filling.{is_left_out}
 use Rattle.driver.specs.Nicks.{HearsNick}
 use Rattle.driver.specs.Telling.{ordered}
@@ -20,15 +22,22 @@ abbrev pub opened_of : ℕ → Note TowerBody WireLine → List Order
 opened_of node note.Opened = Log (Opened node) ∷ []
 opened_of node other = []
 
+-- the server gave the session of a connection: these lines wait before all else, where it had not given it before
+abbrev pub opened_with : List Parts → Link → Link
+opened_with lines link = record link {
+  stage = opened_stage link.stage;
+  waiting = if is_fresh link.stage then with_opening lines link.waiting else link.waiting;
+}
+
 -- the connection behind what came: the server gave its session where a note says so
-abbrev pub link_behind : Note TowerBody WireLine → Link → Link
-link_behind note.Opened link = record link { stage = opened_stage link.stage }
-link_behind other link = link
+abbrev pub link_behind : List Parts → Note TowerBody WireLine → Link → Link
+link_behind lines note.Opened link = opened_with lines link
+link_behind lines other link = link
 
 -- Where what came says that the session opened, the connection knows it, and an operator is told.
 pub record OpensBy (node : ℕ) (came : Note TowerBody WireLine) (old new : Driver) : Type 0 where
   pub orders : new.orders ≡ ordered old.orders (opened_of node came)
-  pub rest : new ≡ record old { orders = new.orders; link = link_behind came old.link }
+  pub rest : new ≡ record old { orders = new.orders; link = link_behind old.settings.on_connect.items came old.link }
 
 -- The nick that came is known, and told; the session opens where that came; and the node of the session is told what came.
 pub record TellsOf (node : ℕ) (came : Note TowerBody WireLine) (old new : Driver) : Type 0 where
@@ -61,3 +70,7 @@ pub record Takes (now : ℕ) (moment : Moment) (bytes : List ℕ) (node : ℕ) (
 abbrev pub TakesIf : Option ℕ → ℕ → Moment → List ℕ → Driver → Driver → Type 0
 TakesIf None now moment bytes old new = new ≡ old
 TakesIf (Some node) now moment bytes old new = Takes now moment bytes node old new
+
+-- Where the server gives a session again, nothing more waits.
+abbrev pub OpensOnce : Type 0
+OpensOnce = (lines : List Parts) (link : Link) → opened_with lines (opened_with lines link) ≡ opened_with lines link

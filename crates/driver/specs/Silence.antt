@@ -1,5 +1,5 @@
 -- What time brings to a client.
-use Rattle.std.specs.Prelude.{◌*◌, ◌≡◌, ◌&&◌, ◌||◌, ℕ, Bool, true, false, not, codes, if◌then◌else◌, List, [], ◌∷◌, ◌++◌}
+use Rattle.std.specs.Prelude.{◌*◌, ◌≡◌, ◌&&◌, ◌||◌, ℕ, Bool, true, false, not, codes, if◌then◌else◌, List, [], ◌∷◌, ◌++◌, Option, Some, None, is_some}
 use Rattle.std.specs.Global.{Vec}
 use Rattle.client_gate.specs.declared.settings.Settings.{Settings}
 use Rattle.client_gate.specs.Calls.{Call, gate}
@@ -8,18 +8,19 @@ use Rattle.driver.specs.declared.client.Client.{Client}
 use Rattle.driver.specs.declared.order.Order.{Order}
 use Rattle.driver.specs.declared.order.Order.TheVariants.{Write}
 use Rattle.driver.specs.Asking.{anew_if, asks_if, is_stuck, now_asked}
-use Rattle.driver.specs.Clients.{is_leaving}
+use Rattle.driver.specs.Clients.{due_answer, is_leaving}
 use Rattle.driver.specs.Monitors.{at, is_over}
 use Rattle.driver.specs.Serving.{IsLost}
 use Rattle.driver.specs.Telling.{Ordered, ordered}
 use Rattle.driver.specs.declared.client.silence.TheConstants.{REGISTERS_WITHIN, SILENCE}
 
--- a client that is still there, and does not leave, did not register within 10 seconds, or did not answer within four minutes
+-- a client did not register within 10 seconds, or did not answer within four minutes
 abbrev pub is_too_slow : Client → ℕ → Bool
-is_too_slow c now =
-    if is_leaving c
-    then false
-    else if c.is_attached then c.is_pinged && is_over c.heard (2 * SILENCE) now else is_over c.since REGISTERS_WITHIN now
+is_too_slow c now = if c.is_attached then c.is_pinged && is_over c.heard (2 * SILENCE) now else is_over c.since REGISTERS_WITHIN now
+
+-- a client that is still there, and does not leave, is told at this moment that its password was wrong, or is too slow
+abbrev pub is_to_go : Client → ℕ → Bool
+is_to_go c now = if is_leaving c then false else (is_some (due_answer c.refused now) || is_too_slow c now)
 
 -- A client that is not read: its time to be silent begins anew. One that did not register is read in any case.
 abbrev pub held_back : ℕ → Client → Client
@@ -34,10 +35,18 @@ abbrev pub late_line : Bool → List ℕ
 late_line true = codes "ERROR :no word from you for too long" ++ 13 ∷ 10 ∷ []
 late_line false = codes "ERROR :you did not register in time" ++ 13 ∷ 10 ∷ []
 
--- A client that is too slow is told so, and is parted from.
+-- what a client is told last: what its gate answered to a wrong password, or else that it was too slow
+abbrev pub last_line_by : Bool → Option (List ℕ) → List ℕ
+last_line_by attached None = late_line attached
+last_line_by attached (Some answer) = answer
+
+abbrev pub last_line : Client → ℕ → List ℕ
+last_line c now = last_line_by c.is_attached (due_answer c.refused now)
+
+-- A client that is to go is told why, and is parted from.
 pub record IsSentOff (now : ℕ) (at : Moment) (s : Settings) (calls : List Call) (old : Client) (before : Ordered) (new : Client) (after : Ordered) : Type 0 where
   pub line : Vec ℕ
-  pub says : line.items ≡ late_line old.is_attached
+  pub says : line.items ≡ last_line old now
   pub lost : IsLost now at s calls old (ordered before (Write old.origin.2 line ∷ [])) new after
 
 -- a client that is still there, and does not leave, was silent for two minutes, and was not asked for a word since
@@ -57,7 +66,7 @@ pub record IsAsked (old : Client) (now : ℕ) (before : Ordered) (new : Client) 
   pub orders : after ≡ ordered before ping
   pub is_known : new ≡ record old { is_pinged = old.is_pinged || is_silent old now }
 
--- A client that is not too slow: one that is silent is asked for a word; and what waits is asked for again where it is held up, once
+-- A client that is not to go: one that is silent is asked for a word; and what waits is asked for again where it is held up, once
 -- each timeout.
 pub record IsKept (timeout now : ℕ) (at : Moment) (s : Settings) (calls : List Call) (old : Client) (before : Ordered) (new : Client) (after : Ordered) : Type 0 where
   pub pinged : Client

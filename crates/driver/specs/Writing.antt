@@ -10,7 +10,9 @@ use Rattle.driver.specs.declared.link.Link.{Link}
 use Rattle.driver.specs.declared.node_monitor.NodeMonitor.{NodeMonitor}
 use Rattle.driver.specs.declared.order.Order.TheVariants.{Send}
 use Rattle.driver.specs.declared.outgoing.Piece.{Piece}
+use Rattle.driver.specs.declared.outgoing.Piece.TheVariants.{Joins, Opens, Says}
 use Rattle.driver.specs.declared.pace.Pace.{Pace}
+use Rattle.driver.specs.Keys.{KeyOf, key_for, learnt_by}
 use Rattle.driver.specs.Links.{is_session_of, status_in}
 use Rattle.driver.specs.Monitors.{line_to_claim}
 use Rattle.driver.specs.Outgoing.{Waiting, has_said, is_said, next_piece, piece_bytes, with_join, with_line, without_next}
@@ -25,16 +27,16 @@ handed node line link = record link { waiting = if is_session_of link.stage node
 abbrev pub Hands : ℕ → Parts → Driver → Driver → Type 0
 Hands node line old new = new ≡ record old { link = handed node line old.link }
 
--- a channel waits to be joined again
-abbrev pub joined : List ℕ → Link → Link
-joined channel link = record link { waiting = with_join channel link.waiting }
+-- a channel waits to be joined again, by the key by which it was joined last, or else by its key of these
+abbrev pub joined : List KeyOf → List ℕ → Link → Link
+joined keys channel link = record link { waiting = with_join channel (key_for link.keys channel keys) link.waiting }
 
 -- a connection behind an effect of a node: where that joins a channel again, in a session of the node, the channel waits to be joined
-abbrev pub link_passed : Class Parts → ℕ → Link → Link
-link_passed (Rejoin session line) node link = if is_session_of link.stage node then joined (parameter 0 line) link else link
-link_passed (To origin) node link = link
-link_passed (Hand session number line) node link = link
-link_passed Nowhere node link = link
+abbrev pub link_passed : List KeyOf → Class Parts → ℕ → Link → Link
+link_passed keys (Rejoin session line) node link = if is_session_of link.stage node then joined keys (parameter 0 line) link else link
+link_passed keys (To origin) node link = link
+link_passed keys (Hand session number line) node link = link
+link_passed keys Nowhere node link = link
 
 -- a line may go out at this moment
 abbrev pub may_write : Driver → ℕ → Bool
@@ -56,11 +58,27 @@ are_due monitor = not (is_some (line_to_claim (status_in monitor)))
 abbrev pub unheard_behind : Piece → ℕ → ℕ
 unheard_behind piece unheard = if is_said piece then one_more unheard else unheard
 
+-- the keys that are known behind what goes to the server: a line that was handed out may join a channel by one
+abbrev pub keys_behind : Piece → List KeyOf → List KeyOf
+keys_behind (Opens line) keys = keys
+keys_behind (Joins line) keys = keys
+keys_behind (Says line) keys = learnt_by line keys
+
 -- this goes to the server
 pub record IsSent (piece : Piece) (before after : Ordered) : Type 0 where
   pub bytes : Vec ℕ
   pub are : bytes.items ≡ piece_bytes piece
   pub orders : after ≡ ordered before (Send bytes ∷ [])
+
+-- This goes to the server, which waits no more.
+pub record Goes (now : ℕ) (piece : Piece) (old new : Driver) : Type 0 where
+  pub sent : IsSent piece old.orders new.orders
+  pub rest : new ≡ record old {
+    orders = new.orders;
+    pace = gone_at now old.pace;
+    unheard = unheard_behind piece old.unheard;
+    link = record old.link { keys = keys_behind piece old.link.keys };
+  }
 
 -- This goes out; what waits behind it waits on.
 pub record GoesOut (now : ℕ) (due : Bool) (piece : Piece) (old new : Driver) : Type 0 where
@@ -69,7 +87,7 @@ pub record GoesOut (now : ℕ) (due : Bool) (piece : Piece) (old new : Driver) :
     orders = new.orders;
     pace = gone_at now old.pace;
     unheard = unheard_behind piece old.unheard;
-    link = record old.link { waiting = without_next due old.link.waiting };
+    link = record old.link { waiting = without_next due old.link.waiting; keys = keys_behind piece old.link.keys };
   }
 
 -- What goes next goes out, if something does, and else nothing changes.

@@ -1,5 +1,5 @@
 //! How long to wait before the next try.
-ghost use Rattle.std.specs.Prelude.{◌≡◌};
+ghost use Rattle.std.specs.Prelude.{◌≡◌, if◌then◌else◌};
 ghost use Rattle.driver.specs.Pacing.{doubled};
 
 /// How long to wait after a try that failed, in milliseconds: twice as long as before, up to a limit.
@@ -37,6 +37,17 @@ impl Backoff {
         let wait = self.next;
         self.next = (wait as u64 * 2).min(self.most as u64) as u32;
         wait
+    }
+
+    /// A try is over. How long to wait before the next one: where it failed, it is twice as long after that one.
+    pub fn end(&mut self, has_failed: bool) -> u32
+        ensures wait { result ≡ self.old.next }
+        ensures rest { self.new ≡ record self.old {
+          next =
+              if has_failed then doubled self.old.most self.old.next else self.old.next;
+        } }
+    {
+        if has_failed { self.fail() } else { self.next }
     }
 
     /// All is well: the next wait is the first one again.

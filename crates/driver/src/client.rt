@@ -16,11 +16,13 @@ mod joining;
 mod naming;
 mod opening;
 mod reading;
+mod refusal;
 mod silence;
 mod word;
 
 use crate::client::asking::asks;
 use crate::client::channels::Channels;
+use crate::client::refusal::Refusal;
 use crate::news::News;
 use crate::order::Now;
 use crate::orders::Orders;
@@ -70,6 +72,8 @@ pub struct Client {
     leaving: Option<Timer>,
     /// Its connection is gone, or is to be closed.
     is_gone: bool,
+    /// What it is still told where its password was wrong.
+    refused: Option<Refusal>,
 }
 
 impl Client {
@@ -94,6 +98,7 @@ impl Client {
             is_pinged: false,
             leaving: None,
             is_gone: false,
+            refused: None,
         }
     }
 
@@ -133,25 +138,26 @@ impl Client {
         self.gate.waiting() >= MOST_WAITING
     }
 
-    /// Its bytes came, however they are cut.
+    /// Its bytes came, however they are cut. Where its password is wrong it is answered at this moment, and not now.
     pub fn receive(
         &mut self,
         now: &Now,
         bytes: &[u8],
+        due: u64,
         orders: &mut Orders,
     ) -> Result<(), AllocError>
         ensures { (s : Settings) (calls : List Call) → Stands s calls self.old.gate →
-            OnOk result (Receives bytes.now now.now.ms now.now.at s calls
+            OnOk result (Receives bytes.now now.now.ms now.now.at due s calls
             self.old orders.old self.new orders.new) }
     {
-        if self.is_leaving() {
+        if self.is_shut() {
             return Ok(());
         }
         self.begin_asking(now, orders);
         self.heard = Timer::from(now.ms);
         self.is_pinged = false;
         match self.gate.feed(bytes) {
-            Ok(fed) => self.pass(now, fed, orders)?,
+            Ok(fed) => self.take(now, fed, due, orders)?,
             Err(_) => self.part(now, orders)?,
         }
         Ok(())
@@ -252,7 +258,7 @@ impl Client {
         }
         self.is_gone = true;
         orders.close(self.origin.client())?;
-        orders.log(News::Left(self.origin))?;
+        self.tell_left(orders)?;
         if let Some(request) = self.gate.end() {
             orders.submit(self.node(), asks(self.origin, now, request))?;
         }

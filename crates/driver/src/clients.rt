@@ -7,7 +7,7 @@ ghost use Rattle.driver.specs.declared.client.Client.{Client};
 ghost use Rattle.machine_laws.specs.Origins.{same_origin};
 ghost use Rattle.driver.specs.Crowds.{TickEach, TicksRead, told};
 ghost use Rattle.driver.specs.Rosters.{AreOthersSame, IsFullIn, IsKept, Serves, client_at, is_attached_in};
-ghost use Rattle.driver.specs.Rosters.{is_leaving_in, is_there, node_in};
+ghost use Rattle.driver.specs.Rosters.{is_leaving_in, is_there, node_in, refused_in};
 ghost use Rattle.driver.specs.Serving.{Hears, IsLost, Receives};
 
 mod dismissing;
@@ -57,25 +57,26 @@ impl Clients {
         }
     }
 
-    /// A client's bytes came.
+    /// A client's bytes came. Where its password is wrong it is answered at this moment.
     pub fn receive(
         &mut self,
         now: &Now,
         number: u64,
         bytes: &[u8],
+        due: u64,
         orders: &mut Orders,
     ) -> Result<(), AllocError>
         ensures others { AreOthersSame number self.old self.new }
         ensures nobody { client_at self.old number ≡ None →
             (self.new ≡ self.old) × (orders.new ≡ orders.old) }
         ensures served { OnOk result (Serves (λ c. client_at self.old number ≡ Some c)
-            (λ s calls c new. Receives bytes.now now.now.ms now.now.at s calls c orders.old
+            (λ s calls c new. Receives bytes.now now.now.ms now.now.at due s calls c orders.old
             new orders.new) number self.new) }
     {
         let Some(client) = self.all.get_mut(&number) else {
             return Ok(());
         };
-        client.receive(now, bytes, orders)?;
+        client.receive(now, bytes, due, orders)?;
         self.forget_if_over(number);
         Ok(())
     }
@@ -189,8 +190,20 @@ impl Clients {
         ensures { result ≡ is_leaving_in (client_at self.now number) }
     {
         match self.all.get(&number) {
-            Some(client) => client.is_leaving(),
+            Some(client) => client.is_shut(),
             None => false,
+        }
+    }
+
+    /// Of which origin the client of this number is, if its password was wrong and it is still to be told so.
+    pub fn refused(&self, number: u64) -> Option<Origin>
+        ensures { result ≡ refused_in (client_at self.now number) }
+    {
+        let client = self.all.get(&number)?;
+        if client.is_refused() {
+            Some(client.origin())
+        } else {
+            None
         }
     }
 

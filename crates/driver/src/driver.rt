@@ -2,7 +2,6 @@
 ghost use Rattle.std.specs.Prelude.{◌≡◌, true, IfOk, IfSome, None, OnErr, OnOk, is_some};
 ghost use Rattle.driver.specs.Arriving.{Arrives, ArrivesIf, IsNewDriver, boot_at, monitors_behind};
 ghost use Rattle.driver.specs.Arriving.{last_number, new_monitors, next_number, turned_away_at};
-ghost use Rattle.driver.specs.Coming.{Comes};
 ghost use Rattle.driver.specs.Deeds.{are_merged, deeds};
 ghost use Rattle.driver.specs.Driving.{Dismisses, changed_at, orders_at};
 ghost use Rattle.driver.specs.Writing.{Hands};
@@ -14,6 +13,7 @@ ghost use Rattle.driver.specs.Rosters.{AreOthersSame, Serves, client_at, is_atta
 ghost use Rattle.driver.specs.Serving.{IsLost};
 ghost use Rattle.driver.specs.Telling.{emptied, ordered};
 
+mod admitting;
 mod filling;
 mod hearing;
 mod nick;
@@ -26,6 +26,7 @@ mod writing;
 
 use crate::client::Client;
 use crate::clients::Clients;
+use crate::guard::Guard;
 use crate::level::Level;
 use crate::link::Link;
 use crate::node_monitor::{MOST_NODES, NodeMonitor};
@@ -56,6 +57,8 @@ pub struct Driver {
     /// The number of the last client.
     numbered: u64,
     link: Link,
+    /// Of wrong passwords.
+    guard: Guard,
     /// The nick that the server gave, if it gave one.
     given: Option<Name>,
     /// How full the log is, of which people were told last.
@@ -86,6 +89,7 @@ impl Driver {
             retirements: Retirements::new(),
             clients: Clients::new(alloc),
             numbered: 0,
+            guard: Guard::new(now),
             link: Link::new(alloc, now),
             given: None,
             level: Level::Roomy,
@@ -207,23 +211,6 @@ impl Driver {
         Ok(())
     }
 
-    /// Bytes came from a client, however they are cut. Where it registered by them, its welcome goes on: it is told
-    /// of the nick in force where it was greeted by another, and that there is no message of the day.
-    pub fn receive(&mut self, now: &Now, number: u64, bytes: &[u8]) -> Result<(), AllocError>
-        ensures others { AreOthersSame number self.old.clients self.new.clients }
-        ensures nobody { client_at self.old.clients number ≡ None →
-            (self.new.clients ≡ self.old.clients)
-            × (self.new.orders ≡ self.old.orders) }
-        ensures served { OnOk result
-            (Comes bytes.now now.now.ms now.now.at number self.old self.new) }
-        ensures rest { self.new ≡ record self.old
-            { clients = self.new.clients; orders = self.new.orders } }
-    {
-        let was_attached = self.clients.is_attached(number);
-        self.clients.receive(now, number, bytes, &mut self.orders)?;
-        self.greet(was_attached, number)
-    }
-
     /// A client's connection is gone.
     pub fn lose(&mut self, now: &Now, number: u64) -> Result<(), AllocError>
         ensures others { AreOthersSame number self.old.clients self.new.clients }
@@ -246,8 +233,8 @@ impl Driver {
         self.clients.is_attached(number)
     }
 
-    /// Whether nothing more is read of the client of this number: it leaves, or its connection is to be closed.
-    /// What it is shown until then is still written.
+    /// Whether nothing more is taken of the client of this number: it leaves, its password was wrong, or its
+    /// connection is to be closed. What it is shown until then is still written.
     pub fn is_leaving(&self, number: u64) -> bool
         ensures { result ≡ is_leaving_in (client_at self.now.clients number) }
     {

@@ -1,6 +1,6 @@
 //! A line that joins channels.
-ghost use Rattle.std.specs.Prelude.{◌≡◌, ◌++◌, ◌∷◌, [], IfOk, OnOk};
-ghost use Rattle.driver.specs.Outgoing.{fits_in, join_text};
+ghost use Rattle.std.specs.Prelude.{◌≡◌, ◌++◌, ◌∷◌, IfOk, OnOk, drop};
+ghost use Rattle.driver.specs.Joining.{fits_in, join_bytes, key_size, key_text, no_channels, with_channel};
 
 use std::alloc::{AllocError, Global};
 use std::marker::Model;
@@ -9,54 +9,113 @@ use std::marker::Model;
 // a line of IRC has 512 bytes with its end, which is two
 const MOST_BYTES: usize = 510;
 
-/// A line that joins channels, without its end.
+/// How long a line is that joins channels, but for these and their keys with a comma before each.
+// the word takes four; a space stands for the first comma of the channels, and for that of the keys
+const WORD: usize = 4;
+
+/// A line that joins channels. Those that have a key come first, since the server takes keys in the order of channels.
 ///
-/// A clause sees its text.
+/// A clause sees the channels that have a key, their keys, and the other channels, with a comma before each.
 #[derive(Drop)]
 pub struct JoinLine {
-    text: Vec<u8>,
+    keyed: Vec<u8>,
+    keys: Vec<u8>,
+    plain: Vec<u8>,
 }
 
 impl Model for JoinLine {
-    ghost use Rattle.std.specs.Prelude.{ℕ, List};
+    ghost use Rattle.driver.specs.Joining.{Joined};
 
-    ghost Value = { List ℕ };
+    ghost Value = { Joined };
 
-    ghost view = { λ j. j.text.items };
+    ghost view = { λ j. record
+        { keyed = j.keyed.items; keys = j.keys.items; plain = j.plain.items } };
 }
 
 impl JoinLine {
-    /// One channel is joined.
-    pub fn of(alloc: Global, channel: &[u8]) -> Result<JoinLine, AllocError>
-        ensures { IfOk result (λ line. line ≡ join_text channel.now) }
+    /// One channel is joined, by this key, or by none where it has no bytes.
+    pub fn of(alloc: Global, channel: &[u8], key: &[u8]) -> Result<JoinLine, AllocError>
+        ensures { IfOk result (λ line. line ≡ with_channel channel.now key.now no_channels) }
     {
-        let mut text = Vec::from_slice(alloc, b"JOIN ")?;
-        text.extend_from_slice(channel)?;
-        Ok(JoinLine { text })
+        let mut line = JoinLine {
+            keyed: Vec::new(alloc),
+            keys: Vec::new(alloc),
+            plain: Vec::new(alloc),
+        };
+        line.add(channel, key)?;
+        Ok(line)
     }
 
-    /// Whether one more channel fits in.
-    pub fn fits(&self, channel: &[u8]) -> bool
-        ensures { result ≡ fits_in self.now channel.now }
+    /// Whether one more channel fits in, with its key.
+    pub fn fits(&self, channel: &[u8], key: &[u8]) -> bool
+        ensures { result ≡ fits_in self.now channel.now key.now }
     {
-        let longer = self.text.len().saturating_add(channel.len());
-        longer < MOST_BYTES
+        let names = self.keyed.len().saturating_add(self.plain.len());
+        let line = names.saturating_add(self.keys.len());
+        let more = channel.len().saturating_add(key_size(key));
+        line.saturating_add(more) < MOST_BYTES - WORD
     }
 
-    /// One more channel is joined.
-    pub fn add(&mut self, channel: &[u8]) -> Result<(), AllocError>
-        ensures { OnOk result (self.new ≡ self.old ++ 44 ∷ channel.now) }
+    /// One more channel is joined, by this key, or by none where it has no bytes.
+    pub fn add(&mut self, channel: &[u8], key: &[u8]) -> Result<(), AllocError>
+        ensures { OnOk result (self.new ≡ with_channel channel.now key.now self.old) }
     {
-        self.text.push(b',')?;
-        self.text.extend_from_slice(channel)
+        if key.is_empty() {
+            return push_name(&mut self.plain, channel);
+        }
+        push_name(&mut self.keyed, channel)?;
+        push_name(&mut self.keys, key)
     }
 
     /// The line, with its end.
-    pub fn into_bytes(self) -> Result<Vec<u8>, AllocError>
-        ensures { IfOk result (λ bytes. bytes.items ≡ self ++ 13 ∷ 10 ∷ []) }
+    pub fn into_bytes(self, alloc: Global) -> Result<Vec<u8>, AllocError>
+        ensures { IfOk result (λ bytes. bytes.items ≡ join_bytes self) }
     {
-        let mut bytes = self.text;
+        let mut channels = self.keyed;
+        channels.extend_from_slice(self.plain.as_slice())?;
+        let mut bytes = Vec::from_slice(alloc, b"JOIN ")?;
+        bytes.extend_from_slice(behind_comma(channels.as_slice()))?;
+        push_keys(&mut bytes, self.keys.as_slice())?;
         bytes.extend_from_slice(b"\r\n")?;
         Ok(bytes)
+    }
+}
+
+/// How many bytes a key takes, with a comma.
+fn key_size(key: &[u8]) -> usize
+    ensures { result ≡ key_size key.now }
+{
+    match key {
+        [] => 0,
+        _ => key.len().saturating_add(1),
+    }
+}
+
+/// Appends a comma and a name.
+fn push_name(out: &mut Vec<u8>, name: &[u8]) -> Result<(), AllocError>
+    ensures { OnOk result (out.new.items ≡ out.old.items ++ 44 ∷ name.now) }
+{
+    out.push(b',')?;
+    out.extend_from_slice(name)
+}
+
+/// Appends keys behind a space, where there are some.
+fn push_keys(out: &mut Vec<u8>, keys: &[u8]) -> Result<(), AllocError>
+    ensures { OnOk result (out.new.items ≡ out.old.items ++ key_text keys.now) }
+{
+    if keys.is_empty() {
+        return Ok(());
+    }
+    out.push(b' ')?;
+    out.extend_from_slice(behind_comma(keys))
+}
+
+/// What stands behind the first comma of a list.
+fn behind_comma(names: &[u8]) -> &[u8]
+    ensures { result.now ≡ drop 1 names.now }
+{
+    match names {
+        [] => names,
+        [_, behind @ ..] => behind,
     }
 }

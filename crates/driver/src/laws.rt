@@ -4,13 +4,16 @@ ghost use Rattle.driver.specs.Counting.{NotesAreCounted};
 ghost use Rattle.driver.specs.Downtime.{DownIsOnlyRestarted};
 ghost use Rattle.driver.specs.Farewells.{LeaversAreShownAll};
 ghost use Rattle.driver.specs.Learning.{JoinsShowTheNick};
+ghost use Rattle.driver.specs.Joining.{JoinsFit};
+ghost use Rattle.driver.specs.Keys.{KeysAreLearnt};
 ghost use Rattle.driver.specs.Led.{IsOfLeaderHeard, IsOfLeaderTicked};
 ghost use Rattle.driver.specs.Once.{AsksOnce, AsksOwn};
 ghost use Rattle.driver.specs.Pacing.{IsPaced};
-ghost use Rattle.driver.specs.Queueing.{QuestionsWait, SaidAreCounted, SaidGoInOrder};
+ghost use Rattle.driver.specs.Queueing.{OpeningGoesFirst, QuestionsWait, SaidAreCounted, SaidGoInOrder};
 ghost use Rattle.driver.specs.Quitting.{SessionsEndFirst};
 ghost use Rattle.driver.specs.Reaching.{EffectsReach};
 ghost use Rattle.driver.specs.Rewording.{RewordsEndings};
+ghost use Rattle.driver.specs.Sessions.{OpensOnce};
 
 /// Over whatever happens to a client, as long as its node told of nothing lost that it was told of it, and
 /// nothing holds it up, each request that its gate numbers is told to its node once, and in order.
@@ -78,10 +81,12 @@ pub fn lines_are_paced()
     ensures { IsPaced }
 {}
 
-/// In a session, whatever nodes hand out, channels are joined and lines go: the lines that are said go out in the
+/// In a session, whatever nodes hand out, channels are joined and lines go: the lines that each session sends first go
+/// out in order, each once, before anything else that waits; the lines that are said go out in the
 /// order in which they were handed out, each at most once; a question who is in a channel goes only where nothing
 /// that is said waits, and of those that wait no two ask of one channel.
 pub fn what_is_said_goes_first()
+    ensures first { OpeningGoesFirst }
     ensures order { SaidGoInOrder }
     ensures questions { QuestionsWait }
 {}
@@ -90,6 +95,18 @@ pub fn what_is_said_goes_first()
 /// is.
 pub fn what_is_said_is_counted()
     ensures { SaidAreCounted }
+{}
+
+/// Where the server gives a session again, the lines that each session sends first don't wait once more.
+pub fn sessions_open_once()
+    ensures { OpensOnce }
+{}
+
+/// Whatever lines go to the server: the key by which a channel was joined last is known, and at most 256 are. A JOIN of
+/// several channels and their keys fits into a line.
+pub fn keys_are_learnt()
+    ensures learnt { KeysAreLearnt }
+    ensures fit { JoinsFit }
 {}
 
 /// Over every list of calls of a driver one connection to the server is asked for at a time. Where the node of one leads

@@ -6,10 +6,13 @@
 
 mod absence;
 mod backoff;
+mod channel_key;
 mod client;
 mod clients;
 mod driver;
+mod guard;
 mod join_line;
+mod key_ring;
 pub mod laws;
 mod leader;
 mod level;
@@ -31,6 +34,7 @@ mod timer;
 
 pub use absence::Absence;
 pub use backoff::Backoff;
+pub use channel_key::ChannelKey;
 pub use driver::Driver;
 pub use level::{FULL, Level};
 pub use news::{Ending, News};

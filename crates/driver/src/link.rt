@@ -9,20 +9,25 @@ ghost use Rattle.driver.specs.Links.{backoff_behind, ending, idle_behind, is_ope
 ghost use Rattle.driver.specs.Links.{first_backoff, notes_of, send_some};
 ghost use Rattle.driver.specs.Monitors.{at};
 ghost use Rattle.driver.specs.Outgoing.{nothing_waits};
+ghost use Rattle.driver.specs.Sessions.{opened_with};
 ghost use Rattle.driver.specs.Telling.{ordered};
 
+mod losing;
+mod missing;
 mod notes;
 mod sending;
 mod silence;
 
 use crate::backoff::Backoff;
+use crate::key_ring::KeyRing;
 use crate::link::notes::notes_of;
-use crate::news::{Ending, News};
+use crate::news::Ending;
 use crate::order::{Now, TowerNote};
 use crate::orders::Orders;
 use crate::outgoing::Outgoing;
 use crate::settings::Settings;
 use crate::timer::Timer;
+use irc_line::Line;
 use raft_log::NodeId;
 use std::alloc::{AllocError, Global};
 use uplink::{Passed, Uplink};
@@ -32,9 +37,6 @@ use uplink::{Passed, Uplink};
 const FIRST_WAIT: u32 = 1000;
 
 const LONGEST_WAIT: u32 = 60_000;
-
-/// After how long a session the first wait is the shortest again, in milliseconds.
-const GOOD_SESSION: u64 = 60_000;
 
 /// Where the connection stands.
 #[derive(Drop)]
@@ -69,8 +71,12 @@ pub struct Link {
     alloc: Global,
     stage: Stage,
     backoff: Backoff,
+    /// Why the last connection ended, or was not made; none where there was none yet.
+    ended: Option<Ending>,
     /// What waits to go out in the session.
     waiting: Outgoing,
+    /// By which channels were joined in any session.
+    keys: KeyRing,
 }
 
 impl Link {
@@ -78,13 +84,17 @@ impl Link {
     pub fn new(alloc: Global, now: &Now) -> Link
         ensures stage { result.stage ≡ Stage.Idle (at now.now.ms) 0 }
         ensures backoff { result.backoff ≡ first_backoff }
+        ensures ended { result.ended ≡ None }
         ensures waiting { result.waiting ≡ nothing_waits }
+        ensures keys { result.keys ≡ [] }
     {
         Link {
             alloc,
             stage: Stage::Idle(Timer::from(now.ms), 0),
             backoff: Backoff::new(FIRST_WAIT, LONGEST_WAIT),
+            ended: None,
             waiting: Outgoing::new(alloc),
+            keys: KeyRing::new(alloc),
         }
     }
 
@@ -165,49 +175,18 @@ impl Link {
         }
     }
 
-    /// The server gave the session that was asked for.
-    pub fn open(&mut self)
-        ensures { self.new ≡ record self.old { stage = opened self.old.stage } }
+    /// The server gave the session that was asked for: these lines wait in it before all else, but once.
+    pub fn open(&mut self, lines: &[Line]) -> Result<(), AllocError>
+        ensures { OnOk result (self.new ≡ opened_with lines.now self.old) }
     {
-        if let Stage::Open(session) = &mut self.stage {
-            session.is_opened = true;
-        }
-    }
-
-    /// The connection is gone, or could not be made, and nothing waits to go out any more. Whether its node has to be
-    /// told.
-    pub fn lose(&mut self, now: &Now, why: Ending, orders: &mut Orders) -> Result<bool, AllocError>
-        ensures told { OnOk result (orders.new ≡ ordered orders.old (ending self.old.stage why)) }
-        ensures stage { OnOk result
-            (self.new.stage ≡ idle_behind self.old.stage self.old.backoff now.now.ms) }
-        ensures lost { IfOk result (λ lost. IsLost self.old.stage lost) }
-        ensures backoff { OnOk result
-            (self.new.backoff ≡ backoff_behind self.old.stage self.old.backoff now.now.ms) }
-        ensures waiting { OnOk result
-            (self.new.waiting ≡ waiting_behind self.old.stage self.old.waiting) }
-    {
-        let lost = match &mut self.stage {
-            Stage::Idle(_, _) => return Ok(false),
-            Stage::Closing(_, wait) => {
-                self.stage = Stage::Idle(Timer::from(now.ms), *wait);
-                return Ok(false);
-            }
-            Stage::Connecting(node) => {
-                orders.log(News::Unopened(*node, why))?;
-                false
-            }
-            Stage::Open(session) => {
-                if session.since.has_passed(GOOD_SESSION, now.ms) {
-                    self.backoff.reset();
-                }
-                let news = News::of_end(session.is_opened, session.node, why);
-                orders.log(news)?;
-                end(&mut session.uplink)
-            }
+        let Stage::Open(session) = &mut self.stage else {
+            return Ok(());
         };
-        self.stage = Stage::Idle(Timer::from(now.ms), self.backoff.fail());
-        self.waiting = Outgoing::new(self.alloc);
-        Ok(lost)
+        if !session.is_opened {
+            self.waiting.push_opening(lines)?;
+        }
+        session.is_opened = true;
+        Ok(())
     }
 
     /// Whether there is a session of this node.
@@ -225,15 +204,6 @@ impl Link {
         ensures { result ≡ is_open self.now.stage }
     {
         matches!(self.stage, Stage::Open(_))
-    }
-
-    /// The session is over, of which the server was told: it is to close the connection.
-    pub fn linger(&mut self)
-        ensures { self.new ≡ record self.old { stage = lingering self.old.stage } }
-    {
-        if let Stage::Idle(since, wait) = self.stage {
-            self.stage = Stage::Closing(since, wait);
-        }
     }
 }
 
@@ -288,12 +258,4 @@ fn send_back(reply: Vec<u8>, orders: &mut Orders) -> Result<(), AllocError>
         return Ok(());
     }
     orders.send(reply)
-}
-
-/// The end of a session is told to its uplink. Whether that gives it on.
-fn end(uplink: &mut Uplink) -> bool
-    ensures { (given : Option UplinkInput) × GoesOn uplink.old Ended uplink.new
-        (option_to_list given) [] × (result ≡ is_some given) }
-{
-    uplink.end().is_some()
 }

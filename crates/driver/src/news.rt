@@ -1,6 +1,7 @@
 //! What an operator is told.
 ghost use Rattle.std.specs.Prelude.{◌≡◌};
-ghost use Rattle.driver.specs.Links.{end_of};
+ghost use Rattle.driver.specs.Links.{end_of, is_failure};
+ghost use Rattle.driver.specs.Missing.{words_of};
 ghost use Rattle.driver.specs.Operators.{node_of};
 
 use crate::level::Level;
@@ -26,16 +27,36 @@ pub enum Ending {
     LedNoMore,
 }
 
-impl fmt::Display for Ending {
-    fn fmt<W: fmt::Write>(&self, f: &mut fmt::Formatter<W>) -> fmt::Result {
-        f.write_str(match self {
+impl Ending {
+    /// The same in words.
+    pub fn words(self) -> &'static str
+        ensures { result.now ≡ words_of self }
+    {
+        match self {
             Ending::Refused => "the connection was refused",
             Ending::Unreachable => "there is no way to the server",
             Ending::ByServer => "the server closed the connection",
             Ending::Lost => "no connection",
             Ending::Silent => "the server is silent",
             Ending::LedNoMore => "the node leads no more",
-        })
+        }
+    }
+
+    /// Whether it counts as a failure, behind which the server is left alone for longer.
+    pub fn is_failure(self) -> bool
+        ensures { result ≡ is_failure self }
+    {
+        match self {
+            Ending::LedNoMore => false,
+            Ending::Refused | Ending::Unreachable | Ending::ByServer => true,
+            Ending::Lost | Ending::Silent => true,
+        }
+    }
+}
+
+impl fmt::Display for Ending {
+    fn fmt<W: fmt::Write>(&self, f: &mut fmt::Formatter<W>) -> fmt::Result {
+        f.write_str(self.words())
     }
 }
 
@@ -70,6 +91,10 @@ pub enum News {
     TurnedAway(NodeId),
     /// The log of the node that leads is as full as this.
     LogFills(NodeId, Level),
+    /// A client came with a wrong password, or with none: one of the first of a minute.
+    WrongPassword(Origin),
+    /// So many more clients came with a wrong password in a minute.
+    WrongPasswords(u64),
 }
 
 impl News {
@@ -95,7 +120,8 @@ impl News {
             News::Down(node, _) | News::Up(node, _) => Some(*node),
             News::Hangs(node) | News::Answers(node) => Some(*node),
             News::TurnedAway(node) | News::LogFills(node, _) => Some(*node),
-            News::TooFew | News::Enough => None,
+            News::WrongPassword(origin) => Some(NodeId::new(origin.node())),
+            News::TooFew | News::Enough | News::WrongPasswords(_) => None,
         }
     }
 }
@@ -132,6 +158,15 @@ impl fmt::Display for News {
                 write!(f, "the log is 80 percent full: run bouncer renew")
             }
             News::LogFills(_, Level::Roomy) => write!(f, "the log has room"),
+            News::WrongPassword(origin) => {
+                write!(f, "wrong password: client {} is refused", origin.client())
+            }
+            News::WrongPasswords(count) => {
+                write!(
+                    f,
+                    "wrong passwords: {count} more clients in the last minute"
+                )
+            }
         }
     }
 }

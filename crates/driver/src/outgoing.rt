@@ -1,7 +1,7 @@
 //! What waits to go to the server in a session.
-ghost use Rattle.std.specs.Prelude.{◌≡◌, IfOk, OnOk};
+ghost use Rattle.std.specs.Prelude.{◌≡◌, ◌++◌, IfOk, OnOk};
 ghost use Rattle.driver.specs.Outgoing.{asks_names, has_said, is_asked, is_dropped, is_said, next_piece, nothing_waits};
-ghost use Rattle.driver.specs.Outgoing.{piece_bytes, with_join, with_line, without_next};
+ghost use Rattle.driver.specs.Outgoing.{piece_bytes, with_join, with_line, with_opening, without_next};
 
 use crate::join_line::JoinLine;
 use buffer_machine::has_command;
@@ -18,6 +18,8 @@ const MOST_QUESTIONS: usize = 1_000;
 /// What goes to the server as one line.
 #[derive(Drop)]
 pub enum Piece {
+    /// A line that each session sends first.
+    Opens(Line),
     /// Channels are joined again.
     Joins(JoinLine),
     /// A line that was handed out.
@@ -30,7 +32,7 @@ impl Piece {
         ensures { result ≡ is_said self.now }
     {
         match self {
-            Piece::Joins(_) => false,
+            Piece::Opens(_) | Piece::Joins(_) => false,
             Piece::Says(line) => !asks_names(line),
         }
     }
@@ -40,8 +42,8 @@ impl Piece {
         ensures { IfOk result (λ bytes. bytes.items ≡ piece_bytes self) }
     {
         match self {
-            Piece::Joins(line) => line.into_bytes(),
-            Piece::Says(line) => {
+            Piece::Joins(line) => line.into_bytes(alloc),
+            Piece::Opens(line) | Piece::Says(line) => {
                 let mut bytes = Vec::new(alloc);
                 line.write_cut(&mut bytes)?;
                 Ok(bytes)
@@ -50,13 +52,15 @@ impl Piece {
     }
 }
 
-/// What waits to go to the server in a session: JOINs of its channels go first, then what people say, and behind it
-/// questions who is in a channel, at most one of a channel.
+/// What waits to go to the server in a session: what each session sends first, JOINs of its channels, then what people
+/// say, and behind it questions who is in a channel, at most one of a channel.
 ///
 /// A clause sees all of it, what goes first first.
 #[derive(Drop)]
 pub struct Outgoing {
     alloc: Global,
+    /// What goes before all else.
+    opening: VecDeque<Line>,
     joins: VecDeque<JoinLine>,
     /// The last JOIN, which takes more channels.
     joining: Option<JoinLine>,
@@ -70,6 +74,7 @@ impl Model for Outgoing {
     ghost Value = { Waiting };
 
     ghost view = { λ o. record {
+      opening = o.opening.items;
       joins = o.joins.items;
       joining = o.joining;
       said = o.said.items;
@@ -84,6 +89,7 @@ impl Outgoing {
     {
         Outgoing {
             alloc,
+            opening: VecDeque::new(alloc),
             joins: VecDeque::new(alloc),
             joining: None,
             said: VecDeque::new(alloc),
@@ -98,16 +104,24 @@ impl Outgoing {
         !self.said.is_empty()
     }
 
-    /// A channel waits to be joined again, in the last JOIN where it fits in there.
-    pub fn push_join(&mut self, channel: &[u8]) -> Result<(), AllocError>
-        ensures { OnOk result (self.new ≡ with_join channel.now self.old) }
+    /// Lines wait that go before all else.
+    pub fn push_opening(&mut self, lines: &[Line]) -> Result<(), AllocError>
+        ensures { OnOk result (self.new ≡ with_opening lines.now self.old) }
+    {
+        push_all(&mut self.opening, lines)
+    }
+
+    /// A channel waits to be joined again, by this key, or by none where it has no bytes: in the last JOIN where it fits
+    /// in there.
+    pub fn push_join(&mut self, channel: &[u8], key: &[u8]) -> Result<(), AllocError>
+        ensures { OnOk result (self.new ≡ with_join channel.now key.now self.old) }
     {
         if let Some(line) = &mut self.joining
-            && line.fits(channel)
+            && line.fits(channel, key)
         {
-            return line.add(channel);
+            return line.add(channel, key);
         }
-        let next = JoinLine::of(self.alloc, channel)?;
+        let next = JoinLine::of(self.alloc, channel, key)?;
         if let Some(line) = replace(&mut self.joining, Some(next)) {
             self.joins.push_back(line)?;
         }
@@ -144,12 +158,15 @@ impl Outgoing {
             .any(|asked| is_same_name(channel, asked.parameter(0)))
     }
 
-    /// What goes next: the first JOIN, where none waits the first line that is said, and where none waits, and
-    /// questions are due, the first question. It waits no longer.
+    /// What goes next: the first line that goes before all else, where none waits the first JOIN, then the first line that
+    /// is said, and where none waits, and questions are due, the first question. It waits no longer.
     pub fn next(&mut self, are_due: bool) -> Option<Piece>
         ensures piece { result ≡ next_piece are_due self.old }
         ensures rest { self.new ≡ without_next are_due self.old }
     {
+        if let Some(line) = self.opening.pop_front() {
+            return Some(Piece::Opens(line));
+        }
         if let Some(line) = self.joins.pop_front() {
             return Some(Piece::Joins(line));
         }
@@ -163,6 +180,17 @@ impl Outgoing {
         };
         Some(Piece::Says(line))
     }
+}
+
+/// Lines wait behind others.
+fn push_all(out: &mut VecDeque<Line>, lines: &[Line]) -> Result<(), AllocError>
+    ensures { OnOk result (out.new.items ≡ out.old.items ++ lines.now) }
+{
+    for line in lines.iter() {
+        let line = line.share()?;
+        out.push_back(line)?;
+    }
+    Ok(())
 }
 
 /// Whether a line asks who is in a channel: a NAMES with the channel alone.

@@ -1,5 +1,6 @@
 //! What a driver goes by.
-use irc_line::{Name, Text};
+use crate::channel_key::ChannelKey;
+use irc_line::{Line, Name, Text};
 use raft_log::GroupSize;
 
 /// What a driver goes by.
@@ -13,6 +14,10 @@ pub struct Settings {
     pub password: Vec<u8>,
     /// What the server is sent in PASS, if anything.
     pub upstream_password: Option<Text>,
+    /// What each session sends before anything else, in this order.
+    pub on_connect: Vec<Line>,
+    /// The keys by which channels are joined again.
+    pub channel_keys: Vec<ChannelKey>,
     /// How often a leader is heard, in milliseconds.
     pub beat_ms: u16,
     /// After how long without a leader an election begins, in milliseconds.

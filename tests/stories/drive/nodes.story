@@ -22,7 +22,7 @@ orders restart@2
 10040 node 2 follows done=2
 orders
 10050 node 2 follows run=2 done=3
-orders close@1 news@2 [client 1 left] ask@2
+orders close@1 ask@2
 10060 node 2 follows run=2 done=4
 orders
 

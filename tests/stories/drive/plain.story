@@ -40,12 +40,13 @@ orders news@2 [up, run 1] ask@2
 9000 node 2 takes client 2
 9000 client 2 sends PASS pw\r\nNICK n\r\nUSER u 0 * :r\r\n
 orders write@2 :bouncer.local 001 me :Welcome to the bouncer\r\n news@2 [client 2 attached] ask@2
-  write@2 :bouncer.local 422 me :No message of the day\r\n
+  write@2 :bouncer.local 422 me :No message of the day\r\n:*status!bouncer@local NOTICE me
+  :There is no server; it is tried as soon as a node leads.\r\n
 client 1 is not attached
 client 2 is attached
 10000 tick
 # what the second client asked is not asked again
-orders write@1 ERROR :you did not register in time\r\n close@1 news@2 [client 1 left]
+orders write@1 ERROR :you did not register in time\r\n close@1
 10001 client 2 leaves
 orders close@2 news@2 [client 2 left] ask@2
 10002 client 2 leaves

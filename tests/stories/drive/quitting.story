@@ -93,3 +93,38 @@ unheard 1
 # clients are told of it then
 4020 server closed
 unheard 1
+
+story a_change_of_leader_makes_the_next_wait_no_longer
+0 node 1 leads
+5 server connected
+6 server sends :s 001 me :hi\r\n
+10 node 2 leads term=2
+20 server closed
+1020 tick
+1025 server connected
+1026 server sends :s 001 me :hi\r\n
+1030 node 3 leads term=3
+1040 server closed
+2039 tick
+forget
+2040 tick
+orders connect
+
+story who_attaches_where_there_is_no_server_is_told_why_and_when_it_is_tried
+0 node 1 leads
+1 server refused
+2 node 1 takes client 1
+2 node 1 takes client 2
+forget
+400 client 1 sends PASS pw\r\nNICK n\r\nUSER u 0 * :r\r\n
+orders write@1 :bouncer.local 001 me :Welcome to the bouncer\r\n news@1 [client 1 attached] ask@1
+  write@1 :bouncer.local 422 me :No message of the day\r\n:*status!bouncer@local NOTICE me
+  :There is no server: the connection was refused; next try in 1 s.\r\n
+1001 tick
+1002 server connected
+1003 server sends :s 001 me :hi\r\n
+forget
+# a client that attaches later is told nothing of it
+1004 client 2 sends PASS pw\r\nNICK n\r\nUSER u 0 * :r\r\n
+orders write@2 :bouncer.local 001 me :Welcome to the bouncer\r\n news@1 [client 2 attached] ask@1
+  write@2 :bouncer.local 422 me :No message of the day\r\n

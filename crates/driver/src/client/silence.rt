@@ -4,7 +4,7 @@ ghost use Rattle.client_gate.specs.Calls.{Call, Stands};
 ghost use Rattle.client_gate.specs.declared.settings.Settings.{Settings};
 ghost use Rattle.driver.specs.Leaving.{is_overdue};
 ghost use Rattle.driver.specs.Serving.{IsLost};
-ghost use Rattle.driver.specs.Silence.{IsAsked, IsKept, IsSentOff, held_back, is_too_slow, late_line, waited};
+ghost use Rattle.driver.specs.Silence.{IsAsked, IsKept, IsSentOff, held_back, is_to_go, is_too_slow, last_line, late_line, waited};
 
 use crate::client::Client;
 use crate::order::Now;
@@ -31,8 +31,8 @@ const TOO_SLOW: &[u8] = b"ERROR :you did not register in time\r\n";
 const TOO_SILENT: &[u8] = b"ERROR :no word from you for too long\r\n";
 
 impl Client {
-    /// Time passed, in which it was read or was not: it may leave for too long, be too slow to register, or, where
-    /// it was read, too silent; and where it is held up, what waits is asked for again, once each timeout.
+    /// Time passed, in which it was read or was not: it may leave for too long, be too slow to register, be told that
+    /// its password was wrong, or, where it was read, be too silent; and where it is held up, what waits is asked for again, once each timeout.
     pub fn tick(
         &mut self,
         now: &Now,
@@ -45,12 +45,12 @@ impl Client {
             (IsLost now.now.ms now.now.at s calls self.old orders.old self.new orders.new) }
         ensures slow { (s : Settings) (calls : List Call) → Stands s calls self.old.gate →
             is_overdue self.old now.now.ms ≡ false →
-            is_too_slow (waited is_read now.now.ms self.old) now.now.ms ≡ true → OnOk result
+            is_to_go (waited is_read now.now.ms self.old) now.now.ms ≡ true → OnOk result
             (IsSentOff now.now.ms now.now.at s calls (waited is_read now.now.ms self.old)
             orders.old self.new orders.new) }
         ensures kept { (s : Settings) (calls : List Call) → Stands s calls self.old.gate →
             is_overdue self.old now.now.ms ≡ false →
-            is_too_slow (waited is_read now.now.ms self.old) now.now.ms ≡ false → OnOk result
+            is_to_go (waited is_read now.now.ms self.old) now.now.ms ≡ false → OnOk result
             (IsKept timeout_ms now.now.ms now.now.at s calls (waited is_read now.now.ms self.old)
             orders.old self.new orders.new) }
     {
@@ -80,13 +80,13 @@ impl Client {
         orders: &mut Orders,
     ) -> Result<(), AllocError>
         ensures slow { (s : Settings) (calls : List Call) → Stands s calls self.old.gate →
-            is_too_slow self.old now.now.ms ≡ true → OnOk result
+            is_to_go self.old now.now.ms ≡ true → OnOk result
             (IsSentOff now.now.ms now.now.at s calls self.old orders.old self.new orders.new) }
         ensures kept { (s : Settings) (calls : List Call) → Stands s calls self.old.gate →
-            is_too_slow self.old now.now.ms ≡ false → OnOk result
+            is_to_go self.old now.now.ms ≡ false → OnOk result
             (IsKept timeout_ms now.now.ms now.now.at s calls self.old orders.old self.new orders.new) }
     {
-        if self.is_too_slow(now) {
+        if self.is_to_go(now) {
             return self.send_off(now, orders);
         }
         self.ask_for_word(now, orders)?;
@@ -109,39 +109,53 @@ impl Client {
         Ok(())
     }
 
-    /// It is told that it was too slow, and its connection is closed.
+    /// It is told why, and its connection is closed.
     fn send_off(&mut self, now: &Now, orders: &mut Orders) -> Result<(), AllocError>
         ensures { (s : Settings) (calls : List Call) → Stands s calls self.old.gate → OnOk result
             (IsSentOff now.now.ms now.now.at s calls self.old orders.old self.new orders.new) }
     {
-        let error = Vec::from_slice(self.alloc, self.late_line())?;
+        let error = Vec::from_slice(self.alloc, self.last_line(now))?;
         orders.write(self.origin.client(), error)?;
         self.hang_up(now, orders)
     }
 
-    /// What it is told where it is too slow.
-    fn late_line(&self) -> &'static [u8]
-        ensures { result.now ≡ late_line self.now.is_attached }
+    /// What it is told last: what its gate answered to a wrong password, or else that it was too slow.
+    fn last_line(&self, now: &Now) -> &[u8]
+        ensures { result.now ≡ last_line self.now now.now.ms }
     {
-        if self.is_attached {
-            TOO_SILENT
-        } else {
-            TOO_SLOW
+        match self.due_answer(now) {
+            Some(answer) => answer,
+            None => late_line(self.is_attached),
         }
     }
 
-    /// Whether it did not register in time, or did not answer; one that leaves or is gone no more is.
-    fn is_too_slow(&self, now: &Now) -> bool
-        ensures { result ≡ is_too_slow self.now now.now.ms }
+    /// Whether its password was wrong and its moment has come, or it did not register in time, or did not answer;
+    /// one that leaves or is gone no more is.
+    fn is_to_go(&self, now: &Now) -> bool
+        ensures { result ≡ is_to_go self.now now.now.ms }
     {
         // what a lost client still asks for, its Leave, has to be done
         if self.is_leaving() {
             return false;
         }
+        self.due_answer(now).is_some() || self.is_too_slow(now)
+    }
+
+    /// Whether it did not register in time, or did not answer.
+    fn is_too_slow(&self, now: &Now) -> bool
+        ensures { result ≡ is_too_slow self.now now.now.ms }
+    {
         if self.is_attached {
             self.is_pinged && self.heard.has_passed(2 * SILENCE, now.ms)
         } else {
             self.since.has_passed(REGISTERS_WITHIN, now.ms)
         }
     }
+}
+
+/// What a client is told that is too slow, one that registered or that did not.
+fn late_line(is_attached: bool) -> &'static [u8]
+    ensures { result.now ≡ late_line is_attached }
+{
+    if is_attached { TOO_SILENT } else { TOO_SLOW }
 }

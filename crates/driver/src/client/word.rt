@@ -7,7 +7,6 @@ ghost use Rattle.driver.specs.Outages.{IsToldOff};
 
 use crate::absence::Absence;
 use crate::client::Client;
-use crate::news::News;
 use crate::order::Now;
 use crate::orders::Orders;
 use std::alloc::AllocError;
@@ -47,7 +46,7 @@ impl Client {
         error.extend_from_slice(why.words())?;
         orders.write(self.origin.client(), error)?;
         orders.close(self.origin.client())?;
-        orders.log(News::Left(self.origin))?;
+        self.tell_left(orders)?;
         Ok(())
     }
 }

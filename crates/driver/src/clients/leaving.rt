@@ -58,7 +58,7 @@ impl Clients {
         ensures told { (s : Settings) (calls : List Call) (c : Client) →
             client_at self.old number ≡ Some c → is_below c.origin node boot ≡ true →
             Stands s calls c.gate → OnOk result (orders.new ≡ ordered orders.old
-            (parting_unless c.is_gone c.origin now.now.at (last_request (gate s calls)))) }
+            (parting_unless c.is_gone c.is_attached c.origin now.now.at (last_request (gate s calls)))) }
     {
         if !self.is_below(node, boot, number) {
             return Ok(());

@@ -130,7 +130,8 @@ impl Driver {
         ensures rest { OnOk result (self.new ≡ record self.old {
           clients = self.new.clients;
           orders = self.new.orders;
-          link = link_passed (class_of effect.now) node self.old.link;
+          link = link_passed self.old.settings.channel_keys.items (class_of effect.now) node
+              self.old.link;
         }) }
     {
         match <Tower as Hosted>::class(effect) {

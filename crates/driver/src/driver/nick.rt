@@ -2,7 +2,7 @@
 ghost use Rattle.std.specs.Prelude.{◌≡◌, IfOk, None, OnOk};
 ghost use Rattle.driver.specs.Opening.{joined_as};
 ghost use Rattle.driver.specs.Learning.{LearnsNick, nick_learnt};
-ghost use Rattle.driver.specs.Nicks.{IsWarned};
+ghost use Rattle.driver.specs.Nicks.{IsToldOf, IsWarned, missing_in, warned};
 ghost use Rattle.driver.specs.Nicks.{AllAreWritten, HearsNick, IsGreeted, RenamesIf, TakesNick, is_renamed, nick_by, nick_in, notice, renaming};
 ghost use Rattle.driver.specs.Rosters.{client_at};
 ghost use Rattle.irc_line.specs.Lines.{parameter};
@@ -11,7 +11,7 @@ use crate::client::joined_as;
 use crate::driver::Driver;
 use crate::driver::watching::group_words;
 use crate::lines::{no_motd, renaming};
-use crate::order::TowerNote;
+use crate::order::{Now, TowerNote};
 use bouncer_tower::TowerEffect;
 use buffer_machine::is_new_nick;
 use irc_line::{Line, Name, is_same};
@@ -37,9 +37,15 @@ impl Driver {
     }
 
     /// A client that has just registered is told of the nick in force where it was greeted by another, that there is
-    /// no message of the day, and that too few nodes are up, where people were told so.
-    pub(crate) fn greet(&mut self, was_attached: bool, number: u64) -> Result<(), AllocError>
-        ensures told { OnOk result (IsGreeted was_attached self.old.is_short
+    /// no message of the day, that too few nodes are up, where people were told so, and that there is no server, where
+    /// there is none.
+    pub(crate) fn greet(
+        &mut self,
+        now: &Now,
+        was_attached: bool,
+        number: u64,
+    ) -> Result<(), AllocError>
+        ensures told { OnOk result (IsGreeted was_attached (warned self.old now.now.ms)
             (client_at self.old.clients number) (nick_in self.old) self.old.orders self.new.orders) }
         ensures nobody { client_at self.old.clients number ≡ None → self.new ≡ self.old }
         ensures rest { self.new ≡ record self.old { orders = self.new.orders } }
@@ -53,7 +59,8 @@ impl Driver {
         let motd = no_motd(self.alloc, nick.as_bytes())?;
         self.clients
             .tell(number, motd.as_slice(), &mut self.orders)?;
-        self.warn(number)
+        self.warn(number)?;
+        self.tell_missing(now, number)
     }
 
     /// A client is told that too few nodes are up, where people were told so, it is attached and its connection stands.
@@ -67,6 +74,20 @@ impl Driver {
             return Ok(());
         }
         let line = notice(self.alloc, self.nick().as_bytes(), group_words(true))?;
+        self.clients.tell(number, line.as_slice(), &mut self.orders)
+    }
+
+    /// A client is told that there is no server, where there is none, it is attached and its connection stands.
+    fn tell_missing(&mut self, now: &Now, number: u64) -> Result<(), AllocError>
+        ensures told { OnOk result (IsToldOf (missing_in self.old now.now.ms)
+            (client_at self.old.clients number) (nick_in self.old) self.old.orders self.new.orders) }
+        ensures nobody { client_at self.old.clients number ≡ None → self.new ≡ self.old }
+        ensures rest { self.new ≡ record self.old { orders = self.new.orders } }
+    {
+        let Some(text) = self.link.missing(now)? else {
+            return Ok(());
+        };
+        let line = notice(self.alloc, self.nick().as_bytes(), text.as_slice())?;
         self.clients.tell(number, line.as_slice(), &mut self.orders)
     }
 

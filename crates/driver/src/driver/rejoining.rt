@@ -23,7 +23,8 @@ impl Driver {
           clients = self.new.clients;
           orders = self.new.orders;
           link = if is_session_of self.old.link.stage node
-              then joined (parameter 0 line.now) self.old.link else self.old.link;
+              then joined self.old.settings.channel_keys.items (parameter 0 line.now) self.old.link
+              else self.old.link;
         }) }
     {
         if !self.link.is_session_of(node) {
@@ -33,6 +34,7 @@ impl Driver {
         let kick = kick_line(self.alloc, channel, self.nick().as_bytes())?;
         self.clients
             .kick_all(channel, kick.as_slice(), &mut self.orders)?;
-        self.link.join(channel)
+        self.link
+            .join(channel, self.settings.channel_keys.as_slice())
     }
 }

@@ -74,7 +74,7 @@ impl Driver {
     {
         match note {
             Note::Opened => {
-                self.link.open();
+                self.link.open(self.settings.on_connect.as_slice())?;
                 self.orders.log(News::Opened(node))
             }
             _ => Ok(()),

@@ -1,10 +1,11 @@
 //! Lines that go out in a session, as the pace allows it.
 ghost use Rattle.std.specs.Prelude.{◌≡◌, ◌-◌, IfOk, OnOk, is_some, slice_get};
-ghost use Rattle.driver.specs.Writing.{WriteLines, WritesLine, are_due, may_claim, piece_of};
+ghost use Rattle.driver.specs.Writing.{Goes, WriteLines, WritesLine, are_due, may_claim, piece_of};
 ghost use Rattle.driver.specs.declared.driver.writing.TheConstants.{MOST_AT_ONCE};
 
 use crate::driver::Driver;
 use crate::order::Now;
+use crate::outgoing::Piece;
 use raft_log::NodeId;
 use std::alloc::AllocError;
 
@@ -44,12 +45,19 @@ impl Driver {
         let Some(piece) = self.link.next_piece(are_due) else {
             return Ok(false);
         };
+        self.send_piece(now, piece)?;
+        Ok(true)
+    }
+
+    /// This goes to the server, which waits no more.
+    fn send_piece(&mut self, now: &Now, piece: Piece) -> Result<(), AllocError>
+        ensures { OnOk result (Goes now.now.ms piece self.old self.new) }
+    {
         self.pace.go(now.ms);
         if piece.is_said() {
             self.unheard = self.unheard.saturating_add(1);
         }
-        self.link.write(piece, &mut self.orders)?;
-        Ok(true)
+        self.link.write(piece, &mut self.orders)
     }
 
     /// Whether questions are due: nothing waits to be claimed, as far as is known.

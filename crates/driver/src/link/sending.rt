@@ -2,8 +2,10 @@
 ghost use Rattle.std.specs.Prelude.{◌≡◌, OnOk, if◌then◌else◌};
 ghost use Rattle.driver.specs.Links.{is_session_of};
 ghost use Rattle.driver.specs.Outgoing.{has_said, next_piece, with_line, without_next};
-ghost use Rattle.driver.specs.Writing.{IsSent, joined};
+ghost use Rattle.driver.specs.Writing.{IsSent, joined, keys_behind};
 
+use crate::channel_key::ChannelKey;
+use crate::key_ring::key_in;
 use crate::link::Link;
 use crate::orders::Orders;
 use crate::outgoing::Piece;
@@ -25,11 +27,18 @@ impl Link {
         self.waiting.push(line)
     }
 
-    /// A channel waits to be joined again in the session.
-    pub fn join(&mut self, channel: &[u8]) -> Result<(), AllocError>
-        ensures { OnOk result (self.new ≡ joined channel.now self.old) }
+    /// A channel waits to be joined again in the session: by the key by which it was joined last, or else by its key of
+    /// these.
+    pub fn join(&mut self, channel: &[u8], keys: &[ChannelKey]) -> Result<(), AllocError>
+        ensures { OnOk result (self.new ≡ joined keys.now channel.now self.old) }
     {
-        self.waiting.push_join(channel)
+        let known = self.keys.key_of(channel);
+        let key = if known.is_empty() {
+            key_in(channel, keys)
+        } else {
+            known
+        };
+        self.waiting.push_join(channel, key)
     }
 
     /// Whether a line that is said waits.
@@ -48,10 +57,15 @@ impl Link {
         self.waiting.next(are_due)
     }
 
-    /// This goes to the server.
-    pub fn write(&self, piece: Piece, orders: &mut Orders) -> Result<(), AllocError>
-        ensures { OnOk result (IsSent piece orders.old orders.new) }
+    /// This goes to the server. Where a channel is joined by a key, that is known from now on.
+    pub fn write(&mut self, piece: Piece, orders: &mut Orders) -> Result<(), AllocError>
+        ensures sent { OnOk result (IsSent piece orders.old orders.new) }
+        ensures keys { OnOk result
+            (self.new ≡ record self.old { keys = keys_behind piece self.old.keys }) }
     {
+        if let Piece::Says(line) = &piece {
+            self.keys.hear(line)?;
+        }
         let bytes = piece.into_bytes(self.alloc)?;
         orders.send(bytes)
     }

@@ -21,7 +21,7 @@ const UNOPENED: u64 = 150_000;
 
 /// How long a server has to close a connection whose session it is told is over, in milliseconds.
 // it frees the nick as it does, and the next session asks for the same one
-const TIME_TO_CLOSE: u64 = 1000;
+pub const TIME_TO_CLOSE: u64 = 1000;
 
 impl Link {
     /// Whether the server was silent for too long, or had its time to close the connection.

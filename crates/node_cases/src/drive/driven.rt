@@ -23,6 +23,8 @@ impl Listener for Driven {
             nick,
             password: Vec::from_slice(alloc, b"pw")?,
             upstream_password: None,
+            on_connect: Vec::new(alloc),
+            channel_keys: Vec::new(alloc),
             beat_ms: 200,
             timeout_ms: 1000,
             flood_burst: 2,

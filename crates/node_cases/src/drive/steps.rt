@@ -62,6 +62,8 @@ fn happen(
         tick_often(driver, now, number(rest)?)
     } else if is_same(who, b"watch") {
         Ok(driver.watch_nodes(now)?)
+    } else if is_same(who, b"passwords") {
+        Ok(driver.watch_passwords(now)?)
     } else if is_same(who, b"end") {
         Ok(driver.end(now)?)
     } else {

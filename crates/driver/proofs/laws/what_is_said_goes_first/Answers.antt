@@ -1,5 +1,8 @@
-use Rattle.driver.proofs.Queueing.{questions_wait, said_in_order}
+use Rattle.driver.proofs.Queueing.{opening_first, questions_wait, said_in_order}
 use Rattle.driver.proofs.laws.what_is_said_goes_first.Goals as goal
+
+pub returns-clause-first : goal.returns-clause-first
+returns-clause-first c = opening_first
 
 pub returns-clause-order : goal.returns-clause-order
 returns-clause-order c = said_in_order

@@ -1,9 +1,12 @@
-use Rattle.std.proofs.Common.{◌≡◌, ◌∙◌, Bool, None, Some, ap, subst, sym}
+use Rattle.std.proofs.Common.{rules, ◌≡◌, ◌∙◌, Bool, ℕ, None, Some, ap, subst, sym}
+use Rattle.std.specs.Prelude.{is_some}
 use Rattle.std.proofs.lemmas.Result.{on_ok_weaker}
 use Rattle.driver.specs.declared.clients.Clients.{Clients}
 use Rattle.driver.specs.declared.driver.Driver.{Driver}
-use Rattle.driver.specs.Nicks.{IsGreeted, nick_in}
-use Rattle.driver.specs.Rosters.{Serves, client_at}
+use Rattle.driver.specs.declared.guard.Guard.{Guard}
+use Rattle.driver.specs.Guarding.{NotesIf, due_at}
+use Rattle.driver.specs.Nicks.{IsGreeted, nick_in, warned}
+use Rattle.driver.specs.Rosters.{Serves, client_at, refused_in}
 use Rattle.driver.specs.Serving.{Receives}
 use Rattle.driver.proofs.driver.Driver.receive.Goals as goal
 
@@ -13,7 +16,11 @@ returns-clause-nobody c none =
     let (same, orders) = c.receive.ensures.nobody none in
     let still : client_at c.receive.new.self number ≡ None = subst (λ (clients : Clients). client_at clients number ≡ None) (sym same) none in
     let greeted = c.greet.ensures.nobody still in
-    (ap (λ (driver : Driver). driver.clients) greeted ∙ same, ap (λ (driver : Driver). driver.orders) greeted ∙ orders)
+    let there : client_at c.greet.new.self.clients number ≡ None = subst (λ (clients : Clients). client_at clients number ≡ None) (sym (ap (λ (driver : Driver). driver.clients) greeted)) still in
+    let noted = c.note_refusal.ensures.nobody there in (
+      ap (λ (driver : Driver). driver.clients) noted ∙ ap (λ (driver : Driver). driver.clients) greeted ∙ same,
+      ap (λ (driver : Driver). driver.orders) noted ∙ ap (λ (driver : Driver). driver.orders) greeted ∙ orders,
+    )
 
 pub returns-clause-served : goal.returns-clause-served
 returns-clause-served c =
@@ -21,19 +28,37 @@ returns-clause-served c =
     let now = c.args.now.now in
     let number = c.args.number in
     let told = c.receive.new.orders in
-    let new = c.greet.new.self in
-    let clients = sym (ap (λ (driver : Driver). driver.clients) c.greet.ensures.rest) in
-    on_ok_weaker c.greet.result (λ greeted.
+    let middle = c.greet.new.self in
+    let new = c.note_refusal.new.self in
+    let greet = ap (λ (driver : Driver). driver.clients) c.greet.ensures.rest in
+    let guard = ap (λ (driver : Driver). driver.guard) c.greet.ensures.rest in
+    let note = ap (λ (driver : Driver). driver.clients) c.note_refusal.ensures.rest in
+    let clients = sym (note ∙ greet) in
+    on_ok_weaker c.note_refusal.result (λ noted.
     record {
       told = told;
       served =
           subst
-          (λ (clients : Clients). Serves (λ d. client_at old.clients number ≡ Some d) (λ s calls d client. Receives c.args.bytes.now now.ms now.at s calls d old.orders client told) number clients)
-          clients c.in_ok-receive.ensures.served;
-      greeted =
+          (λ (clients : Clients). Serves (λ d. client_at old.clients number ≡ Some d) (λ s calls d client. Receives c.args.bytes.now now.ms now.at (due_at old.guard now.ms) s calls d old.orders client told) number clients)
+          clients
+          (subst
+          (λ (due : ℕ). Serves (λ d. client_at old.clients number ≡ Some d) (λ s calls d client. Receives c.args.bytes.now now.ms now.at due s calls d old.orders client told) number c.receive.new.self)
+          c.due-due.ensures c.in_ok-receive.ensures.served);
+      greeted = middle.orders;
+      greets =
           subst
-          (λ (was : Bool). IsGreeted was old.is_short (client_at new.clients number) (nick_in old) told new.orders)
+          (λ (was : Bool). IsGreeted was (warned old now.ms) (client_at new.clients number) (nick_in old) told middle.orders)
           c.is_attached-was_attached.ensures
-          (subst (λ (clients : Clients). IsGreeted c.is_attached-was_attached.result old.is_short (client_at clients number) (nick_in old) told new.orders) clients greeted);
+          (subst (λ (clients : Clients). IsGreeted c.is_attached-was_attached.result (warned old now.ms) (client_at clients number) (nick_in old) told middle.orders) clients c.in_ok-greet.ensures.told);
+      notes =
+          subst
+          (λ (was : Bool). NotesIf was (refused_in (client_at new.clients number)) now.ms old.guard middle.orders new.guard new.orders)
+          (search rules)
+          (subst
+          (λ (clients : Clients). NotesIf c.is_some-was_refused.result (refused_in (client_at clients number)) now.ms old.guard middle.orders new.guard new.orders)
+          (sym note)
+          (subst
+          (λ (guard : Guard). NotesIf c.is_some-was_refused.result (refused_in (client_at middle.clients number)) now.ms guard middle.orders new.guard new.orders)
+          guard noted));
     })
-    c.greet.ensures.told
+    c.note_refusal.ensures.noted

@@ -1,0 +1,107 @@
+//! A client whose password was wrong: what its gate answered is kept back, and nothing more is taken of it.
+ghost use Rattle.std.specs.Prelude.{◌≡◌, List, OnOk, is_some, option_map};
+ghost use Rattle.client_gate.specs.Calls.{Call, Stands, gate};
+ghost use Rattle.client_gate.specs.Gates.{is_turned_down};
+ghost use Rattle.client_gate.specs.declared.settings.Settings.{Settings};
+ghost use Rattle.driver.specs.Clients.{asked_all, due_answer, is_shut, kept_back, left_news};
+ghost use Rattle.driver.specs.Serving.{TakesBy};
+ghost use Rattle.driver.specs.Telling.{ordered};
+
+use crate::client::Client;
+use crate::news::News;
+use crate::order::Now;
+use crate::orders::Orders;
+use client_gate::Fed;
+use std::alloc::AllocError;
+
+/// What a client whose password was wrong is still told, and when.
+#[derive(Drop)]
+pub struct Refusal {
+    /// What its gate answered: whole lines.
+    answer: Vec<u8>,
+    /// The moment from which on it is told that, and closed.
+    due: u64,
+}
+
+impl Client {
+    /// Whether nothing more is taken of it: it leaves, its connection is gone, or its password was wrong.
+    pub fn is_shut(&self) -> bool
+        ensures { result ≡ is_shut self.now }
+    {
+        self.is_leaving() || self.is_refused()
+    }
+
+    /// Whether its password was wrong, and it is still to be told so.
+    pub fn is_refused(&self) -> bool
+        ensures { result ≡ is_some self.now.refused }
+    {
+        self.refused.is_some()
+    }
+
+    /// What its gate answered goes on; where its password was wrong, that is kept back until this moment.
+    pub(crate) fn take(
+        &mut self,
+        now: &Now,
+        fed: Fed,
+        due: u64,
+        orders: &mut Orders,
+    ) -> Result<(), AllocError>
+        ensures { (s : Settings) (calls : List Call) → Stands s calls self.old.gate →
+            OnOk result (TakesBy (is_turned_down (gate s calls).phase) s calls fed now.now.ms
+            now.now.at due self.old orders.old self.new orders.new) }
+    {
+        if self.gate.is_turned_down() {
+            self.keep_back(now, fed, due, orders)?;
+        } else {
+            self.pass(now, fed, orders)?;
+        }
+        Ok(())
+    }
+
+    /// What its gate answered is kept back until this moment. What it asked for, if anything, goes to its node.
+    fn keep_back(
+        &mut self,
+        now: &Now,
+        fed: Fed,
+        due: u64,
+        orders: &mut Orders,
+    ) -> Result<(), AllocError>
+        ensures told { OnOk result (orders.new ≡ ordered orders.old
+            (asked_all self.old.is_attached self.old.origin now.now.at fed.requests.items)) }
+        ensures kept { OnOk result (self.new ≡ kept_back due self.old fed) }
+    {
+        let Fed {
+            requests,
+            reply,
+            close: _,
+        } = fed;
+        self.ask_all(now, requests, orders)?;
+        self.refused = Some(Refusal { answer: reply, due });
+        Ok(())
+    }
+
+    /// What it is told now, where its password was wrong, and its moment has come.
+    pub(crate) fn due_answer(&self, now: &Now) -> Option<&[u8]>
+        ensures { option_map (λ answer. answer.now) result ≡ due_answer self.now.refused now.now.ms }
+    {
+        match &self.refused {
+            Some(refusal) => if refusal.due <= now.ms {
+                Some(refusal.answer.as_slice())
+            } else {
+                None
+            },
+            None => None,
+        }
+    }
+
+    /// An operator is told that it left, where it had registered.
+    pub(crate) fn tell_left(&self, orders: &mut Orders) -> Result<(), AllocError>
+        ensures { OnOk result (orders.new
+            ≡ ordered orders.old (left_news self.now.is_attached self.now.origin)) }
+    {
+        if !self.is_attached {
+            return Ok(());
+        }
+        orders.log(News::Left(self.origin))
+    }
+}
