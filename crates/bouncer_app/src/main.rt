@@ -102,7 +102,7 @@ fn run_renew(rt: &HostRuntime, path: &str, forgotten: &[Name]) -> ExitCode {
         Ok(config) => config,
         Err(fault) => return failed(rt, fault),
     };
-    match renew(rt, &config, forgotten) {
+    match renew(rt, config.store.as_slice(), &config, forgotten) {
         Ok(renewed) => told(rt, &renewed),
         Err(fault) => {
             let _ = eprintln!(rt; "{fault}");

@@ -1,5 +1,7 @@
+pub mod CheckFaults
 pub mod Elements
 pub mod Entries
+pub mod SomeFolders
 pub mod Longest
 pub mod Marks
 pub mod Movements

@@ -8,10 +8,10 @@ use Rattle.bouncer_run.specs.declared.guest.Hold.TheVariants.{Closing, Served, U
 use Rattle.bouncer_run.specs.declared.guest.Stage.{Stage}
 use Rattle.bouncer_run.specs.declared.guest.Stage.TheVariants.{Arriving, Refused, Registered}
 
--- of one that did not register it is told so, or that its password was wrong
+-- of one that did not register it is told so, but where its password was wrong, of which it was told before
 abbrev pub parting : Stage → ℕ → ℕ → SocketAddr → Option EdgeNews
 parting Arriving node number address = Some (news.Unregistered node number address)
-parting Refused node number address = Some (news.WrongPassword node number address)
+parting Refused node number address = None
 parting Registered node number address = None
 
 -- it registered

@@ -16,3 +16,4 @@ pub mod Watches
 pub mod LoopMessages
 pub mod Days
 pub mod Rates
+pub mod Rations

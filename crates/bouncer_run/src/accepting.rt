@@ -130,7 +130,7 @@ impl Sockets {
         from: SocketAddr,
     ) -> Result<(), LoopFault> {
         if self.clients.len() >= MOST_CLIENTS && !self.make_place(now, driver)? {
-            self.tell(EdgeNews::Crowded(node, from))?;
+            self.tell_crowded(now, EdgeNews::Crowded(node, from))?;
             self.turn_away(now, stream, CROWDED);
             return Ok(());
         }
@@ -142,6 +142,14 @@ impl Sockets {
             return Ok(());
         }
         self.tell(EdgeNews::Came(node, number, from))?;
+        Ok(())
+    }
+
+    /// An operator is told that all places are taken, a few times a minute.
+    fn tell_crowded(&mut self, now: &Now, news: EdgeNews) -> Result<(), LoopFault> {
+        if self.crowding.take(now.ms) {
+            self.tell(news)?;
+        }
         Ok(())
     }
 
@@ -181,7 +189,8 @@ impl Sockets {
             return Ok(false);
         };
         let mut guest = guest;
-        self.tell(EdgeNews::GaveWay(guest.node, number, guest.address))?;
+        let news = EdgeNews::GaveWay(guest.node, number, guest.address);
+        self.tell_crowded(now, news)?;
         guest.connection.flush(now.ms);
         if guest.connection.is_idle() {
             self.turn_away(now, guest.connection.stream, CROWDED);

@@ -1,11 +1,12 @@
 //! What a run would do, told without one.
-ghost use Rattle.std.specs.Prelude.{IfErr, IfOk, length};
+ghost use Rattle.std.specs.Prelude.{◌≤◌, IfErr, IfOk, length};
 ghost use Rattle.raft_log.specs.Peers.{IsGroupSize};
 ghost use Rattle.bouncer_run.specs.Checks.{IsCheckFault, IsSomePlan};
 ghost use Rattle.bouncer_run.specs.Faults.{IsOrMemory};
 
 use crate::reading::read;
 use crate::run_fault::RunFault;
+use crate::warnings::warn_of_readers;
 use bouncer_config::Config;
 use journal_folder::{Foretold, RenewFault, foretold};
 use run_plan::{Warning, plan};
@@ -24,6 +25,7 @@ pub struct Checked {
 /// What a run over the configuration in the file of this path would do. What it would warn of was told on standard
 /// error. Nothing is made or changed, and no journal is locked: it is given no net and no threads. `Store` where the
 /// run would be refused for what lies in the store. Where that may not be read, a line was written to standard error.
+#[tactic(auto, using(crate::proofs::CheckFaults::of_store))]
 pub fn check<R: Runtime<File = File> + AllocGlobal>(rt: &R, path: &str) -> Result<Checked, RunFault>
     ensures plan { IfOk result (λ checked. IsSomePlan path.now checked.plan.items) }
     ensures fault { IfErr result IsCheckFault }
@@ -31,8 +33,10 @@ pub fn check<R: Runtime<File = File> + AllocGlobal>(rt: &R, path: &str) -> Resul
     let config = read(rt, path)?;
     warn(rt, path, &config);
     let plan = plan(rt.alloc(), &config)?;
-    let store = store_of(rt, &config)?;
-    Ok(Checked { plan, store })
+    match store_of(rt, &config) {
+        Ok(store) => Ok(Checked { plan, store }),
+        Err(fault) => Err(fault),
+    }
 }
 
 /// What becomes of the store of a configuration. Where it is not known, a line was written that says why.
@@ -40,10 +44,12 @@ fn store_of<R: Runtime<File = File> + AllocGlobal>(
     rt: &R,
     config: &Config,
 ) -> Result<Option<Foretold>, RunFault>
-    requires { IsGroupSize (length config.now.listen.items) }
+    requires group { IsGroupSize (length config.now.listen.items) }
+    requires folders { 1 ≤ length config.now.store.items }
     ensures { IfErr result (IsOrMemory RunFault.Store) }
 {
-    let fault = match foretold(rt, config, config.renew_at as u64) {
+    let folders = config.store.as_slice();
+    let fault = match foretold(rt, folders, config, config.renew_at as u64) {
         Ok(store) => return Ok(Some(store)),
         Err(fault) => fault,
     };
@@ -56,7 +62,8 @@ fn store_of<R: Runtime<File = File> + AllocGlobal>(
 }
 
 /// Tells what a configuration is warned of.
-fn warn<R: Runtime>(rt: &R, path: &str, config: &Config) {
+fn warn<R: Runtime<File = File> + AllocGlobal>(rt: &R, path: &str, config: &Config) {
+    warn_of_readers(rt, path);
     for warning in Warning::all() {
         if warning.is_of(config) {
             let _ = eprintln!(rt; "{path}: {warning}");

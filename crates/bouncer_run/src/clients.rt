@@ -35,6 +35,7 @@ impl Sockets {
                 Got::Bytes(count) => {
                     if let Some(bytes) = piece.get(..count) {
                         take(now, driver, number, bytes)?;
+                        self.note_refusal(driver, number);
                     }
                 }
                 Got::Nothing => return Ok(Reading::Done),
@@ -70,6 +71,22 @@ impl Sockets {
         if let Some(guest) = self.clients.get_mut(&number) {
             guest.stage = Stage::Registered;
         }
+    }
+
+    /// The password of a client may have been wrong.
+    fn note_refusal(&mut self, driver: &Driver, number: u64) {
+        if !driver.is_refused(number) {
+            return;
+        }
+        if let Some(guest) = self.clients.get_mut(&number) {
+            guest.stage = Stage::Refused;
+        }
+    }
+
+    /// What is told of a client whose password was wrong.
+    pub fn wrong_password(&self, number: u64) -> Option<EdgeNews> {
+        let guest = self.clients.get(&number)?;
+        Some(EdgeNews::WrongPassword(guest.node, number, guest.address))
     }
 
     /// A client's connection is gone.

@@ -136,6 +136,7 @@ fn tick<R: Net, O: Operator>(
     driver.tick(now)?;
     driver.watch_nodes(now)?;
     driver.watch_log()?;
+    driver.watch_passwords(now)?;
     sockets.follow(rt, now, driver)?;
     sockets.tick(now, driver)?;
     if let Some(entries) = driver.log_length() {

@@ -10,15 +10,12 @@ use raft_log::NodeId;
 use std::alloc::{AllocError, Global};
 use std::net::SocketAddr;
 
-/// What a client is answered that came with a wrong password, or with none.
-const REFUSAL: &[u8] = b":bouncer.local 464 * :Password incorrect\r\n";
-
 /// How far a client came.
 #[derive(Clone, Copy, Debug, PartialEq, Eq)]
 pub enum Stage {
     /// It did not register so far.
     Arriving,
-    /// Its password was wrong.
+    /// Its password was wrong, as the driver tells.
     Refused,
     Registered,
 }
@@ -58,9 +55,6 @@ impl Guest {
 
     /// It is written these bytes. Whether its connection still stands.
     pub fn write(&mut self, bytes: &[u8]) -> Result<bool, AllocError> {
-        if self.stage == Stage::Arriving && bytes.ends_with(REFUSAL) {
-            self.stage = Stage::Refused;
-        }
         self.connection.write(bytes)
     }
 
@@ -86,8 +80,7 @@ impl Guest {
     {
         match self.stage {
             Stage::Arriving => Some(EdgeNews::Unregistered(self.node, number, self.address)),
-            Stage::Refused => Some(EdgeNews::WrongPassword(self.node, number, self.address)),
-            Stage::Registered => None,
+            Stage::Refused | Stage::Registered => None,
         }
     }
 }

@@ -1,5 +1,5 @@
 //! The journals of a bouncer's nodes.
-ghost use Rattle.std.specs.Prelude.{◌≡◌, None, false, length, map, IfErr, IfOk};
+ghost use Rattle.std.specs.Prelude.{◌≡◌, ◌≤◌, None, false, length, map, IfErr, IfOk};
 ghost use Rattle.std.specs.List.{All};
 ghost use Rattle.raft_log.specs.Peers.{IsGroupSize};
 ghost use Rattle.journal_folder.specs.Runs.{first_older};
@@ -8,24 +8,23 @@ ghost use Rattle.bouncer_run.specs.declared.journal_files.Unopened.TheVariants.{
 
 use crate::made::Made;
 use crate::run_fault::RunFault;
+use crate::store_news::{tell_finished, tell_settled};
 use crate::system::System;
-use bouncer_config::Config;
+use bouncer_config::{Config, folder_of};
 use bouncer_tower::TowerBody;
 use file_disk::{FileJournal, OpenFault, open_journal};
 use journal_folder::{
-    ChangedKeys, Loss, RenewFault, Renewed, Settled, finish_renewal, first_older, is_lost, settle,
-    settle_by_reading,
+    Loss, RenewFault, Settled, finish_renewal, first_older, is_lost, settle, settle_by_reading,
 };
 use raft_log::{GroupSize, Log, NodeId};
 use run_plan::journal_path;
 use stable_store::StoreFault;
 use std::alloc::AllocError;
-use std::io;
 
-/// A journal for each node, node 1's first, in the folder that the configuration names, which is
-/// made where it is not there. A renewal that was decided is finished first. Then the store is of the configuration's
+/// A journal for each node, node 1's first, in the folder that the configuration names, or in one for each, which are
+/// made where they are not there. A renewal that was decided is finished first. Then the store is of the configuration's
 /// setup and number of nodes: its log is begun anew where it was of others, and where some of its journals are lost or
-/// older copies. The folder and the files that are made are noted. Where there are no journals, a line was written to
+/// older copies. The folders and the files that are made are noted. Where there are no journals, a line was written to
 /// standard error that names the folder or the file, and says why.
 pub fn journals<R: System>(
     rt: &R,
@@ -33,19 +32,22 @@ pub fn journals<R: System>(
     size: GroupSize,
     made: &mut Made,
 ) -> Result<Vec<FileJournal<TowerBody>>, RunFault>
-    requires { IsGroupSize (length config.now.listen.items) }
+    requires group { IsGroupSize (length config.now.listen.items) }
+    requires folders { 1 ≤ length config.now.store.items }
     ensures count { IfOk result (λ journals. length journals.items ≡ size) }
     ensures serve { IfOk result (λ journals. All (λ j. j.broken ≡ false) journals.items) }
     ensures none_is_older { IfOk result (λ journals.
         let group = map (λ j. j.saved) journals.items in first_older 1 group group ≡ None) }
     ensures fault { IfErr result (IsOrMemory RunFault.Store) }
 {
-    let folder = config.store.as_str();
-    make_folder(rt, folder, made)?;
-    finish(rt, folder)?;
-    let settled = settle(rt, config, config.renew_at as u64);
+    let folders = config.store.as_slice();
+    for folder in folders {
+        make_folder(rt, folder.as_str(), made)?;
+    }
+    finish(rt, folders)?;
+    let settled = settle(rt, folders, config, config.renew_at as u64);
     take(rt, config, settled, made)?;
-    let unopened = match open_all(rt, folder, size, made) {
+    let unopened = match open_all(rt, folders, size, made) {
         Ok(journals) => return Ok(journals),
         Err(unopened) => unopened,
     };
@@ -53,18 +55,18 @@ pub fn journals<R: System>(
         return Err(unopened.told(rt));
     }
     // what was opened is let go by now, so that the journals may be locked and read, all of them
-    let settled = settle_by_reading(rt, config, config.renew_at as u64);
+    let settled = settle_by_reading(rt, folders, config, config.renew_at as u64);
     take(rt, config, settled, made)?;
-    match open_all(rt, folder, size, made) {
+    match open_all(rt, folders, size, made) {
         Ok(journals) => Ok(journals),
         Err(unopened) => Err(unopened.told(rt)),
     }
 }
 
-/// A journal for each of so many nodes in a folder, node 1's first, none of which is older than their logs tell.
+/// A journal for each of so many nodes in these folders, node 1's first, none of which is older than their logs tell.
 fn open_all<R: System>(
     rt: &R,
-    folder: &str,
+    folders: &[String],
     size: GroupSize,
     made: &mut Made,
 ) -> Result<Vec<FileJournal<TowerBody>>, Unopened>
@@ -76,7 +78,8 @@ fn open_all<R: System>(
     let alloc = rt.alloc();
     let mut journals: Vec<FileJournal<TowerBody>> = Vec::new(alloc);
     for index in 0..size.value() {
-        let path = journal_path(alloc, folder, NodeId::new(index + 1))?;
+        let node = NodeId::new(index + 1);
+        let path = journal_path(alloc, folder_of(folders, node), node)?;
         let journal = match journals.first() {
             None => open(rt, path, &Log::new(alloc), made)?,
             Some(first) => open(rt, path, first.log(), made)?,
@@ -85,7 +88,10 @@ fn open_all<R: System>(
     }
     match first_older(&journals) {
         None => Ok(journals),
-        Some(node) => Err(Unopened::Older(journal_path(alloc, folder, node)?)),
+        Some(node) => {
+            let folder = folder_of(folders, node);
+            Err(Unopened::Older(journal_path(alloc, folder, node)?))
+        }
     }
 }
 
@@ -187,14 +193,16 @@ fn make_folder<R: System>(rt: &R, path: &str, made: &mut Made) -> Result<(), Run
 }
 
 /// A renewal that was decided is finished. Where it was not finished before, a line was written that says where the
-/// old folder lies now.
-fn finish<R: System>(rt: &R, folder: &str) -> Result<(), RunFault>
+/// old folders lie now.
+fn finish<R: System>(rt: &R, folders: &[String]) -> Result<(), RunFault>
     ensures { IfErr result (IsOrMemory RunFault.Store) }
 {
-    match finish_renewal(rt, folder) {
+    match finish_renewal(rt, folders) {
         Ok(None) => Ok(()),
         Ok(Some(old)) => {
-            let _ = eprintln!(rt; "{folder}: the renewal is finished, and the old folder is {old}");
+            for one in &old.folders {
+                tell_finished(rt, one);
+            }
             Ok(())
         }
         Err(fault) => {
@@ -226,64 +234,12 @@ fn take<R: System>(
     }
 }
 
-/// The file that a start made, in which a store says of which setup it is, is noted.
+/// The files that a start made, in which a store says of which setup it is, are noted.
 fn note(settled: Settled, made: &mut Made) -> Result<(), RunFault>
     ensures { IfErr result (IsOrMemory RunFault.Store) }
 {
     match settled {
-        Settled::Made(file) | Settled::Described(file) => Ok(made.add(file)?),
+        Settled::Made(files) | Settled::Described(files) => Ok(made.add_all(files)?),
         _ => Ok(()),
-    }
-}
-
-/// Says on standard error what was done with a store that was there.
-fn tell_settled<R: System>(rt: &R, config: &Config, settled: &Settled) {
-    let folder = config.store.as_str();
-    let _ = match settled {
-        Settled::Made(_) | Settled::Same => Ok(()),
-        Settled::Described(_) => eprintln!(rt;
-            "{folder}: it said nothing of its setup: it is taken to be of this one, as {folder}/setup says from now on"
-        ),
-        Settled::Changed(keys, renewed) => {
-            let (before, old) = (renewed.before.value(), old_of(renewed));
-            eprintln!(rt;
-                "{folder}: {keys} changed: the log of {before} entries was begun anew, and the old folder is {old}"
-            )
-        }
-        Settled::Lost(keys, renewed) => tell_lost(rt, folder, keys, renewed),
-        Settled::Long(renewed) => {
-            let (before, old) = (renewed.before.value(), old_of(renewed));
-            eprintln!(rt;
-                "{folder}: the log had {before} entries: it was begun anew, and the old folder is {old}"
-            )
-        }
-        Settled::StaysLong(fault) => {
-            let most = config.renew_at;
-            eprintln!(rt; "{folder}: the log has more than {most} entries, and goes on: {fault}")
-        }
-    };
-}
-
-/// Says that the log of a folder was begun anew since journals of it were lost, and whether these keys changed too.
-fn tell_lost<R: System>(
-    rt: &R,
-    folder: &str,
-    keys: &ChangedKeys,
-    renewed: &Renewed,
-) -> io::Result<()> {
-    let (lost, before, old) = (&renewed.lost, renewed.before.value(), old_of(renewed));
-    if !keys.is_none() {
-        eprintln!(rt; "{folder}: {keys} changed")?;
-    }
-    eprintln!(rt;
-        "{folder}: {lost}: the log of {before} entries was begun anew from the others, and the old folder is {old}"
-    )
-}
-
-/// Where the old folder of a renewal lies.
-fn old_of(renewed: &Renewed) -> &str {
-    match &renewed.old {
-        Some(old) => old.as_str(),
-        None => "none",
     }
 }

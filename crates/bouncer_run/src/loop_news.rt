@@ -71,12 +71,22 @@ fn log<O: Operator>(
     if let News::Attached(origin) = news {
         sockets.register(origin.client());
     }
-    operator.hear(now, news);
+    tell_operator(now, sockets, operator, news);
     if let News::Opened(node) = news {
         let nick = driver.nick().copy(sockets.alloc)?;
         operator.hear_edge(now, EdgeNews::Nick(node, nick));
     }
     Ok(())
+}
+
+/// An operator is told of news, and where a client is that came with a wrong password.
+fn tell_operator<O: Operator>(now: &Now, sockets: &Sockets, operator: &mut O, news: News) {
+    if let News::WrongPassword(origin) = news {
+        if let Some(wrong) = sockets.wrong_password(origin.client()) {
+            return operator.hear_edge(now, wrong);
+        }
+    }
+    operator.hear(now, news);
 }
 
 /// Clients are told that the server is there, or gone.

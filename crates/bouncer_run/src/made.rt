@@ -6,11 +6,11 @@ use file_disk::MadeFile;
 use std::alloc::{AllocError, Global};
 use std::fs;
 
-/// The folder and the files that a start made. The files are held open and locked, so that nobody else saves
+/// The folders and the files that a start made. The files are held open and locked, so that nobody else saves
 /// anything in them.
 #[derive(Drop)]
 pub struct Made {
-    folder: Option<String>,
+    folders: Vec<String>,
     files: Vec<MadeFile>,
 }
 
@@ -20,7 +20,7 @@ impl Made {
         ensures { result.files.items ≡ [] }
     {
         Made {
-            folder: None,
+            folders: Vec::new(alloc),
             files: Vec::new(alloc),
         }
     }
@@ -29,7 +29,7 @@ impl Made {
     pub fn add_folder(&mut self, alloc: Global, path: &str) -> Result<(), AllocError>
         ensures { self.new.files ≡ self.old.files }
     {
-        self.folder = Some(String::from_str(alloc, path)?);
+        self.folders.push(String::from_str(alloc, path)?)?;
         Ok(())
     }
 
@@ -41,13 +41,21 @@ impl Made {
         Ok(())
     }
 
-    /// The start is refused: what it made is gone. What somebody else put in the folder stays, and so does the
+    /// These files were made too.
+    pub fn add_all(&mut self, files: Vec<MadeFile>) -> Result<(), AllocError>
+        ensures { OnOk result (self.new.files.items ≡ self.old.files.items ++ files.items) }
+    {
+        let mut files = files;
+        self.files.append(&mut files)
+    }
+
+    /// The start is refused: what it made is gone. What somebody else put in a folder stays, and so does the
     /// folder then.
     pub fn take_back<R: System>(&self, rt: &R) {
         for file in &self.files {
             let _ = file.remove(rt);
         }
-        if let Some(folder) = &self.folder {
+        for folder in &self.folders {
             let _ = fs::remove_dir(rt, folder.as_str());
         }
     }

@@ -1,5 +1,5 @@
 //! The run of a bouncer.
-ghost use Rattle.std.specs.Prelude.{◌≡◌, ◌⊎◌, IfErr, IfOk, length};
+ghost use Rattle.std.specs.Prelude.{◌≡◌, ◌≤◌, ◌⊎◌, IfErr, IfOk, length};
 ghost use Rattle.raft_log.specs.Peers.{IsGroupSize};
 ghost use Rattle.bouncer_run.specs.Faults.{IsOrMemory};
 
@@ -8,6 +8,7 @@ use crate::driver_settings::settings_of;
 use crate::ending::watch_input;
 use crate::event_loop::{LoopFault, run_loop};
 use crate::first_mark::rate_of;
+use crate::folders::Folders;
 use crate::group::{address_of, size_of};
 use crate::growth::Growth;
 use crate::inlet::{Inlet, LoopMessage};
@@ -26,8 +27,8 @@ use crate::sockets::Sockets;
 use crate::store_watch::StoreWatch;
 use crate::system::System;
 use crate::telling::Telling;
-use crate::warnings::warn;
-use bouncer_config::Config;
+use crate::warnings::{warn, warn_of_readers};
+use bouncer_config::{Config, LogLevel};
 use bouncer_tower::TowerBody;
 use crossbeam_channel::{Receiver, unbounded};
 use driver::Driver;
@@ -58,6 +59,9 @@ pub fn run<
     requires { F.IsAlwaysCallable hands.now }
 {
     let config = read(rt, path)?;
+    if config.log != LogLevel::Quiet {
+        warn_of_readers(rt, path);
+    }
     let input = open_input(rt, path, config.input_end, input)?;
     let size = size_of(&config);
     let started = start(rt, &config, size, input, hands)?;
@@ -80,6 +84,7 @@ fn start<
 ) -> Result<Started<R, U>, RunFault>
     requires callable { F.IsAlwaysCallable hands.now }
     requires group { IsGroupSize (length config.now.listen.items) }
+    requires folders { 1 ≤ length config.now.store.items }
 {
     // it is dropped last, so that what was made is locked until it is gone
     let mut made = Made::nothing(rt.alloc());
@@ -113,6 +118,7 @@ impl<R: System, U: Upstream + Send + 'static> Started<R, U> {
     ) -> Result<Self, RunFault>
         requires callable { F.IsAlwaysCallable hands.now }
         requires group { IsGroupSize (length config.now.listen.items) }
+        requires folders { 1 ≤ length config.now.store.items }
     {
         let alloc = rt.alloc();
         let journals = journals(rt, config, size, made)?;
@@ -164,7 +170,7 @@ impl<R: System, U: Upstream + Send + 'static> Started<R, U> {
         );
         let records = running.stop(rt);
         if ran == Err(LoopFault::Store) {
-            tell_away(rt, config.store.as_str());
+            tell_away(rt, config.store.as_slice());
         }
         ran.map_err(RunFault::of_loop)?;
         if let Some(reader) = reader {
@@ -182,20 +188,21 @@ fn watch_of<R: System>(
 ) -> Result<StoreWatch, RunFault>
     ensures { IfErr result (IsOrMemory RunFault.Store) }
 {
-    let store = config.store.as_str();
-    match StoreWatch::of(rt.alloc(), store, journals) {
+    let folders = config.store.as_slice();
+    match StoreWatch::of(rt.alloc(), folders, journals) {
         Ok(watch) => Ok(watch),
         Err(error) => {
-            let _ = eprintln!(rt; "{store}: {error}");
+            let _ = eprintln!(rt; "{}: {error}", Folders(folders));
             Err(RunFault::of_error(&error, RunFault::Store))
         }
     }
 }
 
-/// Says on standard error that the journals do not lie in their folder any more.
-fn tell_away<R: System>(rt: &R, folder: &str) {
+/// Says on standard error that the journals do not lie in their folders any more.
+fn tell_away<R: System>(rt: &R, folders: &[String]) {
     let _ = eprintln!(rt;
-        "{folder}: the journals of this program lie here no more: move their folder back, and start again"
+        "{}: the journals of this program lie here no more: move their folder back, and start again",
+        Folders(folders)
     );
 }
 

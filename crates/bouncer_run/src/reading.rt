@@ -1,7 +1,8 @@
 //! The configuration of a file.
-ghost use Rattle.std.specs.Prelude.{◌≡◌, IfErr, IfOk};
+ghost use Rattle.std.specs.Prelude.{◌≡◌, ◌≤◌, IfErr, IfOk, length};
 ghost use Rattle.bouncer_run.specs.Configs.{IsConfigOf, IsSaidIn, IsUnread, IsUnreadFault, fault_of_unread};
 
+use crate::first_lines::has_unspoken;
 use crate::run_fault::RunFault;
 use bouncer_config::{Config, ConfigFault, Problem, parse_config};
 use std::alloc::Global;
@@ -41,6 +42,7 @@ impl Unread {
 /// and says why.
 pub fn read<R: Runtime<File = File> + AllocGlobal>(rt: &R, path: &str) -> Result<Config, RunFault>
     ensures said { IfOk result (IsSaidIn path.now) }
+    ensures folders { IfOk result (λ config. 1 ≤ length config.store.items) }
     ensures fault { IfErr result IsUnreadFault }
 {
     let mut file = match fs::open(rt, path) {
@@ -54,6 +56,7 @@ pub fn read<R: Runtime<File = File> + AllocGlobal>(rt: &R, path: &str) -> Result
     match read_config(rt.alloc(), &mut file) {
         Ok(mut config) => {
             config.place(rt.alloc(), path)?;
+            hold_lines(rt, path, &config)?;
             Ok(config)
         }
         Err(unread) => {
@@ -61,6 +64,20 @@ pub fn read<R: Runtime<File = File> + AllocGlobal>(rt: &R, path: &str) -> Result
             Err(unread.fault())
         }
     }
+}
+
+/// Refuses a configuration in whose `on_connect` stands what is no line. Where it does, a line was written to standard
+/// error that says so, without the text, in which a password may stand.
+fn hold_lines<R: Runtime + AllocGlobal>(rt: &R, path: &str, config: &Config) -> Result<(), RunFault>
+    ensures { IfErr result IsUnreadFault }
+{
+    if !has_unspoken(rt.alloc(), config.on_connect.as_slice())? {
+        return Ok(());
+    }
+    let _ = eprintln!(rt;
+        "{path}: on_connect: needs lines of IRC, of a command and at most 15 words behind it"
+    );
+    Err(RunFault::Config)
 }
 
 /// The configuration that the bytes of a reader say, all of them.

@@ -6,6 +6,7 @@ ghost use Rattle.bouncer_run.specs.declared.run_fault.RunFault.TheVariants.{Stor
 
 use crate::event_loop::Nodes;
 use crate::fault::fault_of_cluster;
+use crate::folders::Folders;
 use crate::group::recording_of;
 use crate::journal_errors::JournalErrors;
 use crate::parts::BouncerPart;
@@ -93,12 +94,12 @@ fn tell_why<R: System>(
     fault: &ClusterFault,
     errors: &JournalErrors,
 ) -> Result<(), AllocError> {
-    let store = config.store.as_str();
     let Some((node, error)) = errors.first() else {
-        let _ = eprintln!(rt; "{store}: {fault}");
+        let folders = Folders(config.store.as_slice());
+        let _ = eprintln!(rt; "{folders}: {fault}");
         return Ok(());
     };
-    let path = journal_path(rt.alloc(), store, node)?;
+    let path = journal_path(rt.alloc(), config.folder(node), node)?;
     let _ = match error {
         Some(error) => eprintln!(rt; "{path}: {error}"),
         None => eprintln!(rt; "{path}: {fault}"),

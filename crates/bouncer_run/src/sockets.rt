@@ -4,6 +4,7 @@ use crate::edge_news::EdgeNews;
 use crate::guest::Guest;
 use crate::leaving::Leaving;
 use crate::queue::Queue;
+use crate::ration::Ration;
 use crate::reasons::Reasons;
 use mio::net::{TcpListener, TcpStream};
 use mio::{Interest, Poll, Token, Waker};
@@ -53,6 +54,8 @@ pub struct Sockets {
     pub queue: Queue,
     /// Connections that were closed, as far as the bouncer is concerned.
     pub leaving: Leaving,
+    /// How often it was told of places that were taken.
+    pub crowding: Ration,
     /// What an operator is still to be told.
     news: Vec<EdgeNews>,
 }
@@ -70,6 +73,7 @@ impl Sockets {
             reasons: Reasons::new(alloc),
             queue: Queue::new(alloc),
             leaving: Leaving::new(alloc),
+            crowding: Ration::new(),
             news: Vec::new(alloc),
         })
     }

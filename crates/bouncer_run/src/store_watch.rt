@@ -3,6 +3,7 @@ ghost use Rattle.std.specs.Prelude.{◌≡◌};
 ghost use Rattle.std.specs.IoError.{error_kind};
 ghost use Rattle.bouncer_run.specs.Watches.{IsAway, is_missing};
 
+use bouncer_config::folder_of;
 use bouncer_tower::TowerBody;
 use file_disk::{FileId, FileJournal};
 use raft_log::NodeId;
@@ -39,10 +40,10 @@ pub struct StoreWatch {
 }
 
 impl StoreWatch {
-    /// Of these journals, node 1's first, in a folder. A look is due at once.
+    /// Of these journals, node 1's first, in one folder or in one for each. A look is due at once.
     pub fn of(
         alloc: Global,
-        folder: &str,
+        folders: &[String],
         journals: &[FileJournal<TowerBody>],
     ) -> io::Result<StoreWatch> {
         let mut places = Vec::new(alloc);
@@ -50,7 +51,8 @@ impl StoreWatch {
             let Some(journal) = journals.get(index as usize) else {
                 break;
             };
-            let path = journal_path(alloc, folder, NodeId::new(index + 1))?;
+            let node = NodeId::new(index + 1);
+            let path = journal_path(alloc, folder_of(folders, node), node)?;
             let file = journal.disk().file_id()?;
             places.push(Place { path, file })?;
         }

@@ -4,6 +4,22 @@ use crate::telling::Telling;
 use bouncer_config::Config;
 use driver::Now;
 use run_plan::Warning;
+use std::fs::{self, File, Files};
+use std::os::unix::fs::MetadataExt;
+use std::rt::Runtime;
+
+/// Who may read a file beside its owner and its group: anybody.
+const ANYBODY: u32 = 0o004;
+
+/// Says on standard error that anybody may read a configuration, in which passwords stand, where that is so.
+pub fn warn_of_readers<R: Runtime<File = File> + Files>(rt: &R, path: &str) {
+    let Ok(metadata) = fs::metadata(rt, path) else {
+        return;
+    };
+    if metadata.mode() & ANYBODY != 0 {
+        let _ = eprintln!(rt; "{path}: anybody may read it, and the passwords in it: chmod 600 it");
+    }
+}
 
 /// An operator is told of each warning of a configuration.
 pub fn warn<R: System>(now: &Now, config: &Config, telling: &Telling<R>) {

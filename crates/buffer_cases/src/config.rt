@@ -1,8 +1,10 @@
 //! Configurations that are taken: one with every key, and the least one.
 use crate::buffer::setups::{has_options, is_told};
-use bouncer_config::{Config, LogLevel, Password, parse_config};
+use bouncer_config::{ChannelKey, Config, LogLevel, Password, parse_config};
 use buffer_commands::Options;
 use buffer_lines::Offset;
+use irc_line::Text;
+use raft_log::NodeId;
 use std::alloc::{AllocError, Global};
 use std::test::Fail;
 
@@ -12,7 +14,7 @@ password = \"pass\"
 upstream = \"127.0.0.1:6667\"
 upstream_password = \"secret\"
 listen = [\"127.0.0.1:6701\", \"127.0.0.1:65535\", \"127.0.0.1:1\"]
-store = \"/tmp/store\"
+store = [\"/a/store\", \"/b/store\", \"/c/store\"]
 record = \"run.record\"
 channels = [\"#y\", \"&A\", \"#X\"]
 chan_buffer_size = 500
@@ -28,6 +30,8 @@ flood_burst = 100
 flood_ms = 0
 log = \"debug\"
 renew_at = 1000000
+channel_keys = { \"#k\" = \"sesame\" }
+on_connect = [\"MODE me +i\"]
 ";
 
 const LEAST: &[u8] = b"
@@ -42,13 +46,26 @@ store = \"store\"
 fn has_values(config: &Config) -> bool {
     config.password.as_bytes() == b"pass".as_slice()
         && config.upstream.port() == 6667
-        && config.store.as_str() == "/tmp/store"
+        && config.folder(NodeId::new(1)) == "/a/store"
+        && config.folder(NodeId::new(3)) == "/c/store"
         && config.beat_ms == 10
         && config.timeout_ms == 60_000
         && config.flood_burst == 100
         && config.flood_ms == 0
         && config.log == LogLevel::Debug
         && config.renew_at == 1_000_000
+}
+
+/// Whether these are the key of a channel and the first line of the configuration with every key.
+fn has_first_lines(keys: &[ChannelKey], lines: &[Text]) -> bool {
+    match (keys, lines) {
+        ([key], [line]) => {
+            key.channel.as_bytes() == b"#k".as_slice()
+                && key.key.as_bytes() == b"sesame".as_slice()
+                && line.as_bytes() == b"MODE me +i".as_slice()
+        }
+        _ => false,
+    }
 }
 
 /// Whether these are the texts that may be left out, of the configuration with every key.
@@ -94,6 +111,7 @@ fn is_every(alloc: Global, config: &Config) -> Result<bool, AllocError> {
     Ok(
         has_values(config)
             && has_texts(&config.upstream_password, &config.record)
+            && has_first_lines(config.channel_keys.as_slice(), config.on_connect.as_slice())
             && config.listen.len() == 3
             && is_set_up(config)
             && is_told(alloc, &config.setup, b"me #X #y &A ")?,
