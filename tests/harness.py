@@ -13,6 +13,7 @@ from client import Client, Late, until, LONGEST, PAUSE
 
 TOP = os.path.dirname(os.path.dirname(os.path.realpath(__file__)))
 PROGRAM = os.environ.get("BOUNCER", "")  # else found by program_is_there
+os.umask(0o077)  # passwords stand in the configurations
 STAYS = 0.5  # seconds after which a leader is taken to stay
 passed = failed = 0
 counting = threading.Lock()

@@ -73,6 +73,7 @@ class StandIn:
         self.heard = []  # each line that came, with its moment
         self.live = []  # all sessions, those too that ended
         self.is_mute = False  # it answers no PING
+        self.keys = {}  # of channels, without which nobody joins them
         self.open()
 
     def open(self):
@@ -186,14 +187,22 @@ class Session:
         elif line.startswith("QUIT"):
             self.has_quit = True
         elif line.startswith("JOIN "):
-            self.join(line.split(" ")[1].lstrip(":").split(","))
+            channels, _, keys = line.removeprefix("JOIN ").partition(" ")
+            self.join(channels.lstrip(":").split(","), keys.lstrip(":").split(","))
+        elif line.startswith("PART "):
+            for channel in line.split(" ")[1].split(","):
+                self.send(f":{self.nick}!u@h PART {channel}")
         elif line.startswith("PRIVMSG #x :"):
             self.said.append(line.split(" :", 1)[1])
 
-    def join(self, channels):
-        """These channels are joined."""
-        for channel in channels:
-            self.send(f":{self.nick}!u@h JOIN {channel}")
+    def join(self, channels, keys):
+        """These channels are joined, but for those that want another key."""
+        for place, channel in enumerate(channels):
+            wanted = self.server.keys.get(channel)
+            if wanted is None or keys[place : place + 1] == [wanted]:
+                self.send(f":{self.nick}!u@h JOIN {channel}")
+            else:
+                self.send(f":irc.test 475 {self.nick} {channel} :Cannot join channel (+k)")
         if "#x" in channels:
             self.is_joined = True
 
