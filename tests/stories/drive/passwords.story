@@ -14,7 +14,7 @@ orders
 # the right one of a client that waits lets it in at once
 400 client 2 sends PASS pw\r\nNICK n\r\nUSER u 0 * :r\r\n
 orders write@2 :bouncer.local 001 me :Welcome to the bouncer\r\n news@2 [client 2 attached] ask@2
-  write@2 :bouncer.local 422 me :No message of the day\r\n
+  write@2 :bouncer.local 422 me :No message of the day\r\n:*status!bouncer@local NOTICE me :There is no server; it is tried as soon as a node leads.\r\n
 client 2 is attached
 1000 node 2 follows
 2199 tick
