@@ -19,7 +19,7 @@ holding number = if nat_le number 3 then 3 else (if nat_le number 5 then 5 else 
 -- ask for
 abbrev pub store_told : Option StoreSetup → ℕ → Settings → StoreSetup
 store_told (Some store) journals s = store
-store_told None journals s = record { nodes = holding journals; renewals = 0; setup = s }
+store_told None journals s = record { nodes = holding journals; renewals = 0; name = None; setup = s }
 
 abbrev pub store_of : Found → Settings → StoreSetup
 store_of found s = store_told found.store found.journals s

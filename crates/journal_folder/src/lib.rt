@@ -41,6 +41,7 @@ mod settling;
 mod standing;
 mod store;
 mod store_file;
+mod store_name;
 
 pub use changed_keys::ChangedKeys;
 pub use coming::{Coming, Foretold};

@@ -15,19 +15,21 @@ use crate::placing::{decide, finish_renewal, put_in_place};
 use crate::planning::{Plan, behind, planned};
 use crate::renewed::Renewed;
 use crate::store::size_of;
+use crate::store_name::name_behind;
 use bouncer_config::Config;
 use bouncer_tower::TowerBody;
 use irc_line::Name;
 use stable_store::Saved;
 use std::alloc::Global;
 use std::fs::{File, Files};
+use std::rt::Clock;
 use store_setup::StoreSetup;
 
 /// Begins the log of a configuration's bouncer anew in these folders, which must not run: from the setup and the number of nodes that
 /// its store is of to the configuration's. `forgotten` are names of clients that go with what they have seen. At any
 /// moment the old journals or the new ones are whole, and are those that the next run uses; the old ones are kept
 /// beside them. Where it fails, what was begun is finished by the next run, or was as if it had never been.
-pub fn renew<R: Files<File = File> + AllocGlobal>(
+pub fn renew<R: Files<File = File> + Clock + AllocGlobal>(
     rt: &R,
     folders: &[String],
     config: &Config,
@@ -116,7 +118,7 @@ pub fn short_plan(
 
 /// The log of a store begun anew as it was planned for a configuration, in journals that take the place of the old
 /// ones in these folders, which are locked meanwhile.
-pub fn carry_out<R: Files<File = File> + AllocGlobal>(
+pub fn carry_out<R: Files<File = File> + Clock + AllocGlobal>(
     rt: &R,
     folders: &[String],
     config: &Config,
@@ -137,7 +139,8 @@ pub fn carry_out<R: Files<File = File> + AllocGlobal>(
     let all = paths_of(alloc, folders)?;
     let renewing = renewing_of(alloc, &all)?;
     let renewals = behind(held.store.renewals)?;
-    let now = StoreSetup::of(alloc, size_of(config), renewals, &config.setup)?;
+    let name = name_behind(rt, &held.store);
+    let now = StoreSetup::of(alloc, size_of(config), renewals, Some(name), &config.setup)?;
     let outcome = replace(rt, &all, &renewing, held, plan, &now);
     if outcome.is_err() {
         for folder in &renewing {

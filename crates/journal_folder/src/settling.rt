@@ -19,9 +19,11 @@ use crate::settled::Settled;
 use crate::standing::Standing;
 use crate::store::{Next, find, next_of, size_of};
 use crate::store_file::{describe_all, first_described};
+use crate::store_name::new_name;
 use bouncer_config::Config;
 use file_disk::MadeFile;
 use std::fs::{File, Files};
+use std::rt::Clock;
 use store_setup::StoreSetup;
 use wire_bytes::Number;
 
@@ -29,7 +31,7 @@ use wire_bytes::Number;
 /// one of a configuration's setup and of as many nodes. A log that came about under others is begun anew, and so is one of more
 /// than `renew_at` entries, if that is not 0, and one some of whose journals are missing or empty. Where it fails, the
 /// folders are as they were, or what was begun is finished by the next start.
-pub fn settle<R: Files<File = File> + AllocGlobal>(
+pub fn settle<R: Files<File = File> + Clock + AllocGlobal>(
     rt: &R,
     folders: &[String],
     config: &Config,
@@ -60,7 +62,7 @@ pub fn settle<R: Files<File = File> + AllocGlobal>(
 }
 
 /// The same of a store of before, of the configuration's number of nodes.
-fn settle_older<R: Files<File = File> + AllocGlobal>(
+fn settle_older<R: Files<File = File> + Clock + AllocGlobal>(
     rt: &R,
     folders: &[String],
     config: &Config,
@@ -82,7 +84,7 @@ fn settle_older<R: Files<File = File> + AllocGlobal>(
 }
 
 /// A new store says what it is.
-fn make<R: Files<File = File> + AllocGlobal>(
+fn make<R: Files<File = File> + Clock + AllocGlobal>(
     rt: &R,
     folders: &[String],
     config: &Config,
@@ -96,7 +98,7 @@ fn make<R: Files<File = File> + AllocGlobal>(
 }
 
 /// A store of before says what it is, while its journals are locked.
-fn describe_locked<R: Files<File = File> + AllocGlobal>(
+fn describe_locked<R: Files<File = File> + Clock + AllocGlobal>(
     rt: &R,
     folders: &[String],
     config: &Config,
@@ -114,8 +116,8 @@ fn describe_locked<R: Files<File = File> + AllocGlobal>(
     Ok(Settled::Described(describe_as(rt, folders, config)?))
 }
 
-/// A store says that it is of a configuration, and that its log was never begun anew.
-fn describe_as<R: Files<File = File> + AllocGlobal>(
+/// A store says that it is of a configuration, that its log was never begun anew, and what its name is from here on.
+fn describe_as<R: Files<File = File> + Clock + AllocGlobal>(
     rt: &R,
     folders: &[String],
     config: &Config,
@@ -123,14 +125,14 @@ fn describe_as<R: Files<File = File> + AllocGlobal>(
     requires { IsGroupSize (length config.now.listen.items) }
     ensures { IfErr result IsOfFiles }
 {
-    let none = Number::new(0);
-    let store = StoreSetup::of(rt.alloc(), size_of(config), none, &config.setup)?;
+    let (none, name) = (Number::new(0), Some(new_name(rt)));
+    let store = StoreSetup::of(rt.alloc(), size_of(config), none, name, &config.setup)?;
     describe_all(rt, folders, &store)
 }
 
 /// The same of a store each of whose journals is read, behind their locks: its log is begun anew also where one is
 /// damaged.
-pub fn settle_by_reading<R: Files<File = File> + AllocGlobal>(
+pub fn settle_by_reading<R: Files<File = File> + Clock + AllocGlobal>(
     rt: &R,
     folders: &[String],
     config: &Config,
@@ -160,7 +162,7 @@ pub fn settle_by_reading<R: Files<File = File> + AllocGlobal>(
 
 /// The log of a store some of whose journals are lost is begun anew from the others. The values of these keys differ, if
 /// any do.
-fn begin_without<R: Files<File = File> + AllocGlobal>(
+fn begin_without<R: Files<File = File> + Clock + AllocGlobal>(
     rt: &R,
     folders: &[String],
     config: &Config,
@@ -190,7 +192,7 @@ fn begin_without<R: Files<File = File> + AllocGlobal>(
 }
 
 /// The log of a store of which the values of these keys differ is begun anew.
-fn begin_changed<R: Files<File = File> + AllocGlobal>(
+fn begin_changed<R: Files<File = File> + Clock + AllocGlobal>(
     rt: &R,
     folders: &[String],
     config: &Config,
@@ -219,7 +221,7 @@ fn begin_changed<R: Files<File = File> + AllocGlobal>(
 }
 
 /// A store goes on, a log of which has more entries than so many: begun anew, where that is shorter.
-fn settle_long<R: Files<File = File> + AllocGlobal>(
+fn settle_long<R: Files<File = File> + Clock + AllocGlobal>(
     rt: &R,
     folders: &[String],
     config: &Config,

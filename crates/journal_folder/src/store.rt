@@ -211,7 +211,7 @@ pub fn store_of(alloc: Global, found: Found, setup: &Setup) -> Result<StoreSetup
 {
     match found.store {
         Some(store) => Ok(store),
-        None => StoreSetup::of(alloc, holding(found.journals), Number::new(0), setup),
+        None => StoreSetup::of(alloc, holding(found.journals), Number::new(0), None, setup),
     }
 }
 

@@ -1,7 +1,7 @@
 -- The fields of a store's setup are a codec. These lemmas need not be believed.
-use Rattle.std.proofs.Common.{ℕ, ◌≤◌, [], ◌∷◌, IsTrue, inl, inr, refl, arith}
+use Rattle.std.proofs.Common.{ℕ, ◌≤◌, List, [], ◌∷◌, ◌++◌, IsTrue, inl, inr, refl, arith}
 use Rattle.std.proofs.lemmas.Bool.Decides.{nat_tests}
-use Rattle.wire_bytes.specs.Fields.{byte_within, only}
+use Rattle.wire_bytes.specs.Fields.{both, byte_within, only}
 use Rattle.wire_bytes.specs.Codecs.{IsCodec, both-codec, only-codec}
 use Rattle.wire_bytes.specs.FieldCodecs.{byte-codec}
 use Rattle.wire_bytes.specs.ValueCodecs.{number_is_codec}
@@ -9,7 +9,7 @@ use Rattle.wire_bytes.specs.Values.{FitsNumber, number, spelled_number}
 use Rattle.raft_log.specs.Peers.{IsGroupSize}
 use Rattle.setup_spelling.specs.Spelling.{FitsSetup, setup_taken, spelled_setup}
 use Rattle.setup_spelling.specs.SetupCodec.{setup_is_codec}
-use Rattle.store_setup.specs.Files.{Fields, fields_taken, is_group_size, nodes_taken, spelled_fields}
+use Rattle.store_setup.specs.Files.{Fields, NamedFields, fields_taken, is_group_size, named_fields_taken, nodes_taken, spelled_fields, spelled_named_fields}
 
 -- the limits of a byte that passes the test of a group's size
 abbrev IsTested : ℕ → Type 0
@@ -35,12 +35,28 @@ nodes_is_codec = record {
   no_memory = λ input bytes e. tested_codec.no_memory input bytes e;
 }
 
--- what the fields of every store's setup keep
-abbrev FitFields : Fields → Type 0
+-- what the fields of every store's setup keep, without a name and with one
+abbrev pub FitFields : Fields → Type 0
 FitFields f = (IsGroupSize f.0.0 × FitsNumber f.0.1) × FitsSetup f.1
 
+abbrev pub FitNamedFields : NamedFields → Type 0
+FitNamedFields f = ((IsGroupSize f.0.0.0 × FitsNumber f.0.0.1) × FitsNumber f.0.1) × FitsSetup f.1
+
+-- the nodes and how often the log was begun anew
+abbrev spelled_counts : (ℕ × ℕ) → List ℕ
+spelled_counts c = c.0 ∷ [] ++ spelled_number c.1
+
+abbrev FitCounts : (ℕ × ℕ) → Type 0
+FitCounts c = IsGroupSize c.0 × FitsNumber c.1
+
+counts_codec : IsCodec spelled_counts FitCounts (both nodes_taken number)
+counts_codec = both-codec (λ (n : ℕ). n ∷ []) IsGroupSize nodes_taken spelled_number FitsNumber number nodes_is_codec number_is_codec
+
 pub fields_is_codec : IsCodec spelled_fields FitFields fields_taken
-fields_is_codec =
+fields_is_codec = both-codec _ _ _ spelled_setup FitsSetup setup_taken counts_codec setup_is_codec
+
+pub named_fields_is_codec : IsCodec spelled_named_fields FitNamedFields named_fields_taken
+named_fields_is_codec =
     both-codec _ _ _ spelled_setup FitsSetup setup_taken
-    (both-codec (λ (n : ℕ). n ∷ []) IsGroupSize nodes_taken spelled_number FitsNumber number nodes_is_codec number_is_codec)
+    (both-codec spelled_counts FitCounts (both nodes_taken number) spelled_number FitsNumber number counts_codec number_is_codec)
     setup_is_codec
