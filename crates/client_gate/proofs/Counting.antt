@@ -5,7 +5,7 @@ use Rattle.irc_line.specs.declared.item.Item.{Item}
 use Rattle.buffer_commands.specs.declared.command.Action.{Action}
 use Rattle.client_gate.specs.declared.request.Request.{Request}
 use Rattle.client_gate.specs.declared.settings.Settings.{Settings}
-use Rattle.client_gate.specs.Turns.{Deed, Ask, Leave, Write, Move, Close, Progress, all_done, asked, done, has_room, numbered_next}
+use Rattle.client_gate.specs.Turns.{Deed, Ask, Leave, Note, Write, Move, Close, Progress, all_done, asked, done, has_room, numbered_next}
 use Rattle.client_gate.specs.Serving.{all_fed, fed, item_deeds}
 
 -- as many more requests wait as were numbered
@@ -34,6 +34,7 @@ unfolding Counts
 counts_done nick p (Ask a) = asked_by nick p a (has_room p) refl
 counts_done nick p Leave = omega (arith, length-append {A = Request})
 counts_done nick p (Write bytes) = refl
+counts_done nick p (Note word) = refl
 counts_done nick p (Move phase) = refl
 counts_done nick p Close = refl
 

@@ -13,7 +13,7 @@ use Rattle.client_gate.specs.declared.request.Request.{Request}
 use Rattle.client_gate.specs.declared.settings.Settings.{Settings}
 use Rattle.client_gate.specs.declared.phase.Phase.{Phase}
 use Rattle.client_gate.specs.declared.phase.Phase.TheVariants.{Arriving, Attached, Left}
-use Rattle.client_gate.specs.Turns.{Deed, Ask, Leave, Write, Move, Close, Progress, all_done, asked, done, has_room, numbered_next, request}
+use Rattle.client_gate.specs.Turns.{Deed, Ask, Leave, Note, Write, Move, Close, Progress, all_done, asked, done, has_room, numbered_next, request}
 use Rattle.client_gate.specs.Serving.{all_fed, fed, item_deeds}
 use Rattle.client_gate.specs.Gates.{Gate, Given, GateEffect, after_effect, after_items, answered, begun, ended, given_items, leave_of, shut}
 use Rattle.client_gate.specs.Calls.{Call, Feed, Hear, End, Refused, fed_answer, gate, items_brought}
@@ -51,6 +51,7 @@ counted_done : (m : ℕ) (nick : List ℕ) (p : Progress) (d : Deed) → Counted
 counted_done m nick p (Ask a) h = counted_asked m nick a p (has_room p) refl h
 counted_done m nick p Leave h = let n = counted_next m action.Leave p h in record { count = n.count; are = n.are }
 counted_done m nick p (Write bytes) h = record { count = h.count; are = h.are }
+counted_done m nick p (Note word) h = record { count = h.count; are = h.are }
 counted_done m nick p (Move phase) h = record { count = h.count; are = h.are }
 counted_done m nick p Close h = record { count = h.count; are = h.are }
 

@@ -10,7 +10,8 @@ use Rattle.buffer_commands.specs.declared.command.Action.{Action}
 use Rattle.buffer_commands.specs.declared.command.Action.TheVariants as action
 use Rattle.client_gate.specs.declared.request.Request.{Request}
 use Rattle.client_gate.specs.declared.settings.Settings.{Settings}
-use Rattle.client_gate.specs.Turns.{Deed, Ask, Leave, Write, Move, Close, Progress, all_done, asked, done, has_room, numbered_next, request}
+use Rattle.client_gate.specs.declared.status_word.StatusWord.{StatusWord}
+use Rattle.client_gate.specs.Turns.{Deed, Ask, Leave, Note, Write, Move, Close, Progress, all_done, asked, done, has_room, noted, numbered_next, request, written}
 use Rattle.client_gate.specs.Serving.{all_fed, fed, item_deeds}
 use Rattle.client_gate.specs.Gates.{Gate, Given, after_items, begun, given, given_items, kept, nothing}
 use Rattle.client_gate.specs.Calls.{Call, Feed, all_bytes, fed_answer, gate, items_brought}
@@ -20,46 +21,54 @@ use Rattle.client_gate.proofs.Standing.{closed_says, closed_stays, first_of_two,
 
 -- What was answered before stays in front
 
--- a call that had answered this before
-abbrev behind : List Request → List ℕ → Progress → Progress
-behind r w p = record p { requests = r ++ p.requests; reply = w ++ p.reply }
+-- a call that had answered before what this one did
+abbrev behind : Progress → Progress → Progress
+behind f p = record p { requests = f.requests ++ p.requests; reply = f.reply ++ p.reply; words = f.words ++ p.words }
 
-behind_numbered : (r : List Request) (w : List ℕ) (a : Action) (p : Progress) → numbered_next a (behind r w p) ≡ behind r w (numbered_next a p)
-behind_numbered r w a p =
-    ap (λ (x : List Request). record p { waiting = p.waiting + 1; numbered = p.numbered + 1; requests = x; reply = w ++ p.reply }) (append_assoc r p.requests (request (p.numbered + 1) a ∷ []))
+behind_numbered : (f : Progress) (a : Action) (p : Progress) → numbered_next a (behind f p) ≡ behind f (numbered_next a p)
+behind_numbered f a p =
+    ap (λ (x : List Request). record p { waiting = p.waiting + 1; numbered = p.numbered + 1; requests = x; reply = f.reply ++ p.reply; words = f.words ++ p.words }) (append_assoc f.requests p.requests (request (p.numbered + 1) a ∷ []))
 
-behind_asked : (r : List Request) (w nick : List ℕ) (a : Action) (p : Progress) (b : Bool) → has_room p ≡ b → asked nick a (behind r w p) ≡ behind r w (asked nick a p)
-behind_asked r w nick a p true e = rw e (behind_numbered r w a p)
-behind_asked r w nick a p false e =
-    rw e (ap (λ (x : List ℕ). record p { requests = r ++ p.requests; reply = x }) (append_assoc w p.reply _))
+behind_written : (f : Progress) (bytes : List ℕ) (p : Progress) → written bytes (behind f p) ≡ behind f (written bytes p)
+behind_written f bytes p =
+    ap (λ (x : List ℕ). record p { requests = f.requests ++ p.requests; reply = x; words = f.words ++ p.words }) (append_assoc f.reply p.reply bytes)
 
-behind_done : (r : List Request) (w nick : List ℕ) (p : Progress) (d : Deed) → done nick (behind r w p) d ≡ behind r w (done nick p d)
-behind_done r w nick p (Ask a) = behind_asked r w nick a p (has_room p) refl
-behind_done r w nick p Leave =
-    ap (λ (q : Progress). record q { phase = (done nick p Leave).phase }) (behind_numbered r w action.Leave p)
-behind_done r w nick p (Write bytes) = ap (λ (x : List ℕ). record p { requests = r ++ p.requests; reply = x }) (append_assoc w p.reply bytes)
-behind_done r w nick p (Move phase) = refl
-behind_done r w nick p Close = refl
+behind_noted : (f : Progress) (word : StatusWord) (p : Progress) → noted word (behind f p) ≡ behind f (noted word p)
+behind_noted f word p =
+    ap (λ (x : List StatusWord). record p { requests = f.requests ++ p.requests; reply = f.reply ++ p.reply; words = x }) (append_assoc f.words p.words (word ∷ []))
 
-behind_all_done : (r : List Request) (w nick : List ℕ) (p : Progress) (ds : List Deed) → all_done nick (behind r w p) ds ≡ behind r w (all_done nick p ds)
-behind_all_done r w nick p [] = refl
-behind_all_done r w nick p (d ∷ ds) =
-    ap (λ (q : Progress). all_done nick q ds) (behind_done r w nick p d) ∙ behind_all_done r w nick (done nick p d) ds
+behind_asked : (f : Progress) (nick : List ℕ) (a : Action) (p : Progress) (b : Bool) → has_room p ≡ b → asked nick a (behind f p) ≡ behind f (asked nick a p)
+behind_asked f nick a p true e = rw e (behind_numbered f a p)
+behind_asked f nick a p false e = rw e (behind_written f _ p)
 
-behind_either : (r : List Request) (w : List ℕ) (p q u : Progress) (b : Bool) → u ≡ behind r w q → (if b then behind r w p else u) ≡ behind r w (if b then p else q)
-behind_either r w p q u true e = refl
-behind_either r w p q u false e = e
+behind_done : (f : Progress) (nick : List ℕ) (p : Progress) (d : Deed) → done nick (behind f p) d ≡ behind f (done nick p d)
+behind_done f nick p (Ask a) = behind_asked f nick a p (has_room p) refl
+behind_done f nick p Leave =
+    ap (λ (q : Progress). record q { phase = (done nick p Leave).phase }) (behind_numbered f action.Leave p)
+behind_done f nick p (Write bytes) = behind_written f bytes p
+behind_done f nick p (Note word) = behind_noted f word p
+behind_done f nick p (Move phase) = refl
+behind_done f nick p Close = refl
 
-behind_fed : (r : List Request) (w : List ℕ) (s : Settings) (p : Progress) (item : Item) → fed s (behind r w p) item ≡ behind r w (fed s p item)
+behind_all_done : (f : Progress) (nick : List ℕ) (p : Progress) (ds : List Deed) → all_done nick (behind f p) ds ≡ behind f (all_done nick p ds)
+behind_all_done f nick p [] = refl
+behind_all_done f nick p (d ∷ ds) =
+    ap (λ (q : Progress). all_done nick q ds) (behind_done f nick p d) ∙ behind_all_done f nick (done nick p d) ds
+
+behind_either : (f p q u : Progress) (b : Bool) → u ≡ behind f q → (if b then behind f p else u) ≡ behind f (if b then p else q)
+behind_either f p q u true e = refl
+behind_either f p q u false e = e
+
+behind_fed : (f : Progress) (s : Settings) (p : Progress) (item : Item) → fed s (behind f p) item ≡ behind f (fed s p item)
 unfolding fed
-behind_fed r w s p item =
-    behind_either r w p (all_done s.nick p (item_deeds s p.phase item)) _ p.close (behind_all_done r w s.nick p (item_deeds s p.phase item))
+behind_fed f s p item =
+    behind_either f p (all_done s.nick p (item_deeds s p.phase item)) _ p.close (behind_all_done f s.nick p (item_deeds s p.phase item))
 
-behind_all_fed : (r : List Request) (w : List ℕ) (s : Settings) (p : Progress) (items : List Item) → all_fed s (behind r w p) items ≡ behind r w (all_fed s p items)
+behind_all_fed : (f : Progress) (s : Settings) (p : Progress) (items : List Item) → all_fed s (behind f p) items ≡ behind f (all_fed s p items)
 unfolding all_fed
-behind_all_fed r w s p [] = refl
-behind_all_fed r w s p (item ∷ items) =
-    ap (λ (q : Progress). all_fed s q items) (behind_fed r w s p item) ∙ behind_all_fed r w s (fed s p item) items
+behind_all_fed f s p [] = refl
+behind_all_fed f s p (item ∷ items) =
+    ap (λ (q : Progress). all_fed s q items) (behind_fed f s p item) ∙ behind_all_fed f s (fed s p item) items
 
 all_fed_append : (s : Settings) (p : Progress) (xs ys : List Item) → all_fed s p (xs ++ ys) ≡ all_fed s (all_fed s p xs) ys
 unfolding all_fed
@@ -79,17 +88,19 @@ closed_all_fed s p (item ∷ items) e =
     ap (λ (q : Progress). all_fed s q items) (closed_fed s p item e) ∙ closed_all_fed s p items e
 
 -- where a call has come, of these parts
-of_parts : Progress → ℕ → List Request → List ℕ → Bool → Progress
-of_parts p n r w c = record p { waiting = n; requests = r; reply = w; close = c }
+of_parts : Progress → ℕ → List Request → List ℕ → List StatusWord → Bool → Progress
+of_parts p n r w t c = record p { waiting = n; requests = r; reply = w; words = t; close = c }
 
 -- a call goes on where it stopped
-goes_on : (g : Gate) (p : Progress) → p.waiting ≡ length g.waiting + length p.requests → p.close ≡ false → p ≡ behind p.requests p.reply (begun (kept g p))
+goes_on : (g : Gate) (p : Progress) → p.waiting ≡ length g.waiting + length p.requests → p.close ≡ false → p ≡ behind p (begun (kept g p))
 unfolding of_parts
 goes_on g p n c =
-    ap (λ (x : ℕ). of_parts p x p.requests p.reply p.close) (n ∙ sym (length-append g.waiting p.requests))
-    ∙ ap (λ (x : List Request). of_parts p (length (g.waiting ++ p.requests)) x p.reply p.close) (sym (append-nil p.requests))
-    ∙ ap (λ (x : List ℕ). of_parts p (length (g.waiting ++ p.requests)) (p.requests ++ []) x p.close) (sym (append-nil p.reply))
-    ∙ ap (λ (x : Bool). of_parts p (length (g.waiting ++ p.requests)) (p.requests ++ []) (p.reply ++ []) x) c
+    let waits = length (g.waiting ++ p.requests) in
+    ap (λ (x : ℕ). of_parts p x p.requests p.reply p.words p.close) (n ∙ sym (length-append g.waiting p.requests))
+    ∙ ap (λ (x : List Request). of_parts p waits x p.reply p.words p.close) (sym (append-nil p.requests))
+    ∙ ap (λ (x : List ℕ). of_parts p waits (p.requests ++ []) x p.words p.close) (sym (append-nil p.reply))
+    ∙ ap (λ (x : List StatusWord). of_parts p waits (p.requests ++ []) (p.reply ++ []) x p.close) (sym (append-nil p.words))
+    ∙ ap (λ (x : Bool). of_parts p waits (p.requests ++ []) (p.reply ++ []) (p.words ++ []) x) c
 
 -- an open gate takes items
 open_takes : (s : Settings) (g : Gate) (xs : List Item) → g.closed ≡ false → after_items s g xs ≡ kept g (all_fed s (begun g) xs)
@@ -99,11 +110,11 @@ open_says : (s : Settings) (g : Gate) (xs : List Item) → g.closed ≡ false �
 open_says s g xs e = sym (second_of_two g.closed nothing _ e)
 
 -- what the second piece makes of a gate that the first left open
-second_kept : (s : Settings) (g : Gate) (p : Progress) (ys : List Item) → p.waiting ≡ length g.waiting + length p.requests → p.close ≡ false → all_fed s p ys ≡ behind p.requests p.reply (all_fed s (begun (kept g p)) ys)
+second_kept : (s : Settings) (g : Gate) (p : Progress) (ys : List Item) → p.waiting ≡ length g.waiting + length p.requests → p.close ≡ false → all_fed s p ys ≡ behind p (all_fed s (begun (kept g p)) ys)
 second_kept s g p ys n c =
-    ap (λ (q : Progress). all_fed s q ys) (goes_on g p n c) ∙ behind_all_fed p.requests p.reply s (begun (kept g p)) ys
+    ap (λ (q : Progress). all_fed s q ys) (goes_on g p n c) ∙ behind_all_fed p s (begun (kept g p)) ys
 
-kept_behind : (g : Gate) (p q : Progress) → kept (kept g p) q ≡ kept g (behind p.requests p.reply q)
+kept_behind : (g : Gate) (p q : Progress) → kept (kept g p) q ≡ kept g (behind p q)
 kept_behind g p q = ap (λ (x : List Request). record { phase = q.phase; waiting = x; numbered = q.numbered; closed = q.close }) (append_assoc g.waiting p.requests q.requests)
 
 or_nothing : (b : Bool) → (b || false) ≡ b
@@ -112,12 +123,13 @@ or_nothing false = refl
 
 joined_nothing : (a : Given) → joined a nothing ≡ a
 joined_nothing a =
-    ap (λ (x : List Request). record { requests = x; reply = a.reply ++ []; close = a.close || false }) (append-nil a.requests)
-    ∙ ap (λ (x : List ℕ). record { requests = a.requests; reply = x; close = a.close || false }) (append-nil a.reply)
-    ∙ ap (λ (x : Bool). record { requests = a.requests; reply = a.reply; close = x }) (or_nothing a.close)
+    ap (λ (x : List Request). record { requests = x; reply = a.reply ++ []; words = a.words ++ []; close = a.close || false }) (append-nil a.requests)
+    ∙ ap (λ (x : List ℕ). record { requests = a.requests; reply = x; words = a.words ++ []; close = a.close || false }) (append-nil a.reply)
+    ∙ ap (λ (x : List StatusWord). record { requests = a.requests; reply = a.reply; words = x; close = a.close || false }) (append-nil a.words)
+    ∙ ap (λ (x : Bool). record { requests = a.requests; reply = a.reply; words = a.words; close = x }) (or_nothing a.close)
 
-given_behind : (p q : Progress) → p.close ≡ false → joined (given p) (given q) ≡ given (behind p.requests p.reply q)
-given_behind p q c = ap (λ (b : Bool). record { requests = p.requests ++ q.requests; reply = p.reply ++ q.reply; close = b || q.close }) c
+given_behind : (p q : Progress) → p.close ≡ false → joined (given p) (given q) ≡ given (behind p q)
+given_behind p q c = ap (λ (b : Bool). record { requests = p.requests ++ q.requests; reply = p.reply ++ q.reply; words = p.words ++ q.words; close = b || q.close }) c
 
 -- Two pieces for one gate
 
@@ -154,7 +166,7 @@ alike_by s g xs ys false e c =
     let p = all_fed s (begun g) xs in
     let q = all_fed s (begun (kept g p)) ys in
     let first = open_takes s g xs e in
-    let whole : all_fed s (begun g) (xs ++ ys) ≡ behind p.requests p.reply q = all_fed_append s (begun g) xs ys ∙ second_kept s g p ys (all_wait s (begun g) xs refl) c in
+    let whole : all_fed s (begun g) (xs ++ ys) ≡ behind p q = all_fed_append s (begun g) xs ys ∙ second_kept s g p ys (all_wait s (begun g) xs refl) c in
     record {
       after =
           ap (λ (x : Gate). after_items s x ys) first ∙ open_takes s (kept g p) ys c ∙ kept_behind g p q

@@ -4,4 +4,4 @@ use Rattle.client_gate.specs.Gates.{Given}
 
 -- an answer's lists
 abbrev pub given_in : Fed → Given
-given_in fed = record { requests = fed.requests.items; reply = fed.reply.items; close = fed.close }
+given_in fed = record { requests = fed.requests.items; reply = fed.reply.items; words = fed.words.items; close = fed.close }

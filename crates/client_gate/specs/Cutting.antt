@@ -6,7 +6,7 @@ use Rattle.client_gate.specs.Calls.{Call, Feed, fed_answer, gate}
 
 -- two answers, one behind the other
 abbrev pub joined : Given → Given → Given
-joined a b = record { requests = a.requests ++ b.requests; reply = a.reply ++ b.reply; close = a.close || b.close }
+joined a b = record { requests = a.requests ++ b.requests; reply = a.reply ++ b.reply; words = a.words ++ b.words; close = a.close || b.close }
 
 -- bytes fed in two pieces lead where they lead in one
 abbrev pub LeadsAlike : Settings → List Call → List ℕ → List ℕ → Type 0

@@ -13,6 +13,7 @@ use Rattle.request_once.specs.declared.answer.Answer.{Answer}
 use Rattle.request_once.specs.declared.answer.Answer.TheVariants as answer
 use Rattle.client_gate.specs.declared.request.Request.{Request}
 use Rattle.client_gate.specs.declared.settings.Settings.{Settings}
+use Rattle.client_gate.specs.declared.status_word.StatusWord.{StatusWord}
 use Rattle.client_gate.specs.declared.phase.Phase.{Phase}
 use Rattle.client_gate.specs.declared.phase.Phase.TheVariants.{Arriving, Attached, Left}
 use Rattle.client_gate.specs.Replies.{shown_cut, status}
@@ -26,10 +27,12 @@ pub record Gate : Type 0 where
   pub numbered : ℕ
   pub closed : Bool
 
--- what a call answers: the requests that it numbered, the bytes that it writes, and whether it closes
+-- what a call answers: the requests that it numbered, the bytes that it writes, the words to the bouncer that ask for nothing, and
+-- whether it closes
 pub record Given : Type 0 where
   pub requests : List Request
   pub reply : List ℕ
+  pub words : List StatusWord
   pub close : Bool
 
 -- a gate that nothing came to
@@ -44,14 +47,14 @@ is_turned_down _ = false
 
 -- nothing
 abbrev pub nothing : Given
-nothing = record { requests = []; reply = []; close = false }
+nothing = record { requests = []; reply = []; words = []; close = false }
 
 -- Bytes that are fed
 
 -- where a call begins
 abbrev pub begun : Gate → Progress
 begun g =
-    record { phase = g.phase; waiting = length g.waiting; numbered = g.numbered; requests = []; reply = []; close = false }
+    record { phase = g.phase; waiting = length g.waiting; numbered = g.numbered; requests = []; reply = []; words = []; close = false }
 
 -- what a call that has come so far makes of a gate
 abbrev pub kept : Gate → Progress → Gate
@@ -59,7 +62,7 @@ kept g p = record { phase = p.phase; waiting = g.waiting ++ p.requests; numbered
 
 -- what it answers
 abbrev pub given : Progress → Given
-given p = record { requests = p.requests; reply = p.reply; close = p.close }
+given p = record { requests = p.requests; reply = p.reply; words = p.words; close = p.close }
 
 -- a gate behind these items; a closed one takes none
 abbrev pub after_items : Settings → Gate → List Item → Gate

@@ -10,6 +10,7 @@ pub record IsOutcome (p : Progress) (o : Outcome) : Type 0 where
   pub numbered : o.numbered ≡ p.numbered
   pub requests : o.requests.items ≡ p.requests
   pub reply : o.reply.items ≡ p.reply
+  pub words : o.words.items ≡ p.words
   pub close : o.close ≡ p.close
 
 -- what a call that came to this makes of a gate

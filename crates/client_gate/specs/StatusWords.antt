@@ -6,7 +6,9 @@ use Rattle.irc_line.specs.Lines.{is_digit}
 use Rattle.irc_line.specs.Grammar.{upper}
 use Rattle.buffer_commands.specs.declared.command.Action.{Action}
 use Rattle.buffer_commands.specs.declared.command.Action.TheVariants as action
-use Rattle.client_gate.specs.Turns.{Deed, Ask, Write}
+use Rattle.client_gate.specs.declared.status_word.StatusWord.{StatusWord}
+use Rattle.client_gate.specs.declared.status_word.StatusWord.TheVariants.{Clients, Help, Status, Unknown}
+use Rattle.client_gate.specs.Turns.{Deed, Ask, Note, Write}
 use Rattle.client_gate.specs.Replies.{status}
 use Rattle.client_gate.specs.Words.{words}
 
@@ -69,11 +71,24 @@ asked_by (word ∷ target ∷ []) = asked_by_two word target
 asked_by (word ∷ target ∷ number ∷ []) = asked_by_three word target number
 asked_by _ = None
 
--- what is asked for, or that nothing is
-abbrev pub status_deed : List ℕ → Option Action → Deed
-status_deed nick (Some a) = Ask a
-status_deed nick None = Write (status nick (codes "Unknown command."))
+-- what one word says that asks for nothing of the buffers
+abbrev pub said_by_one : List ℕ → StatusWord
+said_by_one word =
+    if is_spelled word (codes "HELP") then Help
+    else if is_spelled word (codes "STATUS") then Status
+    else if is_spelled word (codes "CLIENTS") then Clients
+    else Unknown
+
+-- what words say that ask for nothing of the buffers
+abbrev pub said_by : List (List ℕ) → StatusWord
+said_by (word ∷ []) = said_by_one word
+said_by _ = Unknown
+
+-- what is asked for, or that nothing is, and what these words say then
+abbrev pub status_answer : List ℕ → StatusWord → Option Action → List Deed
+status_answer nick word (Some a) = Ask a ∷ []
+status_answer nick word None = Write (status nick (codes "Unknown command.")) ∷ Note word ∷ []
 
 -- what is done for a text to `*status`
 abbrev pub status_deeds : List ℕ → List ℕ → List Deed
-status_deeds nick text = status_deed nick (asked_by (words text)) ∷ []
+status_deeds nick text = status_answer nick (said_by (words text)) (asked_by (words text))

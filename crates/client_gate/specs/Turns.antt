@@ -3,19 +3,22 @@ use Rattle.std.specs.Prelude.{◌≡◌, ◌<◌, ◌≤◌, ℕ, ◌+◌, ◌^�
 use Rattle.buffer_commands.specs.declared.command.Action.{Action}
 use Rattle.buffer_commands.specs.declared.command.Action.TheVariants as action
 use Rattle.client_gate.specs.declared.request.Request.{Request}
+use Rattle.client_gate.specs.declared.status_word.StatusWord.{StatusWord}
 use Rattle.client_gate.specs.declared.phase.Phase.{Phase}
 use Rattle.client_gate.specs.declared.phase.Phase.TheVariants.{Left}
 use Rattle.client_gate.specs.Replies.{status}
 use Rattle.client_gate.specs.declared.turn.TheConstants.{MOST_WAITING}
 
 -- where a call has come: the client's phase, how many requests wait, the number of the last one, and what the call
--- answers: the requests that it numbered, the bytes that it writes, and whether it closes
+-- answers: the requests that it numbered, the bytes that it writes, the words to the bouncer that ask for nothing, and
+-- whether it closes
 pub record Progress : Type 0 where
   pub phase : Phase
   pub waiting : ℕ
   pub numbered : ℕ
   pub requests : List Request
   pub reply : List ℕ
+  pub words : List StatusWord
   pub close : Bool
 
 -- what a gate does
@@ -23,6 +26,7 @@ pub data Deed : Type 0 where
   Ask : Action → Deed
   Leave : Deed
   Write : List ℕ → Deed
+  Note : StatusWord → Deed
   Move : Phase → Deed
   Close : Deed
 
@@ -42,6 +46,10 @@ numbered_next a p =
 -- some bytes more
 abbrev pub written : List ℕ → Progress → Progress
 written bytes p = record p { reply = p.reply ++ bytes }
+
+-- words to the bouncer that ask for nothing
+abbrev pub noted : StatusWord → Progress → Progress
+noted word p = record p { words = p.words ++ word ∷ [] }
 
 -- another phase
 abbrev pub moved : Phase → Progress → Progress
@@ -64,6 +72,7 @@ abbrev pub done : List ℕ → Progress → Deed → Progress
 done nick p (Ask a) = asked nick a p
 done nick p Leave = left p
 done nick p (Write bytes) = written bytes p
+done nick p (Note word) = noted word p
 done nick p (Move phase) = moved phase p
 done nick p Close = closed p
 

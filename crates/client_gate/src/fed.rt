@@ -3,6 +3,7 @@ ghost use Rattle.client_gate.specs.Gates.{given_reply, nothing};
 ghost use Rattle.client_gate.specs.Answers.{given_in};
 
 use crate::request::Request;
+use crate::status_word::StatusWord;
 use std::alloc::Global;
 
 /// What a call answers.
@@ -12,6 +13,9 @@ pub struct Fed {
     pub requests: Vec<Request>,
     /// The bytes that go to the client: lines, each with its CR LF.
     pub reply: Vec<u8>,
+    /// What the client said to the bouncer that asked for nothing of the buffers, in order. The bytes say that no such
+    /// command is known.
+    pub words: Vec<StatusWord>,
     /// Whether the connection is to close, behind these bytes.
     pub close: bool,
 }
@@ -24,6 +28,7 @@ impl Fed {
         Fed {
             requests: Vec::new(alloc),
             reply: Vec::new(alloc),
+            words: Vec::new(alloc),
             close: false,
         }
     }
@@ -35,6 +40,7 @@ impl Fed {
         Fed {
             requests: Vec::new(alloc),
             reply,
+            words: Vec::new(alloc),
             close: false,
         }
     }

@@ -10,7 +10,7 @@ use crate::request::Request;
 use crate::serve::serve_all;
 use crate::settings::Settings;
 use crate::turn::{MOST_WAITING, Outcome, Turn};
-use crate::waiting::{copies, push_all};
+use crate::waiting::{copies, is_first_answered, push_all};
 use buffer_commands::{Action, Effect};
 use circular_buffer::HeapCircularBuffer;
 use irc_line::{Item, Name, Splitter};
@@ -23,6 +23,9 @@ use wire_bytes::{Number, Origin, copied_all};
 
 /// What comes of the requests of clients.
 pub type GateEffect = Answer<ClaimsEffect<FenceEffect<Effect>>>;
+
+/// The number of a client's first request.
+const FIRST: u64 = 1;
 
 /// Room for the requests that may wait, and for a Leave.
 const ROOM: usize = MOST_WAITING + 1;
@@ -70,7 +73,7 @@ impl ClientGate {
     ghost use Rattle.client_gate.specs.declared.settings.Settings.{Settings};
     ghost use Rattle.client_gate.specs.Answers.{given_in};
     ghost use Rattle.client_gate.specs.Calls.{Call, End, Feed, Hear, KeepsGate, Refused, Stands, Takes, fed_answer, gate};
-    ghost use Rattle.client_gate.specs.Gates.{WritesNothing, after_end, after_items, begun, given_effect, given_items, is_turned_down, last_request, shut};
+    ghost use Rattle.client_gate.specs.Gates.{WritesNothing, after_end, after_items, begun, given_effect, given_items, is_first_answered, is_turned_down, last_request, shut};
     ghost use Rattle.client_gate.specs.Made.{made};
     ghost use Rattle.client_gate.specs.Outcomes.{HasPlace, IsOutcome, kept_of};
     ghost use Rattle.client_gate.specs.Serving.{all_fed};
@@ -160,6 +163,14 @@ impl ClientGate {
         ensures limit { result ≤ waiting_room }
     {
         self.waiting.len()
+    }
+
+    /// Whether it is not known that the client's first request is done, by which it attaches.
+    pub fn is_attaching(&self) -> bool
+        ensures { (s : Settings) (calls : List Call) → Stands s calls self.now →
+            result ≡ is_first_answered 1 (gate s calls).waiting }
+    {
+        is_first_answered(&self.waiting, FIRST)
     }
 
     /// Whether the client's password was looked at, and did not let it in.
@@ -253,13 +264,14 @@ impl ClientGate {
         requires { HasPlace self.old.gate outcome }
         ensures gate { self.new ≡ record self.old { gate = kept_of self.old.gate outcome } }
         ensures answer { given_in result ≡ record
-            { requests = requests.items; reply = outcome.reply.items; close = outcome.close } }
+            { requests = requests.items; reply = outcome.reply.items; words = outcome.words.items; close = outcome.close } }
     {
         let Outcome {
             phase,
             numbered,
             requests: asked,
             reply,
+            words,
             close,
         } = outcome;
         push_all(&mut self.waiting, asked);
@@ -269,6 +281,7 @@ impl ClientGate {
         Fed {
             requests,
             reply,
+            words,
             close,
         }
     }

@@ -8,6 +8,7 @@ ghost use Rattle.client_gate.specs.Turns.{all_done};
 
 use crate::messages::{channel_of, name_of};
 use crate::splitting::words;
+use crate::status_word::StatusWord;
 use crate::turn::Turn;
 use buffer_commands::{Action, BufferSize};
 use irc_line::Name;
@@ -15,7 +16,7 @@ use std::alloc::{AllocError, Global};
 
 const UNKNOWN: &[u8] = b"Unknown command.";
 
-/// Does what a text to the bouncer asks for.
+/// Does what a text to the bouncer asks for. Words that ask for nothing are noted.
 pub fn tell_status(
     alloc: Global,
     turn: &mut Turn,
@@ -28,7 +29,10 @@ pub fn tell_status(
     let words = words(alloc, text)?;
     match asked_by(alloc, words.as_slice())? {
         Some(action) => turn.ask(nick, action),
-        None => turn.tell(nick, UNKNOWN),
+        None => {
+            turn.tell(nick, UNKNOWN)?;
+            turn.note(StatusWord::of_words(words.as_slice()))
+        }
     }
 }
 
@@ -95,7 +99,7 @@ fn asked_by_three(
 }
 
 /// Whether a word in letters of either case is this one, which is in upper case.
-fn is_spelled(word: &[u8], spelled: &[u8]) -> bool
+pub(crate) fn is_spelled(word: &[u8], spelled: &[u8]) -> bool
     ensures { result ≡ is_spelled word.now spelled.now }
 {
     match word {

@@ -3,10 +3,11 @@
 ghost use Rattle.std.specs.Prelude.{◌≡◌, ◌≤◌, [], ◌^◌, ◌<◌, false, IsTrue, OnOk, codes, map};
 ghost use Rattle.client_gate.specs.Replies.{reply, status};
 ghost use Rattle.client_gate.specs.Outcomes.{IsOutcome};
-ghost use Rattle.client_gate.specs.Turns.{asked, closed, has_room, left, moved, numbered_next, written, IsWithin, Progress, has_left};
+ghost use Rattle.client_gate.specs.Turns.{asked, closed, has_room, left, moved, noted, numbered_next, written, IsWithin, Progress, has_left};
 
 use crate::phase::Phase;
 use crate::request::Request;
+use crate::status_word::StatusWord;
 use crate::writing::{push_reply, push_status};
 use buffer_commands::Action;
 use irc_line::Name;
@@ -33,6 +34,8 @@ pub struct Turn {
     numbered: u64,
     requests: Vec<Request>,
     reply: Vec<u8>,
+    /// The words to the bouncer that asked for nothing.
+    words: Vec<StatusWord>,
     close: bool,
 }
 
@@ -43,6 +46,7 @@ pub struct Outcome {
     pub numbered: u64,
     pub requests: Vec<Request>,
     pub reply: Vec<u8>,
+    pub words: Vec<StatusWord>,
     pub close: bool,
 }
 
@@ -57,6 +61,7 @@ impl Model for Turn {
       numbered = t.numbered;
       requests = t.requests.items;
       reply = t.reply.items;
+      words = t.words.items;
       close = t.close;
     } };
 
@@ -73,6 +78,7 @@ impl Turn {
           numbered = numbered;
           requests = [];
           reply = [];
+          words = [];
           close = false;
         } }
     {
@@ -82,6 +88,7 @@ impl Turn {
             numbered,
             requests: Vec::new(alloc),
             reply: Vec::new(alloc),
+            words: Vec::new(alloc),
             close: false,
         }
     }
@@ -176,6 +183,14 @@ impl Turn {
         push_status(&mut self.reply, nick, text)
     }
 
+    /// Notes words to the bouncer that asked for nothing.
+    pub fn note(&mut self, word: StatusWord) -> Result<(), AllocError>
+        ensures { OnOk result (self.new ≡ noted word self.old) }
+    {
+        self.words.push(word)?;
+        Ok(())
+    }
+
     /// What the call comes to.
     pub fn finish(self) -> Outcome
         ensures outcome { IsOutcome self result }
@@ -187,6 +202,7 @@ impl Turn {
             numbered,
             requests,
             reply,
+            words,
             close,
         } = self;
         Outcome {
@@ -194,6 +210,7 @@ impl Turn {
             numbered,
             requests,
             reply,
+            words,
             close,
         }
     }

@@ -29,7 +29,8 @@ pub fn drop_answered(waiting: &mut HeapCircularBuffer<Request>, number: u64)
     }
 }
 
-fn is_first_answered(waiting: &HeapCircularBuffer<Request>, number: u64) -> bool
+/// Whether one waits whose number is not past this one.
+pub fn is_first_answered(waiting: &HeapCircularBuffer<Request>, number: u64) -> bool
     ensures { result ≡ is_first_answered number waiting.now.items }
 {
     match waiting.front() {

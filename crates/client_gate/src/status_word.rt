@@ -1,0 +1,46 @@
+//! Words to the bouncer that ask for nothing of the buffers.
+ghost use Rattle.std.specs.Prelude.{◌≡◌, map};
+ghost use Rattle.client_gate.specs.StatusWords.{said_by, said_by_one};
+
+use crate::status::is_spelled;
+
+/// What a client says to the bouncer by words that ask for nothing of the buffers: the gate says that it knows no
+/// such command, and whoever runs the gate may say more.
+#[derive(Clone, Copy, Debug, PartialEq, Eq)]
+pub enum StatusWord {
+    /// It asks which words there are.
+    Help,
+    /// It asks how the bouncer stands.
+    Status,
+    /// It asks which clients there are.
+    Clients,
+    /// Nobody knows what it asks.
+    Unknown,
+}
+
+impl StatusWord {
+    /// What such words say.
+    pub(crate) fn of_words(words: &[&[u8]]) -> StatusWord
+        ensures { result ≡ said_by (map (λ x. x.now) words.now) }
+    {
+        match words {
+            [word] => StatusWord::of_one(*word),
+            _ => StatusWord::Unknown,
+        }
+    }
+
+    /// What one word says.
+    fn of_one(word: &[u8]) -> StatusWord
+        ensures { result ≡ said_by_one word.now }
+    {
+        if is_spelled(word, b"HELP") {
+            StatusWord::Help
+        } else if is_spelled(word, b"STATUS") {
+            StatusWord::Status
+        } else if is_spelled(word, b"CLIENTS") {
+            StatusWord::Clients
+        } else {
+            StatusWord::Unknown
+        }
+    }
+}
