@@ -7,6 +7,7 @@ use Rattle.machine_laws.specs.Origins.{same_origin}
 use Rattle.machine_laws.specs.declared.class.Class.{Class}
 use Rattle.machine_laws.specs.declared.class.Class.TheVariants.{Hand, Nowhere, Rejoin, To}
 use Rattle.bouncer_tower.specs.Hosting.{class_of}
+use Rattle.client_gate.specs.Calls.{gate}
 use Rattle.client_gate.specs.Gates.{GateEffect}
 use Rattle.irc_line.specs.Lines.{Parts, parameter}
 use Rattle.wire_bytes.specs.declared.moment.Moment.{Moment}
@@ -16,15 +17,18 @@ use Rattle.driver.specs.declared.clients.Clients.{Clients}
 use Rattle.driver.specs.declared.driver.Driver.{Driver}
 use Rattle.driver.specs.declared.link.Stage.{Stage}
 use Rattle.driver.specs.declared.order.Order.{Order}
-use Rattle.driver.specs.declared.order.Order.TheVariants.{Write}
-use Rattle.driver.specs.Crowds.{Told}
+use Rattle.driver.specs.declared.order.Order.TheVariants.{Log, Write}
+use Rattle.driver.specs.declared.eviction.Eviction.{Eviction}
+use Rattle.driver.specs.declared.news.News.TheVariants.{Evicted}
+use Rattle.driver.specs.Crowds.{Told, told as crowd}
 use Rattle.driver.specs.Driving.{told_of}
+use Rattle.driver.specs.Evicting.{IsEvicted, IsEvictedIf, IsToldWhy, eviction_in}
 use Rattle.driver.specs.Kicks.{KickEach, KicksClient, RejoinsIf}
 use Rattle.driver.specs.Opening.{closed, has_open, joined_as}
 use Rattle.driver.specs.Learning.{LearnsIf, LearnsNick, nick_learnt}
 use Rattle.driver.specs.Links.{is_session_of}
 use Rattle.driver.specs.Nicks.{AreWritten, IsNamedIn, IsWritten, IsWrittenIf, is_misnamed, is_reached, nick_in}
-use Rattle.driver.specs.Passing.{HearsOne, PassEach, Passes, PassesBy}
+use Rattle.driver.specs.Passing.{HearsOne, PassEach, Passes, PassesBy, ReachesClient}
 use Rattle.driver.specs.Rewording.{reworded}
 use Rattle.driver.specs.Rosters.{AreOthersSame, client_at}
 use Rattle.driver.specs.Telling.{Ordered, ordered}
@@ -68,7 +72,7 @@ adds_grow P old new good same adds = record {
   good = subst (λ (clients : Clients). AllGood P clients) (sym same) good;
 }
 
-written_if : (P : Order → Type 0) (is : Bool) (client : ℕ) (text : List ℕ) (before after : Ordered) → ((line : Vec ℕ) → P (Write client line)) → IsWrittenIf is client text before after → Adds P before after
+pub written_if : (P : Order → Type 0) (is : Bool) (client : ℕ) (text : List ℕ) (before after : Ordered) → ((line : Vec ℕ) → P (Write client line)) → IsWrittenIf is client text before after → Adds P before after
 written_if P false client text before after fits none = nothing_adds P before after none
 written_if P true client text before after fits (line, says, orders) = one_adds P (Write client line) before after orders (fits line)
 
@@ -139,9 +143,37 @@ heard_by : (P : Order → Type 0) (now : ℕ) (at : Moment) (nick : List ℕ) (o
 heard_by P now at nick origin effect None old new is good h = same_grows P old new good (h.nobody is)
 heard_by P now at nick origin effect (Some c) old new is good h = heard_of P now at nick origin effect c (same_origin c.origin origin) old new is refl good h
 
+-- A client that the buffers close is told why.
+
+why_adds : (P : Order → Type 0) (why : Option Eviction) (c : Client) (before after : Ordered) → Good P c → IsToldWhy why c before after → Adds P before after
+unfolding AllAre
+why_adds P None c before after good none = nothing_adds P before after none
+why_adds P (Some why) c before after good (line, says, orders) = record {
+  told = Log (Evicted c.origin why) ∷ Write c.origin.2 line ∷ [];
+  orders = orders;
+  all = (good.fits (Log (Evicted c.origin why)) refl, (good.fits (Write c.origin.2 line) refl, tt));
+}
+
+evicted_if : (P : Order → Type 0) (own : Bool) (c : Client) (effect : GateEffect) (before after : Ordered) → Good P c → IsEvictedIf own c effect before after → Adds P before after
+evicted_if P false c effect before after good none = nothing_adds P before after none
+evicted_if P true c effect before after good told =
+    why_adds P (eviction_in (gate good.settings good.calls).waiting c effect) c before after good (told good.settings good.calls good.stands)
+
+evicted_by : (P : Order → Type 0) (clients : Clients) (origin : Origin) (effect : GateEffect) (found : Option Client) (before after : Ordered) → client_at clients origin.2 ≡ found → AllGood P clients → IsEvicted found origin effect before after → Adds P before after
+evicted_by P clients origin effect None before after is good none = nothing_adds P before after none
+evicted_by P clients origin effect (Some c) before after is good told =
+    evicted_if P (same_origin c.origin origin) c effect before after (good origin.2 c is) told
+
+reached_grows : (P : Order → Type 0) (now : ℕ) (at : Moment) (nick : List ℕ) (origin : Origin) (effect : GateEffect) (old new : Told) → AllGood P old.clients → ReachesClient now at nick origin effect old new → Grows P old new
+reached_grows P now at nick origin effect old new good r =
+    let behind = crowd old.clients r.told in
+    grows_both P old behind new
+    (adds_grow P old behind good refl (evicted_by P old.clients origin effect (client_at old.clients origin.2) old.orders r.told refl good r.evicts))
+    (heard_by P now at nick origin (reworded nick effect) (client_at old.clients origin.2) behind new refl good r.hears)
+
 -- An effect passes.
 pub pass_by : (P : Order → Type 0) (class : Class Parts) (now : ℕ) (at : Moment) (stage : Stage) (nick : List ℕ) (node : ℕ) (effect : GateEffect) (old new : Told) → AllGood P old.clients → PassesBy class now at stage nick node effect old new → Grows P old new
-pass_by P (To origin) now at stage nick node effect old new good h = heard_by P now at nick origin (reworded nick effect) (client_at old.clients origin.2) old new refl good h
+pass_by P (To origin) now at stage nick node effect old new good r = reached_grows P now at nick origin effect old new good r
 pass_by P (Rejoin session line) now at stage nick node effect old new good rejoins =
     rejoins_grow P (is_session_of stage node) line nick old new good rejoins
 pass_by P (Hand session number line) now at stage nick node effect old new good same =

@@ -14,6 +14,9 @@ use Rattle.node_notes.specs.declared.note.Note.TheVariants as note
 use Rattle.uplink.specs.declared.input.UplinkInput.{UplinkInput}
 use Rattle.uplink.specs.declared.input.UplinkInput.TheVariants as input
 use Rattle.wire_bytes.specs.declared.origin.Origin.{Origin}
+use Rattle.driver.specs.Absent.{Absences, Missed, absent_text, reason_number}
+use Rattle.driver.specs.Nicks.{AreMissed}
+use Rattle.driver.specs.Sessions.{absent_news}
 use Rattle.driver.specs.declared.guard.Guard.{Guard}
 use Rattle.driver.specs.Guarding.{NotesIf, due_at, is_first}
 use Rattle.driver.specs.Coming.{Comes}
@@ -42,6 +45,7 @@ use Rattle.driver.specs.Rosters.{AreOthersSame, client_at, is_attached_in, refus
 use Rattle.driver.specs.Sessions.{TakesIf, TellsAllOf, TellsIf, opened_of}
 use Rattle.driver.specs.Filling.{is_left_out}
 use Rattle.driver.specs.Telling.{Ordered, ordered}
+use Rattle.driver.proofs.Answered.{answers_add_if}
 use Rattle.driver.proofs.Adding.{Adds, adds_both, all_written_add, named_adds, nothing_adds, one_adds, written_adds}
 use Rattle.driver.proofs.Keeping.{Keeps, Sound, keeps_both, orders_keep, same_keeps}
 use Rattle.driver.proofs.Monitors.{changed_same, ids_kept, look_at}
@@ -119,6 +123,13 @@ told_adds : (P : Order → Type 0) (text : Option (List ℕ)) (clients : Clients
 told_adds P None clients number nick before after good none = nothing_adds P before after none
 told_adds P (Some text) clients number nick before after good told = written_adds P clients number (client_at clients number) _ before after refl good told
 
+missed_add : (P : Order → Type 0) (channels : List Missed) (clients : Clients) (number : ℕ) (nick : List ℕ) (before after : Ordered) → AllGood P clients → AreMissed channels (client_at clients number) nick before after → Adds P before after
+unfolding AreMissed
+missed_add P [] clients number nick before after good none = nothing_adds P before after none
+missed_add P (missed ∷ more) clients number nick before after good (behind, first, rest) =
+    adds_both P before behind after
+    (told_adds P (absent_text missed) clients number nick before behind good first) (missed_add P more clients number nick behind after good rest)
+
 pub greeted_adds : (P : Order → Type 0) (was : Bool) (warned : Warned) (clients : Clients) (number : ℕ) (nick : List ℕ) (before after : Ordered) → AllGood P clients → IsGreeted was warned (client_at clients number) nick before after → Adds P before after
 greeted_adds P true warned clients number nick before after good none = nothing_adds P before after none
 greeted_adds P false warned clients number nick before after good g =
@@ -126,9 +137,11 @@ greeted_adds P false warned clients number nick before after good g =
     (adds_both P before g.named g.ended
     (named_adds P clients number (client_at clients number) nick before g.named refl good g.names)
     (written_adds P clients number (client_at clients number) _ g.named g.ended refl good g.ends))
-    (adds_both P g.ended g.short after
+    (adds_both P g.ended g.missed after
+    (adds_both P g.ended g.short g.missed
     (warned_adds P warned.short clients number nick g.ended g.short good g.warns)
-    (told_adds P warned.missing clients number nick g.short after good g.misses))
+    (told_adds P warned.missing clients number nick g.short g.missed good g.misses))
+    (missed_add P warned.absent clients number nick g.missed after good g.absent))
 
 -- a wrong password may be told to an operator
 first_adds : (P : Order → Type 0) (first : Bool) (origin : Origin) (before after : Ordered) → P (order.Log (WrongPassword origin)) → after ≡ ordered before (if first then order.Log (WrongPassword origin) ∷ [] else []) → Adds P before after
@@ -151,7 +164,9 @@ pub comes_add : (P : Order → Type 0) (bytes : List ℕ) (now : ℕ) (at : Mome
 comes_add P bytes now at number old new good log c =
     adds_both P c.told c.greeted new.orders
     (greeted_adds P (is_attached_in (client_at old.clients number)) (warned old now) new.clients number (nick_in old) c.told c.greeted good c.greets)
-    (noted_adds P (is_some (refused_in (client_at old.clients number))) (refused_in (client_at new.clients number)) now old.guard new.guard c.greeted new.orders log c.notes)
+    (adds_both P c.greeted c.answered new.orders
+    (answers_add_if P (is_attached_in (client_at new.clients number)) c.words now number _ _ (λ d is line. (good number d is).fits (order.Write d.origin.2 line) refl) c.answers)
+    (noted_adds P (is_some (refused_in (client_at old.clients number))) (refused_in (client_at new.clients number)) now old.guard new.guard c.answered new.orders log c.notes))
 
 pub speaks_by : (n : ℕ) (bytes : List ℕ) (now : ℕ) (at : Moment) (number : ℕ) (found : Option Client) (old new : Driver) → client_at old.clients number ≡ found → Sound n old → Speaks bytes now at number old new → Keeps n old new
 speaks_by n bytes now at number None old new is sound s =
@@ -161,7 +176,7 @@ speaks_by n bytes now at number (Some c) old new is sound s =
     let behind = crowd new.clients s.comes.told in
     let g =
     one_grows (NoClaim n) number _ _ (told_of old) behind c is is sound.good s.others s.comes.served
-    (λ gs calls client stands h. reads_own (is_shut c) bytes now at (due_at old.guard now) gs calls c client old.orders s.comes.told refl stands h)
+    (λ gs calls client stands h. reads_own (is_shut c) bytes now at (due_at old.guard now) gs calls c client old.orders s.comes.told refl stands h.receives)
     in
     let greeted = comes_add (NoClaim n) bytes now at number old new g.good (λ origin. refl) s.comes in
     let all = adds_both (NoClaim n) old.orders s.comes.told new.orders (record { told = g.told; orders = g.orders; all = g.all }) greeted in
@@ -223,18 +238,23 @@ renames_by P note.Wake old after good r = nothing_adds P old.orders after r
 renames_by P note.Restart old after good r = nothing_adds P old.orders after r
 renames_by P note.End old after good r = nothing_adds P old.orders after r
 
-pub opened_quiet : (n node : ℕ) (came : Note TowerBody WireLine) → AllAre (NoClaim n) (opened_of node came)
+absent_quiet : (n node : ℕ) (number : Option ℕ) → AllAre (NoClaim n) (absent_news node number)
 unfolding AllAre
-opened_quiet n node note.Opened = (refl, tt)
-opened_quiet n node (note.Heard at line) = tt
-opened_quiet n node (note.Timeout contacts) = tt
-opened_quiet n node note.Beat = tt
-opened_quiet n node (note.Ask body) = tt
-opened_quiet n node note.Closed = tt
-opened_quiet n node note.Claim = tt
-opened_quiet n node note.Wake = tt
-opened_quiet n node note.Restart = tt
-opened_quiet n node note.End = tt
+absent_quiet n node None = tt
+absent_quiet n node (Some number) = (refl, tt)
+
+pub opened_quiet : (n node : ℕ) (nick : List ℕ) (absent : Absences) (came : Note TowerBody WireLine) → AllAre (NoClaim n) (opened_of node nick absent came)
+unfolding AllAre
+opened_quiet n node nick absent note.Opened = (refl, tt)
+opened_quiet n node nick absent (note.Heard at line) = absent_quiet n node (reason_number nick line absent)
+opened_quiet n node nick absent (note.Timeout contacts) = tt
+opened_quiet n node nick absent note.Beat = tt
+opened_quiet n node nick absent (note.Ask body) = tt
+opened_quiet n node nick absent note.Closed = tt
+opened_quiet n node nick absent note.Claim = tt
+opened_quiet n node nick absent note.Wake = tt
+opened_quiet n node nick absent note.Restart = tt
+opened_quiet n node nick absent note.End = tt
 
 pub tells_keep : (n : ℕ) (out : Bool) (node : ℕ) (came : Note TowerBody WireLine) (old new : Driver) → Sound n old → IsQuiet (Some came) → TellsIf out node came old new → Keeps n old new
 tells_keep n true node came old new sound is same = same_keeps n old new sound same
@@ -245,7 +265,7 @@ tells_keep n false node came old new sound is t =
     in
     let opened =
     orders_keep n t.named t.opened named.sound (ap (λ (driver : Driver). driver.monitors) t.opens.rest) (ap (λ (driver : Driver). driver.clients) t.opens.rest)
-    (record { told = opened_of node came; orders = t.opens.orders; all = opened_quiet n node came })
+    (record { told = opened_of node (nick_in t.named) t.named.link.absent came; orders = t.opens.orders; all = opened_quiet n node (nick_in t.named) t.named.link.absent came })
     in
     let last =
     orders_keep n t.opened new opened.sound (ap (λ (driver : Driver). driver.monitors) t.rest) (ap (λ (driver : Driver). driver.clients) t.rest)

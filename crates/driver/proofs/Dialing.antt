@@ -12,6 +12,8 @@ use Rattle.buffer_commands.specs.declared.wire_line.WireLine.{WireLine}
 use Rattle.bouncer_tower.specs.Bodies.{TowerBody}
 use Rattle.node_notes.specs.declared.note.Note.{Note}
 use Rattle.node_notes.specs.declared.note.Note.TheVariants as note
+use Rattle.driver.specs.Absent.{Absences, reason_number}
+use Rattle.driver.specs.Sessions.{absent_news}
 use Rattle.driver.specs.Guarding.{due_at}
 use Rattle.driver.specs.declared.client.Client.{Client}
 use Rattle.driver.specs.declared.clients.Clients.{Clients}
@@ -126,7 +128,7 @@ speaks_stay n down bytes now at number (Some c) old new is steady s =
     let behind = crowd new.clients s.comes.told in
     let g =
     one_grows (Plain n down) number _ _ (told_of old) behind c is is steady.good s.others s.comes.served
-    (λ gs calls client stands h. reads_own (is_shut c) bytes now at (due_at old.guard now) gs calls c client old.orders s.comes.told refl stands h)
+    (λ gs calls client stands h. reads_own (is_shut c) bytes now at (due_at old.guard now) gs calls c client old.orders s.comes.told refl stands h.receives)
     in
     let greeted = comes_add (Plain n down) bytes now at number old new g.good (λ origin. (tt, refl)) s.comes in
     let all = adds_both (Plain n down) old.orders s.comes.told new.orders (record { told = g.told; orders = g.orders; all = g.all }) greeted in
@@ -148,18 +150,23 @@ given_stay n down gives old new steady o adds =
 
 -- Bytes of the server come, of a session of a node that is up.
 
-opened_fits : (n : ℕ) (down : Bool) (node : ℕ) (came : Note TowerBody WireLine) → AllAre (Plain n down) (opened_of node came)
+absent_fits : (n : ℕ) (down : Bool) (node : ℕ) (number : Option ℕ) → AllAre (Plain n down) (absent_news node number)
 unfolding AllAre
-opened_fits n down node note.Opened = ((tt, refl), tt)
-opened_fits n down node (note.Heard at line) = tt
-opened_fits n down node (note.Timeout contacts) = tt
-opened_fits n down node note.Beat = tt
-opened_fits n down node (note.Ask body) = tt
-opened_fits n down node note.Closed = tt
-opened_fits n down node note.Claim = tt
-opened_fits n down node note.Wake = tt
-opened_fits n down node note.Restart = tt
-opened_fits n down node note.End = tt
+absent_fits n down node None = tt
+absent_fits n down node (Some number) = ((tt, refl), tt)
+
+opened_fits : (n : ℕ) (down : Bool) (node : ℕ) (nick : List ℕ) (absent : Absences) (came : Note TowerBody WireLine) → AllAre (Plain n down) (opened_of node nick absent came)
+unfolding AllAre
+opened_fits n down node nick absent note.Opened = ((tt, refl), tt)
+opened_fits n down node nick absent (note.Heard at line) = absent_fits n down node (reason_number nick line absent)
+opened_fits n down node nick absent (note.Timeout contacts) = tt
+opened_fits n down node nick absent note.Beat = tt
+opened_fits n down node nick absent (note.Ask body) = tt
+opened_fits n down node nick absent note.Closed = tt
+opened_fits n down node nick absent note.Claim = tt
+opened_fits n down node nick absent note.Wake = tt
+opened_fits n down node nick absent note.Restart = tt
+opened_fits n down node nick absent note.End = tt
 
 tells_stay : (n : ℕ) (down out : Bool) (node : ℕ) (came : Note TowerBody WireLine) (old new : Driver) → (down && nat_eq node n) ≡ false → Steady n down old → TellsIf out node came old new → Stays n down old new
 tells_stay n down true node came old new up steady same = same_stays n down old new steady same
@@ -170,7 +177,7 @@ tells_stay n down false node came old new up steady t =
     in
     let opened =
     orders_stay n down t.named t.opened named.steady (ap (λ (driver : Driver). driver.monitors) t.opens.rest) (ap (λ (driver : Driver). driver.clients) t.opens.rest)
-    (record { told = opened_of node came; orders = t.opens.orders; all = opened_fits n down node came })
+    (record { told = opened_of node (nick_in t.named) t.named.link.absent came; orders = t.opens.orders; all = opened_fits n down node (nick_in t.named) t.named.link.absent came })
     in
     let last =
     orders_stay n down t.opened new opened.steady (ap (λ (driver : Driver). driver.monitors) t.rest) (ap (λ (driver : Driver). driver.clients) t.rest)

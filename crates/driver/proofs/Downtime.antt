@@ -8,6 +8,7 @@ use Rattle.bouncer_tower.specs.Bodies.{TowerBody}
 use Rattle.node_notes.specs.declared.note.Note.{Note}
 use Rattle.node_notes.specs.declared.note.Note.TheVariants as note
 use Rattle.std.specs.Prelude.{nat_eq}
+use Rattle.driver.specs.Nicks.{nick_in}
 use Rattle.driver.specs.Guarding.{untold}
 use Rattle.driver.specs.declared.clients.Clients.{Clients}
 use Rattle.driver.specs.declared.node_monitor.NodeMonitor.{NodeMonitor}
@@ -84,24 +85,24 @@ opened_node (Closing since wait) = refl
 opened_node (Connecting node) = refl
 opened_node (Open session) = refl
 
-behind_node : (lines : List Parts) (came : Note TowerBody WireLine) (link : Link) → node_of (link_behind lines came link).stage ≡ node_of link.stage
-behind_node lines note.Opened link = opened_node link.stage
-behind_node lines (note.Heard at line) link = refl
-behind_node lines (note.Timeout contacts) link = refl
-behind_node lines note.Beat link = refl
-behind_node lines (note.Ask body) link = refl
-behind_node lines note.Closed link = refl
-behind_node lines note.Claim link = refl
-behind_node lines note.Wake link = refl
-behind_node lines note.Restart link = refl
-behind_node lines note.End link = refl
+behind_node : (lines : List Parts) (nick : List ℕ) (came : Note TowerBody WireLine) (link : Link) → node_of (link_behind lines nick came link).stage ≡ node_of link.stage
+behind_node lines nick note.Opened link = opened_node link.stage
+behind_node lines nick (note.Heard at line) link = refl
+behind_node lines nick (note.Timeout contacts) link = refl
+behind_node lines nick note.Beat link = refl
+behind_node lines nick (note.Ask body) link = refl
+behind_node lines nick note.Closed link = refl
+behind_node lines nick note.Claim link = refl
+behind_node lines nick note.Wake link = refl
+behind_node lines nick note.Restart link = refl
+behind_node lines nick note.End link = refl
 
 tells_node : (out : Bool) (node : ℕ) (came : Note TowerBody WireLine) (old new : Driver) → TellsIf out node came old new → node_of new.link.stage ≡ node_of old.link.stage
 tells_node true node came old new same = ap (λ (driver : Driver). node_of driver.link.stage) same
 tells_node false node came old new t =
     ap (λ (driver : Driver). node_of driver.link.stage) t.rest
     ∙ ap (λ (driver : Driver). node_of driver.link.stage) t.opens.rest
-    ∙ behind_node t.named.settings.on_connect.items came t.named.link
+    ∙ behind_node t.named.settings.on_connect.items (nick_in t.named) came t.named.link
     ∙ ap (λ (driver : Driver). node_of driver.link.stage) t.nick.rest
 
 tells_all_node : (node : ℕ) (notes : List (Note TowerBody WireLine)) (old new : Driver) → TellsAllOf node notes old new → node_of new.link.stage ≡ node_of old.link.stage

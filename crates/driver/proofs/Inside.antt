@@ -77,7 +77,7 @@ speaks_go bytes now at number (Some client) c old new is fits good s =
     let behind = crowd new.clients s.comes.told in
     let g =
     one_grows Inner number _ _ (told_of old) behind client is is good s.others s.comes.served
-    (λ gs calls next stands h. reads_own (is_shut client) bytes now at (due_at old.guard now) gs calls client next old.orders s.comes.told refl stands h)
+    (λ gs calls next stands h. reads_own (is_shut client) bytes now at (due_at old.guard now) gs calls client next old.orders s.comes.told refl stands h.receives)
     in
     let greeted = comes_add Inner bytes now at number old new g.good (λ origin. tt) s.comes in
     let all = adds_both Inner old.orders s.comes.told new.orders (record { told = g.told; orders = g.orders; all = g.all }) greeted in

@@ -1,13 +1,14 @@
 -- What is known of the keys of channels, whatever lines go to the server.
 use Rattle.std.proofs.Common.{◌≡◌, ◌∙◌, ◌++◌, ◌≤◌, ◌<◌, ◌+◌, ◌-◌, ℕ, suc, Bool, true, false, not, List, [], ◌∷◌, length, drop, refl, sym, ap, subst, arith}
-use Rattle.std.specs.Prelude.{◌||◌, filter, if◌then◌else◌, nat_le}
+use Rattle.std.specs.Prelude.{◌&&◌, ◌||◌, codes, filter, if◌then◌else◌, nat_le}
 use Rattle.std.specs.List.{list_any}
 use Rattle.std.proofs.lemmas.Bool.{leb-false, leb-true}
 use Rattle.std.proofs.lemmas.List.{length-append, length-drop}
 use Rattle.irc_line.specs.Lines.{Parts, parameter}
-use Rattle.irc_line.specs.Names.{fold_name, same_bytes, same_name}
+use Rattle.buffer_machine.specs.Messages.{has_command}
+use Rattle.irc_line.specs.Names.{fold_name, is_channel, same_bytes, same_name}
 use Rattle.irc_line.proofs.SameBytes.{same_bytes-eq, same_bytes-refl}
-use Rattle.driver.specs.Keys.{KeyOf, KeysAreLearnt, key_in, learnt_all, learnt_by, tells_key, with_key, with_room, without}
+use Rattle.driver.specs.Keys.{KeyOf, Keys, KeysAreLearnt, is_key, joined_by, key_in, known_by, learnt_all, learnt_by, refused_by, tells_key, tried_by, with_key, with_room, without}
 
 -- a key is of this channel
 abbrev is_of : List ℕ → KeyOf → Bool
@@ -45,6 +46,10 @@ learnt_few : (lines : List Parts) (keys : List KeyOf) → length keys ≤ 256 �
 unfolding learnt_all
 learnt_few [] keys few = few
 learnt_few (line ∷ lines) keys few = learnt_few lines (learnt_by line keys) (learnt_few_by (tells_key line) line keys few)
+
+last_true : (a b : Bool) → (a && b) ≡ true → b ≡ true
+last_true true b is = is
+last_true false b is = absurd (cc is)
 
 -- The key of a channel.
 
@@ -140,9 +145,38 @@ other_by : (tells : Bool) (line : Parts) (channel : List ℕ) (keys : List KeyOf
 other_by true line channel keys other less = other_with channel (parameter 0 line) (parameter 1 line) keys other less
 other_by false line channel keys other less = refl
 
+-- A channel is joined by what was tried, and by what was refused it is not.
+
+-- a key is not empty
+some_key : (line : Parts) (tells : Bool) → tells_key line ≡ tells → tells ≡ true → is_key (parameter 1 line) ≡ true
+some_key line tells is so = last_true (has_command (codes "JOIN") line && is_channel (parameter 0 line)) (is_key (parameter 1 line)) (is ∙ so)
+
+known_is : (channel key : List ℕ) (keys : Keys) → is_key key ≡ true → key_in channel (known_by channel key keys).known ≡ key
+known_is channel [] keys is = absurd (cc is)
+known_is channel (byte ∷ key) keys is = newest_with channel (byte ∷ key) keys.known
+
+joined_tried : (line : Parts) (keys : Keys) → tells_key line ≡ true → key_in (parameter 0 line) (joined_by (parameter 0 line) (tried_by line keys)).known ≡ parameter 1 line
+joined_tried line keys tells =
+    let tried : key_in (parameter 0 line) (tried_by line keys).tried ≡ parameter 1 line = newest_by (tells_key line) line keys.tried tells in
+    ap (λ (key : List ℕ). key_in (parameter 0 line) (known_by (parameter 0 line) key (tried_by line keys)).known) tried
+    ∙ known_is (parameter 0 line) (parameter 1 line) (tried_by line keys) (some_key line (tells_key line) refl tells)
+
+none_in : (channel : List ℕ) (keys : List KeyOf) → list_any (is_of channel) keys ≡ false → key_in channel keys ≡ []
+none_in channel [] none = refl
+none_in channel (known ∷ keys) none =
+    past_by (is_of channel known) known.key (key_in channel keys) (first_none (is_of channel known) (list_any (is_of channel) keys) none)
+    ∙ none_in channel keys (rest_none (is_of channel known) (list_any (is_of channel) keys) none)
+
+refused_stays : (channel : List ℕ) (keys : Keys) → joined_by channel (refused_by channel keys) ≡ refused_by channel keys
+refused_stays channel keys =
+    ap (λ (key : List ℕ). known_by channel key (refused_by channel keys)) (none_in channel (without channel keys.tried) (gone channel keys.tried))
+
 pub keys_are_learnt : KeysAreLearnt
 keys_are_learnt = record {
   bounded = λ lines. learnt_few lines [] (omega (arith));
   newest = λ line keys tells. newest_by (tells_key line) line keys tells;
   others = λ line channel keys other less. other_by (tells_key line) line channel keys other less;
+  joined = λ line keys tells. joined_tried line keys tells;
+  refused = λ channel keys. refused_stays channel keys;
+  stays = λ channel keys. refl;
 }

@@ -9,6 +9,9 @@ use Rattle.buffer_commands.specs.declared.wire_line.WireLine.{WireLine}
 use Rattle.bouncer_tower.specs.Bodies.{TowerBody}
 use Rattle.node_notes.specs.declared.note.Note.{Note}
 use Rattle.node_notes.specs.declared.note.Note.TheVariants as note
+use Rattle.driver.specs.Absent.{Absences, reason_number}
+use Rattle.driver.specs.Nicks.{nick_in}
+use Rattle.driver.specs.Sessions.{absent_news}
 use Rattle.driver.specs.Guarding.{untold}
 use Rattle.driver.specs.declared.clients.Clients.{Clients}
 use Rattle.driver.specs.declared.driver.Driver.{Driver}
@@ -162,30 +165,35 @@ opened_fits c lines link fits = record {
       ap (λ (fresh : Bool). if fresh then with_opening lines link.waiting else link.waiting) (opened_fresh link.stage was) ∙ fits.empty was;
 }
 
-behind_fits : (c : Connection) (lines : List Parts) (came : Note TowerBody WireLine) (link : Link) → Fits c link → Fits c (link_behind lines came link)
-behind_fits c lines note.Opened link fits = opened_fits c lines link fits
-behind_fits c lines (note.Heard at line) link fits = fits
-behind_fits c lines (note.Timeout contacts) link fits = fits
-behind_fits c lines note.Beat link fits = fits
-behind_fits c lines (note.Ask body) link fits = fits
-behind_fits c lines note.Closed link fits = fits
-behind_fits c lines note.Claim link fits = fits
-behind_fits c lines note.Wake link fits = fits
-behind_fits c lines note.Restart link fits = fits
-behind_fits c lines note.End link fits = fits
+behind_fits : (c : Connection) (lines : List Parts) (nick : List ℕ) (came : Note TowerBody WireLine) (link : Link) → Fits c link → Fits c (link_behind lines nick came link)
+behind_fits c lines nick note.Opened link fits = opened_fits c lines link fits
+behind_fits c lines nick (note.Heard at line) link fits = record { stands = fits.stands; empty = fits.empty }
+behind_fits c lines nick (note.Timeout contacts) link fits = fits
+behind_fits c lines nick note.Beat link fits = fits
+behind_fits c lines nick (note.Ask body) link fits = fits
+behind_fits c lines nick note.Closed link fits = fits
+behind_fits c lines nick note.Claim link fits = fits
+behind_fits c lines nick note.Wake link fits = fits
+behind_fits c lines nick note.Restart link fits = fits
+behind_fits c lines nick note.End link fits = fits
 
-opened_inner : (node : ℕ) (came : Note TowerBody WireLine) → AllAre Inner (opened_of node came)
+absent_inner : (node : ℕ) (number : Option ℕ) → AllAre Inner (absent_news node number)
 unfolding AllAre
-opened_inner node note.Opened = (tt, tt)
-opened_inner node (note.Heard at line) = tt
-opened_inner node (note.Timeout contacts) = tt
-opened_inner node note.Beat = tt
-opened_inner node (note.Ask body) = tt
-opened_inner node note.Closed = tt
-opened_inner node note.Claim = tt
-opened_inner node note.Wake = tt
-opened_inner node note.Restart = tt
-opened_inner node note.End = tt
+absent_inner node None = tt
+absent_inner node (Some number) = (tt, tt)
+
+opened_inner : (node : ℕ) (nick : List ℕ) (absent : Absences) (came : Note TowerBody WireLine) → AllAre Inner (opened_of node nick absent came)
+unfolding AllAre
+opened_inner node nick absent note.Opened = (tt, tt)
+opened_inner node nick absent (note.Heard at line) = absent_inner node (reason_number nick line absent)
+opened_inner node nick absent (note.Timeout contacts) = tt
+opened_inner node nick absent note.Beat = tt
+opened_inner node nick absent (note.Ask body) = tt
+opened_inner node nick absent note.Closed = tt
+opened_inner node nick absent note.Claim = tt
+opened_inner node nick absent note.Wake = tt
+opened_inner node nick absent note.Restart = tt
+opened_inner node nick absent note.End = tt
 
 tells_go : (c : Connection) (out : Bool) (node : ℕ) (came : Note TowerBody WireLine) (old new : Driver) → Fits c old.link → AllGood Inner old.clients → TellsIf out node came old new → Goes 0 c old new
 tells_go c true node came old new fits good same = same_goes 0 c old new fits good same
@@ -198,9 +206,9 @@ tells_go c false node came old new fits good t =
     let link = ap (λ (driver : Driver). driver.link) t.opens.rest in
     let opened =
     moved_goes 0 named.last t.named t.opened named.fits
-    (λ d is. same_fits d (link_behind lines came t.named.link) t.opened.link link (behind_fits d lines came t.named.link is))
+    (λ d is. same_fits d (link_behind lines (nick_in t.named) came t.named.link) t.opened.link link (behind_fits d lines (nick_in t.named) came t.named.link is))
     (adds_grow Inner (told_of t.named) (told_of t.opened) named.good (ap (λ (driver : Driver). driver.clients) t.opens.rest)
-    (record { told = opened_of node came; orders = t.opens.orders; all = opened_inner node came }))
+    (record { told = opened_of node (nick_in t.named) t.named.link.absent came; orders = t.opens.orders; all = opened_inner node (nick_in t.named) t.named.link.absent came }))
     in
     let both = goes_both 0 c old t.named t.opened named opened in
     goes_both 0 c old t.opened new both

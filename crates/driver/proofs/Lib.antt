@@ -1,4 +1,5 @@
 mod Adding
+mod Answered
 mod Asking
 mod Calling
 mod Claiming
@@ -23,6 +24,7 @@ mod Lasting
 mod Leading
 mod Learning
 mod Led
+mod Listing
 mod Marks
 mod Merging
 mod Monitors
@@ -55,3 +57,4 @@ mod Writing
 mod Joining
 mod Keys
 mod Opened
+mod Outcomes

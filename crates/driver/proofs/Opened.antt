@@ -5,6 +5,7 @@ use Rattle.irc_line.specs.Lines.{Parts}
 use Rattle.driver.specs.declared.link.Link.{Link}
 use Rattle.driver.specs.declared.link.Stage.{Stage}
 use Rattle.driver.specs.declared.link.Stage.TheVariants.{Closing, Connecting, Idle, Open}
+use Rattle.driver.specs.Absent.{cleared}
 use Rattle.driver.specs.Links.{is_fresh, opened as opened_stage}
 use Rattle.driver.specs.Outgoing.{with_opening}
 use Rattle.driver.specs.Sessions.{OpensOnce, opened_with}
@@ -25,6 +26,6 @@ pub opens_once : OpensOnce
 opens_once lines link =
     let once = opened_with lines link in
     ap
-    (λ (fresh : Bool). record once { stage = opened_stage once.stage; waiting = if fresh then with_opening lines once.waiting else once.waiting })
+    (λ (fresh : Bool). record once { stage = opened_stage once.stage; waiting = if fresh then with_opening lines once.waiting else once.waiting; absent = if fresh then cleared once.absent else once.absent })
     (opened_old link.stage)
     ∙ ap (λ (stage : Stage). record once { stage = stage }) (opened_again link.stage)

@@ -37,6 +37,8 @@ Inner o = Unit {0}
 news_kept : (now : ℕ) (said : News) (c : Connection) → InnerNews said → behind now (order.Log said) c ≡ Some (kept c)
 news_kept now (news.Attached origin) c is = refl
 news_kept now (news.Left origin) c is = refl
+news_kept now (news.Evicted origin why) c is = refl
+news_kept now (news.NotJoined node number) c is = refl
 news_kept now (news.Elected node term) c is = refl
 news_kept now (news.Opened node) c is = refl
 news_kept now (news.Unopened node why) c is = absurd is
@@ -65,6 +67,8 @@ inner_kept now (order.Log said) c is = news_kept now said c is
 client_news : (origin : Origin) (said : News) → IsFor origin (order.Log said) → InnerNews said
 client_news origin (news.Attached other) is = tt
 client_news origin (news.Left other) is = tt
+client_news origin (news.Evicted other why) is = tt
+client_news origin (news.NotJoined node number) is = absurd is
 client_news origin (news.Elected node term) is = absurd is
 client_news origin (news.Opened node) is = absurd is
 client_news origin (news.Unopened node why) is = absurd is

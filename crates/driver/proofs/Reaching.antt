@@ -1,7 +1,8 @@
 -- Effects reach the clients that they are for.
-use Rattle.std.proofs.Common.{◌≡◌, ◌∙◌, ℕ, ◌≤◌, Bool, true, false, List, [], ◌∷◌, Option, Some, None, refl, sym, ap, subst, arith}
+use Rattle.std.proofs.Common.{◌≡◌, ◌∙◌, ◌++◌, ℕ, ◌≤◌, Bool, true, false, List, [], ◌∷◌, Option, Some, None, refl, sym, ap, subst, arith}
 use Rattle.std.proofs.lemmas.List.{append-nil}
 use Rattle.bouncer_tower.specs.Hosting.{class_of}
+use Rattle.client_gate.specs.Calls.{gate}
 use Rattle.client_gate.specs.Gates.{GateEffect}
 use Rattle.std.specs.BTreeMap.{keys}
 use Rattle.irc_line.specs.Lines.{Parts, parameter}
@@ -16,23 +17,29 @@ use Rattle.driver.specs.declared.clients.Clients.{Clients}
 use Rattle.driver.specs.declared.driver.Driver.{Driver}
 use Rattle.driver.specs.declared.link.Stage.{Stage}
 use Rattle.driver.specs.declared.order.Order.{Order}
-use Rattle.driver.specs.Crowds.{IsSame, Told}
+use Rattle.driver.specs.declared.eviction.Eviction.{Eviction}
+use Rattle.driver.specs.declared.news.News.TheVariants.{Evicted}
+use Rattle.driver.specs.declared.order.Order.TheVariants.{Log, Write}
+use Rattle.driver.specs.Crowds.{IsSame, Told, told as crowd}
 use Rattle.driver.specs.Driving.{told_of}
+use Rattle.driver.specs.Evicting.{IsEvicted, IsEvictedIf, IsToldWhy, eviction_in}
 use Rattle.driver.specs.Nicks.{nick_in}
-use Rattle.driver.specs.Once.{TellsOnly}
-use Rattle.driver.specs.Passing.{HearsOne, PassEach, PassesBy}
+use Rattle.driver.specs.Once.{TellsOnly, TellsOwn}
+use Rattle.driver.specs.Passing.{HearsOne, PassEach, PassesBy, ReachesClient}
 use Rattle.driver.specs.Rewording.{reworded}
 use Rattle.driver.specs.Kicks.{KickEach, KicksClient, RejoinsIf}
 use Rattle.driver.specs.Links.{is_session_of}
 use Rattle.driver.specs.Opening.{closed, has_open}
 use Rattle.driver.specs.Reaching.{AreSameButOpen, EffectsReach, ReachEach, Reaches, ReachesBy}
 use Rattle.driver.specs.Rosters.{client_at}
+use Rattle.driver.specs.Telling.{Ordered, ordered}
 use Rattle.driver.specs.Waking.{awake}
 use Rattle.driver.proofs.Adding.{learnt_good, passes_one}
-use Rattle.driver.proofs.Growing.{AllGood, by_number}
+use Rattle.driver.proofs.Growing.{AllGood, Good, by_number}
 use Rattle.driver.proofs.OneClaim.{led_sound, new_sound}
 use Rattle.driver.proofs.Calling.{or_client}
-use Rattle.driver.proofs.Owning.{hears_own}
+use Rattle.driver.proofs.Heard.{then_orders}
+use Rattle.driver.proofs.Owning.{hears_own, only_append}
 use Rattle.driver.proofs.Quiet.{NoClaim}
 
 -- where nothing happens
@@ -75,6 +82,54 @@ reach_of n now at nick origin effect c true old new is own good h =
 reach_by : (n now : ℕ) (at : Moment) (nick : List ℕ) (origin : Origin) (effect : GateEffect) (found : Option Client) (old new : Told) → client_at old.clients origin.2 ≡ found → AllGood (NoClaim n) old.clients → HearsOne now at nick origin effect old new → Reaches origin old new
 reach_by n now at nick origin effect None old new is good h = same_reaches origin old new (h.nobody is)
 reach_by n now at nick origin effect (Some c) old new is good h = reach_of n now at nick origin effect c (same_origin c.origin origin) old new is refl good h
+
+-- a client that the buffers close is told why
+
+tells_none : (origin : Origin) (before after : Ordered) → after ≡ before → TellsOwn origin before after
+unfolding TellsOnly
+tells_none origin before after none = record {
+  told = [];
+  orders = none ∙ sym (ap (λ (items : List Order). record before { items = items }) (append-nil before.items));
+  own = tt;
+}
+
+why_own : (why : Option Eviction) (c : Client) (before after : Ordered) → IsToldWhy why c before after → TellsOwn c.origin before after
+unfolding TellsOnly
+why_own None c before after none = tells_none c.origin before after none
+why_own (Some why) c before after (line, says, orders) = record {
+  told = Log (Evicted c.origin why) ∷ Write c.origin.2 line ∷ [];
+  orders = orders;
+  own = (refl, (refl, tt));
+}
+
+evicted_own_if : (n : ℕ) (origin : Origin) (effect : GateEffect) (c : Client) (same : Bool) (before after : Ordered) → same_origin c.origin origin ≡ same → Good (NoClaim n) c → IsEvictedIf same c effect before after → TellsOwn origin before after
+evicted_own_if n origin effect c false before after own good none = tells_none origin before after none
+evicted_own_if n origin effect c true before after own good told =
+    subst (λ (origin : Origin). TellsOwn origin before after) (same_origin-is c.origin origin own)
+    (why_own (eviction_in (gate good.settings good.calls).waiting c effect) c before after (told good.settings good.calls good.stands))
+
+evicted_own : (n : ℕ) (origin : Origin) (effect : GateEffect) (clients : Clients) (found : Option Client) (before after : Ordered) → client_at clients origin.2 ≡ found → AllGood (NoClaim n) clients → IsEvicted found origin effect before after → TellsOwn origin before after
+evicted_own n origin effect clients None before after is good none = tells_none origin before after none
+evicted_own n origin effect clients (Some c) before after is good told =
+    evicted_own_if n origin effect c (same_origin c.origin origin) before after refl (good origin.2 c is) told
+
+own_both : (origin : Origin) (before between after : Ordered) → TellsOwn origin before between → TellsOwn origin between after → TellsOwn origin before after
+own_both origin before between after first last = record {
+  told = first.told ++ last.told;
+  orders = then_orders before between after first.told last.told first.orders last.orders;
+  own = only_append origin first.told last.told first.own last.own;
+}
+
+reaches_client : (n now : ℕ) (at : Moment) (nick : List ℕ) (origin : Origin) (effect : GateEffect) (old new : Told) → AllGood (NoClaim n) old.clients → ReachesClient now at nick origin effect old new → Reaches origin old new
+reaches_client n now at nick origin effect old new good r =
+    let behind = crowd old.clients r.told in
+    let reaches = reach_by n now at nick origin (reworded nick effect) (client_at old.clients origin.2) behind new refl good r.hears in
+    record {
+      others = reaches.others;
+      own =
+          own_both origin old.orders r.told new.orders
+          (evicted_own n origin effect old.clients (client_at old.clients origin.2) old.orders r.told refl good r.evicts) reaches.own;
+    }
 
 -- clients that are put out of a channel
 
@@ -121,7 +176,7 @@ rejoins_open false line nick old new (same, none) = same_open old.clients new.cl
 rejoins_open true line nick old new kicks = kicks_open (parameter 0 line) _ (keys old.clients.all) old new kicks
 
 reaches_by : (n : ℕ) (class : Class Parts) (now : ℕ) (at : Moment) (stage : Stage) (nick : List ℕ) (node : ℕ) (effect : GateEffect) (old new : Told) → AllGood (NoClaim n) old.clients → PassesBy class now at stage nick node effect old new → ReachesBy class old new
-reaches_by n (To origin) now at stage nick node effect old new good h = reach_by n now at nick origin (reworded nick effect) (client_at old.clients origin.2) old new refl good h
+reaches_by n (To origin) now at stage nick node effect old new good r = reaches_client n now at nick origin effect old new good r
 reaches_by n (Rejoin session line) now at stage nick node effect old new good rejoins = rejoins_open (is_session_of stage node) line nick old new rejoins
 reaches_by n (Hand session number line) now at stage nick node effect old new good same = ap (λ (told : Told). told.clients) same
 reaches_by n Nowhere now at stage nick node effect old new good same = ap (λ (told : Told). told.clients) same

@@ -72,6 +72,8 @@ follows_behind n down last (x ∷ xs) ys (fits, more) = follows_behind n (down_b
 said_still : (n : ℕ) (said : News) → tells_up n (order.Log said) ≡ false → down_said n true said ≡ true
 said_still n (news.Attached origin) is = refl
 said_still n (news.Left origin) is = refl
+said_still n (news.Evicted origin why) is = refl
+said_still n (news.NotJoined node number) is = refl
 said_still n (news.Elected node term) is = refl
 said_still n (news.Opened node) is = refl
 said_still n (news.Unopened node why) is = refl
@@ -149,6 +151,8 @@ both_false false own up = refl
 client_news : (n : ℕ) (down : Bool) (origin : Origin) (said : News) → IsFor origin (order.Log said) → down_said n down said ≡ down
 client_news n down origin (news.Attached other) is = refl
 client_news n down origin (news.Left other) is = refl
+client_news n down origin (news.Evicted other why) is = refl
+client_news n down origin (news.NotJoined node number) is = absurd is
 client_news n down origin (news.Elected node term) is = absurd is
 client_news n down origin (news.Opened node) is = absurd is
 client_news n down origin (news.Unopened node why) is = absurd is

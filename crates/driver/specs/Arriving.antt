@@ -3,6 +3,8 @@ use Rattle.std.specs.Prelude.{◌≡◌, ◌+◌, ◌-◌, ℕ, Bool, false, nat
 use Rattle.client_gate.specs.Calls.{Held, Stands}
 use Rattle.client_gate.specs.Made.{made}
 use Rattle.wire_bytes.specs.declared.origin.Origin.{Origin}
+use Rattle.driver.specs.Absent.{none_absent}
+use Rattle.driver.specs.Keys.{no_keys}
 use Rattle.driver.specs.declared.client.Client.{Client}
 use Rattle.driver.specs.declared.clients.Clients.{Clients}
 use Rattle.driver.specs.declared.node_monitor.NodeMonitor.{NodeMonitor}
@@ -47,7 +49,8 @@ pub record IsNewDriver (settings : Settings) (now : ℕ) (new : Driver) : Type 0
   pub backoff : new.link.backoff ≡ first_backoff
   pub ended : new.link.ended ≡ None
   pub waiting : new.link.waiting ≡ nothing_waits
-  pub keys : new.link.keys ≡ []
+  pub keys : new.link.keys ≡ no_keys
+  pub absent : new.link.absent ≡ none_absent
   pub given : new.given ≡ None
   pub level : new.level ≡ Roomy
   pub pace : new.pace ≡ record { burst = settings.flood_burst; line_ms = settings.flood_ms; free_at = 0 }

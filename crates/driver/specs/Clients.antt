@@ -4,6 +4,8 @@ use Rattle.std.specs.Global.{Vec}
 use Rattle.bouncer_tower.specs.Bodies.{TowerBody}
 use Rattle.buffer_commands.specs.declared.wire_line.WireLine.{WireLine}
 use Rattle.request_once.specs.declared.body.Body.TheVariants.{Asked}
+use Rattle.buffer_commands.specs.declared.command.Action.{Action}
+use Rattle.buffer_commands.specs.declared.command.Action.TheVariants.{Attach}
 use Rattle.client_gate.specs.declared.fed.Fed.{Fed}
 use Rattle.client_gate.specs.declared.request.Request.{Request}
 use Rattle.wire_bytes.specs.declared.origin.Origin.{Origin}
@@ -44,6 +46,22 @@ asked_all attached origin at (request ∷ requests) = welcome attached origin ++
 abbrev pub is_some_asked : List Request → Bool
 is_some_asked [] = false
 is_some_asked (request ∷ requests) = true
+
+-- the name by which a request attaches a client, if it does
+abbrev pub name_in : Action → Option (List ℕ)
+name_in (Attach name) = name
+name_in other = None
+
+-- the name by which requests attach a client, where the first one attaches it by one
+abbrev pub name_asked : List Request → Option (List ℕ)
+name_asked [] = None
+name_asked (request ∷ requests) = name_in request.action
+
+-- the name of a client that registered before, or by these requests, if by some
+abbrev pub named_by : Bool → Option (List ℕ) → List Request → Option (List ℕ)
+named_by true name requests = name
+named_by false name [] = name
+named_by false name (request ∷ requests) = name_asked (request ∷ requests)
 
 -- the last request of a client, if there is one
 abbrev pub last_asks : Origin → Moment → Option Request → List Order
@@ -94,11 +112,12 @@ abbrev pub leaves_since : Bool → ℕ → Option Timer → Option Timer
 leaves_since true now before = Some (record { since = now })
 leaves_since false now before = before
 
--- a client whose gate answered so: it is attached once it asked for something; it leaves where it asked to, and is gone where the gate
+-- a client whose gate answered so: it is attached once it asked for something, by the name that it asked by first; it leaves where it asked to, and is gone where the gate
 -- closes for another reason
 abbrev pub behind_fed : ℕ → Client → Fed → Client
 behind_fed now c fed = record c {
   is_attached = c.is_attached || is_some_asked fed.requests.items;
+  name = named_by c.is_attached c.name fed.requests.items;
   leaving = leaves_since (has_left fed) now c.leaving;
   is_gone = c.is_gone || is_cut fed;
 }
@@ -107,6 +126,7 @@ behind_fed now c fed = record c {
 abbrev pub kept_back : ℕ → Client → Fed → Client
 kept_back due c fed = record c {
   is_attached = c.is_attached || is_some_asked fed.requests.items;
+  name = named_by c.is_attached c.name fed.requests.items;
   refused = Some (record { answer = fed.reply; due = due });
 }
 

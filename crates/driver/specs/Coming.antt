@@ -1,25 +1,31 @@
 -- What comes of a client's bytes at the driver.
 use Rattle.std.specs.Prelude.{◌≡◌, ℕ, List, Some, is_some}
 use Rattle.wire_bytes.specs.declared.moment.Moment.{Moment}
+use Rattle.client_gate.specs.declared.status_word.StatusWord.{StatusWord}
 use Rattle.driver.specs.declared.driver.Driver.{Driver}
+use Rattle.driver.specs.Answering.{AnswersIf}
 use Rattle.driver.specs.Guarding.{NotesIf, due_at}
 use Rattle.driver.specs.Nicks.{IsGreeted, nick_in, warned}
 use Rattle.driver.specs.Rosters.{Serves, client_at, is_attached_in, refused_in}
-use Rattle.driver.specs.Serving.{Receives}
+use Rattle.driver.specs.Serving.{ReceivesWords}
 use Rattle.driver.specs.Telling.{Ordered}
 
 -- Bytes of a client came, and it takes them. Where it registered by them, it is told of the nick in force, where it was greeted by another,
 -- that there is no MOTD, that too few nodes are up, where people know that, and that there is no server, where there is none. Where its
--- password was wrong, that is counted.
+-- password was wrong, that is counted. What it said to the bouncer that asked for nothing of the buffers is answered.
 pub record Comes (bytes : List ℕ) (now : ℕ) (at : Moment) (number : ℕ) (old new : Driver) : Type 0 where
   pub told : Ordered
+  pub words : List StatusWord
   pub served :
       Serves
       (λ c. client_at old.clients number ≡ Some c)
-      (λ s calls c client. Receives bytes now at (due_at old.guard now) s calls c old.orders client told)
+      (λ s calls c client. ReceivesWords bytes words now at (due_at old.guard now) s calls c old.orders client told)
       number new.clients
   pub greeted : Ordered
   pub greets : IsGreeted (is_attached_in (client_at old.clients number)) (warned old now) (client_at new.clients number) (nick_in old) told greeted
+  pub answered : Ordered
+  pub answers :
+      AnswersIf (is_attached_in (client_at new.clients number)) words now number (record old { clients = new.clients; orders = greeted }) (record old { clients = new.clients; orders = answered })
   pub notes :
       NotesIf (is_some (refused_in (client_at old.clients number))) (refused_in (client_at new.clients number)) now
-      old.guard greeted new.guard new.orders
+      old.guard answered new.guard new.orders

@@ -93,6 +93,7 @@ pub record Ends (now : ℕ) (why : Ending) (old new : Driver) : Type 0 where
   pub ended : new.link.ended ≡ ended_behind old.link.stage why old.link.ended
   pub waiting : new.link.waiting ≡ waiting_behind old.link.stage old.link.waiting
   pub keys : new.link.keys ≡ old.link.keys
+  pub absent : new.link.absent ≡ old.link.absent
   pub rest : new ≡ record old { orders = new.orders; link = new.link }
 
 -- The connection to the server is closed, and then it is gone.

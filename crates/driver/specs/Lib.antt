@@ -1,4 +1,6 @@
 pub mod Absences
+pub mod Absent
+pub mod Answering
 pub mod Arriving
 pub mod Asking
 pub mod Calls
@@ -9,6 +11,7 @@ pub mod Counting
 pub mod Crowds
 pub mod Monitors
 pub mod Downtime
+pub mod Evicting
 pub mod Deeds
 pub mod Driving
 pub mod Farewells
@@ -30,6 +33,7 @@ pub mod Operators
 pub mod Outages
 pub mod Pacing
 pub mod Outgoing
+pub mod Parameters
 pub mod Passing
 pub mod Queueing
 pub mod Quitting
@@ -47,3 +51,4 @@ pub mod Writing
 pub mod Joining
 pub mod Keys
 pub mod Missing
+pub mod Standing

@@ -13,6 +13,7 @@ use Rattle.driver.specs.declared.client.Client.{Client}
 use Rattle.driver.specs.declared.clients.Clients.{Clients}
 use Rattle.driver.specs.declared.driver.Driver.{Driver}
 use Rattle.driver.specs.declared.order.Order.TheVariants.{Write}
+use Rattle.driver.specs.Absent.{Missed, absent_text}
 use Rattle.driver.specs.Missing.{missing}
 use Rattle.driver.specs.Rosters.{client_at}
 use Rattle.driver.specs.Telling.{Ordered, ordered}
@@ -103,10 +104,11 @@ abbrev pub IsToldOf : Option (List ℕ) → Option Client → List ℕ → Order
 IsToldOf None found nick before after = after ≡ before
 IsToldOf (Some text) found nick before after = IsWritten found (notice nick text) before after
 
--- what who attaches is warned of: too few nodes are up; and there is no server, by these words
+-- what who attaches is warned of: too few nodes are up; there is no server, by these words; and these channels are not joined
 pub record Warned : Type 0 where
   pub short : Bool
   pub missing : Option (List ℕ)
+  pub absent : List Missed
 
 -- what people are told at this moment where there is no server
 abbrev pub missing_in : Driver → ℕ → Option (List ℕ)
@@ -114,10 +116,16 @@ missing_in driver now = missing driver.link.stage driver.link.ended now
 
 -- what who attaches at this moment is warned of
 abbrev pub warned : Driver → ℕ → Warned
-warned driver now = record { short = driver.is_short; missing = missing_in driver now }
+warned driver now = record { short = driver.is_short; missing = missing_in driver now; absent = driver.link.absent.channels }
+
+-- a client is told of each of these channels that it is not joined, and why, where that is known
+unfoldable pub AreMissed : List Missed → Option Client → List ℕ → Ordered → Ordered → Type 0
+AreMissed [] found nick before after = after ≡ before
+AreMissed (missed ∷ more) found nick before after =
+    (behind : Ordered) × IsToldOf (absent_text missed) found nick before behind × AreMissed more found nick behind after
 
 -- A client registered: it is told of the nick in force where it was greeted by another, then that there is no MOTD, by which its welcome
--- ends, that too few nodes are up, where that is so, and that there is no server, where there is none.
+-- ends, that too few nodes are up, where that is so, that there is no server, where there is none, and which channels are not joined.
 pub record IsWelcomed (warned : Warned) (found : Option Client) (nick : List ℕ) (before after : Ordered) : Type 0 where
   pub named : Ordered
   pub ended : Ordered
@@ -125,7 +133,9 @@ pub record IsWelcomed (warned : Warned) (found : Option Client) (nick : List ℕ
   pub ends : IsWritten found (no_motd nick) named ended
   pub short : Ordered
   pub warns : IsWarned warned.short found nick ended short
-  pub misses : IsToldOf warned.missing found nick short after
+  pub missed : Ordered
+  pub misses : IsToldOf warned.missing found nick short missed
+  pub absent : AreMissed warned.absent found nick missed after
 
 -- the same of a client that had not registered before, and may have now
 abbrev pub IsGreeted : Bool → Warned → Option Client → List ℕ → Ordered → Ordered → Type 0

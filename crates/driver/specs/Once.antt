@@ -14,7 +14,7 @@ use Rattle.wire_bytes.specs.declared.moment.Moment.{Moment}
 use Rattle.wire_bytes.specs.declared.origin.Origin.{Origin}
 use Rattle.driver.specs.declared.client.Client.{Client}
 use Rattle.driver.specs.declared.news.News.{News}
-use Rattle.driver.specs.declared.news.News.TheVariants.{Attached, Left}
+use Rattle.driver.specs.declared.news.News.TheVariants.{Attached, Evicted, Left}
 use Rattle.driver.specs.declared.order.Order.{Order}
 use Rattle.driver.specs.declared.order.Order.TheVariants.{Close, Submit, Log, Write}
 use Rattle.driver.specs.Asking.{HearsNode, is_stuck, may_be_lost}
@@ -112,10 +112,11 @@ abbrev pub IsAskOf : Origin → Note TowerBody WireLine → Type 0
 IsAskOf origin (Ask (Asked other number at action)) = other ≡ origin
 IsAskOf origin note = ⊥
 
--- an operator is told that this client registered, or that it left
+-- an operator is told that this client registered, that it is closed, or that it left
 abbrev pub IsNewsOf : Origin → News → Type 0
 IsNewsOf origin (Attached other) = other ≡ origin
 IsNewsOf origin (Left other) = other ≡ origin
+IsNewsOf origin (Evicted other why) = other ≡ origin
 IsNewsOf origin news = ⊥
 
 -- an order is of this client: its node is told a request of it, it is written to or closed, or an operator is told of it

@@ -1,12 +1,14 @@
 -- What an operator is told.
 use Rattle.std.specs.Prelude.{ℕ, Option, Some, None}
 use Rattle.driver.specs.declared.news.News.{News}
-use Rattle.driver.specs.declared.news.News.TheVariants.{Attached, Left, Elected, Opened, Unopened, Closed, Down, Up, Hangs, Answers, TooFew, Enough, TurnedAway, LogFills, WrongPassword, WrongPasswords}
+use Rattle.driver.specs.declared.news.News.TheVariants.{Attached, Left, Evicted, NotJoined, Elected, Opened, Unopened, Closed, Down, Up, Hangs, Answers, TooFew, Enough, TurnedAway, LogFills, WrongPassword, WrongPasswords}
 
 -- the node that a line is of, where it is of one
 abbrev pub node_of : News → Option ℕ
 node_of (Attached origin) = Some origin.0
 node_of (Left origin) = Some origin.0
+node_of (Evicted origin why) = Some origin.0
+node_of (NotJoined node number) = Some node
 node_of (Elected node term) = Some node
 node_of (Opened node) = Some node
 node_of (Unopened node why) = Some node

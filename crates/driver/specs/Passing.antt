@@ -11,14 +11,16 @@ use Rattle.wire_bytes.specs.declared.origin.Origin.{Origin}
 use Rattle.driver.specs.declared.client.Client.{Client}
 use Rattle.driver.specs.declared.driver.Driver.{Driver}
 use Rattle.driver.specs.declared.link.Stage.{Stage}
-use Rattle.driver.specs.Crowds.{Told}
+use Rattle.driver.specs.Crowds.{Told, told as crowd}
 use Rattle.driver.specs.Driving.{told_of}
+use Rattle.driver.specs.Evicting.{IsEvicted}
 use Rattle.driver.specs.Kicks.{Rejoins}
 use Rattle.driver.specs.Learning.{LearnsNick}
 use Rattle.driver.specs.Nicks.{nick_in}
 use Rattle.driver.specs.Rewording.{reworded}
 use Rattle.driver.specs.Rosters.{AreOthersSame, Serves, client_at}
 use Rattle.driver.specs.Serving.{Hears}
+use Rattle.driver.specs.Telling.{Ordered}
 use Rattle.driver.specs.Writing.{link_passed}
 
 -- An effect for the client of this origin is heard by it, where there is one; all others are as they were, one of another origin that has
@@ -35,10 +37,17 @@ pub record HearsOne (now : ℕ) (at : Moment) (nick : List ℕ) (origin : Origin
       (λ s calls c client. Hears effect nick now at s calls c old.orders client new.orders)
       origin.2 new.clients
 
+-- An effect is for the client of this origin: where the buffers close it by that, it is told why, and so is an operator; then it hears the
+-- effect, reworded where the server ends the session.
+pub record ReachesClient (now : ℕ) (at : Moment) (nick : List ℕ) (origin : Origin) (effect : GateEffect) (old new : Told) : Type 0 where
+  pub told : Ordered
+  pub evicts : IsEvicted (client_at old.clients origin.2) origin effect old.orders told
+  pub hears : HearsOne now at nick origin (reworded nick effect) (crowd old.clients told) new
+
 -- By an effect that joins a channel anew, in a session of this node, clients are put out of it; one for a client goes to that client, as it
 -- hears it, and others nowhere.
 abbrev pub PassesBy : Class Parts → ℕ → Moment → Stage → List ℕ → ℕ → GateEffect → Told → Told → Type 0
-PassesBy (To origin) now at stage nick node effect old new = HearsOne now at nick origin (reworded nick effect) old new
+PassesBy (To origin) now at stage nick node effect old new = ReachesClient now at nick origin effect old new
 PassesBy (Rejoin session line) now at stage nick node effect old new =
     Rejoins stage node line nick old new
 PassesBy (Hand session number line) now at stage nick node effect old new = new ≡ old

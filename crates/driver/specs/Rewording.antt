@@ -14,21 +14,13 @@ use Rattle.request_once.specs.declared.answer.Answer.TheVariants as answer
 use Rattle.session_fence.specs.declared.effect.FenceEffect.TheVariants as fence
 use Rattle.upstream_claim.specs.declared.effect.ClaimsEffect.TheVariants as claims
 use Rattle.driver.specs.Nicks.{notice}
+use Rattle.driver.specs.Parameters.{last_parameter, nick_or_server}
 use Rattle.driver.specs.Opening.{behind_space}
-
--- the last parameter of a line; no bytes where there is none
-abbrev pub last_parameter : Parts → List ℕ
-last_parameter line = parameter (length line.parameters - 1) line
 
 -- a text behind a colon, where there is one
 abbrev pub behind_colon : List ℕ → List ℕ
 behind_colon [] = []
 behind_colon (byte ∷ text) = codes ": " ++ byte ∷ text
-
--- this nick, or the server where there is none
-abbrev pub nick_or_server : List ℕ → List ℕ
-nick_or_server [] = codes "the server"
-nick_or_server (byte ∷ nick) = byte ∷ nick
 
 -- the KILL of who has this nick
 abbrev pub is_kill : List ℕ → Parts → Bool

@@ -102,6 +102,7 @@ pub record IsNew (origin : Origin) (held : Held) (nick : List ℕ) (now : ℕ) (
   pub origin_is : client.origin ≡ origin
   pub gate_is : client.gate ≡ held
   pub nick_is : client.nick ≡ nick
+  pub has_no_name : client.name ≡ None
   pub since : client.since ≡ at now
   pub heard : client.heard ≡ at now
   pub asked_is : client.asked ≡ record { note = 0; at = at now }

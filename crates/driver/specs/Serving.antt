@@ -1,8 +1,9 @@
 -- What comes of a client's bytes, of what came of its requests, and of its end.
-use Rattle.std.specs.Prelude.{◌≡◌, ◌⊎◌, ◌&&◌, is_some, ℕ, Bool, true, false, List, ◌∷◌}
+use Rattle.std.specs.Prelude.{◌≡◌, ◌⊎◌, ◌&&◌, is_some, ℕ, Bool, true, false, List, [], ◌∷◌}
 use Rattle.client_gate.specs.declared.fed.Fed.{Fed}
 use Rattle.client_gate.specs.declared.request.Request.{Request}
 use Rattle.client_gate.specs.declared.settings.Settings.{Settings}
+use Rattle.client_gate.specs.declared.status_word.StatusWord.{StatusWord}
 use Rattle.client_gate.specs.Answers.{given_in}
 use Rattle.client_gate.specs.Calls.{Call, End, Feed, Hear, Refused, Stands, fed_answer, gate}
 use Rattle.client_gate.specs.Gates.{GateEffect, Given, given_effect, is_turned_down, last_request}
@@ -91,6 +92,17 @@ pub record Receives (bytes : List ℕ) (now : ℕ) (moment : Moment) (due : ℕ)
       → HasTaken s (Feed bytes ∷ calls) (fed_answer s calls bytes) now moment due heard before new after
       ⊎ IsCutOff s calls moment heard before new after
   pub shut : is_shut old ≡ true → (new ≡ old) × (after ≡ before)
+
+-- What a client said to the bouncer by bytes that asked for nothing: what its gate gave; nothing where nothing is taken of it, or where there
+-- was no memory, so that it is gone.
+abbrev pub Says : Bool → Bool → List StatusWord → List StatusWord → Type 0
+Says true gone given words = words ≡ []
+Says false gone given words = (words ≡ given) ⊎ ((gone ≡ true) × (words ≡ []))
+
+-- Bytes came from a client, by which it said these words to the bouncer that asked for nothing.
+pub record ReceivesWords (bytes : List ℕ) (words : List StatusWord) (now : ℕ) (moment : Moment) (due : ℕ) (s : Settings) (calls : List Call) (old : Client) (before : Ordered) (new : Client) (after : Ordered) : Type 0 where
+  pub receives : Receives bytes now moment due s calls old before new after
+  pub says : Says (is_shut old) new.is_gone (fed_answer s calls bytes).words words
 
 -- Something came of a request of a client; what was left out is not asked for again at once.
 abbrev pub HearsEffect : GateEffect → List ℕ → ℕ → Moment → Settings → List Call → Client → Ordered → Client → Ordered → Type 0

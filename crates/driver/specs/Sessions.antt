@@ -7,37 +7,51 @@ use Rattle.bouncer_tower.specs.Bodies.{TowerBody}
 use Rattle.node_notes.specs.declared.note.Note.{Note}
 use Rattle.node_notes.specs.declared.note.Note.TheVariants as note
 use Rattle.driver.specs.declared.driver.Driver.{Driver}
-use Rattle.driver.specs.declared.news.News.TheVariants.{Opened}
+use Rattle.driver.specs.declared.news.News.TheVariants.{NotJoined, Opened}
 use Rattle.driver.specs.declared.order.Order.{Order}
 use Rattle.driver.specs.declared.order.Order.TheVariants.{Submit, Log}
 use Rattle.driver.specs.declared.link.Link.{Link}
 use Rattle.driver.specs.Links.{Receives, is_fresh, opened as opened_stage}
 use Rattle.driver.specs.Outgoing.{with_opening}
 use Rattle.driver.specs.Filling.{is_left_out}
-use Rattle.driver.specs.Nicks.{HearsNick}
+use Rattle.driver.specs.Absent.{Absences, absent_behind, cleared, reason_number}
+use Rattle.driver.specs.Keys.{keys_heard}
+use Rattle.driver.specs.Nicks.{HearsNick, nick_in}
 use Rattle.driver.specs.Telling.{ordered}
 
--- an operator is told that the server gave a session, where a note says so
-abbrev pub opened_of : ℕ → Note TowerBody WireLine → List Order
-opened_of node note.Opened = Log (Opened node) ∷ []
-opened_of node other = []
+-- an operator is told that a channel is not joined, where the reason of this number came
+abbrev pub absent_news : ℕ → Option ℕ → List Order
+absent_news node None = []
+absent_news node (Some number) = Log (NotJoined node number) ∷ []
+
+-- an operator is told that the server gave a session, where a note says so, and that it says that a channel is not joined
+abbrev pub opened_of : ℕ → List ℕ → Absences → Note TowerBody WireLine → List Order
+opened_of node nick absent note.Opened = Log (Opened node) ∷ []
+opened_of node nick absent (note.Heard at line) = absent_news node (reason_number nick line absent)
+opened_of node nick absent other = []
+
+-- a connection behind a line from the server to who has this nick: what is known of channels, and of their keys
+abbrev pub channels_heard : List ℕ → Parts → Link → Link
+channels_heard nick line link = record link { absent = absent_behind nick line link.absent; keys = keys_heard nick line link.keys }
 
 -- the server gave the session of a connection: these lines wait before all else, where it had not given it before
 abbrev pub opened_with : List Parts → Link → Link
 opened_with lines link = record link {
   stage = opened_stage link.stage;
   waiting = if is_fresh link.stage then with_opening lines link.waiting else link.waiting;
+  absent = if is_fresh link.stage then cleared link.absent else link.absent;
 }
 
--- the connection behind what came: the server gave its session where a note says so
-abbrev pub link_behind : List Parts → Note TowerBody WireLine → Link → Link
-link_behind lines note.Opened link = opened_with lines link
-link_behind lines other link = link
+-- the connection behind what came to who has this nick: the server gave its session where a note says so, or said something of a channel
+abbrev pub link_behind : List Parts → List ℕ → Note TowerBody WireLine → Link → Link
+link_behind lines nick note.Opened link = opened_with lines link
+link_behind lines nick (note.Heard at line) link = channels_heard nick line link
+link_behind lines nick other link = link
 
--- Where what came says that the session opened, the connection knows it, and an operator is told.
+-- Where what came says that the session opened, or that a channel is joined or is not, the connection knows it, and an operator is told.
 pub record OpensBy (node : ℕ) (came : Note TowerBody WireLine) (old new : Driver) : Type 0 where
-  pub orders : new.orders ≡ ordered old.orders (opened_of node came)
-  pub rest : new ≡ record old { orders = new.orders; link = link_behind old.settings.on_connect.items came old.link }
+  pub orders : new.orders ≡ ordered old.orders (opened_of node (nick_in old) old.link.absent came)
+  pub rest : new ≡ record old { orders = new.orders; link = link_behind old.settings.on_connect.items (nick_in old) came old.link }
 
 -- The nick that came is known, and told; the session opens where that came; and the node of the session is told what came.
 pub record TellsOf (node : ℕ) (came : Note TowerBody WireLine) (old new : Driver) : Type 0 where

@@ -12,7 +12,8 @@ use Rattle.driver.specs.declared.order.Order.TheVariants.{Send}
 use Rattle.driver.specs.declared.outgoing.Piece.{Piece}
 use Rattle.driver.specs.declared.outgoing.Piece.TheVariants.{Joins, Opens, Says}
 use Rattle.driver.specs.declared.pace.Pace.{Pace}
-use Rattle.driver.specs.Keys.{KeyOf, key_for, learnt_by}
+use Rattle.driver.specs.Absent.{asked}
+use Rattle.driver.specs.Keys.{KeyOf, Keys, key_for, tried_by}
 use Rattle.driver.specs.Links.{is_session_of, status_in}
 use Rattle.driver.specs.Monitors.{line_to_claim}
 use Rattle.driver.specs.Outgoing.{Waiting, has_said, is_said, next_piece, piece_bytes, with_join, with_line, without_next}
@@ -27,9 +28,12 @@ handed node line link = record link { waiting = if is_session_of link.stage node
 abbrev pub Hands : ℕ → Parts → Driver → Driver → Type 0
 Hands node line old new = new ≡ record old { link = handed node line old.link }
 
--- a channel waits to be joined again, by the key by which it was joined last, or else by its key of these
+-- a channel waits to be joined again, by the key by which it was joined last, or else by its key of these; the server is to answer that
 abbrev pub joined : List KeyOf → List ℕ → Link → Link
-joined keys channel link = record link { waiting = with_join channel (key_for link.keys channel keys) link.waiting }
+joined keys channel link = record link {
+  waiting = with_join channel (key_for link.keys.known channel keys) link.waiting;
+  absent = asked channel link.absent;
+}
 
 -- a connection behind an effect of a node: where that joins a channel again, in a session of the node, the channel waits to be joined
 abbrev pub link_passed : List KeyOf → Class Parts → ℕ → Link → Link
@@ -58,11 +62,11 @@ are_due monitor = not (is_some (line_to_claim (status_in monitor)))
 abbrev pub unheard_behind : Piece → ℕ → ℕ
 unheard_behind piece unheard = if is_said piece then one_more unheard else unheard
 
--- the keys that are known behind what goes to the server: a line that was handed out may join a channel by one
-abbrev pub keys_behind : Piece → List KeyOf → List KeyOf
+-- the keys behind what goes to the server: a line that was handed out may ask for a channel by one
+abbrev pub keys_behind : Piece → Keys → Keys
 keys_behind (Opens line) keys = keys
 keys_behind (Joins line) keys = keys
-keys_behind (Says line) keys = learnt_by line keys
+keys_behind (Says line) keys = tried_by line keys
 
 -- this goes to the server
 pub record IsSent (piece : Piece) (before after : Ordered) : Type 0 where

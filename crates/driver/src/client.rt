@@ -1,16 +1,17 @@
 //! One client's connection.
-ghost use Rattle.std.specs.Prelude.{◌≡◌, ◌∷◌, ◌&&◌, ◌||◌, length, nat_le, true, false, List, OnOk};
+ghost use Rattle.std.specs.Prelude.{◌≡◌, ◌∷◌, ◌&&◌, ◌||◌, length, nat_le, true, false, IfOk, List, OnOk};
 ghost use Rattle.client_gate.specs.Calls.{Call, Stands, gate};
 ghost use Rattle.client_gate.specs.Gates.{last_request};
 ghost use Rattle.client_gate.specs.declared.settings.Settings.{Settings};
 ghost use Rattle.driver.specs.Asking.{held_behind, is_idle};
 ghost use Rattle.driver.specs.Clients.{behind_fed, is_cut, parting_unless, passed};
 ghost use Rattle.driver.specs.Rosters.{IsNew, reading_limit};
-ghost use Rattle.driver.specs.Serving.{Hears, HearsEffect, IsLost, IsParted, Receives, StandsSo, ended_if};
+ghost use Rattle.driver.specs.Serving.{Hears, HearsEffect, IsLost, IsParted, ReceivesWords, StandsSo, ended_if};
 ghost use Rattle.driver.specs.Telling.{ordered};
 
 mod asking;
 mod channels;
+mod evicting;
 mod farewell;
 mod joining;
 mod naming;
@@ -28,7 +29,7 @@ use crate::order::Now;
 use crate::orders::Orders;
 use crate::timer::Timer;
 use bouncer_tower::TowerEffect;
-use client_gate::{ClientGate, Fed};
+use client_gate::{ClientGate, Fed, StatusWord};
 use irc_line::Name;
 pub use joining::{behind_space, joined_as};
 use raft_log::NodeId;
@@ -55,6 +56,8 @@ pub struct Client {
     gate: ClientGate,
     /// The nick that its gate greets it by.
     nick: Name,
+    /// The name by which it attaches, if it registered by one.
+    name: Option<Name>,
     /// When it connected.
     since: Timer,
     /// When it was last heard of, or, once it registered, not read.
@@ -86,6 +89,7 @@ impl Client {
             origin,
             gate,
             nick,
+            name: None,
             since: Timer::from(now.ms),
             heard: Timer::from(now.ms),
             asked: Asked {
@@ -107,6 +111,13 @@ impl Client {
         ensures { result ≡ self.now.origin }
     {
         self.origin
+    }
+
+    /// The name by which it attaches, if it registered by one.
+    pub fn name(&self) -> &Option<Name>
+        ensures { result.now ≡ self.now.name }
+    {
+        &self.name
     }
 
     /// Its node.
@@ -138,29 +149,35 @@ impl Client {
         self.gate.waiting() >= MOST_WAITING
     }
 
-    /// Its bytes came, however they are cut. Where its password is wrong it is answered at this moment, and not now.
+    /// Its bytes came, however they are cut. Where its password is wrong it is answered at this moment, and not now. What
+    /// it said to the bouncer that asked for nothing of the buffers.
     pub fn receive(
         &mut self,
         now: &Now,
         bytes: &[u8],
         due: u64,
         orders: &mut Orders,
-    ) -> Result<(), AllocError>
+    ) -> Result<Vec<StatusWord>, AllocError>
         ensures { (s : Settings) (calls : List Call) → Stands s calls self.old.gate →
-            OnOk result (Receives bytes.now now.now.ms now.now.at due s calls
-            self.old orders.old self.new orders.new) }
+            IfOk result (λ words. ReceivesWords bytes.now words.items now.now.ms now.now.at due s
+            calls self.old orders.old self.new orders.new) }
     {
         if self.is_shut() {
-            return Ok(());
+            return Ok(Vec::new(self.alloc));
         }
         self.begin_asking(now, orders);
         self.heard = Timer::from(now.ms);
         self.is_pinged = false;
         match self.gate.feed(bytes) {
-            Ok(fed) => self.take(now, fed, due, orders)?,
-            Err(_) => self.part(now, orders)?,
+            Ok(fed) => {
+                let words = self.take(now, fed, due, orders)?;
+                Ok(words)
+            }
+            Err(_) => {
+                self.part(now, orders)?;
+                Ok(Vec::new(self.alloc))
+            }
         }
-        Ok(())
     }
 
     /// Something came of a request, under this nick. One that leaves is closed once its last request is done.
@@ -204,18 +221,26 @@ impl Client {
     }
 
     /// What its gate answered goes on: the bytes to the client, the requests to its node. Where the gate
-    /// closes, and the client asked to leave by that, it stays until that is done; else it is closed.
-    fn pass(&mut self, now: &Now, fed: Fed, orders: &mut Orders) -> Result<(), AllocError>
+    /// closes, and the client asked to leave by that, it stays until that is done; else it is closed. What the client said
+    /// to the bouncer by it that asked for nothing.
+    fn pass(
+        &mut self,
+        now: &Now,
+        fed: Fed,
+        orders: &mut Orders,
+    ) -> Result<Vec<StatusWord>, AllocError>
         ensures passed { (s : Settings) (calls : List Call) → Stands s calls self.old.gate →
             OnOk result (orders.new ≡ ordered orders.old
             (passed self.old now.now.at (last_request (gate s calls)) fed)) }
         ensures stands { (s : Settings) (calls : List Call) → Stands s calls self.old.gate →
             OnOk result (StandsSo s (ended_if (is_cut fed) self.old.is_gone calls)
             (behind_fed now.now.ms self.old fed) self.new) }
+        ensures said { IfOk result (λ words. words.items ≡ fed.words.items) }
     {
         let Fed {
             requests,
             reply,
+            words,
             close,
         } = fed;
         if !reply.is_empty() && !self.is_gone {
@@ -225,12 +250,12 @@ impl Client {
         self.ask_all(now, requests, orders)?;
         if has_left {
             self.leaving = Some(Timer::from(now.ms));
-            return Ok(());
+            return Ok(words);
         }
         if close {
             self.part(now, orders)?;
         }
-        Ok(())
+        Ok(words)
     }
 
     /// Its connection is closed.

@@ -8,19 +8,22 @@ ghost use Rattle.machine_laws.specs.Origins.{same_origin};
 ghost use Rattle.driver.specs.Crowds.{TickEach, TicksRead, told};
 ghost use Rattle.driver.specs.Rosters.{AreOthersSame, IsFullIn, IsKept, Serves, client_at, is_attached_in};
 ghost use Rattle.driver.specs.Rosters.{is_leaving_in, is_there, node_in, refused_in};
-ghost use Rattle.driver.specs.Serving.{Hears, IsLost, Receives};
+ghost use Rattle.driver.specs.Serving.{Hears, IsLost, ReceivesWords};
 
 mod dismissing;
+mod evicting;
 mod kicking;
 mod leaving;
+mod listing;
 mod news;
-mod writing;
+pub(crate) mod writing;
 
 use crate::client::Client;
 use crate::node_monitor::{MOST_NODES, NodeMonitor};
 use crate::order::Now;
 use crate::orders::Orders;
 use bouncer_tower::TowerEffect;
+use client_gate::StatusWord;
 use raft_log::NodeId;
 use std::alloc::{AllocError, Global};
 use std::collections::BTreeMap;
@@ -57,7 +60,8 @@ impl Clients {
         }
     }
 
-    /// A client's bytes came. Where its password is wrong it is answered at this moment.
+    /// A client's bytes came. Where its password is wrong it is answered at this moment. What it said to the bouncer that
+    /// asked for nothing of the buffers.
     pub fn receive(
         &mut self,
         now: &Now,
@@ -65,20 +69,20 @@ impl Clients {
         bytes: &[u8],
         due: u64,
         orders: &mut Orders,
-    ) -> Result<(), AllocError>
+    ) -> Result<Vec<StatusWord>, AllocError>
         ensures others { AreOthersSame number self.old self.new }
         ensures nobody { client_at self.old number ≡ None →
             (self.new ≡ self.old) × (orders.new ≡ orders.old) }
-        ensures served { OnOk result (Serves (λ c. client_at self.old number ≡ Some c)
-            (λ s calls c new. Receives bytes.now now.now.ms now.now.at due s calls c orders.old
-            new orders.new) number self.new) }
+        ensures served { IfOk result (λ words. Serves (λ c. client_at self.old number ≡ Some c)
+            (λ s calls c new. ReceivesWords bytes.now words.items now.now.ms now.now.at due s calls
+            c orders.old new orders.new) number self.new) }
     {
         let Some(client) = self.all.get_mut(&number) else {
-            return Ok(());
+            return Ok(Vec::new(self.alloc));
         };
-        client.receive(now, bytes, due, orders)?;
+        let words = client.receive(now, bytes, due, orders)?;
         self.forget_if_over(number);
-        Ok(())
+        Ok(words)
     }
 
     /// Something came of a request of the client of this origin, under this nick. A client of another origin that has the
@@ -115,7 +119,7 @@ impl Clients {
     }
 
     /// Whether there is a client of this origin.
-    fn is_there(&self, origin: Origin) -> bool
+    pub(crate) fn is_there(&self, origin: Origin) -> bool
         ensures { result ≡ is_there (client_at self.now origin.2) origin }
     {
         match self.all.get(&origin.client()) {

@@ -14,12 +14,13 @@ ghost use Rattle.driver.specs.Serving.{IsLost};
 ghost use Rattle.driver.specs.Telling.{emptied, ordered};
 
 mod admitting;
+mod answering;
 mod filling;
 mod hearing;
-mod nick;
+pub(crate) mod nick;
 mod reading;
 mod rejoining;
-mod session;
+pub(crate) mod session;
 mod ticking;
 mod watching;
 mod writing;

@@ -1,9 +1,10 @@
-//! The keys by which channels were joined.
-ghost use Rattle.std.specs.Prelude.{◌≡◌, [], OnOk};
+//! The keys by which channels were joined, and by which that was tried.
+ghost use Rattle.std.specs.Prelude.{◌≡◌, OnOk};
 ghost use Rattle.std.specs.List.{list_all};
-ghost use Rattle.driver.specs.Keys.{is_key, is_key_byte, key_in, learnt_by, tells_key, with_key, with_room, without};
+ghost use Rattle.driver.specs.Keys.{is_key, is_key_byte, joined_by, key_in, keys_heard, no_keys, tells_key, tried_by, with_key, with_room, without};
 
 use crate::channel_key::ChannelKey;
+use crate::channel_lines::{is_bad_key, is_own};
 use buffer_machine::has_command;
 use irc_line::{Line, is_channel_name, is_same_name};
 use std::alloc::{AllocError, Global};
@@ -13,81 +14,112 @@ use std::marker::Model;
 // a setup names at most 100 channels, and people may join more
 const MOST_KEYS: usize = 256;
 
-/// The keys by which channels were joined, the newest last.
+/// The keys by which channels were joined, and those by which a JOIN went to the server, the newest last.
 ///
-/// A clause sees them as a list.
+/// A clause sees them as lists.
 #[derive(Drop)]
 pub struct KeyRing {
     alloc: Global,
-    keys: Vec<ChannelKey>,
+    known: Vec<ChannelKey>,
+    /// Those by which a JOIN went to the server.
+    tried: Vec<ChannelKey>,
 }
 
 impl Model for KeyRing {
-    ghost use Rattle.std.specs.Prelude.{List};
-    ghost use Rattle.driver.specs.Keys.{KeyOf};
+    ghost use Rattle.driver.specs.Keys.{Keys};
 
-    ghost Value = { List KeyOf };
+    ghost Value = { Keys };
 
-    ghost view = { λ r. r.keys.items };
+    ghost view = { λ r. record { known = r.known.items; tried = r.tried.items } };
 }
 
 impl KeyRing {
     /// No channel was joined by a key.
     pub fn new(alloc: Global) -> KeyRing
-        ensures { result ≡ [] }
+        ensures { result ≡ no_keys }
     {
         KeyRing {
             alloc,
-            keys: Vec::new(alloc),
+            known: Vec::new(alloc),
+            tried: Vec::new(alloc),
         }
     }
 
-    /// A line goes to the server. Where it joins one channel by a key, that is known from now on.
+    /// A line goes to the server. Where it asks for one channel by a key, that is tried.
     pub fn hear(&mut self, line: &Line) -> Result<(), AllocError>
-        ensures { OnOk result (self.new ≡ learnt_by line.now self.old) }
+        ensures { OnOk result (self.new ≡ tried_by line.now self.old) }
     {
         if !tells_key(line) {
             return Ok(());
         }
-        self.learn(line.parameter(0), line.parameter(1))
+        let (channel, key) = (line.parameter(0), line.parameter(1));
+        learn(self.alloc, &mut self.tried, channel, key)
     }
 
-    /// A channel was joined by this key: what was known of it counts no more, nor does the oldest where too many are
-    /// known.
-    pub fn learn(&mut self, channel: &[u8], key: &[u8]) -> Result<(), AllocError>
-        ensures { OnOk result (self.new ≡ with_key channel.now key.now self.old) }
+    /// A line came from the server, to who has this nick. Where a channel is joined the key by which that was tried is
+    /// known from now on; one that was wrong is tried no more.
+    pub fn hear_answer(&mut self, nick: &[u8], line: &Line) -> Result<(), AllocError>
+        ensures { OnOk result (self.new ≡ keys_heard nick.now line.now self.old) }
     {
-        self.forget(channel);
-        self.make_room();
-        let channel = Vec::from_slice(self.alloc, channel)?;
-        let key = Vec::from_slice(self.alloc, key)?;
-        self.keys.push(ChannelKey { channel, key })?;
+        if is_own(line, b"JOIN", nick) {
+            return self.keep(line.parameter(0));
+        }
+        if is_bad_key(line) {
+            forget(&mut self.tried, line.parameter(1));
+        }
         Ok(())
     }
 
-    /// Where as many are known as may be, the oldest goes.
-    fn make_room(&mut self)
-        ensures { self.new ≡ with_room self.old }
+    /// A channel was joined: the key by which that was tried, if by one, is known from now on.
+    fn keep(&mut self, channel: &[u8]) -> Result<(), AllocError>
+        ensures { OnOk result (self.new ≡ joined_by channel.now self.old) }
     {
-        if self.keys.len() >= MOST_KEYS {
-            self.keys.remove(0);
+        let key = key_in(channel, self.tried.as_slice());
+        if key.is_empty() {
+            return Ok(());
         }
-    }
-
-    /// Nothing is known of this channel any more.
-    fn forget(&mut self, channel: &[u8])
-        ensures { self.new ≡ without channel.now self.old }
-    {
-        self.keys
-            .retain(|known| !is_same_name(channel, known.channel.as_slice()));
+        learn(self.alloc, &mut self.known, channel, key)
     }
 
     /// The key by which a channel was joined; no bytes where there is none.
     pub fn key_of(&self, channel: &[u8]) -> &[u8]
-        ensures { result.now ≡ key_in channel.now self.now }
+        ensures { result.now ≡ key_in channel.now self.now.known }
     {
-        key_in(channel, self.keys.as_slice())
+        key_in(channel, self.known.as_slice())
     }
+}
+
+/// The key of a channel is this: what was known of it counts no more, nor does the oldest where too many are known.
+fn learn(
+    alloc: Global,
+    keys: &mut Vec<ChannelKey>,
+    channel: &[u8],
+    key: &[u8],
+) -> Result<(), AllocError>
+    ensures { OnOk result (keys.new.items ≡ with_key channel.now key.now keys.old.items) }
+{
+    forget(keys, channel);
+    make_room(keys);
+    let channel = Vec::from_slice(alloc, channel)?;
+    let key = Vec::from_slice(alloc, key)?;
+    keys.push(ChannelKey { channel, key })?;
+    Ok(())
+}
+
+/// Where as many are kept as may be, the oldest goes.
+fn make_room(keys: &mut Vec<ChannelKey>)
+    ensures { keys.new.items ≡ with_room keys.old.items }
+{
+    if keys.len() >= MOST_KEYS {
+        keys.remove(0);
+    }
+}
+
+/// Nothing is known of this channel any more.
+fn forget(keys: &mut Vec<ChannelKey>, channel: &[u8])
+    ensures { keys.new.items ≡ without channel.now keys.old.items }
+{
+    keys.retain(|known| !is_same_name(channel, known.channel.as_slice()));
 }
 
 /// The key of a channel among these; no bytes where it has none.

@@ -1,4 +1,5 @@
 //! What holds of every driver, as contracts of functions that do nothing.
+ghost use Rattle.driver.specs.Answering.{AnswersGoToWhoAsks};
 ghost use Rattle.driver.specs.Claiming.{OneClaimWaits};
 ghost use Rattle.driver.specs.Counting.{NotesAreCounted};
 ghost use Rattle.driver.specs.Downtime.{DownIsOnlyRestarted};
@@ -55,6 +56,12 @@ pub fn effects_reach_their_clients()
 /// is shown as it came. Neither changes where an effect goes, nor what a gate makes of it.
 pub fn endings_are_reworded()
     ensures { RewordsEndings }
+{}
+
+/// Whatever a client says to the bouncer that asks for nothing of the buffers: what it is answered is written to that
+/// client and to no other, and nothing else comes of it.
+pub fn answers_go_to_who_asks()
+    ensures { AnswersGoToWhoAsks }
 {}
 
 /// Over every list of calls of a driver, however its orders are taken, how many notes a node was told is how

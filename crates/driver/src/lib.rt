@@ -5,11 +5,14 @@
 #![tactic(auto)]
 
 mod absence;
+mod absent_channels;
 mod backoff;
 mod channel_key;
+mod channel_lines;
 mod client;
 mod clients;
 mod driver;
+mod eviction;
 mod guard;
 mod join_line;
 mod key_ring;
@@ -30,12 +33,14 @@ mod retirements;
 mod rewording;
 mod said;
 mod settings;
+mod standing;
 mod timer;
 
 pub use absence::Absence;
 pub use backoff::Backoff;
 pub use channel_key::ChannelKey;
 pub use driver::Driver;
+pub use eviction::Eviction;
 pub use level::{FULL, Level};
 pub use news::{Ending, News};
 pub use order::{Now, Order, TowerNote, TowerReport};

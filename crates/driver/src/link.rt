@@ -4,6 +4,8 @@ ghost use Rattle.std.specs.Option.{is_some, option_to_list};
 ghost use Rattle.uplink.specs.declared.input.UplinkInput.{UplinkInput};
 ghost use Rattle.uplink.specs.Calls.{Ended, GoesOn};
 ghost use Rattle.driver.specs.declared.order.Order.TheVariants.{Connect};
+ghost use Rattle.driver.specs.Absent.{none_absent};
+ghost use Rattle.driver.specs.Keys.{no_keys};
 ghost use Rattle.driver.specs.Links.{Connects, HasBegun, HasReceived, IsLost, Receives};
 ghost use Rattle.driver.specs.Links.{backoff_behind, ending, idle_behind, is_open, is_session_of, lingering, may_connect, node_of, opened, waiting_behind};
 ghost use Rattle.driver.specs.Links.{first_backoff, notes_of, send_some};
@@ -12,12 +14,15 @@ ghost use Rattle.driver.specs.Outgoing.{nothing_waits};
 ghost use Rattle.driver.specs.Sessions.{opened_with};
 ghost use Rattle.driver.specs.Telling.{ordered};
 
+mod channels;
 mod losing;
-mod missing;
+pub(crate) mod missing;
 mod notes;
 mod sending;
 mod silence;
+mod standing;
 
+use crate::absent_channels::AbsentChannels;
 use crate::backoff::Backoff;
 use crate::key_ring::KeyRing;
 use crate::link::notes::notes_of;
@@ -77,6 +82,8 @@ pub struct Link {
     waiting: Outgoing,
     /// By which channels were joined in any session.
     keys: KeyRing,
+    /// Channels that are not joined though they are to be.
+    absent: AbsentChannels,
 }
 
 impl Link {
@@ -86,7 +93,8 @@ impl Link {
         ensures backoff { result.backoff ≡ first_backoff }
         ensures ended { result.ended ≡ None }
         ensures waiting { result.waiting ≡ nothing_waits }
-        ensures keys { result.keys ≡ [] }
+        ensures keys { result.keys ≡ no_keys }
+        ensures absent { result.absent ≡ none_absent }
     {
         Link {
             alloc,
@@ -95,6 +103,7 @@ impl Link {
             ended: None,
             waiting: Outgoing::new(alloc),
             keys: KeyRing::new(alloc),
+            absent: AbsentChannels::new(alloc),
         }
     }
 
@@ -175,7 +184,8 @@ impl Link {
         }
     }
 
-    /// The server gave the session that was asked for: these lines wait in it before all else, but once.
+    /// The server gave the session that was asked for: these lines wait in it before all else, but once. Its channels are
+    /// asked for anew.
     pub fn open(&mut self, lines: &[Line]) -> Result<(), AllocError>
         ensures { OnOk result (self.new ≡ opened_with lines.now self.old) }
     {
@@ -184,6 +194,7 @@ impl Link {
         };
         if !session.is_opened {
             self.waiting.push_opening(lines)?;
+            self.absent.clear();
         }
         session.is_opened = true;
         Ok(())

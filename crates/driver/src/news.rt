@@ -4,6 +4,7 @@ ghost use Rattle.driver.specs.Links.{end_of, is_failure};
 ghost use Rattle.driver.specs.Missing.{words_of};
 ghost use Rattle.driver.specs.Operators.{node_of};
 
+use crate::eviction::Eviction;
 use crate::level::Level;
 use raft_log::NodeId;
 use raft_node::Cause;
@@ -67,6 +68,10 @@ pub enum News {
     Attached(Origin),
     /// A client's connection is gone.
     Left(Origin),
+    /// The buffers close a client, and why.
+    Evicted(Origin, Eviction),
+    /// A channel is not joined in the session of this node, for the reason of this number.
+    NotJoined(NodeId, u64),
     /// A node leads, in this term.
     Elected(NodeId, Number),
     /// The server took the session of the node that leads.
@@ -115,7 +120,9 @@ impl News {
     {
         match self {
             News::Attached(origin) | News::Left(origin) => Some(NodeId::new(origin.node())),
+            News::Evicted(origin, _) => Some(NodeId::new(origin.node())),
             News::Elected(node, _) | News::Opened(node) => Some(*node),
+            News::NotJoined(node, _) => Some(*node),
             News::Unopened(node, _) | News::Closed(node, _) => Some(*node),
             News::Down(node, _) | News::Up(node, _) => Some(*node),
             News::Hangs(node) | News::Answers(node) => Some(*node),
@@ -131,6 +138,10 @@ impl fmt::Display for News {
         match self {
             News::Attached(origin) => write!(f, "client {} attached", origin.client()),
             News::Left(origin) => write!(f, "client {} left", origin.client()),
+            News::Evicted(origin, why) => {
+                write!(f, "client {} is closed: {why}", origin.client())
+            }
+            News::NotJoined(_, _) => write!(f, "a channel is not joined"),
             News::Elected(_, term) => write!(f, "leads in term {}", term.value()),
             News::Opened(_) => write!(f, "upstream opened"),
             News::Unopened(_, why) => write!(f, "upstream not opened: {why}"),

@@ -1,5 +1,5 @@
 //! What waits to go to the server in a session.
-ghost use Rattle.std.specs.Prelude.{◌≡◌, ◌++◌, IfOk, OnOk};
+ghost use Rattle.std.specs.Prelude.{◌≡◌, ◌++◌, IfOk, OnOk, length};
 ghost use Rattle.driver.specs.Outgoing.{asks_names, has_said, is_asked, is_dropped, is_said, next_piece, nothing_waits};
 ghost use Rattle.driver.specs.Outgoing.{piece_bytes, with_join, with_line, with_opening, without_next};
 
@@ -102,6 +102,20 @@ impl Outgoing {
         ensures { result ≡ has_said self.now }
     {
         !self.said.is_empty()
+    }
+
+    /// How many lines that are said wait.
+    pub fn said_count(&self) -> usize
+        ensures { result ≡ length self.now.said }
+    {
+        self.said.len()
+    }
+
+    /// How many questions wait who is in a channel.
+    pub fn question_count(&self) -> usize
+        ensures { result ≡ length self.now.questions }
+    {
+        self.questions.len()
     }
 
     /// Lines wait that go before all else.

@@ -2,8 +2,9 @@
 //! would hang up, but a NOTICE.
 ghost use Rattle.std.specs.Prelude.{◌≡◌, ◌++◌, IfOk, OnOk, option_map, unwrap_or};
 ghost use Rattle.irc_line.specs.Reading.{canonical, judged};
-ghost use Rattle.driver.specs.Rewording.{behind_colon, ending_in, ending_of, is_kill, last_parameter, may_end};
-ghost use Rattle.driver.specs.Rewording.{nick_or_server, noticed, reworded, unprefixed};
+ghost use Rattle.driver.specs.Rewording.{behind_colon, ending_in, ending_of, is_kill, may_end};
+ghost use Rattle.driver.specs.Parameters.{last_parameter, nick_or_server};
+ghost use Rattle.driver.specs.Rewording.{noticed, reworded, unprefixed};
 
 use crate::client::behind_space;
 use bouncer_tower::TowerEffect;
@@ -108,14 +109,14 @@ fn is_kill(line: &Line, nick: &[u8]) -> bool
 }
 
 /// The last parameter of a line; no bytes where there is none.
-fn last_parameter(line: &Line) -> &[u8]
+pub fn last_parameter(line: &Line) -> &[u8]
     ensures { result.now ≡ last_parameter line.now }
 {
     line.parameter(line.parameter_count().saturating_sub(1))
 }
 
 /// This nick, or the server where there is none.
-fn nick_or_server(nick: &[u8]) -> &[u8]
+pub fn nick_or_server(nick: &[u8]) -> &[u8]
     ensures { result.now ≡ nick_or_server nick.now }
 {
     if nick.is_empty() { b"the server" } else { nick }

@@ -1,9 +1,9 @@
 //! When a client's requests are told to its node.
-ghost use Rattle.std.specs.Prelude.{◌≡◌, ◌||◌, List, OnOk};
+ghost use Rattle.std.specs.Prelude.{◌≡◌, ◌||◌, IfOk, List, OnOk};
 ghost use Rattle.client_gate.specs.Calls.{Call, Stands, gate};
 ghost use Rattle.client_gate.specs.declared.settings.Settings.{Settings};
 ghost use Rattle.driver.specs.Asking.{asked_anew, begun, now_asked};
-ghost use Rattle.driver.specs.Clients.{asked_all, asks_of, is_some_asked, note_of};
+ghost use Rattle.driver.specs.Clients.{asked_all, asks_of, is_some_asked, name_asked, named_by, note_of};
 ghost use Rattle.driver.specs.Telling.{ordered};
 
 use crate::client::{Asked, Client};
@@ -12,12 +12,14 @@ use crate::order::{Now, TowerNote};
 use crate::orders::Orders;
 use crate::timer::Timer;
 use bouncer_tower::Tower;
+use buffer_commands::Action;
 use client_gate::Request;
+use irc_line::Name;
 use machine_laws::Hosted;
 use node_notes::Note;
 use raft_log::NodeId;
-use std::alloc::AllocError;
-use wire_bytes::Origin;
+use std::alloc::{AllocError, Global};
+use wire_bytes::{Copied, Origin};
 
 impl Client {
     /// Where nothing waits, what is asked for next is the oldest, and nothing holds it up.
@@ -41,7 +43,7 @@ impl Client {
         }
     }
 
-    /// Its requests are asked for. The first one is that it is attached.
+    /// Its requests are asked for. The first one is that it is attached, by a name or by none.
     #[tactic(auto, unfolding(crate::specs::Clients::asked_all))]
     pub(crate) fn ask_all(
         &mut self,
@@ -51,14 +53,17 @@ impl Client {
     ) -> Result<(), AllocError>
         ensures asked { OnOk result (orders.new ≡ ordered orders.old
             (asked_all self.old.is_attached self.old.origin now.now.at requests.items)) }
-        ensures rest { OnOk result (self.new ≡ record self.old
-            { is_attached = self.old.is_attached || is_some_asked requests.items }) }
+        ensures rest { OnOk result (self.new ≡ record self.old {
+          is_attached = self.old.is_attached || is_some_asked requests.items;
+          name = named_by self.old.is_attached self.old.name requests.items;
+        }) }
     {
         if requests.is_empty() {
             return Ok(());
         }
         if !self.is_attached {
             self.is_attached = true;
+            self.name = name_asked(self.alloc, requests.as_slice())?;
             orders.log(News::Attached(self.origin))?;
         }
         ask_each(self.origin, now, requests, orders)
@@ -75,6 +80,19 @@ impl Client {
         let waiting = self.gate.again()?;
         self.asked = self.asked_now(now, orders);
         ask_each(self.origin, now, waiting, orders)
+    }
+}
+
+/// By which name requests attach a client, where the first one attaches it by one.
+fn name_asked(alloc: Global, requests: &[Request]) -> Result<Option<Name>, AllocError>
+    ensures { IfOk result (λ name. name ≡ name_asked requests.now) }
+{
+    let [first, ..] = requests else {
+        return Ok(None);
+    };
+    match &first.action {
+        Action::Attach(Some(name)) => Ok(Some(name.copy(alloc)?)),
+        _ => Ok(None),
     }
 }
 

@@ -1,5 +1,5 @@
 //! A client whose password was wrong: what its gate answered is kept back, and nothing more is taken of it.
-ghost use Rattle.std.specs.Prelude.{◌≡◌, List, OnOk, is_some, option_map};
+ghost use Rattle.std.specs.Prelude.{◌≡◌, IfOk, List, OnOk, is_some, option_map};
 ghost use Rattle.client_gate.specs.Calls.{Call, Stands, gate};
 ghost use Rattle.client_gate.specs.Gates.{is_turned_down};
 ghost use Rattle.client_gate.specs.declared.settings.Settings.{Settings};
@@ -11,7 +11,7 @@ use crate::client::Client;
 use crate::news::News;
 use crate::order::Now;
 use crate::orders::Orders;
-use client_gate::Fed;
+use client_gate::{Fed, StatusWord};
 use std::alloc::AllocError;
 
 /// What a client whose password was wrong is still told, and when.
@@ -38,24 +38,25 @@ impl Client {
         self.refused.is_some()
     }
 
-    /// What its gate answered goes on; where its password was wrong, that is kept back until this moment.
+    /// What its gate answered goes on; where its password was wrong, that is kept back until this moment. What the client
+    /// said to the bouncer by it that asked for nothing.
     pub(crate) fn take(
         &mut self,
         now: &Now,
         fed: Fed,
         due: u64,
         orders: &mut Orders,
-    ) -> Result<(), AllocError>
-        ensures { (s : Settings) (calls : List Call) → Stands s calls self.old.gate →
+    ) -> Result<Vec<StatusWord>, AllocError>
+        ensures taken { (s : Settings) (calls : List Call) → Stands s calls self.old.gate →
             OnOk result (TakesBy (is_turned_down (gate s calls).phase) s calls fed now.now.ms
             now.now.at due self.old orders.old self.new orders.new) }
+        ensures said { IfOk result (λ words. words.items ≡ fed.words.items) }
     {
         if self.gate.is_turned_down() {
-            self.keep_back(now, fed, due, orders)?;
+            self.keep_back(now, fed, due, orders)
         } else {
-            self.pass(now, fed, orders)?;
+            self.pass(now, fed, orders)
         }
-        Ok(())
     }
 
     /// What its gate answered is kept back until this moment. What it asked for, if anything, goes to its node.
@@ -65,19 +66,21 @@ impl Client {
         fed: Fed,
         due: u64,
         orders: &mut Orders,
-    ) -> Result<(), AllocError>
+    ) -> Result<Vec<StatusWord>, AllocError>
         ensures told { OnOk result (orders.new ≡ ordered orders.old
             (asked_all self.old.is_attached self.old.origin now.now.at fed.requests.items)) }
         ensures kept { OnOk result (self.new ≡ kept_back due self.old fed) }
+        ensures said { IfOk result (λ words. words.items ≡ fed.words.items) }
     {
         let Fed {
             requests,
             reply,
+            words,
             close: _,
         } = fed;
         self.ask_all(now, requests, orders)?;
         self.refused = Some(Refusal { answer: reply, due });
-        Ok(())
+        Ok(words)
     }
 
     /// What it is told now, where its password was wrong, and its moment has come.

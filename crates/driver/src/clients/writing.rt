@@ -61,7 +61,7 @@ impl Clients {
 }
 
 /// Whether what is written to a client reaches a person.
-fn is_reached(client: &Client) -> bool
+pub fn is_reached(client: &Client) -> bool
     ensures { result ≡ is_reached client.now }
 {
     client.is_attached() && !client.is_gone()

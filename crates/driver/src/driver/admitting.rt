@@ -14,7 +14,7 @@ use wire_bytes::Origin;
 impl Driver {
     /// Bytes came from a client, however they are cut. Where it registered by them, its welcome goes on: it is told
     /// of the nick in force where it was greeted by another, that there is no message of the day, and where there is no
-    /// server why, and when it is tried next. Where its password was wrong it is told so two seconds later, or in its
+    /// server why, and when it is tried next. What it asks of the bouncer itself it is told. Where its password was wrong it is told so two seconds later, or in its
     /// turn, by `tick`, and then closed.
     pub fn receive(&mut self, now: &Now, number: u64, bytes: &[u8]) -> Result<(), AllocError>
         ensures others { AreOthersSame number self.old.clients self.new.clients }
@@ -29,9 +29,11 @@ impl Driver {
         let was_attached = self.clients.is_attached(number);
         let was_refused = self.clients.refused(number).is_some();
         let due = self.guard.due(now);
-        self.clients
+        let words = self
+            .clients
             .receive(now, number, bytes, due, &mut self.orders)?;
         self.greet(now, was_attached, number)?;
+        self.answer_all(now, number, words)?;
         self.note_refusal(now, was_refused, number)
     }
 

@@ -39,7 +39,7 @@ impl Driver {
     }
 
     /// How many entries this node has, as far as is known.
-    fn last_of(&self, node: NodeId) -> u64
+    pub(crate) fn last_of(&self, node: NodeId) -> u64
         ensures { result ≡ last_in (slice_get self.now.monitors (node - 1)) }
     {
         let Some(monitor) = self.monitors.get(node.value() as usize - 1) else {

@@ -1,8 +1,7 @@
 //! What a node's worker tells, and what comes of it.
 ghost use Rattle.std.specs.Prelude.{◌≡◌, ◌-◌, is_some, slice_get, IfOk, OnOk};
 ghost use Rattle.bouncer_tower.specs.Hosting.{class_of};
-ghost use Rattle.driver.specs.Passing.{HearsOne, PassEach, Passes, PassesBy};
-ghost use Rattle.driver.specs.Rewording.{reworded};
+ghost use Rattle.driver.specs.Passing.{PassEach, Passes, PassesBy, ReachesClient};
 ghost use Rattle.driver.specs.Driving.{changed_at, orders_at, told_of};
 ghost use Rattle.driver.specs.Retiring.{fresh};
 ghost use Rattle.driver.specs.Rounds.{retirement_begun, retirement_told};
@@ -142,18 +141,21 @@ impl Driver {
         Ok(())
     }
 
-    /// An effect is for the client of this origin, which hears word that the server ends the session by a NOTICE.
+    /// An effect is for the client of this origin, which is told why where the buffers close it, and hears word that the
+    /// server ends the session by a NOTICE.
     fn tell_client(
         &mut self,
         now: &Now,
         origin: Origin,
         effect: &TowerEffect,
     ) -> Result<(), AllocError>
-        ensures hears { OnOk result (HearsOne now.now.ms now.now.at (nick_in self.old) origin
-            (reworded (nick_in self.old) effect.now) (told_of self.old) (told_of self.new)) }
+        ensures hears { OnOk result (ReachesClient now.now.ms now.now.at (nick_in self.old) origin
+            effect.now (told_of self.old) (told_of self.new)) }
         ensures rest { self.new ≡ record self.old
             { clients = self.new.clients; orders = self.new.orders } }
     {
+        self.clients
+            .tell_eviction(origin, effect, &mut self.orders)?;
         let nick = nick_by(&self.given, &self.settings.nick).as_bytes();
         let told = reworded(self.alloc, nick, effect)?;
         let effect = told.as_ref().unwrap_or(effect);

@@ -2,7 +2,7 @@
 ghost use Rattle.std.specs.Prelude.{◌≡◌, IfOk, None, OnOk};
 ghost use Rattle.driver.specs.Opening.{joined_as};
 ghost use Rattle.driver.specs.Learning.{LearnsNick, nick_learnt};
-ghost use Rattle.driver.specs.Nicks.{IsToldOf, IsWarned, missing_in, warned};
+ghost use Rattle.driver.specs.Nicks.{AreMissed, IsToldOf, IsWarned, missing_in, warned};
 ghost use Rattle.driver.specs.Nicks.{AllAreWritten, HearsNick, IsGreeted, RenamesIf, TakesNick, is_renamed, nick_by, nick_in, notice, renaming};
 ghost use Rattle.driver.specs.Rosters.{client_at};
 ghost use Rattle.irc_line.specs.Lines.{parameter};
@@ -37,8 +37,8 @@ impl Driver {
     }
 
     /// A client that has just registered is told of the nick in force where it was greeted by another, that there is
-    /// no message of the day, that too few nodes are up, where people were told so, and that there is no server, where
-    /// there is none.
+    /// no message of the day, that too few nodes are up, where people were told so, that there is no server, where there is
+    /// none, and which channels are not joined.
     pub(crate) fn greet(
         &mut self,
         now: &Now,
@@ -60,7 +60,8 @@ impl Driver {
         self.clients
             .tell(number, motd.as_slice(), &mut self.orders)?;
         self.warn(number)?;
-        self.tell_missing(now, number)
+        self.tell_missing(now, number)?;
+        self.tell_absent(number)
     }
 
     /// A client is told that too few nodes are up, where people were told so, it is attached and its connection stands.
@@ -89,6 +90,18 @@ impl Driver {
         };
         let line = notice(self.alloc, self.nick().as_bytes(), text.as_slice())?;
         self.clients.tell(number, line.as_slice(), &mut self.orders)
+    }
+
+    /// A client is told which channels are not joined, and why, where it is attached and its connection stands.
+    fn tell_absent(&mut self, number: u64) -> Result<(), AllocError>
+        ensures told { OnOk result (AreMissed self.old.link.absent.channels
+            (client_at self.old.clients number) (nick_in self.old) self.old.orders self.new.orders) }
+        ensures nobody { client_at self.old.clients number ≡ None → self.new ≡ self.old }
+        ensures rest { self.new ≡ record self.old { orders = self.new.orders } }
+    {
+        let nick = nick_by(&self.given, &self.settings.nick).as_bytes();
+        self.clients
+            .tell_absent(number, nick, self.link.absent(), &mut self.orders)
     }
 
     /// What came in a session may give another nick.

@@ -1,16 +1,21 @@
 //! The connection to the server, as the driver has it.
-ghost use Rattle.std.specs.Prelude.{◌≡◌, OnOk};
+ghost use Rattle.std.specs.Prelude.{◌≡◌, IfOk, OnOk, option_map};
+ghost use Rattle.driver.specs.Absent.{reason_number, text_numbered};
+ghost use Rattle.driver.specs.Nicks.{nick_in};
+ghost use Rattle.driver.specs.Telling.{ordered};
 ghost use Rattle.driver.specs.declared.news.Ending.TheVariants.{Silent};
 ghost use Rattle.driver.specs.Filling.{is_left_out};
 ghost use Rattle.driver.specs.Driving.{AsksServer, Connects, Ends, Leaves, LeavesIf, LeavesOlder, QuitsIf, SaysQuit};
 ghost use Rattle.driver.specs.Leading.{is_older, is_that};
 ghost use Rattle.driver.specs.Links.{Connects as IsConnected, is_open, node_of};
 ghost use Rattle.driver.specs.Servers.{is_silent};
-ghost use Rattle.driver.specs.Sessions.{OpensBy, TakesIf, TellsAllOf, TellsIf};
+ghost use Rattle.driver.specs.Sessions.{OpensBy, TakesIf, TellsAllOf, TellsIf, absent_news, channels_heard};
 
 use crate::driver::Driver;
+use crate::driver::nick::nick_by;
 use crate::news::{Ending, News};
 use crate::order::{Now, TowerNote};
+use irc_line::Line;
 use node_notes::Note;
 use raft_log::NodeId;
 use std::alloc::AllocError;
@@ -68,7 +73,8 @@ impl Driver {
         Ok(())
     }
 
-    /// Where what came says that the session opened, the connection knows it, and an operator is told.
+    /// Where what came says that the session opened, or that a channel is joined or is not, the connection knows it, and an
+    /// operator is told.
     fn open_by(&mut self, node: NodeId, note: &TowerNote) -> Result<(), AllocError>
         ensures { OnOk result (OpensBy node note.now self.old self.new) }
     {
@@ -77,8 +83,33 @@ impl Driver {
                 self.link.open(self.settings.on_connect.as_slice())?;
                 self.orders.log(News::Opened(node))
             }
+            Note::Heard(_, line) => self.hear_channels(node, line.line()),
             _ => Ok(()),
         }
+    }
+
+    /// A line from the server may say that a channel is joined, or is not: an operator is told of one that is not.
+    fn hear_channels(&mut self, node: NodeId, line: &Line) -> Result<(), AllocError>
+        ensures told { OnOk result (self.new.orders ≡ ordered self.old.orders
+            (absent_news node (reason_number (nick_in self.old) line.now self.old.link.absent))) }
+        ensures rest { OnOk result (self.new ≡ record self.old {
+          orders = self.new.orders;
+          link = channels_heard (nick_in self.old) line.now self.old.link;
+        }) }
+    {
+        let nick = nick_by(&self.given, &self.settings.nick).as_bytes();
+        match self.link.hear_channels(nick, line)? {
+            Some(number) => self.orders.log(News::NotJoined(node, number)),
+            None => Ok(()),
+        }
+    }
+
+    /// What people are told of the channel whose reason not to be joined has this number, if there is one.
+    pub fn why_not_joined(&self, number: u64) -> Result<Option<Vec<u8>>, AllocError>
+        ensures { IfOk result (λ text. option_map (λ text. text.items) text
+            ≡ text_numbered number self.now.link.absent.channels) }
+    {
+        self.link.why_absent(number)
     }
 
     /// The connection to the server is gone, or could not be made.

@@ -61,7 +61,7 @@ impl Driver {
     }
 
     /// Whether questions are due: nothing waits to be claimed, as far as is known.
-    fn are_due(&self, node: NodeId) -> bool
+    pub(crate) fn are_due(&self, node: NodeId) -> bool
         ensures { result ≡ are_due (slice_get self.now.monitors (node - 1)) }
     {
         match self.monitors.get(node.value() as usize - 1) {

@@ -33,6 +33,7 @@ impl Link {
         ensures waiting { OnOk result
             (self.new.waiting ≡ waiting_behind self.old.stage self.old.waiting) }
         ensures keys { OnOk result (self.new.keys ≡ self.old.keys) }
+        ensures absent { OnOk result (self.new.absent ≡ self.old.absent) }
     {
         let lost = match &mut self.stage {
             Stage::Idle(_, _) => return Ok(false),

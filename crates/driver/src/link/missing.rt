@@ -85,7 +85,7 @@ fn seconds_of(ms: u64) -> u64
 }
 
 /// Appends a number in decimal digits.
-fn push_number(out: &mut Vec<u8>, number: u64) -> Result<(), AllocError>
+pub fn push_number(out: &mut Vec<u8>, number: u64) -> Result<(), AllocError>
     ensures { OnOk result (out.new.items ≡ out.old.items ++ decimal number) }
 {
     let mut buffer = Buffer::new();

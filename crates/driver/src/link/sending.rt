@@ -38,7 +38,8 @@ impl Link {
         } else {
             known
         };
-        self.waiting.push_join(channel, key)
+        self.waiting.push_join(channel, key)?;
+        self.absent.ask(channel)
     }
 
     /// Whether a line that is said waits.
@@ -57,7 +58,7 @@ impl Link {
         self.waiting.next(are_due)
     }
 
-    /// This goes to the server. Where a channel is joined by a key, that is known from now on.
+    /// This goes to the server. Where a channel is asked for by a key, that is tried.
     pub fn write(&mut self, piece: Piece, orders: &mut Orders) -> Result<(), AllocError>
         ensures sent { OnOk result (IsSent piece orders.old orders.new) }
         ensures keys { OnOk result

@@ -1,8 +1,0 @@
-use Rattle.std.proofs.Common.{rules, not}
-use Rattle.std.proofs.lemmas.Fn.{filter_same}
-use Rattle.irc_line.specs.Names.{same_name}
-use Rattle.driver.specs.Keys.{KeyOf}
-use Rattle.driver.proofs.key_ring.KeyRing.forget.Goals as goal
-
-pub returns : goal.returns
-returns c = rw (← c.self.view_is) (filter_same _ (λ (known : KeyOf). not (same_name c.args.channel.now known.channel)) _ (λ x b q r. search rules) _ _ c.retain.ensures.filtered)
