@@ -25,6 +25,8 @@ pub enum EdgeNews {
     Deaf(NodeId, io::Error),
     /// The server refuses the session, or ends it, and says so.
     Refused(String),
+    /// A channel is not joined, and why.
+    NotJoined(NodeId, String),
     /// The server took the session of this node, by this nick.
     Nick(NodeId, Name),
     /// A client attached by this name.
@@ -42,7 +44,7 @@ impl EdgeNews {
             EdgeNews::Unregistered(node, _, _) => Some(*node),
             EdgeNews::GaveWay(node, _, _) | EdgeNews::Crowded(node, _) => Some(*node),
             EdgeNews::Deaf(node, _) | EdgeNews::Nick(node, _) => Some(*node),
-            EdgeNews::Named(node, _, _) => Some(*node),
+            EdgeNews::Named(node, _, _) | EdgeNews::NotJoined(node, _) => Some(*node),
             EdgeNews::Refused(_) | EdgeNews::InputEnded => None,
         }
     }
@@ -70,6 +72,7 @@ impl fmt::Display for EdgeNews {
             EdgeNews::Crowded(_, from) => write!(f, "too many clients: {from} is turned away"),
             EdgeNews::Deaf(_, error) => write!(f, "no client can be taken: {error}"),
             EdgeNews::Refused(text) => write!(f, "the server says: {text}"),
+            EdgeNews::NotJoined(_, text) => write!(f, "{text}"),
             EdgeNews::Nick(_, nick) => write!(f, "the nick is {}", text_of(nick)),
             EdgeNews::Named(_, number, name) => write!(f, "client {number} is {}", text_of(name)),
             EdgeNews::InputEnded => write!(f, "standard input ended: stopping"),

@@ -3,6 +3,7 @@ use crate::edge_news::EdgeNews;
 use crate::event_loop::LoopFault;
 use crate::gone::tell_gone;
 use crate::operator::Operator;
+use crate::reasons::shown;
 use crate::sockets::Sockets;
 use buffer_commands::Action;
 use driver::{Driver, News, Now, Order};
@@ -67,6 +68,9 @@ fn log<O: Operator>(
     operator: &mut O,
     news: News,
 ) -> Result<(), LoopFault> {
+    if let News::NotJoined(node, number) = news {
+        return tell_absent(now, driver, sockets.alloc, operator, node, number);
+    }
     tell_clients(sockets.alloc, driver, &news)?;
     if let News::Attached(origin) = news {
         sockets.register(origin.client());
@@ -75,6 +79,23 @@ fn log<O: Operator>(
     if let News::Opened(node) = news {
         let nick = driver.nick().copy(sockets.alloc)?;
         operator.hear_edge(now, EdgeNews::Nick(node, nick));
+    }
+    Ok(())
+}
+
+/// An operator and clients are told that a channel is not joined, for the reason of this number.
+fn tell_absent<O: Operator>(
+    now: &Now,
+    driver: &mut Driver,
+    alloc: Global,
+    operator: &mut O,
+    node: NodeId,
+    number: u64,
+) -> Result<(), LoopFault> {
+    if let Some(text) = driver.why_not_joined(number)? {
+        driver.notice(text.as_slice())?;
+        let text = shown(alloc, text.as_slice())?;
+        operator.hear_edge(now, EdgeNews::NotJoined(node, text));
     }
     Ok(())
 }

@@ -89,7 +89,7 @@ fn command_of(line: &[u8]) -> &[u8] {
 }
 
 /// A line as a text of which each control character is left out.
-fn shown(alloc: Global, line: &[u8]) -> Result<String, AllocError> {
+pub fn shown(alloc: Global, line: &[u8]) -> Result<String, AllocError> {
     let mut text = String::new(alloc);
     for letter in from_utf8(line).unwrap_or("a line that is no text").chars() {
         if !letter.is_control() {
