@@ -1,0 +1,30 @@
+//! What can always be had by further events of the nodes of a majority, after every list of events, for every machine.
+ghost use Rattle.world_run.specs.Laws.{OverAll};
+ghost use Rattle.progress.specs.Laws.{CanBeElected, CanSettle, ClientsMayAsk, HasCandidate};
+ghost use Rattle.progress.specs.Laws.{NewHasRoom, NothingWedges};
+
+use machine_laws::Hosted;
+use raft_node::Described;
+
+/// A majority always has a node whose log is as up to date as that of each of it. Where that does not lead, it waits until its
+/// term is above all others, asks for the others' votes and gets them. Nodes outside of the majority have no part in it.
+pub fn a_leader_can_be_had<M: Hosted>()
+    ensures elects { (s : M.Setup) → OverAll (⟦<M as Described>⟧.machine s) CanBeElected }
+    ensures chooses { (s : M.Setup) → OverAll (⟦<M as Described>⟧.machine s) HasCandidate }
+{}
+
+/// Where that node leads already, it goes on, unless another one of the majority is ahead of it: then it first hears of that,
+/// and is elected anew. From there the leader and each of the others exchange appends and answers, until all that it has is
+/// committed by each of them. No node is started again.
+pub fn what_a_leader_has_can_be_committed<M: Hosted>()
+    ensures { (s : M.Setup) → OverAll (⟦<M as Described>⟧.machine s) CanSettle }
+{}
+
+/// And then what is asked for at any node of the majority comes into the leader's log, is committed in the same way, and is
+/// applied at that node, where the answer leaves. The limits have to leave room, as they do in a new group: two entries in
+/// each log of the majority, and a term above all terms.
+pub fn nothing_wedges<M: Hosted>()
+    ensures through { (s : M.Setup) → OverAll (⟦<M as Described>⟧.machine s) NothingWedges }
+    ensures clients { (s : M.Setup) → ClientsMayAsk (⟦<M as Described>⟧.machine s) }
+    ensures new { (s : M.Setup) → NewHasRoom (⟦<M as Described>⟧.machine s) }
+{}

@@ -1,0 +1,9 @@
+//! That no world to which a group may come is a dead end.
+//! Stands on world_run.
+//! Whatever happened, any majority of the nodes can have a leader, commit all that this has, and bring what is asked for at any
+//! of them through, by further events that a function of the world gives.
+#![tactic(auto)]
+
+mod laws;
+
+pub use laws::{a_leader_can_be_had, nothing_wedges, what_a_leader_has_can_be_committed};
