@@ -14,9 +14,9 @@ use raft_log::NodeId;
 use raft_node::NodeFault;
 use request_once::Answer;
 use session_fence::FenceEffect;
-use std::alloc::{AllocError, Global};
+use std::alloc::Global;
 use upstream_claim::ClaimsEffect;
-use wire_bytes::Origin;
+use wire_bytes::{Origin, SessionId};
 
 /// A node's report of how it stands and how far its worker is, with no effect.
 pub fn report(alloc: Global, node: NodeId, standing: Standing) -> TowerReport {
@@ -39,20 +39,49 @@ pub fn report(alloc: Global, node: NodeId, standing: Standing) -> TowerReport {
 pub fn showing(alloc: Global, node: NodeId, text: &[u8]) -> Result<TowerReport, Fault> {
     let (digits, line) = cut(text);
     let origin = Origin::new(node.value(), 1, number(digits)?);
-    let effects = showing_line(alloc, origin, &Line::parse(alloc, line)?)?;
-    let standing = standing_of(b"follows", b"")?;
+    let shown = Effect::Show(origin, Shown::of_line(&Line::parse(alloc, line)?)?);
+    telling(alloc, node, of_buffers(shown))
+}
+
+/// A report of a node that follows, by which the buffers close the client of this number of its first run.
+pub fn closing(alloc: Global, node: NodeId, digits: &[u8]) -> Result<TowerReport, Fault> {
+    let origin = Origin::new(node.value(), 1, number(digits)?);
+    telling(alloc, node, of_buffers(Effect::Close(origin)))
+}
+
+/// A report of a node that follows, by which requests of a client of its first run are done; the text has the client's
+/// number, and that of the last of them.
+pub fn doing(alloc: Global, node: NodeId, text: &[u8]) -> Result<TowerReport, Fault> {
+    let (digits, last) = cut(text);
+    let origin = Origin::new(node.value(), 1, number(digits)?);
+    telling(alloc, node, Answer::Done(origin, number(last)?))
+}
+
+/// A report of a node that leads, by which a session of it joins this channel again.
+pub fn rejoining(alloc: Global, node: NodeId, channel: &[u8]) -> Result<TowerReport, Fault> {
+    let mut join = Vec::from_slice(alloc, b"JOIN ")?;
+    join.extend_from_slice(channel)?;
+    let line = Line::parse(alloc, join.as_slice())?;
+    let joins = FenceEffect::Rejoin(SessionId::new(1, 1), line);
+    let effects = single(alloc, Answer::Effect(ClaimsEffect::Inner(joins)))?;
+    let standing = standing_of(b"leads", b"")?;
     Ok(Report {
         effects,
         ..report(alloc, node, standing)
     })
 }
 
-/// The effects by which a client is shown a line.
-fn showing_line(
-    alloc: Global,
-    origin: Origin,
-    line: &Line,
-) -> Result<Vec<TowerEffect>, AllocError> {
-    let shown = FenceEffect::Inner(Effect::Show(origin, Shown::of_line(line)?));
-    single(alloc, Answer::Effect(ClaimsEffect::Inner(shown)))
+/// An effect of the buffers, as a node tells it.
+fn of_buffers(effect: Effect) -> TowerEffect {
+    Answer::Effect(ClaimsEffect::Inner(FenceEffect::Inner(effect)))
+}
+
+/// A report of a node that follows, with this effect.
+fn telling(alloc: Global, node: NodeId, effect: TowerEffect) -> Result<TowerReport, Fault> {
+    let effects = single(alloc, effect)?;
+    let standing = standing_of(b"follows", b"")?;
+    Ok(Report {
+        effects,
+        ..report(alloc, node, standing)
+    })
 }

@@ -1,6 +1,6 @@
 //! Steps of a story.
 use crate::drive::orders::push_orders;
-use crate::drive::reports::{report, showing};
+use crate::drive::reports::{closing, doing, rejoining, report, showing};
 use crate::drive::standing::standing_of;
 use crate::stories::fault::Fault;
 use crate::stories::words::{bytes_of, cut, node_of, number};
@@ -103,6 +103,12 @@ fn node_does(
         Ok(driver.hand(node, &Line::parse(alloc, rest)?)?)
     } else if is_same(verb, b"shows") {
         Ok(driver.hear(now, showing(alloc, node, rest)?)?)
+    } else if is_same(verb, b"closes") {
+        Ok(driver.hear(now, closing(alloc, node, rest)?)?)
+    } else if is_same(verb, b"rejoins") {
+        Ok(driver.hear(now, rejoining(alloc, node, rest)?)?)
+    } else if is_same(verb, b"does") {
+        Ok(driver.hear(now, doing(alloc, node, rest)?)?)
     } else {
         Ok(driver.hear(now, report(alloc, node, standing_of(verb, rest)?))?)
     }
