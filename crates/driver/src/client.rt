@@ -3,16 +3,17 @@ ghost use Rattle.std.specs.Prelude.{◌≡◌, ◌∷◌, ◌&&◌, ◌||◌, le
 ghost use Rattle.client_gate.specs.Calls.{Call, Stands, gate};
 ghost use Rattle.client_gate.specs.Gates.{last_request};
 ghost use Rattle.client_gate.specs.declared.settings.Settings.{Settings};
-ghost use Rattle.driver.specs.Asking.{held_behind, is_idle};
+ghost use Rattle.driver.specs.Asking.{is_idle};
 ghost use Rattle.driver.specs.Clients.{behind_fed, is_cut, parting_unless, passed};
 ghost use Rattle.driver.specs.Rosters.{IsNew, reading_limit};
-ghost use Rattle.driver.specs.Serving.{Hears, HearsEffect, IsLost, IsParted, ReceivesWords, StandsSo, ended_if};
+ghost use Rattle.driver.specs.Serving.{IsLost, IsParted, ReceivesWords, StandsSo, ended_if};
 ghost use Rattle.driver.specs.Telling.{ordered};
 
 mod asking;
 mod channels;
 mod evicting;
 mod farewell;
+mod hearing;
 mod joining;
 mod naming;
 mod opening;
@@ -28,12 +29,10 @@ use crate::news::News;
 use crate::order::Now;
 use crate::orders::Orders;
 use crate::timer::Timer;
-use bouncer_tower::TowerEffect;
 use client_gate::{ClientGate, Fed, StatusWord};
 use irc_line::Name;
 pub use joining::{behind_space, joined_as};
 use raft_log::NodeId;
-use request_once::Answer;
 use std::alloc::{AllocError, Global};
 use wire_bytes::Origin;
 
@@ -180,46 +179,6 @@ impl Client {
         }
     }
 
-    /// Something came of a request, under this nick. One that leaves is closed once its last request is done.
-    pub fn hear(
-        &mut self,
-        now: &Now,
-        nick: &[u8],
-        effect: &TowerEffect,
-        orders: &mut Orders,
-    ) -> Result<(), AllocError>
-        ensures { (s : Settings) (calls : List Call) → Stands s calls self.old.gate →
-            OnOk result (Hears effect.now nick.now now.now.ms now.now.at s calls
-            self.old orders.old self.new orders.new) }
-    {
-        self.hear_effect(now, nick, effect, orders)?;
-        self.part_if_done(now, orders)
-    }
-
-    /// Something came of a request, under this nick.
-    fn hear_effect(
-        &mut self,
-        now: &Now,
-        nick: &[u8],
-        effect: &TowerEffect,
-        orders: &mut Orders,
-    ) -> Result<(), AllocError>
-        ensures { (s : Settings) (calls : List Call) → Stands s calls self.old.gate →
-            OnOk result (HearsEffect effect.now nick.now now.now.ms now.now.at s calls
-            self.old orders.old self.new orders.new) }
-    {
-        self.begin_asking(now, orders);
-        match self.gate.on_effect(effect) {
-            Ok(fed) => {
-                self.is_held_up = is_held_behind(effect, self.is_held_up);
-                self.follow(nick, effect)?;
-                self.pass(now, fed, orders)?;
-            }
-            Err(_) => self.part(now, orders)?,
-        }
-        Ok(())
-    }
-
     /// What its gate answered goes on: the bytes to the client, the requests to its node. Where the gate
     /// closes, and the client asked to leave by that, it stays until that is done; else it is closed. What the client said
     /// to the bouncer by it that asked for nothing.
@@ -296,17 +255,5 @@ impl Client {
             result ≡ (self.now.is_gone && is_idle (gate s calls).waiting) }
     {
         self.is_gone && self.gate.waiting() == 0
-    }
-}
-
-/// Whether a client is held up that was or was not, behind what came of a request: a number that was left
-/// out holds it up, and what is done for it ends that.
-fn is_held_behind(effect: &TowerEffect, is_held_up: bool) -> bool
-    ensures { result ≡ held_behind effect.now is_held_up }
-{
-    match effect {
-        Answer::Gap(_, _) => true,
-        Answer::Done(_, _) | Answer::Repeat(_, _) => false,
-        Answer::Effect(_) | Answer::Marked(_) => is_held_up,
     }
 }
