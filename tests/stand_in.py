@@ -74,6 +74,7 @@ class StandIn:
         self.live = []  # all sessions, those too that ended
         self.is_mute = False  # it answers no PING
         self.keys = {}  # of channels, without which nobody joins them
+        self.parting = 0.0  # seconds that it takes over a PART, before it reads on
         self.open()
 
     def open(self):
@@ -190,6 +191,7 @@ class Session:
             channels, _, keys = line.removeprefix("JOIN ").partition(" ")
             self.join(channels.lstrip(":").split(","), keys.lstrip(":").split(","))
         elif line.startswith("PART "):
+            time.sleep(self.server.parting)
             for channel in line.split(" ")[1].split(","):
                 self.send(f":{self.nick}!u@h PART {channel}")
         elif line.startswith("PRIVMSG #x :"):

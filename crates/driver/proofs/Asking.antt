@@ -22,14 +22,16 @@ use Rattle.driver.specs.declared.client.Client.{Client}
 use Rattle.driver.specs.declared.order.Order.{Order}
 use Rattle.driver.specs.declared.order.Order.TheVariants.{Write}
 use Rattle.driver.specs.Asking.{HearsNode, anew_if, asks_if, held_if, is_stuck, may_be_lost, now_asked}
-use Rattle.driver.specs.Clients.{asked_all, asks_of, is_cut, is_leaving, is_shut, is_some_asked, last_asks, parting_unless, passed, welcome, write_some, written}
+use Rattle.driver.specs.Clients.{asked_all, asked_by, asks_of, is_cut, is_leaving, is_shut, is_some_asked, last_asks, parting_unless, passed, welcome, write_some, written}
 use Rattle.driver.specs.Crowds.{Ticks}
+use Rattle.driver.specs.Cycling.{reworded}
 use Rattle.driver.specs.Once.{AreQuiet, AsksOnce, Event, Happens, TellsOnce, asks_again, number_told, numbers_of, numbers_told}
 use Rattle.driver.specs.Leaving.{IsDismissed, Leaves, is_overdue}
 use Rattle.driver.specs.Once.{Dismissed, Goes, Learns, Speaks, Waits, Words}
 use Rattle.driver.specs.Serving.{HasPassed, Hears, HearsEffect, IsCutOff, IsLost, IsParted, PartsIf, Receives, TakesBy, ended, ended_if, is_done}
 use Rattle.driver.specs.Silence.{IsKept, IsPing, IsSentOff, held_back, is_silent, is_to_go, waited}
 use Rattle.driver.specs.Telling.{Ordered, ordered}
+use Rattle.driver.proofs.Cycling.{numbers_kept}
 
 -- what orders tell, and those behind them
 told_append : (xs ys : List Order) → numbers_told (xs ++ ys) ≡ numbers_told xs ++ numbers_told ys
@@ -52,6 +54,11 @@ told_all attached origin at (request ∷ requests) =
     told_append (welcome attached origin) (asks_of origin at (request ∷ requests))
     ∙ ap (λ numbers. numbers ++ numbers_told (asks_of origin at (request ∷ requests))) (told_welcome attached origin)
     ∙ told_asks origin at (request ∷ requests)
+
+-- as they are told to the node
+told_by : (c : Client) (at : Moment) (requests : List Request) → numbers_told (asked_by c at requests) ≡ numbers_of requests
+told_by c at requests =
+    told_all c.is_attached c.origin at (reworded c.channels c.parting requests) ∙ numbers_kept c.channels c.parting requests
 
 told_some : (client : ℕ) (bytes : Vec ℕ) (items : List ℕ) → numbers_told (write_some client bytes items) ≡ []
 told_some client bytes [] = refl
@@ -85,13 +92,13 @@ closed_once true gone attached s calls origin at = ended_once gone attached s ca
 numbered_once : (s : Settings) (calls : List Call) (c : Client) (at : Moment) (fed : Fed) (earlier : List ℕ) → numbers_of (all_requests s calls) ≡ earlier ++ numbers_of fed.requests.items → numbers_of (all_requests s (ended_if (is_cut fed) c.is_gone calls)) ≡ earlier ++ numbers_told (passed c at (last_request (gate s calls)) fed)
 numbered_once s calls c at fed earlier is =
     let bytes = written c.is_gone c.origin.2 fed.reply in
-    let asks = asked_all c.is_attached c.origin at fed.requests.items in
+    let asks = asked_by c at fed.requests.items in
     let attached = c.is_attached || is_some_asked fed.requests.items in
     let end = if is_cut fed then parting_unless c.is_gone attached c.origin at (last_request (gate s calls)) else [] in
     let requests = numbers_of fed.requests.items in
     let told =
     told_append (bytes ++ asks) end
-    ∙ ap (λ numbers. numbers ++ numbers_told end) (told_append bytes asks ∙ ap (λ numbers. numbers ++ numbers_told asks) (told_written c.is_gone c.origin.2 fed.reply) ∙ told_all c.is_attached c.origin at fed.requests.items)
+    ∙ ap (λ numbers. numbers ++ numbers_told end) (told_append bytes asks ∙ ap (λ numbers. numbers ++ numbers_told asks) (told_written c.is_gone c.origin.2 fed.reply) ∙ told_by c at fed.requests.items)
     in
     closed_once (is_cut fed) c.is_gone attached s calls c.origin at
     ∙ ap (λ numbers. numbers ++ numbers_told end) is
@@ -193,12 +200,12 @@ takes_once false answer now at due s calls behind fed c new before after more is
 takes_once true answer now at due s calls behind fed c new before after more is (orders, stands) = record {
   behind = behind;
   stands = stands.gate;
-  told = asked_all c.is_attached c.origin at fed.requests.items;
+  told = asked_by c at fed.requests.items;
   orders = orders;
   once =
       more
       ∙ ap (λ (given : Given). numbers_of (all_requests s calls) ++ numbers_of given.requests) (sym is)
-      ∙ ap (λ numbers. numbers_of (all_requests s calls) ++ numbers) (sym (told_all c.is_attached c.origin at fed.requests.items));
+      ∙ ap (λ numbers. numbers_of (all_requests s calls) ++ numbers) (sym (told_by c at fed.requests.items));
 }
 
 reads_by : (shut : Bool) (bytes : List ℕ) (now : ℕ) (at : Moment) (due : ℕ) (s : Settings) (calls : List Call) (old new : Client) (before after : Ordered) → is_shut old ≡ shut → Stands s calls old.gate → Receives bytes now at due s calls old before new after → TellsOnce s calls before new after

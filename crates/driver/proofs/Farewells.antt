@@ -18,8 +18,9 @@ use Rattle.driver.specs.declared.order.Order.{Order}
 use Rattle.driver.specs.declared.order.Order.TheVariants.{Write}
 use Rattle.driver.specs.declared.timer.Timer.{Timer}
 use Rattle.driver.specs.Asking.{anew_if, held_if, is_stuck, may_be_lost, now_asked}
-use Rattle.driver.specs.Clients.{asked_all, asks_of, is_cut, is_leaving, is_some_asked, leaves_since, parting_unless, passed, write_some, written}
+use Rattle.driver.specs.Clients.{asked_all, asked_by, asks_of, is_cut, is_leaving, is_some_asked, leaves_since, parting_unless, passed, write_some, written}
 use Rattle.driver.specs.Crowds.{Ticks}
+use Rattle.driver.specs.Cycling.{reworded}
 use Rattle.driver.specs.Farewells.{LeaversAreShownAll, WritesJust, all_shown, bytes_to, closes, shown_by, written_to}
 use Rattle.driver.specs.Leaving.{is_late, is_overdue}
 use Rattle.driver.specs.Once.{Dismissed, Event, Goes, HappenAll, Happening, Happens, Learns, Speaks, Waits, Words}
@@ -27,6 +28,7 @@ use Rattle.driver.specs.Serving.{HasPassed, HearsEffect, IsParted, PartsIf, is_d
 use Rattle.driver.specs.Silence.{IsKept, IsPing, is_silent, waited}
 use Rattle.driver.specs.Telling.{Ordered, ordered}
 use Rattle.driver.proofs.Asking.{hear_asks_none}
+use Rattle.driver.proofs.Cycling.{none_told}
 use Rattle.driver.proofs.Owning.{effect_own, event_own}
 
 -- What is written, and what is closed, by orders behind others.
@@ -278,10 +280,11 @@ passed_there e now at s calls since c told before orders here is p stays =
     let last = last_request (gate s (Hear e ∷ calls)) in
     let client = c.origin.2 in
     let bytes = written c.is_gone client fed.reply in
-    let asks = asked_all c.is_attached c.origin at fed.requests.items in
+    let asks = asked_by c at fed.requests.items in
     let attached = c.is_attached || is_some_asked fed.requests.items in
     let end = if is_cut fed then parting_unless c.is_gone attached c.origin at last else [] in
-    let no_asks : asks ≡ [] = none_asked c.is_attached c.origin at fed.requests.items none in
+    let requests = reworded c.channels c.parting fed.requests.items in
+    let no_asks : asks ≡ [] = none_asked c.is_attached c.origin at requests (none_told c.channels c.parting fed.requests.items none) in
     let no_more : end ≡ [] = no_end (is_cut fed) (parting_unless c.is_gone attached c.origin at last) whole in
     let just : passed c at last fed ≡ bytes =
     ap (λ (orders : List Order). (bytes ++ asks) ++ orders) no_more

@@ -56,7 +56,7 @@ last_true false b is = absurd (cc is)
 abbrev same_as : List ℕ → List ℕ → Bool
 same_as name folded = same_bytes (fold_name name) folded
 
-same_self : (name : List ℕ) → same_name name name ≡ true
+pub same_self : (name : List ℕ) → same_name name name ≡ true
 unfolding same_name
 same_self name = same_bytes-refl (fold_name name)
 

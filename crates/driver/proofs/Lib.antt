@@ -7,6 +7,7 @@ mod Counted
 mod Counting
 mod Crowds
 mod Cutting
+mod Cycling
 mod Dialing
 mod Downtime
 mod Driving

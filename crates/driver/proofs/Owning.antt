@@ -15,8 +15,9 @@ use Rattle.driver.specs.declared.client.Client.{Client}
 use Rattle.driver.specs.declared.order.Order.{Order}
 use Rattle.driver.specs.declared.order.Order.TheVariants.{Write}
 use Rattle.driver.specs.Asking.{HearsNode, anew_if, held_if, is_stuck, may_be_lost, now_asked}
-use Rattle.driver.specs.Clients.{asked_all, asks_of, is_cut, is_leaving, is_shut, is_some_asked, last_asks, left_news, parting_unless, passed, write_some, written}
+use Rattle.driver.specs.Clients.{asked_all, asked_by, asks_of, is_cut, is_leaving, is_shut, is_some_asked, last_asks, left_news, parting_unless, passed, write_some, written}
 use Rattle.driver.specs.Crowds.{Ticks}
+use Rattle.driver.specs.Cycling.{reworded}
 use Rattle.driver.specs.Leaving.{IsDismissed, Leaves, is_overdue}
 use Rattle.driver.specs.Once.{AsksOwn, Dismissed, Event, Goes, HappenAll, Happens, Learns, Speaks, TellsOnly, Waits, Words}
 use Rattle.driver.specs.Serving.{HasPassed, Hears, HearsEffect, IsCutOff, IsLost, IsParted, PartsIf, Receives, TakesBy, ended, ended_if, is_done}
@@ -72,11 +73,11 @@ only_end true gone attached origin at last = only_parting gone attached origin a
 only_passed : (c : Client) (at : Moment) (last : Option Request) (fed : Fed) → TellsOnly c.origin (passed c at last fed)
 only_passed c at last fed =
     let bytes = written c.is_gone c.origin.2 fed.reply in
-    let asks = asked_all c.is_attached c.origin at fed.requests.items in
+    let asks = asked_by c at fed.requests.items in
     let attached = c.is_attached || is_some_asked fed.requests.items in
     let end = if is_cut fed then parting_unless c.is_gone attached c.origin at last else [] in
     only_append c.origin (bytes ++ asks) end
-    (only_append c.origin bytes asks (only_written c.origin c.is_gone fed.reply) (only_all c.is_attached c.origin at fed.requests.items))
+    (only_append c.origin bytes asks (only_written c.origin c.is_gone fed.reply) (only_all c.is_attached c.origin at (reworded c.channels c.parting fed.requests.items)))
     (only_end (is_cut fed) c.is_gone attached c.origin at last)
 
 only_again : (again : Bool) (origin : Origin) (at : Moment) (waiting : List Request) → TellsOnly origin (if again then asks_of origin at waiting else [])
@@ -175,9 +176,9 @@ takes_own true now at due s calls fed c new before after (orders, stands) = reco
   behind = calls;
   stands = stands.gate;
   origin = ap (λ (client : Client). client.origin) stands.rest;
-  told = asked_all c.is_attached c.origin at fed.requests.items;
+  told = asked_by c at fed.requests.items;
   orders = orders;
-  own = only_all c.is_attached c.origin at fed.requests.items;
+  own = only_all c.is_attached c.origin at (reworded c.channels c.parting fed.requests.items);
 }
 
 pub reads_own : (shut : Bool) (bytes : List ℕ) (now : ℕ) (at : Moment) (due : ℕ) (s : Settings) (calls : List Call) (old new : Client) (before after : Ordered) → is_shut old ≡ shut → Stands s calls old.gate → Receives bytes now at due s calls old before new after → Owns s old before new after

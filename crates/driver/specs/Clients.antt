@@ -18,6 +18,7 @@ use Rattle.driver.specs.declared.timer.Timer.{Timer}
 use Rattle.driver.specs.declared.news.News.TheVariants.{Attached, Left}
 use Rattle.driver.specs.declared.order.Order.{Order}
 use Rattle.driver.specs.declared.order.Order.TheVariants.{Submit, Log, Close, Write}
+use Rattle.driver.specs.Cycling.{parted_all, reworded}
 
 -- a request under the client's own origin and its own number
 abbrev pub note_of : Origin → Moment → Request → Note TowerBody WireLine
@@ -100,11 +101,15 @@ has_left fed = fed.close && is_some_asked fed.requests.items
 abbrev pub is_cut : Fed → Bool
 is_cut fed = fed.close && not (is_some_asked fed.requests.items)
 
+-- what comes of requests of a client: a Join of a channel that it asked to part from is told as a line
+abbrev pub asked_by : Client → Moment → List Request → List Order
+asked_by c at requests = asked_all c.is_attached c.origin at (reworded c.channels c.parting requests)
+
 -- what a gate answered goes on: the bytes to its client, the requests to its node; and where it closes, and the client did not ask to
 -- leave, the client is parted from
 abbrev pub passed : Client → Moment → Option Request → Fed → List Order
 passed c at last fed =
-    (written c.is_gone c.origin.2 fed.reply ++ asked_all c.is_attached c.origin at fed.requests.items)
+    (written c.is_gone c.origin.2 fed.reply ++ asked_by c at fed.requests.items)
     ++ (if is_cut fed then parting_unless c.is_gone (c.is_attached || is_some_asked fed.requests.items) c.origin at last else [])
 
 -- since when a client leaves that asked to leave now, or did not
@@ -118,6 +123,7 @@ abbrev pub behind_fed : ℕ → Client → Fed → Client
 behind_fed now c fed = record c {
   is_attached = c.is_attached || is_some_asked fed.requests.items;
   name = named_by c.is_attached c.name fed.requests.items;
+  parting = parted_all c.channels c.parting fed.requests.items;
   leaving = leaves_since (has_left fed) now c.leaving;
   is_gone = c.is_gone || is_cut fed;
 }
@@ -127,6 +133,7 @@ abbrev pub kept_back : ℕ → Client → Fed → Client
 kept_back due c fed = record c {
   is_attached = c.is_attached || is_some_asked fed.requests.items;
   name = named_by c.is_attached c.name fed.requests.items;
+  parting = parted_all c.channels c.parting fed.requests.items;
   refused = Some (record { answer = fed.reply; due = due });
 }
 

@@ -9,6 +9,7 @@ pub mod Clients
 pub mod Coming
 pub mod Counting
 pub mod Crowds
+pub mod Cycling
 pub mod Monitors
 pub mod Downtime
 pub mod Evicting

@@ -109,6 +109,7 @@ pub record IsNew (origin : Origin) (held : Held) (nick : List ℕ) (now : ℕ) (
   pub is_not_held_up : client.is_held_up ≡ false
   pub is_not_attached : client.is_attached ≡ false
   pub has_none_open : client.channels ≡ []
+  pub parts_from_none : client.parting ≡ []
   pub is_not_pinged : client.is_pinged ≡ false
   pub is_not_leaving : client.leaving ≡ None
   pub is_not_gone : client.is_gone ≡ false

@@ -11,7 +11,7 @@ use Rattle.wire_bytes.specs.declared.moment.Moment.{Moment}
 use Rattle.driver.specs.declared.client.Asked.{Asked}
 use Rattle.driver.specs.declared.client.Client.{Client}
 use Rattle.driver.specs.Asking.{begun, held_behind, is_idle, now_asked}
-use Rattle.driver.specs.Clients.{asked_all, behind_fed, is_cut, is_shut, kept_back, parting_unless, passed}
+use Rattle.driver.specs.Clients.{asked_by, behind_fed, is_cut, is_shut, kept_back, parting_unless, passed}
 use Rattle.driver.specs.Monitors.{at}
 use Rattle.driver.specs.Opening.{open_behind}
 use Rattle.driver.specs.Telling.{Ordered, ordered}
@@ -76,7 +76,7 @@ TakesBy false s calls fed now moment due c before new after =
     (after ≡ ordered before (passed c moment (last_request (gate s calls)) fed))
     × StandsSo s (ended_if (is_cut fed) c.is_gone calls) (behind_fed now c fed) new
 TakesBy true s calls fed now moment due c before new after =
-    (after ≡ ordered before (asked_all c.is_attached c.origin moment fed.requests.items)) × StandsSo s calls (kept_back due c fed) new
+    (after ≡ ordered before (asked_by c moment fed.requests.items)) × StandsSo s calls (kept_back due c fed) new
 
 -- The gate, behind these calls, gave this answer, and it went on, or is kept back.
 pub record HasTaken (s : Settings) (calls : List Call) (answer : Given) (now : ℕ) (moment : Moment) (due : ℕ) (c : Client) (before : Ordered) (new : Client) (after : Ordered) : Type 0 where

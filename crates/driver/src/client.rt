@@ -11,6 +11,7 @@ ghost use Rattle.driver.specs.Telling.{ordered};
 
 mod asking;
 mod channels;
+mod cycling;
 mod evicting;
 mod farewell;
 mod hearing;
@@ -68,6 +69,8 @@ pub struct Client {
     is_held_up: bool,
     is_attached: bool,
     channels: Channels,
+    /// The channels that it had open when it asked to part from them, and did not ask to join since.
+    parting: Channels,
     /// It was asked for a word since it was last heard of.
     is_pinged: bool,
     /// Since when it leaves, where it does: its last request, Leave, was told to its node.
@@ -98,6 +101,7 @@ impl Client {
             is_held_up: false,
             is_attached: false,
             channels: Channels::new(alloc),
+            parting: Channels::new(alloc),
             is_pinged: false,
             leaving: None,
             is_gone: false,

@@ -2,6 +2,7 @@
 ghost use Rattle.driver.specs.Answering.{AnswersGoToWhoAsks};
 ghost use Rattle.driver.specs.Claiming.{OneClaimWaits};
 ghost use Rattle.driver.specs.Counting.{NotesAreCounted};
+ghost use Rattle.driver.specs.Cycling.{CyclesGoAsLines, OnlyJoinsAreReworded};
 ghost use Rattle.driver.specs.Downtime.{DownIsOnlyRestarted};
 ghost use Rattle.driver.specs.Farewells.{LeaversAreShownAll};
 ghost use Rattle.driver.specs.Learning.{JoinsShowTheNick};
@@ -20,6 +21,14 @@ ghost use Rattle.driver.specs.Sessions.{OpensOnce};
 /// nothing holds it up, each request that its gate numbers is told to its node once, and in order.
 pub fn requests_are_told_once()
     ensures { AsksOnce }
+{}
+
+/// Of what a client asks only a JOIN may be told otherwise, as the line that joins the channel; all is told in order, each
+/// request under its number. Where a client parts from a channel that it has open, and joins it right behind that, the JOIN
+/// goes as a line.
+pub fn a_channel_is_cycled()
+    ensures joins { OnlyJoinsAreReworded }
+    ensures cycles { CyclesGoAsLines }
 {}
 
 /// Whatever happens to a client, what it asks goes to its own node alone.

@@ -3,7 +3,8 @@ ghost use Rattle.std.specs.Prelude.{◌≡◌, ◌||◌, IfOk, List, OnOk};
 ghost use Rattle.client_gate.specs.Calls.{Call, Stands, gate};
 ghost use Rattle.client_gate.specs.declared.settings.Settings.{Settings};
 ghost use Rattle.driver.specs.Asking.{asked_anew, begun, now_asked};
-ghost use Rattle.driver.specs.Clients.{asked_all, asks_of, is_some_asked, name_asked, named_by, note_of};
+ghost use Rattle.driver.specs.Clients.{asked_by, asks_of, is_some_asked, name_asked, named_by, note_of};
+ghost use Rattle.driver.specs.Cycling.{parted_all};
 ghost use Rattle.driver.specs.Telling.{ordered};
 
 use crate::client::{Asked, Client};
@@ -43,8 +44,9 @@ impl Client {
         }
     }
 
-    /// Its requests are asked for. The first one is that it is attached, by a name or by none.
-    #[tactic(auto, unfolding(crate::specs::Clients::asked_all))]
+    /// Its requests are asked for, a JOIN behind a PART of the same channel as a line. The first one is that it is attached, by
+    /// a name or by none.
+    #[tactic(auto, unfolding(crate::specs::Clients::asked_all, crate::specs::Cycling::reworded, crate::specs::Cycling::parted_all))]
     pub(crate) fn ask_all(
         &mut self,
         now: &Now,
@@ -52,10 +54,11 @@ impl Client {
         orders: &mut Orders,
     ) -> Result<(), AllocError>
         ensures asked { OnOk result (orders.new ≡ ordered orders.old
-            (asked_all self.old.is_attached self.old.origin now.now.at requests.items)) }
+            (asked_by self.old now.now.at requests.items)) }
         ensures rest { OnOk result (self.new ≡ record self.old {
           is_attached = self.old.is_attached || is_some_asked requests.items;
           name = named_by self.old.is_attached self.old.name requests.items;
+          parting = parted_all self.old.channels self.old.parting requests.items;
         }) }
     {
         if requests.is_empty() {
@@ -66,7 +69,8 @@ impl Client {
             self.name = name_asked(self.alloc, requests.as_slice())?;
             orders.log(News::Attached(self.origin))?;
         }
-        ask_each(self.origin, now, requests, orders)
+        let told = self.reword(requests)?;
+        ask_each(self.origin, now, told, orders)
     }
 
     /// The requests that are not known to be done are asked for again.

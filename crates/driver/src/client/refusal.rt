@@ -3,7 +3,7 @@ ghost use Rattle.std.specs.Prelude.{◌≡◌, IfOk, List, OnOk, is_some, option
 ghost use Rattle.client_gate.specs.Calls.{Call, Stands, gate};
 ghost use Rattle.client_gate.specs.Gates.{is_turned_down};
 ghost use Rattle.client_gate.specs.declared.settings.Settings.{Settings};
-ghost use Rattle.driver.specs.Clients.{asked_all, due_answer, is_shut, kept_back, left_news};
+ghost use Rattle.driver.specs.Clients.{asked_by, due_answer, is_shut, kept_back, left_news};
 ghost use Rattle.driver.specs.Serving.{TakesBy};
 ghost use Rattle.driver.specs.Telling.{ordered};
 
@@ -68,7 +68,7 @@ impl Client {
         orders: &mut Orders,
     ) -> Result<Vec<StatusWord>, AllocError>
         ensures told { OnOk result (orders.new ≡ ordered orders.old
-            (asked_all self.old.is_attached self.old.origin now.now.at fed.requests.items)) }
+            (asked_by self.old now.now.at fed.requests.items)) }
         ensures kept { OnOk result (self.new ≡ kept_back due self.old fed) }
         ensures said { IfOk result (λ words. words.items ≡ fed.words.items) }
     {
