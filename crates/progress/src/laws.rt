@@ -1,8 +1,10 @@
 //! What can always be had by further events of the nodes of a majority, after every list of events, for every machine.
+ghost use Rattle.buffer_commands.specs.Settings.{Settings};
 ghost use Rattle.world_run.specs.Laws.{OverAll};
 ghost use Rattle.progress.specs.Laws.{CanBeElected, CanSettle, ClientsMayAsk, HasCandidate};
 ghost use Rattle.progress.specs.Laws.{NewHasRoom, NothingWedges};
 
+use bouncer_tower::Tower;
 use machine_laws::Hosted;
 use raft_node::Described;
 
@@ -28,3 +30,11 @@ pub fn nothing_wedges<M: Hosted>()
     ensures clients { (s : M.Setup) → ClientsMayAsk (⟦<M as Described>⟧.machine s) }
     ensures new { (s : M.Setup) → NewHasRoom (⟦<M as Described>⟧.machine s) }
 {}
+
+/// The same of the machine of the bouncer, whatever its setup.
+pub fn no_bouncer_wedges()
+    ensures through { (s : Settings) → OverAll (⟦<Tower as Described>⟧.machine s) NothingWedges }
+    ensures clients { (s : Settings) → ClientsMayAsk (⟦<Tower as Described>⟧.machine s) }
+{
+    nothing_wedges::<Tower>();
+}

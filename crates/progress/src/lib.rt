@@ -6,4 +6,6 @@
 
 mod laws;
 
-pub use laws::{a_leader_can_be_had, nothing_wedges, what_a_leader_has_can_be_committed};
+pub use laws::{
+    a_leader_can_be_had, no_bouncer_wedges, nothing_wedges, what_a_leader_has_can_be_committed,
+};
