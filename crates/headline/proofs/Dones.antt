@@ -18,7 +18,7 @@ one_more : (b : Bool) (k l : ℕ) → k ≡ l → (if b then suc k else k) ≡ (
 one_more true k l e = omega (arith, e)
 one_more false k l e = e
 
-count_dones : (o : Origin) (n : ℕ) (es : List TowerEffect) → count (is_done o n) es ≡ dones o n es
+pub count_dones : (o : Origin) (n : ℕ) (es : List TowerEffect) → count (is_done o n) es ≡ dones o n es
 count_dones o n [] = refl
 count_dones o n (e ∷ es) = one_more (is_done o n e) (count (is_done o n) es) (dones o n es) (count_dones o n es)
 

@@ -9,6 +9,7 @@ use Rattle.headline.specs.Promises.{IsHeadline}
 use Rattle.headline.proofs.Dones as dones
 use Rattle.headline.proofs.Hands as hands
 use Rattle.headline.proofs.Marks as marks
+use Rattle.headline.proofs.RealTime as real_time
 
 pub headline_of : (s : Settings) (size : ℕ) (es : List (Event (tower s))) → IsHeadline s size es
 headline_of s size es =
@@ -19,6 +20,8 @@ headline_of s size es =
       acts_once = dones.requests_act_once s size es;
       others_change_nothing = dones.others_change_nothing s size es;
       done_once = dones.done_once s size es;
+      done_is_agreed = real_time.done_is_agreed s size es;
+      done_is_before = λ k. real_time.done_is_before s size (take k es);
       handed_once = hands.handed_once s size es;
       outgoing = hands.handed_is_outgoing s size es;
       marks = λ k. marks.marks_are_above s size (take k es);

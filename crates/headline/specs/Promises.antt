@@ -7,7 +7,7 @@ use Rattle.wire_bytes.specs.declared.mark.Mark as mark
 use Rattle.machine_laws.specs.Runs.{History}
 use Rattle.buffer_commands.specs.Settings.{Settings}
 use Rattle.request_once.specs.declared.body.Body.TheVariants.{Asked, Mark}
-use Rattle.request_once.specs.Fresh.{fresh, stays, times, is_done}
+use Rattle.request_once.specs.Fresh.{fresh, stays, times, is_done, is_request}
 use Rattle.buffer_commands.specs.declared.command.Action.{Action}
 use Rattle.bouncer_tower.specs.Bodies.{TowerBody, plain, session, outgoing, claimed}
 use Rattle.bouncer_tower.specs.Hosting.{playback}
@@ -20,6 +20,14 @@ use Rattle.agreement.specs.World.{Begins, committed}
 use Rattle.world_run.specs.World.{Input, Timeout, Beat, Deliver, Ask, Opened, Closed, Heard, Claim, Event, Does, Restart, StopIn, Look, Apply, count, moment, outputs, agreed, left, handed}
 use Rattle.world_run.specs.Laws.{IsAgreed, IsFaithful, RunsAreApart}
 use Rattle.headline.specs.Tower.{tower}
+
+-- a body is this mark
+abbrev pub IsMark : mark.Mark → TowerBody → Type 0
+IsMark m body = Mark m ≡ body
+
+-- a body is a client's request of this number
+abbrev pub IsRequest : Origin → ℕ → TowerBody → Type 0
+IsRequest o n body = is_request o n body ≡ true
 
 -- This holds of groups of every size, over every list of events.
 abbrev pub OverAll : (s : Settings) → ((s : Settings) → ℕ → List (Event (tower s)) → Type 0) → Type 0
@@ -74,54 +82,68 @@ module _ (s : Settings) where
       slice_get (handed (tower s) size es) i ≡ Some (n, line) →
       (slice_get (outgoing s (bodies size es)) (n - 1) ≡ Some line) × ((c : ℕ) × (id : SessionId) × (slice_get (claimed s (bodies size es)) c ≡ Some (n, id)))
 
-  -- an event that asks for a mark
-  abbrev pub AsksIn : mark.Mark → Input (tower s) → Type 0
-  AsksIn m (Timeout i) = ⊥
-  AsksIn m (Beat i) = ⊥
-  AsksIn m (Deliver j k) = ⊥
-  AsksIn m (Ask i asked) = Mark m ≡ asked
-  AsksIn m (Opened i) = ⊥
-  AsksIn m (Closed i) = ⊥
-  AsksIn m (Heard i at line) = ⊥
-  AsksIn m (Claim i) = ⊥
-  AsksIn m (Apply i) = ⊥
-  AsksIn m (Look i from target) = ⊥
+  -- an event that asks for such a body
+  abbrev pub AsksIn : (TowerBody → Type 0) → Input (tower s) → Type 0
+  AsksIn P (Timeout i) = ⊥
+  AsksIn P (Beat i) = ⊥
+  AsksIn P (Deliver j k) = ⊥
+  AsksIn P (Ask i asked) = P asked
+  AsksIn P (Opened i) = ⊥
+  AsksIn P (Closed i) = ⊥
+  AsksIn P (Heard i at line) = ⊥
+  AsksIn P (Claim i) = ⊥
+  AsksIn P (Apply i) = ⊥
+  AsksIn P (Look i from target) = ⊥
 
   -- an event that does; a stop before its input is saved does not
-  abbrev pub Asks : mark.Mark → Event (tower s) → Type 0
-  Asks m (Does x) = AsksIn m x
-  Asks m (Restart i) = ⊥
-  Asks m (StopIn x false) = ⊥
-  Asks m (StopIn x true) = AsksIn m x
+  abbrev pub Asks : (TowerBody → Type 0) → Event (tower s) → Type 0
+  Asks P (Does x) = AsksIn P x
+  Asks P (Restart i) = ⊥
+  Asks P (StopIn x false) = ⊥
+  Asks P (StopIn x true) = AsksIn P x
 
   -- one of these events asks for it
-  abbrev pub IsAsked : mark.Mark → List (Event (tower s)) → Type 0
-  IsAsked m [] = ⊥
-  IsAsked m (e ∷ es) = Asks m e ⊎ IsAsked m es
+  abbrev pub IsAsked : (TowerBody → Type 0) → List (Event (tower s)) → Type 0
+  IsAsked P [] = ⊥
+  IsAsked P (e ∷ es) = Asks P e ⊎ IsAsked P es
 
   -- a mark that no event asked so far: each of its places in what is agreed later is above all that any node has committed
   abbrev pub MarksAreAbove : ℕ → List (Event (tower s)) → Type 0
   MarksAreAbove size early =
       (late : List (Event (tower s))) (m : mark.Mark) (p : ℕ) (e : Entry TowerBody) →
-      (IsAsked m early → ⊥) → item (agreed (tower s) size (early ++ late)) p ≡ Some e → e.body ≡ Mark m →
+      (IsAsked (IsMark m) early → ⊥) → item (agreed (tower s) size (early ++ late)) p ≡ Some e → e.body ≡ Mark m →
       (k a : ℕ) → length (committed (moment (tower s) size early k) a) < p
 
   -- a node that has applied such a mark has applied, below it, all that any node had committed by then
   abbrev pub AppliedMarks : ℕ → List (Event (tower s)) → Type 0
   AppliedMarks size early =
       (late : List (Event (tower s))) (m : mark.Mark) (j c p : ℕ) (n : Node TowerBody) (e : Entry TowerBody) →
-      (IsAsked m early → ⊥) → item (moment (tower s) size (early ++ late) j) c ≡ Some n → item (take n.applied n.log) p ≡ Some e → e.body ≡ Mark m →
+      (IsAsked (IsMark m) early → ⊥) → item (moment (tower s) size (early ++ late) j) c ≡ Some n → item (take n.applied n.log) p ≡ Some e → e.body ≡ Mark m →
       (k a : ℕ) → Begins (committed (moment (tower s) size early k) a) (take (pred p) (take n.applied n.log))
 
   -- a look that is answered at or behind the place of such a mark is the playback of a list that begins with all that any node had committed by then
   abbrev pub ConfirmedLooks : ℕ → List (Event (tower s)) → Type 0
   ConfirmedLooks size early =
       (late : List (Event (tower s))) (m : mark.Mark) (p : ℕ) (e : Entry TowerBody) (j i from place : ℕ) (target : List ℕ) (lines : List (List ℕ)) →
-      (IsAsked m early → ⊥) → item (agreed (tower s) size (early ++ late)) p ≡ Some e → e.body ≡ Mark m → p ≤ place →
+      (IsAsked (IsMark m) early → ⊥) → item (agreed (tower s) size (early ++ late)) p ≡ Some e → e.body ≡ Mark m → p ≤ place →
       item (early ++ late) j ≡ Some (Does (Look i from target)) → item (outputs (tower s) size (early ++ late)) j ≡ Some (Looked place lines) →
       (k a : ℕ) →
       (lines ≡ playback s (history (take place (agreed (tower s) size (early ++ late)))) target)
       × Begins (committed (moment (tower s) size early k) a) (take place (agreed (tower s) size (early ++ late)))
+
+  -- what was said to be done took effect in what is agreed by then
+  abbrev pub DoneIsAgreed : ℕ → List (Event (tower s)) → Type 0
+  DoneIsAgreed size es =
+      (o : Origin) (n : ℕ) → count (is_done o n) (left (tower s) size es) ≤ times o n (fresh (bodies size es))
+
+  -- A request was said to be done. Another one, that no event asked for by then, stands at some place of what is agreed later: the first one took effect before
+  -- that place.
+  abbrev pub DoneIsBefore : ℕ → List (Event (tower s)) → Type 0
+  DoneIsBefore size early =
+      (late : List (Event (tower s))) (o other : Origin) (n m p : ℕ) (e : Entry TowerBody) →
+      1 ≤ count (is_done o n) (left (tower s) size early) → (IsAsked (IsRequest other m) early → ⊥) →
+      item (agreed (tower s) size (early ++ late)) p ≡ Some e → IsRequest other m e.body →
+      times o n (fresh (history (take (pred p) (agreed (tower s) size (early ++ late))))) ≡ 1
 
   -- What holds of the bouncer over these events.
   pub record IsHeadline (size : ℕ) (es : List (Event (tower s))) : Type 0 where
@@ -135,6 +157,9 @@ module _ (s : Settings) where
     pub acts_once : RequestsActOnce size es
     pub others_change_nothing : OthersChangeNothing size es
     pub done_once : DoneOnce size es
+    -- what was said to be done is agreed, before all that was asked for later
+    pub done_is_agreed : DoneIsAgreed size es
+    pub done_is_before : (k : ℕ) → DoneIsBefore size (take k es)
     -- no line is handed upstream twice, and each is the outgoing line of its number
     pub handed_once : HandedOnce size es
     pub outgoing : HandedIsOutgoing size es

@@ -7,6 +7,7 @@ ghost use Rattle.world_run.specs.Laws.{AgreedGrows, EachBrought, InAgreed, OneLi
 ghost use Rattle.world_run.specs.Laws.{ApplyIsFaithful, LooksAreFaithful};
 ghost use Rattle.headline.specs.Tower.{tower};
 ghost use Rattle.headline.specs.Promises.{AreAgreed, ComesOut, OverAll};
+ghost use Rattle.headline.specs.Promises.{DoneIsAgreed, DoneIsBefore};
 ghost use Rattle.headline.specs.Promises.{DoneOnce, OthersChangeNothing, RequestsActOnce};
 ghost use Rattle.headline.specs.Promises.{HandedIsOutgoing, HandedOnce};
 ghost use Rattle.headline.specs.Promises.{AppliedMarks, ConfirmedLooks, MarksAreAbove};
@@ -44,6 +45,13 @@ pub fn requests_act_once()
     ensures effect { (s : Settings) → OverAll s RequestsActOnce }
     ensures others { (s : Settings) → OverAll s OthersChangeNothing }
     ensures done { (s : Settings) → OverAll s DoneOnce }
+{}
+
+/// Requests are linearizable: what was said to be done took effect in what is agreed by then, and before each place of what
+/// no event had asked for by then.
+pub fn requests_are_linearizable()
+    ensures agreed { (s : Settings) → OverAll s DoneIsAgreed }
+    ensures before { (s : Settings) → OverAll s DoneIsBefore }
 {}
 
 /// The numbers of the lines that are handed upstream, by all nodes and all their runs, are all different; each line is the

@@ -11,6 +11,6 @@ mod running;
 pub use bouncers::run_bouncers;
 pub use laws::{
     confirmed_looks_are_current, lines_are_handed_once, playback_is_faithful, requests_act_once,
-    the_nodes_agree, the_tower_is_so_described,
+    requests_are_linearizable, the_nodes_agree, the_tower_is_so_described,
 };
 pub use running::running_bouncers_keep_the_promises;
