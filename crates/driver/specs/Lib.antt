@@ -10,6 +10,7 @@ pub mod Coming
 pub mod Counting
 pub mod Crowds
 pub mod Cycling
+pub mod Limits
 pub mod Monitors
 pub mod Downtime
 pub mod Evicting

@@ -19,6 +19,7 @@ mod key_ring;
 pub mod laws;
 mod leader;
 mod level;
+pub mod limits;
 mod lines;
 mod link;
 mod news;
