@@ -1,6 +1,7 @@
 -- A node applies what it has committed, and the last place answers.
 use Rattle.std.proofs.Common.{◌≡◌, ℕ, zero, suc, ◌+◌, ◌-◌, ◌<◌, ◌≤◌, Bool, true, ltb, List, [], ◌∷◌, ◌++◌, length, replicate, take, filter, Option, Some, None, refl, sym, ap, subst, ◌∙◌, arith, append_assoc}
 use Rattle.std.proofs.lemmas.Bool.{cond-true, cond_both, lt-ltb}
+use Rattle.irc_line.specs.Lines.{Parts}
 use Rattle.machine_laws.specs.declared.class.Class.{Class}
 use Rattle.machine_laws.specs.declared.class.Class.TheVariants.{To, Hand, Rejoin, Nowhere}
 use Rattle.raft_log.specs.declared.node_state.Live.{Live}
@@ -14,7 +15,7 @@ use Rattle.world_run.specs.World.{World, Event, Does, Apply, happens, run, out_b
 use Rattle.progress.specs.Plans.{unapplied, apply_all}
 use Rattle.progress.specs.Laws.{AreWithin, IsAnswered, brought_about}
 use Rattle.progress.proofs.Places.{item_there}
-use Rattle.progress.proofs.Stepping.{Stepped, event_stepped, run_append, Leads, leads_nothing, leads_first}
+use Rattle.progress.proofs.Stepping.{Stepped, event_stepped, run_append, Leads, leads_nothing, leads_first, leads_more}
 
 module _ {A : Type 0} (test : A → Bool) where
   behind : (y : A) (zs : List A) (x : A) → ((j : ℕ) × (item zs j ≡ Some x)) → (j : ℕ) × (item (y ∷ zs) j ≡ Some x)
@@ -36,15 +37,15 @@ module _ {A : Type 0} (test : A → Bool) where
       cond_both (test y) (y ∷ filter test xs) (filter test xs) (λ z. (j : ℕ) × (item z j ≡ Some x)) (λ t. behind y (filter test xs) x r) (λ f. r)
 
 -- what goes to a client of a node leaves it, whatever its session
-leaves_live : {L : Type 0} (i boot : ℕ) (live : Option Live) (class : Class L) → leaves i boot None class ≡ true → leaves i boot live class ≡ true
+pub leaves_live : {L : Type 0} (i boot : ℕ) (live : Option Live) (class : Class L) → leaves i boot None class ≡ true → leaves i boot live class ≡ true
 leaves_live i boot live (To origin) h = h
 leaves_live i boot live (Hand id number line) h = absurd (cc h)
 leaves_live i boot live (Rejoin id line) h = absurd (cc h)
 leaves_live i boot live Nowhere h = absurd (cc h)
 
 module _ (M : Machine) where
-  pub answered_later : (a boot place : ℕ) (body : M.Body) (w : World M) (es fs : List (Event M)) → IsAnswered M a boot place body (run M es w) fs → IsAnswered M a boot place body w (es ++ fs)
-  answered_later a boot place body w es fs h =
+  pub answered_later : (a boot : ℕ) (live : Option Live) (log : List (Entry M.Body)) (body : M.Body) (w : World M) (es fs : List (Event M)) → IsAnswered M a boot live log body (run M es w) fs → IsAnswered M a boot live log body w (es ++ fs)
+  answered_later a boot live log body w es fs h =
       record {
         before = es ++ h.before;
         ends = ap (λ z. es ++ z) h.ends ∙ sym (append_assoc es h.before (Does (Apply a) ∷ []));
@@ -52,6 +53,7 @@ module _ (M : Machine) where
         at = ap (λ z. item z a) same ∙ h.at;
         boot_is = h.boot_is;
         behind_is = h.behind_is;
+        front = h.front;
         entry = h.entry;
         next = h.next;
         body_is = h.body_is;
@@ -69,38 +71,56 @@ module _ (M : Machine) where
   abbrev with_applied : Node M.Body → ℕ → Node M.Body
   with_applied s k = record s { applied = k }
 
+  -- so much is applied, and no other node changed
+  pub record Upto (a : ℕ) (w : World M) (s : Node M.Body) (m : ℕ) (v : World M) : Type 0 where
+    pub here : item v a ≡ Some (with_applied s m)
+    pub else : (k : ℕ) → (k ≡ a → ⊥) → item v k ≡ item w k
+    pub long : length v ≡ length w
+
   applies_next : (a : ℕ) (w : World M) (s : Node M.Body) → item w a ≡ Some s → s.applied < s.commit → s.commit ≤ length s.log
-      → item (happens M w (Does (Apply a))) a ≡ Some (with_applied s (suc s.applied))
+      → Stepped M w (happens M w (Does (Apply a))) a (with_applied s (suc s.applied))
   applies_next a w s at lt le =
-      let step : Stepped M w (happens M w (Does (Apply a))) a (turn M (length w) a Applies s).node = event_stepped M w (Does (Apply a)) a s refl at in
       let e : (x : Entry M.Body) × (item s.log (suc s.applied) ≡ Some x) = item_there s.log (suc s.applied) (omega arith) (omega arith) in
-      step.here ∙ ap (λ (z : Turn M). Some z.node) (next_applied a s e.0 lt e.1)
+      subst (λ (z : Turn M). Stepped M w (happens M w (Does (Apply a))) a z.node) (next_applied a s e.0 lt e.1)
+      (event_stepped M w (Does (Apply a)) a s refl at)
 
   some_applied : (set : List Bool) (a k m : ℕ) (w : World M) (s : Node M.Body) → IsIn set a → item w a ≡ Some s → m ≡ s.applied + k → m ≤ s.commit → s.commit ≤ length s.log
-      → Leads M set w (replicate k (Does (Apply a))) (λ v. item v a ≡ Some (with_applied s m))
+      → Leads M set w (replicate k (Does (Apply a))) (Upto a w s m)
   some_applied set a zero m w s in_a at e le in_log =
       let f : s.applied ≡ m = omega arith in
-      leads_nothing M set w (λ v. item v a ≡ Some (with_applied s m)) (at ∙ ap (λ z. Some (with_applied s z)) f)
+      leads_nothing M set w (Upto a w s m) (record { here = at ∙ ap (λ z. Some (with_applied s z)) f; else = λ k ne. refl; long = refl })
   some_applied set a (suc k) m w s in_a at e le in_log =
-      leads_first M set w (Does (Apply a)) (replicate k (Does (Apply a))) (λ v. item v a ≡ Some (with_applied s m)) in_a tt
-      (some_applied set a k m (happens M w (Does (Apply a))) (with_applied s (suc s.applied)) in_a (applies_next a w s at (omega arith) in_log) (omega arith) le in_log)
+      let step : Stepped M w (happens M w (Does (Apply a))) a (with_applied s (suc s.applied)) = applies_next a w s at (omega arith) in_log in
+      leads_first M set w (Does (Apply a)) (replicate k (Does (Apply a))) (Upto a w s m) in_a tt
+      (leads_more M set (happens M w (Does (Apply a))) (replicate k (Does (Apply a))) (Upto a (happens M w (Does (Apply a))) (with_applied s (suc s.applied)) m) (Upto a w s m)
+      (some_applied set a k m (happens M w (Does (Apply a))) (with_applied s (suc s.applied)) in_a step.here (omega arith) le in_log)
+      (λ v r. record { here = r.here; else = λ i ne. r.else i ne ∙ step.else i ne; long = r.long ∙ step.long }))
+
+  -- all that is committed is applied
+  pub applies_all : (set : List Bool) (a : ℕ) (w : World M) (s : Node M.Body) → IsIn set a → item w a ≡ Some s → s.applied ≤ s.commit → s.commit ≤ length s.log
+      → Leads M set w (apply_all M a w) (Upto a w s s.commit)
+  applies_all set a w s in_a at le in_log =
+      subst (λ z. Leads M set w (replicate z (Does (Apply a))) (Upto a w s s.commit)) (sym (ap unapplied at))
+      (some_applied set a (s.commit - s.applied) s.commit w s in_a at (omega arith) (omega arith) in_log)
 
   push_replicate : (k : ℕ) (e : Event M) → replicate (suc k) e ≡ replicate k e ++ e ∷ []
   push_replicate zero e = refl
   push_replicate (suc k) e = ap (λ z. e ∷ z) (push_replicate k e)
 
   -- all is applied, and the last place is that of the body
-  pub all_applied : (set : List Bool) (a place : ℕ) (body : M.Body) (w : World M) (s : Node M.Body) (e : Entry M.Body) → IsIn set a → item w a ≡ Some s → s.applied < s.commit → s.commit ≡ suc place → s.commit ≤ length s.log
+  pub all_applied : (set : List Bool) (a : ℕ) (live : Option Live) (log : List (Entry M.Body)) (body : M.Body) (w : World M) (s : Node M.Body) (e : Entry M.Body) → IsIn set a → item w a ≡ Some s → s.applied < s.commit → s.commit ≡ suc (length log) → take (length log) s.log ≡ log → s.commit ≤ length s.log
       → item s.log s.commit ≡ Some e → e.body ≡ body
-      → AreWithin M set w (apply_all M a w) × IsAnswered M a s.boot place body w (apply_all M a w)
-  all_applied set a place body w s e in_a at lt here le there is = by_count (s.commit - suc s.applied) (omega arith)
+      → ((class : Class Parts) → leaves a s.boot live class ≡ true → leaves a s.boot s.live class ≡ true)
+      → AreWithin M set w (apply_all M a w) × IsAnswered M a s.boot live log body w (apply_all M a w)
+  all_applied set a live log body w s e in_a at lt here front le there is to = by_count (s.commit - suc s.applied) (omega arith)
     where
-      by_count : (k : ℕ) → s.commit ≡ suc (s.applied + k) → AreWithin M set w (apply_all M a w) × IsAnswered M a s.boot place body w (apply_all M a w)
+      by_count : (k : ℕ) → s.commit ≡ suc (s.applied + k) → AreWithin M set w (apply_all M a w) × IsAnswered M a s.boot live log body w (apply_all M a w)
       by_count k count =
           let left : unapplied (item w a) ≡ suc k = ap unapplied at ∙ (omega arith) in
           let whole : apply_all M a w ≡ replicate k (Does (Apply a)) ++ Does (Apply a) ∷ [] = ap (λ z. replicate z (Does (Apply a))) left ∙ push_replicate k (Does (Apply a)) in
-          let most : Leads M set w (replicate k (Does (Apply a))) (λ v. item v a ≡ Some (with_applied s (s.applied + k))) = some_applied set a k (s.applied + k) w s in_a at refl (omega arith) le in
-          let all : Leads M set w (replicate (suc k) (Does (Apply a))) (λ v. item v a ≡ Some (with_applied s s.commit)) = some_applied set a (suc k) s.commit w s in_a at (omega arith) (omega arith) le in
+          let most : Leads M set w (replicate k (Does (Apply a))) (Upto a w s (s.applied + k)) = some_applied set a k (s.applied + k) w s in_a at refl (omega arith) le in
+          let all : Leads M set w (replicate (suc k) (Does (Apply a))) (Upto a w s s.commit) = some_applied set a (suc k) s.commit w s in_a at (omega arith) (omega arith) le in
+          let place : s.applied + k ≡ length log = omega arith in
           let there' : item s.log (suc (s.applied + k)) ≡ Some e = ap (λ z. item s.log z) (sym count) ∙ there in
           let last : apply_next M a (with_applied s (s.applied + k)) ≡ applied M a (with_applied s (s.applied + k)) (Some e) = next_applied a (with_applied s (s.applied + k)) e (omega arith) there' in
           let w' : World M = run M (replicate k (Does (Apply a))) w in (
@@ -109,13 +129,14 @@ module _ (M : Machine) where
               before = replicate k (Does (Apply a));
               ends = whole;
               node = with_applied s (s.applied + k);
-              at = most.ends;
+              at = most.ends.here;
               boot_is = refl;
-              behind_is = omega arith;
+              behind_is = place;
+              front = ap (λ z. take z s.log) place ∙ front;
               entry = e;
               next = there';
               body_is = is;
-              comes = ap (λ z. out_by M w' a (Acts Applies) z) most.ends ∙ (ap (λ (z : Turn M). z.out) last ∙ ap (λ z. Left (suc (s.applied + k)) (leaving M a (with_applied s (s.applied + k)) (M.effects (history (take (s.applied + k) s.log)) (suc (s.applied + k)) z))) is);
-              answers = λ i x at_i to. kept_by (λ y. leaves a s.boot s.live (M.class y)) (brought_about M (with_applied s (s.applied + k)) body) i x at_i (leaves_live a s.boot s.live (M.class x) to);
+              comes = ap (λ z. out_by M w' a (Acts Applies) z) most.ends.here ∙ (ap (λ (z : Turn M). z.out) last ∙ ap (λ z. Left (suc (s.applied + k)) (leaving M a (with_applied s (s.applied + k)) (M.effects (history (take (s.applied + k) s.log)) (suc (s.applied + k)) z))) is);
+              answers = λ i x at_i goes. kept_by (λ y. leaves a s.boot s.live (M.class y)) (brought_about M (with_applied s (s.applied + k)) body) i x at_i (to (M.class x) goes);
             },
           )

@@ -20,6 +20,14 @@ pub mod Applying
 pub mod Lengths
 pub mod Sums
 pub mod Ruling
+pub mod Standing
 pub mod Bringing
 pub mod Through
+pub mod Playing
+pub mod Staying
+pub mod Calm
+pub mod OwnTurns
+pub mod Owning
+pub mod Opening
 pub mod Reaching
+pub mod AllSessions

@@ -1,13 +1,14 @@
 -- The node of a majority whose log is the most up to date comes to lead it, and all that it has is committed.
-use Rattle.std.proofs.Common.{◌≡◌, ℕ, suc, ◌+◌, ◌<◌, ◌≤◌, Bool, true, false, List, [], ◌∷◌, ◌++◌, length, Option, Some, None, refl, sym, ap, subst, ◌∙◌, arith, ⊎_elim, length-append}
+use Rattle.std.proofs.Common.{◌≡◌, ℕ, suc, ◌+◌, ◌<◌, ◌≤◌, Bool, true, false, List, [], ◌∷◌, ◌++◌, length, Option, Some, None, refl, sym, ap, subst, ◌∙◌, arith, inl, inr, ◌⊎◌, ⊎_elim, length-append}
 use Rattle.std.proofs.lemmas.Bool.{cond_both, cases_eq}
 use Rattle.raft_log.specs.declared.entry.Entry.{Entry}
 use Rattle.raft_log.specs.Lists.{item}
 use Rattle.raft_log.specs.Logs.{entry_limit, last_term, up_to_date}
 use Rattle.raft_log.specs.Node.{Node, is_leader}
 use Rattle.raft_node.specs.Machine.{Machine}
+use Rattle.agreement.specs.World.{Begins}
 use Rattle.agreement.specs.Laws.{IsIn, IsMajority}
-use Rattle.agreement.proofs.Lists.{last_term_push}
+use Rattle.agreement.proofs.Lists.{begins_self, last_term_push}
 use Rattle.world_run.specs.World.{World, Event, run}
 use Rattle.progress.specs.Plans.{greatest_term, log_of, term_of, does_lead, ahead, elect_events, settle_events, lead_events, and_then, candidate, peers, elect, exchange, elect_behind, take_lead, settle, lead}
 use Rattle.progress.specs.Laws.{boot_of, HasRoom}
@@ -62,6 +63,8 @@ module _ (M : Machine) where
       pub high_in : high ≤ length L
       pub boots_are : (j : ℕ) → IsIn set j → boots j ≡ boot_of (item w j)
       pub above : (j : ℕ) (t : Node M.Body) → IsIn set j → item w j ≡ Some t → t.term ≤ T
+      pub front : Begins s.log L
+      pub grown : (s.term < T) ⊎ (length L ≤ length s.log)
 
     pub record Held (v : World M) : Type 0 where
       pub T : ℕ
@@ -109,6 +112,8 @@ module _ (M : Machine) where
               high_in = let r = length-append s'.log (e' ∷ []) in omega arith;
               boots_are = boots_hold v won;
               above = λ j t in_j at. let r = over j t in_j at in omega arith;
+              front = subst (λ z. Begins z (s'.log ++ e' ∷ [])) same_log (e' ∷ [], refl);
+              grown = inl (let r = over c s in_c found.1 in omega arith);
             };
             led = reigns M set n c x s' may sane v won;
           })
@@ -153,6 +158,8 @@ module _ (M : Machine) where
               high_in = omega arith;
               boots_are = λ j in_j. refl;
               above = λ j t in_j at. ⊎_elim (λ e. same_term j t e at) (λ ne. behind j t in_j ne at) (cases_eq j c);
+              front = begins_self s.log;
+              grown = inr (omega arith);
             };
             led = still_reigns M set n c w s size most in_c found.1 (onward []) leads entries behind;
           }

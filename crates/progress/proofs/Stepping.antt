@@ -28,7 +28,7 @@ module _ (M : Machine) where
       (subst (λ z. Stepped w (world_by M w i (own_of M w e) z) i (own M (length w) i (own_of M w e) s).node) (sym at)
       (record { here = with_here w i _ s at; else = λ k ne. with_else w i k _ ne; long = length-with_item w i _ }))
 
-  event_else : (w : World M) (e : Event M) (k : ℕ) → (k ≡ stepper M w e → ⊥) → item (happens M w e) k ≡ item w k
+  pub event_else : (w : World M) (e : Event M) (k : ℕ) → (k ≡ stepper M w e → ⊥) → item (happens M w e) k ≡ item w k
   event_else w e k ne = by_item (item w (stepper M w e)) refl
     where
       by_item : (o : Option (Node M.Body)) → item w (stepper M w e) ≡ o → item (world_by M w (stepper M w e) (own_of M w e) o) k ≡ item w k

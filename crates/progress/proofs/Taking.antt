@@ -4,6 +4,7 @@ use Rattle.std.proofs.Math.Seq.{take-length}
 use Rattle.std.proofs.lemmas.List.{take-append-le}
 use Rattle.std.proofs.lemmas.Bool.{cond-true, cond-false, eq-eqb, lt-ltb, lt-leb, cases_eq}
 use Rattle.raft_log.specs.declared.entry.Entry.{Entry}
+use Rattle.raft_log.specs.declared.node_state.Live.{Live}
 use Rattle.raft_log.specs.declared.message.Kind.TheVariants.{Forward}
 use Rattle.raft_log.specs.declared.message.Message.{Message}
 use Rattle.raft_log.specs.Lists.{item, item_or}
@@ -71,7 +72,7 @@ module _ (M : Machine) where
   module _ (set : List Bool) (n c T : ℕ) (L : List (Entry M.Body)) (boots : ℕ → ℕ) (most : ℕ) (enough : IsMajority n set) (in_c : IsIn set c) (ends : last_term L ≡ T) (some : 1 ≤ length L)
       (body : M.Body) (room : length L < entry_limit)
       (w : World M) (h : Led M set n c T L boots most (Settled M set n c T L boots most enough in_c ends some) (AllCommitted M set n c T L boots most enough in_c ends some) w) where
-    abbrev at_node : (j : ℕ) (in_j : IsIn set j) (ne : j ≡ c → ⊥) → (t : Node M.Body) × (item w j ≡ Some t) × Stood M set n c T L boots most (Settled M set n c T L boots most enough in_c ends some) j (item_or h.leader.next j 0) (item_or h.leader.matched j 0) t
+    abbrev pub at_node : (j : ℕ) (in_j : IsIn set j) (ne : j ≡ c → ⊥) → (t : Node M.Body) × (item w j ≡ Some t) × Stood M set n c T L boots most (Settled M set n c T L boots most enough in_c ends some) j (item_or h.leader.next j 0) (item_or h.leader.matched j 0) t
     at_node j in_j ne = settled_node M set n c T L boots most enough in_c ends some w h j in_j ne
 
     abbrev pub asked_entry : Entry M.Body
@@ -89,13 +90,14 @@ module _ (M : Machine) where
     abbrev OfCaught : ℕ → ℕ → ℕ → Node M.Body → Type 0
     OfCaught j next matched t = Caught M set n c T asked_log boots most enough in_c (last_term_push L asked_entry) (some_new L asked_entry) (peers set c) j next matched t
 
-    rebuilt : (v : World M) → length v ≡ n → item v c ≡ Some (appending h.leader body)
+    -- the leader has it, with this session and so many attempts
+    pub rebuilt : (v : World M) (live : Option Live) (attempts : ℕ) → length v ≡ n → item v c ≡ Some (appending (record h.leader { live = live; attempts = attempts }) body)
         → ((j : ℕ) (in_j : IsIn set j) (ne : j ≡ c → ⊥) → (x : List (Message M.Body)) × (item v j ≡ Some (record (at_node j in_j ne).0 { sent = x })))
         → WithIt v
-    rebuilt v long at others =
+    rebuilt v live attempts long at others =
         record {
           long = long;
-          leader = appending h.leader body;
+          leader = appending (record h.leader { live = live; attempts = attempts }) body;
           at = at;
           leading = record {
             role_is = h.leading.role_is;
@@ -146,7 +148,7 @@ module _ (M : Machine) where
       at_leader : a ≡ c → Leads M set w (Does (Ask a body) ∷ []) WithIt
       at_leader e =
           leads_event M set w (Does (Ask a body)) WithIt in_a tt
-          (rebuilt (happens M w (Does (Ask a body))) (step.long ∙ h.long)
+          (rebuilt (happens M w (Does (Ask a body))) h.leader.live h.leader.attempts (step.long ∙ h.long)
           (subst (λ z. item (happens M w (Does (Ask a body))) z ≡ Some (appending h.leader body)) e (step.here ∙ ap Some (leader_asked a h.leader body (may h.leader here) (ap is_leader h.leading.role_is) leader_room)))
           (λ j in_j ne. ((at_node j in_j ne).0.sent, step.else j (λ q. ne (q ∙ e)) ∙ (at_node j in_j ne).1)))
         where
@@ -163,7 +165,7 @@ module _ (M : Machine) where
       at_other ne =
           leads_first M set w (Does (Ask a body)) (Does (Deliver a (suc (count_sent (item w a)))) ∷ []) WithIt in_a tt
           (leads_event M set told (Does (Deliver a (suc (count_sent (item w a))))) WithIt (subst (λ z. IsIn set z) (sym two.0) in_c) in_a
-          (rebuilt (happens M told (Does (Deliver a (suc (count_sent (item w a)))))) (two.1.long ∙ (one.long ∙ h.long))
+          (rebuilt (happens M told (Does (Deliver a (suc (count_sent (item w a)))))) h.leader.live h.leader.attempts (two.1.long ∙ (one.long ∙ h.long))
           (two.1.here ∙ ap Some hears)
           (λ j in_j nc. ⊎_elim (λ e. as_asker j in_j nc e) (λ na. ((at_node j in_j nc).0.sent, two.1.else j nc ∙ (one.else j na ∙ (at_node j in_j nc).1))) (cases_eq j a))))
         where

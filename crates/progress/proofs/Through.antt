@@ -1,5 +1,5 @@
 -- In a world that a group comes to, a majority of its nodes has a leader, commits all that it has, and answers.
-use Rattle.std.proofs.Common.{◌≡◌, ℕ, suc, ◌<◌, ◌≤◌, Bool, true, ◌&&◌, eqb, List, length, Some, refl, sym, ap, subst, ◌∙◌, arith, ⊎_elim}
+use Rattle.std.proofs.Common.{◌≡◌, ℕ, suc, ◌<◌, ◌≤◌, Bool, true, ◌&&◌, eqb, List, length, None, Some, refl, sym, ap, subst, ◌∙◌, arith, ⊎_elim}
 use Rattle.std.proofs.lemmas.Bool.{cases_eq}
 use Rattle.machine_laws.specs.declared.class.Source.{Source}
 use Rattle.machine_laws.specs.declared.class.Source.TheVariants.{Client, Run, Node as AnyNode, Leader as ALeader}
@@ -19,6 +19,7 @@ use Rattle.progress.proofs.Electing.{MayLead, Elected, elected_by}
 use Rattle.progress.proofs.Sane.{Sane}
 use Rattle.progress.proofs.Settling.{Stood}
 use Rattle.progress.proofs.Confirming.{Settled, settled_node}
+use Rattle.progress.proofs.Standing.{boot_now}
 use Rattle.progress.proofs.Lengths.{then_long, elect_long}
 use Rattle.progress.proofs.Applying.{answered_later}
 use Rattle.progress.proofs.Sums.{add, bring_more, few_peers}
@@ -26,7 +27,7 @@ use Rattle.progress.proofs.Ruling as ruling
 use Rattle.progress.proofs.Bringing as bringing
 
 module _ (M : Machine) where
-  is_by : (set : List Bool) (most : ℕ) (w : World M) (es : List (Event M)) → AreWithin M set w es → length es ≤ most → IsBy M set most w es
+  pub is_by : (set : List Bool) (most : ℕ) (w : World M) (es : List (Event M)) → AreWithin M set w es → length es ≤ most → IsBy M set most w es
   is_by set most w es within few = record { within = within; few = few; others = λ i out. others_stay M set es w within i out }
 
   pub is_elected : (set : List Bool) (n c : ℕ) (w : World M) (s : Node M.Body) → MayLead M set n c w s → IsElected M set c w (elect M c (peers set c) w)
@@ -111,14 +112,14 @@ module _ (M : Machine) where
 
       pub gets_through : MayAsk M a body w → IsThrough M set a body w (get_through M set a body w)
       gets_through may =
-          let r : AreWithin M set then_world (bring M set c a body then_world) × IsAnswered M a (boot_of (item then_world a)) (length reign.L) body then_world (bring M set c a body then_world) =
+          let r : AreWithin M set then_world (bring M set c a body then_world) × IsAnswered M a (boot_of (item then_world a)) None reign.L body then_world (bring M set c a body then_world) =
           bringing.brings M set n c reign.T reign.L reign.boots reign.high most (ruling.in_c M set n i w onward size two most in_i room) reign.known.ends reign.known.some (ruling.no_peers M set n i w onward size two most in_i room) room1 reign.known.high_in a body in_a then_world reign.led (asks_then may) in
           let l : Leads M set w (get_through M set a body w) (λ z. Unit {0}) =
           leads_append M set w (lead M set w) (bring M set c a body then_world) (ruling.Reign M set n i w onward size two most in_i room) (λ z. Unit {0}) leads (λ h. record { ends = tt; within = r.0 }) in
           let boot_is : boot_of (item then_world a) ≡ boot_of (item w a) =
-          bringing.boot_now M set n c reign.T reign.L reign.boots reign.high most (ruling.in_c M set n i w onward size two most in_i room) reign.known.ends reign.known.some (ruling.no_peers M set n i w onward size two most in_i room) room1 reign.known.high_in a body in_a then_world reign.led ∙ reign.known.boots_are a in_a in
+          boot_now M set n c reign.T reign.L reign.boots reign.high most (ruling.in_c M set n i w onward size two most in_i room) reign.known.ends reign.known.some a in_a then_world reign.led ∙ reign.known.boots_are a in_a in
           let stays : Stays a = ⊎_elim (λ e. as_leader a in_a e) (λ ne. as_other a in_a ne) (cases_eq a c) in
-          let log_is : length (log_of (item then_world a)) ≡ length reign.L = ap (λ z. length (log_of z)) stays.1 ∙ ap length (stays.3 ∙ reign.led.leading.log_is) in
+          let log_is : log_of (item then_world a) ≡ reign.L = ap log_of stays.1 ∙ (stays.3 ∙ reign.led.leading.log_is) in
           let one : length reign.L ≤ suc (length (log_of (item w c))) = omega (arith, reign.known.long, ap (λ z. length (log_of z)) (ruling.found M set n i w onward size two most in_i room).1) in
           let few : length (bring M set c a body then_world) ≤ bring_events n (length reign.L) =
           bringing.bring_few M set n c reign.T reign.L reign.boots reign.high most (ruling.in_c M set n i w onward size two most in_i room) reign.known.ends reign.known.some (ruling.no_peers M set n i w onward size two most in_i room) room1 reign.known.high_in a body in_a then_world reign.led (asks_then may) in
@@ -128,6 +129,6 @@ module _ (M : Machine) where
                 (subst (λ z. length (get_through M set a body w) ≤ through_events z (greatest_term w) (length (log_of (item w c)))) (sym size)
                 (add (length (lead M set w)) (length (bring M set c a body then_world)) (lead_events n (greatest_term w) (length (log_of (item w c)))) (bring_events n (suc (length (log_of (item w c))))) (length (get_through M set a body w))
                 lead_few (omega arith) (then_long M w (lead M set) (bring M set c a body))));
-            answered = subst (λ z. IsAnswered M a (boot_of (item w a)) z body w (get_through M set a body w)) (sym log_is)
-                (subst (λ z. IsAnswered M a z (length reign.L) body w (get_through M set a body w)) boot_is (answered_later M a (boot_of (item then_world a)) (length reign.L) body w (lead M set w) (bring M set c a body then_world) r.1));
+            answered = subst (λ z. IsAnswered M a (boot_of (item w a)) None z body w (get_through M set a body w)) (sym log_is)
+                (subst (λ z. IsAnswered M a z None reign.L body w (get_through M set a body w)) boot_is (answered_later M a (boot_of (item then_world a)) None reign.L body w (lead M set w) (bring M set c a body then_world) r.1));
           }

@@ -2,6 +2,7 @@
 use Rattle.std.specs.Prelude.{◌≡◌, ◌≤◌, ◌<◌, ◌^◌, ℕ, suc, Bool, true, List, [], ◌∷◌, ◌++◌, length, take, Option, None, Some}
 use Rattle.machine_laws.specs.declared.class.Source.TheVariants.{Client}
 use Rattle.raft_log.specs.declared.entry.Entry.{Entry}
+use Rattle.raft_log.specs.declared.node_state.Live.{Live}
 use Rattle.raft_log.specs.declared.role.Role.TheVariants.{Leader}
 use Rattle.raft_log.specs.Lists.{item}
 use Rattle.raft_log.specs.Logs.{entry_limit}
@@ -90,18 +91,20 @@ module _ (M : Machine) where
         × (t.term ≡ leader.term) × (t.log ≡ leader.log) × (t.commit ≡ length leader.log)
         × (t.boot ≡ boot_of (item w j))
 
-  -- The last of these events applies this body at this node, in this run of it, right behind so
-  -- many entries, and what the body brings about there leaves: all of it that goes to a client of
-  -- the node in that run.
+  -- The last of these events applies this body at this node, in this run of it, right behind these
+  -- entries, and what the body brings about there leaves: all of it that goes to a client of
+  -- the node in that run, or upstream by this session, if any.
   pub record IsAnswered
-      (a boot behind : ℕ) (body : M.Body) (w : World M) (es : List (Event M))
+      (a boot : ℕ) (live : Option Live) (log : List (Entry M.Body)) (body : M.Body) (w : World M)
+      (es : List (Event M))
       : Type 0 where
     pub before : List (Event M)
     pub ends : es ≡ before ++ Does (Apply a) ∷ []
     pub node : Node M.Body
     pub at : item (run M before w) a ≡ Some node
     pub boot_is : node.boot ≡ boot
-    pub behind_is : node.applied ≡ behind
+    pub behind_is : node.applied ≡ length log
+    pub front : take node.applied node.log ≡ log
     pub entry : Entry M.Body
     pub next : item node.log (suc node.applied) ≡ Some entry
     pub body_is : entry.body ≡ body
@@ -110,7 +113,7 @@ module _ (M : Machine) where
         ≡ Left (suc node.applied) (leaving M a node (brought_about node body))
     pub answers :
         (k : ℕ) (x : M.Effect) →
-        item (brought_about node body) k ≡ Some x → leaves a boot None (M.class x) ≡ true →
+        item (brought_about node body) k ≡ Some x → leaves a boot live (M.class x) ≡ true →
         (j : ℕ) × (item (leaving M a node (brought_about node body)) j ≡ Some x)
 
   -- the world in which a body is asked for: one of the set leads, and all that it has is committed
@@ -126,7 +129,7 @@ module _ (M : Machine) where
         (through_events (length w) (greatest_term w) (length (log_of (item w (candidate set w)))))
         w es
     pub answered :
-        IsAnswered a (boot_of (item w a)) (length (log_of (item (asking set w) a))) body w es
+        IsAnswered a (boot_of (item w a)) None (log_of (item (asking set w) a)) body w es
 
   -- the world after these events, of so many nodes that began over new stores
   abbrev pub after : ℕ → List (Event M) → World M

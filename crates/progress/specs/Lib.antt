@@ -1,2 +1,4 @@
 pub mod Plans
 pub mod Laws
+pub mod Looks
+pub mod Sessions

@@ -1,11 +1,11 @@
 -- Further events of a group, given by how its nodes stand.
-use Rattle.std.specs.Prelude.{ℕ, zero, suc, pred, ◌+◌, ◌-◌, ◌*◌, ◌==◌, Bool, true, false, List, [], ◌∷◌, ◌++◌, length, max, replicate, Option, None, Some, nat_lt, if◌then◌else◌}
+use Rattle.std.specs.Prelude.{ℕ, zero, suc, pred, ◌+◌, ◌-◌, ◌*◌, ◌==◌, Bool, true, false, List, [], ◌∷◌, ◌++◌, length, max, replicate, Option, None, Some, is_some, nat_lt, if◌then◌else◌}
 use Rattle.raft_log.specs.declared.entry.Entry.{Entry}
 use Rattle.raft_log.specs.Lists.{item, without}
 use Rattle.raft_log.specs.Logs.{last_term, up_to_date}
 use Rattle.raft_log.specs.Node.{Node, is_leader}
 use Rattle.raft_node.specs.Machine.{Machine}
-use Rattle.world_run.specs.World.{World, Event, Does, Timeout, Beat, Deliver, Ask, Apply, run}
+use Rattle.world_run.specs.World.{World, Input, Event, Does, Timeout, Beat, Deliver, Ask, Opened, Closed, Claim, Apply, run}
 
 -- where a node stands among the nodes other than this one, from 1 on
 abbrev pub place_among : ℕ → ℕ → ℕ
@@ -45,6 +45,16 @@ module _ {B : Type 0} where
   abbrev pub unapplied : Option (Node B) → ℕ
   unapplied None = 0
   unapplied (Some s) = s.commit - s.applied
+
+  -- how many sessions it opened in its run
+  abbrev pub attempts_of : Option (Node B) → ℕ
+  attempts_of None = 0
+  attempts_of (Some s) = s.attempts
+
+  -- whether a session is live at it
+  abbrev pub has_session : Option (Node B) → Bool
+  has_session None = false
+  has_session (Some s) = is_some s.live
 
   -- whether it leads
   abbrev pub does_lead : Option (Node B) → Bool
@@ -100,6 +110,23 @@ bring_events size entries = 2 + settle_events size (suc entries) + suc entries
 -- all of it
 abbrev pub through_events : ℕ → ℕ → ℕ → ℕ
 through_events size term entries = lead_events size term entries + bring_events size (suc entries)
+
+-- the leader's log is settled, and a node applies all of it
+abbrev pub play_events : ℕ → ℕ → ℕ → ℕ
+play_events size term entries = lead_events size term entries + suc entries
+
+-- a leader comes to have no session
+abbrev pub ready_events : ℕ → ℕ → ℕ → ℕ
+ready_events size term entries = lead_events size term entries + bring_events size entries
+
+-- it opens a new one, which is settled and applied
+abbrev pub open_events : ℕ → ℕ → ℕ → ℕ
+open_events size term entries = ready_events size term entries + bring_events size (suc entries)
+
+-- and claims a line
+abbrev pub claim_events : ℕ → ℕ → ℕ → ℕ
+claim_events size term entries =
+    open_events size term entries + bring_events size (suc (suc entries))
 
 module _ (M : Machine) where
   -- a list of further events, by the world
@@ -204,3 +231,30 @@ module _ (M : Machine) where
   -- both: whatever happened before, a body gets through
   abbrev pub get_through : List Bool → ℕ → M.Body → Plan
   get_through set a body w = and_then (lead set) (bring set (candidate set w) a body) w
+
+  -- a node of the set has all of the settled log applied
+  abbrev pub play : List Bool → ℕ → Plan
+  play set a = and_then (lead set) (apply_all a)
+
+  -- a leader does this, all that it has then is committed by the set, and it applies it
+  abbrev pub lead_on : List Bool → ℕ → Input M → Plan
+  lead_on set c x =
+      and_then (λ w. Does x ∷ []) (and_then (settle c (peers set c)) (apply_all c))
+
+  -- a leader shuts its session, if it has one
+  abbrev pub shut_session : List Bool → ℕ → Plan
+  shut_session set c w = if has_session (item w c) then lead_on set c (Closed c) w else nothing w
+
+  -- a node comes to lead the set, with no session
+  abbrev pub get_ready : List Bool → Plan
+  get_ready set w = and_then (lead set) (shut_session set (candidate set w)) w
+
+  -- it opens a new session
+  abbrev pub open_session : List Bool → Plan
+  open_session set w =
+      let c : ℕ = candidate set w in and_then (get_ready set) (lead_on set c (Opened c)) w
+
+  -- and claims the line that waits
+  abbrev pub claim_line : List Bool → Plan
+  claim_line set w =
+      let c : ℕ = candidate set w in and_then (open_session set) (lead_on set c (Claim c)) w

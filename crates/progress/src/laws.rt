@@ -3,6 +3,8 @@ ghost use Rattle.buffer_commands.specs.Settings.{Settings};
 ghost use Rattle.world_run.specs.Laws.{OverAll};
 ghost use Rattle.progress.specs.Laws.{CanBeElected, CanSettle, ClientsMayAsk, HasCandidate};
 ghost use Rattle.progress.specs.Laws.{NewHasRoom, NothingWedges};
+ghost use Rattle.progress.specs.Looks.{LooksArePlayed};
+ghost use Rattle.progress.specs.Sessions.{SessionsCanOpen, WaitingIsClaimed};
 
 use bouncer_tower::Tower;
 use machine_laws::Hosted;
@@ -29,6 +31,27 @@ pub fn nothing_wedges<M: Hosted>()
     ensures through { (s : M.Setup) → OverAll (⟦<M as Described>⟧.machine s) NothingWedges }
     ensures clients { (s : M.Setup) → ClientsMayAsk (⟦<M as Described>⟧.machine s) }
     ensures new { (s : M.Setup) → NewHasRoom (⟦<M as Described>⟧.machine s) }
+{}
+
+/// Once all that a majority's leader has is settled, any node of the majority applies it, in the run in which it was. A look
+/// there, from any place of that, is then played. All that any node ever committed stands in what is played.
+pub fn a_look_is_played<M: Hosted>()
+    ensures { (s : M.Setup) → OverAll (⟦<M as Described>⟧.machine s) LooksArePlayed }
+{}
+
+/// A majority always has a node that comes to lead it and opens a new session with upstream, in the run in which it was: one
+/// attempt more than it had made in that run. A session of its that is live already is shut first. The word of the new one is
+/// committed by each of the majority and applied at the leader right behind all that it had, and what that brings about for the
+/// session leaves there. Beside the room that the logs need the leader needs an attempt: it has 2^60 in a run.
+pub fn a_session_can_be_opened<M: Hosted>()
+    ensures { (s : M.Setup) → OverAll (⟦<M as Described>⟧.machine s) SessionsCanOpen }
+{}
+
+/// Where a line waits to be claimed by then, the leader claims it by that session. The claim is committed and applied in the
+/// same way, right behind the word of the session, and what it brings about for the session leaves: so is the line that it hands
+/// upstream. The leader's log needs room for three entries in all.
+pub fn a_line_that_waits_is_claimed<M: Hosted>()
+    ensures { (s : M.Setup) → OverAll (⟦<M as Described>⟧.machine s) WaitingIsClaimed }
 {}
 
 /// The same of the machine of the bouncer, whatever its setup.
