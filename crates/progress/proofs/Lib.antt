@@ -31,3 +31,7 @@ pub mod Owning
 pub mod Opening
 pub mod Reaching
 pub mod AllSessions
+pub mod Naming
+pub mod Ids
+pub mod Handing
+pub mod Handed

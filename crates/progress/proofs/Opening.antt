@@ -254,6 +254,10 @@ module _ (M : Machine) where
       same_live : new_session l1 ≡ new_live M set w
       same_live = ap (λ z. session_of z (suc l1.attempts)) (sym (ap term_of r1.all.at)) ∙ ap (λ z. session_of (term_of (item (ready M set w) c)) (suc z)) (sym attempts_then)
 
+      -- as it was when it opened that
+      pub ready_leader : (l : Node M.Body) × (item (ready M set w) c ≡ Some l) × (is_leader l.role ≡ true) × (new_session l ≡ new_live M set w)
+      ready_leader = (l1, r1.all.at, ap is_leader r1.all.leading.role_is, same_live)
+
       abbrev Opening : ℕ → Type 0
       Opening k =
           IsDone M set c (open_events k (greatest_term w) entries) (new_live M set w) (log_of (item (ready M set w) c)) (M.opened (new_live M set w).id) w (open_session M set w)

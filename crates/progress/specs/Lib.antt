@@ -2,3 +2,4 @@ pub mod Plans
 pub mod Laws
 pub mod Looks
 pub mod Sessions
+pub mod Handing

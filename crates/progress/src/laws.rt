@@ -1,8 +1,12 @@
 //! What can always be had by further events of the nodes of a majority, after every list of events, for every machine.
+ghost use Rattle.std.specs.Prelude.{◌-◌, ℕ, List, slice_get};
+ghost use Rattle.bouncer_tower.specs.Bodies.{outgoing};
 ghost use Rattle.buffer_commands.specs.Settings.{Settings};
 ghost use Rattle.world_run.specs.Laws.{OverAll};
+ghost use Rattle.world_run.specs.World.{Event};
 ghost use Rattle.progress.specs.Laws.{CanBeElected, CanSettle, ClientsMayAsk, HasCandidate};
 ghost use Rattle.progress.specs.Laws.{NewHasRoom, NothingWedges};
+ghost use Rattle.progress.specs.Handing.{WaitingIsHanded};
 ghost use Rattle.progress.specs.Looks.{LooksArePlayed};
 ghost use Rattle.progress.specs.Sessions.{SessionsCanOpen, WaitingIsClaimed};
 
@@ -52,6 +56,13 @@ pub fn a_session_can_be_opened<M: Hosted>()
 /// upstream. The leader's log needs room for three entries in all.
 pub fn a_line_that_waits_is_claimed<M: Hosted>()
     ensures { (s : M.Setup) → OverAll (⟦<M as Described>⟧.machine s) WaitingIsClaimed }
+{}
+
+/// With the machine of the bouncer it is the line of that number that is handed upstream by the new session: the first of the
+/// lines that were numbered and not claimed.
+pub fn a_line_that_waits_is_handed()
+    ensures { (s : Settings) (size : ℕ) (es : List (Event (⟦<Tower as Described>⟧.machine s))) →
+        WaitingIsHanded (⟦<Tower as Described>⟧.machine s) (λ h number. slice_get (outgoing s h) (number - 1)) size es }
 {}
 
 /// The same of the machine of the bouncer, whatever its setup.
