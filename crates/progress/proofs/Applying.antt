@@ -9,7 +9,7 @@ use Rattle.raft_log.specs.declared.entry.Entry.{Entry}
 use Rattle.raft_log.specs.Lists.{item}
 use Rattle.raft_log.specs.Node.{Node}
 use Rattle.raft_node.specs.Machine.{Machine, history}
-use Rattle.raft_node.specs.Steps.{Left, Turn, Acts, Applies, leaves, leaving, applied, apply_next, turn}
+use Rattle.raft_node.specs.Steps.{Left, Turn, Acts, Applies, leaves, leaving, applied, apply_next}
 use Rattle.agreement.specs.Laws.{IsIn}
 use Rattle.world_run.specs.World.{World, Event, Does, Apply, happens, run, out_by, out_of}
 use Rattle.progress.specs.Plans.{unapplied, apply_all}

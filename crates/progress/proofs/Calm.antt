@@ -4,7 +4,7 @@ use Rattle.std.proofs.lemmas.Bool.{cond_both}
 use Rattle.raft_log.specs.Lists.{item}
 use Rattle.raft_node.specs.Machine.{Machine}
 use Rattle.world_run.specs.World.{World, Event, Does, Timeout, Apply, run}
-use Rattle.progress.specs.Plans.{Plan, term_of, does_lead, ahead, count_sent, unapplied, greatest_term, candidate, peers, and_then, times, for_each, answered, rise, canvass, elect, exchange, elect_behind, take_lead, rounds, catch_up, confirm, settle, apply_all, lead}
+use Rattle.progress.specs.Plans.{Plan, term_of, does_lead, ahead, count_sent, unapplied, candidate, peers, and_then, times, for_each, answered, rise, canvass, elect, exchange, elect_behind, take_lead, rounds, catch_up, confirm, settle, apply_all, lead}
 use Rattle.progress.proofs.Staying.{IsCalm, AreCalm}
 
 module _ (M : Machine) where

@@ -1,25 +1,20 @@
 -- The bouncer's machine hands the line that waits, where the claim of the session that was opened last is applied.
-use Rattle.std.proofs.Common.{◌≡◌, ℕ, zero, suc, ◌+◌, ◌-◌, ◌<◌, ◌≤◌, Bool, true, false, ◌&&◌, eqb, leb, ltb, List, [], ◌∷◌, ◌++◌, length, map, Option, Some, None, refl, sym, ap, subst, ◌∙◌, arith, ⊎_elim}
+use Rattle.std.proofs.Common.{◌≡◌, ℕ, zero, suc, ◌+◌, ◌-◌, ◌<◌, ◌≤◌, Bool, true, false, eqb, leb, ltb, List, [], ◌∷◌, length, map, Option, Some, None, refl, sym, ap, ◌∙◌, arith, ⊎_elim}
 use Rattle.std.specs.Prelude.{◌^◌, slice_get, if◌then◌else◌}
 use Rattle.std.proofs.lemmas.Bool.{cond_both, cond-true, cond-false, cases_Bool, eq-eqb, le-leb, ltb-true}
 use Rattle.irc_line.specs.Lines.{Parts}
 use Rattle.wire_bytes.specs.declared.session_id.SessionId.{SessionId}
-use Rattle.machine_laws.specs.Runs.{History, came}
+use Rattle.machine_laws.specs.Runs.{History}
 use Rattle.machine_laws.specs.Sessions.{is_that}
 use Rattle.raft_log.specs.Node.{Node}
 use Rattle.node_steps.specs.Asking.{may_ask}
 use Rattle.buffer_commands.specs.Settings.{Settings}
-use Rattle.buffer_commands.specs.declared.command.Action.{Action}
-use Rattle.buffer_commands.specs.declared.effect.Effect.{Effect}
-use Rattle.session_fence.specs.declared.command.FenceCommand.{FenceCommand}
 use Rattle.session_fence.specs.declared.command.FenceCommand.TheVariants as fence
-use Rattle.session_fence.specs.declared.effect.FenceEffect.{FenceEffect}
 use Rattle.session_fence.specs.Sessions.{is_below, is_new, greatest, greatest_after, was_opened, was_shut, unless_shut}
 use Rattle.session_fence.specs.Sessions as sessions
 use Rattle.session_fence.proofs.Ids.{same-itself}
 use Rattle.session_fence.proofs.Kept.{new-not_opened, not_opened-not_shut}
 use Rattle.upstream_claim.specs.declared.command.ClaimsCommand.TheVariants as claims
-use Rattle.upstream_claim.specs.declared.effect.ClaimsEffect.{ClaimsEffect}
 use Rattle.upstream_claim.specs.declared.effect.ClaimsEffect.TheVariants as claims_effect
 use Rattle.upstream_claim.specs.Numbered.{Numbered, is_next, is_taken, handed, numbered}
 use Rattle.upstream_claim.specs.Numbered as lines
@@ -27,7 +22,7 @@ use Rattle.request_once.specs.declared.body.Body.TheVariants as body
 use Rattle.request_once.specs.declared.answer.Answer.TheVariants as answer
 use Rattle.request_once.specs.Fresh.{if_stays, stays, fresh, plain_one, with_command, plain_of}
 use Rattle.request_once.specs.Fresh as requests
-use Rattle.bouncer_tower.specs.Bodies.{Sessioned, Claimed, TowerBody, TowerEffect, client, accepted, unclaimed, session, sessioned_effects, claimed_effects, outgoing, within_limit, next_claim, answers, sent}
+use Rattle.bouncer_tower.specs.Bodies.{Sessioned, Claimed, TowerBody, client, accepted, unclaimed, session, sessioned_effects, outgoing, within_limit, next_claim, answers, sent}
 use Rattle.bouncer_tower.specs.Hosting.{of_sessions, of_claims, session_source, claim_source, source_of}
 use Rattle.progress.proofs.Voting.{both_true}
 use Rattle.progress.proofs.Naming.{Each}

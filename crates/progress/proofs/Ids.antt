@@ -1,26 +1,24 @@
 -- In every world each session's id in a log is of the term of its entry, and the next id of a leader is above all in its log.
-use Rattle.std.proofs.Common.{◌≡◌, ℕ, zero, suc, ◌<◌, ◌≤◌, Bool, true, false, ◌&&◌, ◌||◌, not, eqb, ltb, leb, List, [], ◌∷◌, ◌++◌, length, replicate, Option, Some, None, refl, sym, ap, subst, ◌∙◌, arith, ⊎_elim}
+use Rattle.std.proofs.Common.{◌≡◌, ℕ, suc, ◌≤◌, Bool, true, false, ◌&&◌, ◌||◌, not, eqb, ltb, leb, List, [], ◌∷◌, length, Option, Some, None, refl, sym, ap, subst, ◌∙◌, arith, ⊎_elim}
 use Rattle.std.specs.Prelude.{◌^◌}
 use Rattle.std.proofs.lemmas.Bool.{cond_both, cases_lt, eq-eqb, lt-ltb}
 use Rattle.wire_bytes.specs.declared.session_id.SessionId.{SessionId}
 use Rattle.raft_log.specs.declared.entry.Entry.{Entry}
 use Rattle.raft_log.specs.declared.message.Message.{Message}
 use Rattle.raft_log.specs.declared.node_state.Live.{Live}
-use Rattle.raft_log.specs.declared.role.Role.TheVariants.{Leader}
-use Rattle.raft_log.specs.Lists.{item, with_item}
+use Rattle.raft_log.specs.Lists.{item}
 use Rattle.raft_log.specs.Logs.{entry_limit}
 use Rattle.raft_log.specs.Node.{Node, is_leader}
 use Rattle.election.specs.Elections.{timed_out}
 use Rattle.replication.specs.Replication.{appending, on_forward, ask}
 use Rattle.node_steps.specs.declared.refusal.Refusal.TheVariants.{LogFull, TermsSpent, NoLeader, Behind, BadOrigin}
 use Rattle.node_steps.specs.Asking.{may_ask, finds_leader, is_full, new_session}
-use Rattle.raft_node.specs.Raft.{newborn, restarted}
+use Rattle.raft_node.specs.Raft.{newborn}
 use Rattle.raft_node.specs.Machine.{Machine}
-use Rattle.raft_node.specs.Steps.{Turn, Act, Expires, Beats, Hears, Asks, Opens, Closes, HearsLine, Claims, Applies, Looks, Idles, quiet, refused, applied_history, asks, asked, adds, opened, closed, heard, claimed, if_leading, applied, stopped, turn, own}
+use Rattle.raft_node.specs.Steps.{Turn, Act, Expires, Beats, Hears, Asks, Opens, Closes, HearsLine, Claims, Applies, Looks, Idles, quiet, refused, applied_history, asks, asked, adds, opened, closed, heard, claimed, if_leading, applied, turn, own}
 use Rattle.raft_node.proofs.Items.{item_of_with, item_of_replicate}
 use Rattle.agreement.specs.World.{sent_of, start}
-use Rattle.agreement.proofs.Plain.{role_leader}
-use Rattle.world_run.specs.World.{World, Input, Timeout, Beat, Deliver, Ask, Opened, Closed, Heard, Claim, Apply, Look, Event, Does, Restart, StopIn, actor, hears, act_of, stepper, own_of, world_by, happens, run}
+use Rattle.world_run.specs.World.{World, Input, Timeout, Beat, Deliver, Ask, Opened, Closed, Heard, Claim, Apply, Look, Event, Does, Restart, StopIn, hears, act_of, stepper, own_of, world_by, happens, run}
 use Rattle.session_fence.specs.Sessions.{is_below}
 use Rattle.progress.proofs.Voting.{both_true}
 use Rattle.progress.proofs.Naming.{not_both, Each, each_map, each_append, each_at, Fine, FineMessage, Named, timeout_named, beat_named, ask_named, restarted_named, applied_named, message_named}

@@ -1,5 +1,5 @@
 -- Where a session's id stands in the logs: it is of the term of its entry, and of an attempt that the leader of that term made.
-use Rattle.std.proofs.Common.{◌≡◌, ℕ, zero, suc, pred, ◌-◌, ◌<◌, ◌≤◌, Bool, true, false, ◌&&◌, ◌||◌, not, eqb, ltb, leb, List, [], ◌∷◌, ◌++◌, length, map, take, drop, Option, Some, None, refl, sym, ap, subst, ◌∙◌, arith}
+use Rattle.std.proofs.Common.{◌≡◌, ℕ, zero, suc, pred, ◌-◌, ◌<◌, ◌≤◌, Bool, true, false, ◌&&◌, ◌||◌, eqb, ltb, leb, List, [], ◌∷◌, ◌++◌, length, map, take, drop, Option, Some, None, refl, subst, arith}
 use Rattle.std.specs.Prelude.{◌^◌}
 use Rattle.std.proofs.lemmas.Bool.{cond_both, and_parts, ltb-false, ltb-true}
 use Rattle.wire_bytes.specs.declared.session_id.SessionId.{SessionId}
@@ -16,7 +16,7 @@ use Rattle.raft_log.specs.Node.{Node, is_leader, is_candidate, raised}
 use Rattle.raft_log.specs.Votes.{majority}
 use Rattle.election.specs.Elections.{asking, timed_out, grants, leading, vote_requests}
 use Rattle.election.specs.Elections as election
-use Rattle.replication.specs.Replication.{append_for, beat, answering, appended, with_match, advanced, stepped_back, appending, on_forward, forwarded, ask}
+use Rattle.replication.specs.Replication.{append_for, beat, with_match, advanced, stepped_back, appending, on_forward, forwarded, ask}
 use Rattle.node_steps.specs.Messages.{is_heard, handled, on_message}
 use Rattle.raft_node.specs.Raft.{restarted}
 

@@ -19,7 +19,7 @@ use Rattle.progress.specs.Sessions.{session_of, waits_at, IsDone, ready, with_se
 use Rattle.progress.proofs.Places.{some_same}
 use Rattle.progress.proofs.Stepping.{Leads, leads_nothing, leads_append, leads_more}
 use Rattle.progress.proofs.Sane.{Sane}
-use Rattle.progress.proofs.Standing.{AllOf, Stands, stands}
+use Rattle.progress.proofs.Standing.{AllOf, stands}
 use Rattle.progress.proofs.Applying.{answered_later}
 use Rattle.progress.proofs.Sums.{add, bring_more}
 use Rattle.progress.proofs.Staying.{Bound, Onward, Stays, calm_stays}
@@ -110,9 +110,7 @@ module _ (M : Machine) where
 
       few_on : length (lead_on M set c e v) ≤ bring_events n entries0
       few_on =
-          let a = owning.own_few M set n c reign.T r.L reign.boots r.high most in_c r.ends r.some no_peers fits r.high_in v r.all e live attempts body by_c heard adds_it in
-          let b = bring_more n (length r.L) entries0 r.long in
-          omega arith
+          omega (arith, owning.own_few M set n c reign.T r.L reign.boots r.high most in_c r.ends r.some no_peers fits r.high_in v r.all e live attempts body by_c heard adds_it, bring_more n (length r.L) entries0 r.long)
 
       behind_is : log_of (item v c) ≡ r.L
       behind_is = ap log_of r.all.at ∙ r.all.leading.log_is
@@ -149,9 +147,7 @@ module _ (M : Machine) where
 
           by_node : (j : ℕ) → IsIn set j → (t : Node M.Body) × (item (run M (front ++ lead_on M set c e v) w) j ≡ Some t) × (t.log ≡ whole.ends.all.leader.log) × (t.commit ≡ suc (length (log_of (item v c))))
           by_node j in_j =
-              let st : Stands M set n c reign.T (r.L ++ record { term = reign.T; body = body } ∷ []) reign.boots (length (r.L ++ record { term = reign.T; body = body } ∷ [])) most in_c
-                  (owning.ends_own M set n c reign.T r.L reign.boots r.high most in_c r.ends r.some no_peers fits r.high_in v r.all e live attempts body by_c heard adds_it)
-                  (owning.some_own M set n c reign.T r.L reign.boots r.high most in_c r.ends r.some no_peers fits r.high_in v r.all e live attempts body by_c heard adds_it) j in_j (run M (front ++ lead_on M set c e v) w) =
+              let st =
               stands M set n c reign.T (r.L ++ record { term = reign.T; body = body } ∷ []) reign.boots (length (r.L ++ record { term = reign.T; body = body } ∷ [])) most in_c
               (owning.ends_own M set n c reign.T r.L reign.boots r.high most in_c r.ends r.some no_peers fits r.high_in v r.all e live attempts body by_c heard adds_it)
               (owning.some_own M set n c reign.T r.L reign.boots r.high most in_c r.ends r.some no_peers fits r.high_in v r.all e live attempts body by_c heard adds_it) j in_j (run M (front ++ lead_on M set c e v) w) whole.ends.all in
@@ -169,17 +165,7 @@ module _ (M : Machine) where
 
     rules0 : (live : Option Live) → l0.live ≡ live → (k : ℕ) → length reign.L ≤ k → Rules live s.attempts k led_world
     rules0 live e k le =
-        record {
-          L = reign.L;
-          high = reign.high;
-          ends = reign.known.ends;
-          some = reign.known.some;
-          high_in = reign.known.high_in;
-          long = le;
-          all = reign.led;
-          live_is = e;
-          attempts_is = on.attempts_is;
-        }
+        record { L = reign.L; high = reign.high; ends = reign.known.ends; some = reign.known.some; high_in = reign.known.high_in; long = le; all = reign.led; live_is = e; attempts_is = on.attempts_is }
 
     abbrev Idle : World M → Type 0
     Idle v = Rules None s.attempts (suc entries) v

@@ -1,5 +1,5 @@
 -- A body that the leader appends by itself is settled and applied at it.
-use Rattle.std.proofs.Common.{◌≡◌, ℕ, suc, ◌+◌, ◌-◌, ◌<◌, ◌≤◌, Bool, true, List, [], ◌∷◌, ◌++◌, length, take, Option, Some, refl, sym, ap, subst, ◌∙◌, arith, ⊎_elim, length-append}
+use Rattle.std.proofs.Common.{◌≡◌, ℕ, suc, ◌+◌, ◌<◌, ◌≤◌, Bool, true, List, [], ◌∷◌, ◌++◌, length, take, Option, Some, refl, sym, ap, subst, ◌∙◌, arith, ⊎_elim, length-append}
 use Rattle.std.proofs.Math.Seq.{take-length}
 use Rattle.std.proofs.lemmas.List.{take-append-le}
 use Rattle.raft_log.specs.declared.entry.Entry.{Entry}
@@ -12,13 +12,13 @@ use Rattle.raft_node.specs.Machine.{Machine}
 use Rattle.raft_node.specs.Steps.{leaves, turn}
 use Rattle.agreement.specs.Laws.{IsIn, IsMajority}
 use Rattle.agreement.proofs.Lists.{last_term_push}
-use Rattle.world_run.specs.World.{World, Input, Event, Does, actor, act_of, happens, run}
+use Rattle.world_run.specs.World.{World, Input, Does, actor, act_of, happens, run}
 use Rattle.progress.specs.Plans.{log_of, unapplied, settle_events, bring_events, and_then, peers, settle, apply_all, lead_on}
 use Rattle.progress.specs.Laws.{IsSentWithin, AreWithin, IsAnswered}
 use Rattle.progress.proofs.Places.{some_same, item_last}
-use Rattle.progress.proofs.Stepping.{Stepped, event_stepped, run_append, Leads, leads_event, leads_append, leads_then, leads_more}
+use Rattle.progress.proofs.Stepping.{Stepped, event_stepped, Leads, leads_event, leads_then, leads_more}
 use Rattle.progress.proofs.Appending.{Follows}
-use Rattle.progress.proofs.Settling.{Stood, Led}
+use Rattle.progress.proofs.Settling.{Stood}
 use Rattle.progress.proofs.Confirming.{Settled, settled_by}
 use Rattle.progress.proofs.Reigning.{some_new}
 use Rattle.progress.proofs.Taking.{WithIt, at_node, rebuilt}

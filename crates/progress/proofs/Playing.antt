@@ -1,20 +1,20 @@
 -- A node of a majority applies all that was settled, and a look there is played.
-use Rattle.std.proofs.Common.{◌≡◌, ℕ, zero, suc, ◌<◌, ◌≤◌, Bool, ltb, cond, List, [], ◌∷◌, ◌++◌, length, take, Option, Some, None, refl, sym, ap, subst, ◌∙◌, arith}
+use Rattle.std.proofs.Common.{◌≡◌, ℕ, zero, suc, ◌≤◌, Bool, ltb, List, [], ◌∷◌, length, take, Some, sym, ap, subst, ◌∙◌, arith}
 use Rattle.std.proofs.Math.Seq.{take-length}
 use Rattle.std.proofs.lemmas.Bool.{cond-false, cond_both, le-ltb}
 use Rattle.raft_log.specs.declared.entry.Entry.{Entry}
 use Rattle.raft_log.specs.Lists.{item}
 use Rattle.raft_log.specs.Node.{Node}
 use Rattle.raft_node.specs.Machine.{Machine, history}
-use Rattle.raft_node.specs.Steps.{Out, Turn, Acts, Looks, Looked, looked, turn}
+use Rattle.raft_node.specs.Steps.{Turn, Acts, Looks, Looked}
 use Rattle.agreement.specs.World.{Begins, committed}
 use Rattle.agreement.specs.Laws.{IsIn, IsMajority, longer, longest_now}
 use Rattle.agreement.proofs.Lists.{begins_none, begins_trans}
 use Rattle.world_run.specs.World.{World, Event, Does, Look, happens, run, out_by, out_of, longest_over}
 use Rattle.progress.specs.Plans.{greatest_term, log_of, unapplied, lead_events, play_events, candidate, lead, apply_all, play}
-use Rattle.progress.specs.Laws.{boot_of, HasRoom, asking}
+use Rattle.progress.specs.Laws.{HasRoom}
 use Rattle.progress.specs.Looks.{IsPlayed}
-use Rattle.progress.proofs.Stepping.{run_append, Leads, leads_append, leads_more}
+use Rattle.progress.proofs.Stepping.{Leads, leads_append}
 use Rattle.progress.proofs.Sane.{Sane}
 use Rattle.progress.proofs.Standing.{Stands, stands}
 use Rattle.progress.proofs.Lengths.{then_long, apply_long}

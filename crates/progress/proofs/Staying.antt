@@ -1,7 +1,7 @@
 -- What a node keeps of its session through events that are neither of sessions nor restarts.
-use Rattle.std.proofs.Common.{◌≡◌, ℕ, zero, suc, ◌-◌, ◌<◌, Bool, true, false, ◌&&◌, ◌||◌, not, eqb, ltb, leb, List, [], ◌∷◌, ◌++◌, length, drop, replicate, Option, Some, None, refl, sym, ap, subst, ◌∙◌, arith, inl, inr, ◌⊎◌, ⊎_elim}
+use Rattle.std.proofs.Common.{◌≡◌, ℕ, suc, ◌-◌, ◌<◌, Bool, true, false, ◌&&◌, ◌||◌, not, eqb, ltb, leb, List, [], ◌∷◌, length, drop, Option, Some, None, refl, sym, ap, ◌∙◌, arith, inl, inr, ◌⊎◌, ⊎_elim}
 use Rattle.std.specs.Prelude.{◌^◌}
-use Rattle.std.proofs.lemmas.Bool.{cond_both, cases_Bool, cases_eq, ltb-true}
+use Rattle.std.proofs.lemmas.Bool.{cond_both, cases_eq, ltb-true}
 use Rattle.raft_log.specs.declared.entry.Entry.{Entry}
 use Rattle.raft_log.specs.declared.node_state.Live.{Live}
 use Rattle.raft_log.specs.declared.message.Kind.{Kind}
@@ -20,7 +20,6 @@ use Rattle.node_steps.specs.Messages.{is_heard, handled, on_message}
 use Rattle.raft_node.specs.Machine.{Machine}
 use Rattle.raft_node.specs.Sound.{LeadsItsSession}
 use Rattle.raft_node.specs.Steps.{Turn, quiet, refused, applied, turn}
-use Rattle.agreement.proofs.Plain.{role_leader}
 use Rattle.world_run.specs.World.{World, Input, Timeout, Beat, Deliver, Ask, Opened, Closed, Heard, Claim, Apply, Look, Event, Does, Restart, StopIn, actor, hears, act_of, happens, run}
 use Rattle.progress.proofs.Stepping.{Stepped, event_stepped, event_else}
 

@@ -29,6 +29,18 @@ module _ (M : Machine) where
     pub is_there : (k : ℕ) × (item effects k ≡ Some effect)
     pub hands : M.class effect ≡ Hand id number line
 
+  -- whatever happened, the session that is opened is the one in force; `in_force` is that, by what
+  -- was applied
+  abbrev pub NewIsInForce : (History M.Body → Option SessionId) → ℕ → List (Event M) → Type 0
+  NewIsInForce in_force size es =
+      (set : List Bool) →
+      2 ≤ size → IsMajority size set → HasRoom M set (after M size es) →
+      HasAttempts M (candidate set (after M size es)) (after M size es) →
+      in_force
+      (history
+      (log_of (item (with_session M set (after M size es)) (candidate set (after M size es)))))
+      ≡ Some (new_live M set (after M size es)).id
+
   -- whatever happened, where a line of this number waits once a majority has a leader with a new
   -- session, it is handed upstream by that; `line_of` is the line of a number, by what was applied
   abbrev pub WaitingIsHanded :
@@ -43,9 +55,9 @@ module _ (M : Machine) where
       ≡ Some number →
       (line : Parts)
       × (line_of
-        (history
-        (log_of (item (with_session M set (after M size es)) (candidate set (after M size es)))))
-        number
-        ≡ Some line)
+      (history
+      (log_of (item (with_session M set (after M size es)) (candidate set (after M size es)))))
+      number
+      ≡ Some line)
       × IsHanded (candidate set (after M size es)) (new_live M set (after M size es)).id number line
-        (after M size es) (claim_line M set (after M size es))
+      (after M size es) (claim_line M set (after M size es))

@@ -35,4 +35,4 @@ module _ (M : Machine) where
       2 ≤ size → IsMajority size set → IsIn set a → HasRoom M set (after M size es) →
       IsPlayed set a (after M size es) (play M set a (after M size es))
       × Begins (agreed M size es)
-        (log_of (item (run M (play M set a (after M size es)) (after M size es)) a))
+      (log_of (item (run M (play M set a (after M size es)) (after M size es)) a))

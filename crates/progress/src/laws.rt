@@ -1,12 +1,12 @@
 //! What can always be had by further events of the nodes of a majority, after every list of events, for every machine.
 ghost use Rattle.std.specs.Prelude.{◌-◌, ℕ, List, slice_get};
-ghost use Rattle.bouncer_tower.specs.Bodies.{outgoing};
+ghost use Rattle.bouncer_tower.specs.Bodies.{outgoing, session};
 ghost use Rattle.buffer_commands.specs.Settings.{Settings};
 ghost use Rattle.world_run.specs.Laws.{OverAll};
 ghost use Rattle.world_run.specs.World.{Event};
 ghost use Rattle.progress.specs.Laws.{CanBeElected, CanSettle, ClientsMayAsk, HasCandidate};
 ghost use Rattle.progress.specs.Laws.{NewHasRoom, NothingWedges};
-ghost use Rattle.progress.specs.Handing.{WaitingIsHanded};
+ghost use Rattle.progress.specs.Handing.{NewIsInForce, WaitingIsHanded};
 ghost use Rattle.progress.specs.Looks.{LooksArePlayed};
 ghost use Rattle.progress.specs.Sessions.{SessionsCanOpen, WaitingIsClaimed};
 
@@ -44,7 +44,7 @@ pub fn a_look_is_played<M: Hosted>()
 {}
 
 /// A majority always has a node that comes to lead it and opens a new session with upstream, in the run in which it was: one
-/// attempt more than it had made in that run. A session of its that is live already is shut first. The word of the new one is
+/// attempt more than it had made in that run. A session that is live at it already is shut first. The word of the new one is
 /// committed by each of the majority and applied at the leader right behind all that it had, and what that brings about for the
 /// session leaves there. Beside the room that the logs need the leader needs an attempt: it has 2^60 in a run.
 pub fn a_session_can_be_opened<M: Hosted>()
@@ -52,16 +52,18 @@ pub fn a_session_can_be_opened<M: Hosted>()
 {}
 
 /// Where a line waits to be claimed by then, the leader claims it by that session. The claim is committed and applied in the
-/// same way, right behind the word of the session, and what it brings about for the session leaves: so is the line that it hands
-/// upstream. The leader's log needs room for three entries in all.
+/// same way, right behind the word of the session, and what it brings about for the session leaves. The leader's log needs room
+/// for three entries in all.
 pub fn a_line_that_waits_is_claimed<M: Hosted>()
     ensures { (s : M.Setup) → OverAll (⟦<M as Described>⟧.machine s) WaitingIsClaimed }
 {}
 
-/// With the machine of the bouncer it is the line of that number that is handed upstream by the new session: the first of the
-/// lines that were numbered and not claimed.
+/// With the machine of the bouncer the session that is opened is the one in force: it is above all that were opened before. And
+/// it is the line of that number that it hands upstream: the first of the lines that were numbered and not claimed.
 pub fn a_line_that_waits_is_handed()
-    ensures { (s : Settings) (size : ℕ) (es : List (Event (⟦<Tower as Described>⟧.machine s))) →
+    ensures opened { (s : Settings) (size : ℕ) (es : List (Event (⟦<Tower as Described>⟧.machine s))) →
+        NewIsInForce (⟦<Tower as Described>⟧.machine s) session size es }
+    ensures handed { (s : Settings) (size : ℕ) (es : List (Event (⟦<Tower as Described>⟧.machine s))) →
         WaitingIsHanded (⟦<Tower as Described>⟧.machine s) (λ h number. slice_get (outgoing s h) (number - 1)) size es }
 {}
 
@@ -69,6 +71,10 @@ pub fn a_line_that_waits_is_handed()
 pub fn no_bouncer_wedges()
     ensures through { (s : Settings) → OverAll (⟦<Tower as Described>⟧.machine s) NothingWedges }
     ensures clients { (s : Settings) → ClientsMayAsk (⟦<Tower as Described>⟧.machine s) }
+    ensures looks { (s : Settings) → OverAll (⟦<Tower as Described>⟧.machine s) LooksArePlayed }
+    ensures sessions { (s : Settings) → OverAll (⟦<Tower as Described>⟧.machine s) SessionsCanOpen }
 {
     nothing_wedges::<Tower>();
+    a_look_is_played::<Tower>();
+    a_session_can_be_opened::<Tower>();
 }

@@ -7,6 +7,7 @@
 mod laws;
 
 pub use laws::{
-    a_leader_can_be_had, a_line_that_waits_is_claimed, a_line_that_waits_is_handed, a_look_is_played,
-    a_session_can_be_opened, no_bouncer_wedges, nothing_wedges, what_a_leader_has_can_be_committed,
+    a_leader_can_be_had, a_line_that_waits_is_claimed, a_line_that_waits_is_handed,
+    a_look_is_played, a_session_can_be_opened, no_bouncer_wedges, nothing_wedges,
+    what_a_leader_has_can_be_committed,
 };
