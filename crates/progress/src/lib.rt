@@ -1,7 +1,8 @@
 //! That no world to which a group may come is a dead end.
 //! Stands on world_run.
-//! Whatever happened, any majority of the nodes can have a leader, commit all that this has, and bring what is asked for at any
-//! of them through, by further events that a function of the world gives.
+//! Whatever happened, any majority of the nodes can have a leader, commit all that this has, bring what is asked for at any of
+//! them through, play a look there, open a session and claim a line that waits, by further events that a function of the world
+//! gives.
 #![tactic(auto)]
 
 mod laws;
