@@ -27,7 +27,7 @@ pub record LimitsOfClients : Type 0 where
   pub registers : REGISTERS_WITHIN ≡ 10000
   pub silence : SILENCE ≡ 120000
   pub leaves : LEAVES_WITHIN ≡ 5000
-  -- more is read of it while fewer requests wait; with the 42 of one piece its gate has room for all
+  -- more is read of it while fewer requests wait; its gate takes 42 more, as many as a piece of 512 bytes may have
   pub waiting : client.MOST_WAITING ≡ 48
   pub room : client.MOST_WAITING + 42 ≤ gate.MOST_WAITING
   pub numbers : MOST_NUMBER ≡ 2 ^ 60
@@ -40,7 +40,7 @@ pub record LimitsOfGuesses : Type 0 where
   pub answered : ANSWERED_BEHIND ≡ 2000
   pub turns : TURNS_APART ≡ 1000
   pub furthest : FURTHEST ≡ 10000
-  -- nobody waits longer than a client may take to register
+  -- no turn is further ahead than a client may take to register
   pub in_time : FURTHEST ≤ REGISTERS_WITHIN
 
 -- What a node is given.
@@ -51,7 +51,7 @@ pub record LimitsOfNodes : Type 0 where
   pub waiting : node.MOST_WAITING ≡ 256
   -- how much longer each next node waits for a leader
   pub apart : APART ≡ 50
-  -- without an answer it hangs, where others answered within so long; after so many timeouts it is dead
+  -- how long without an answer until it hangs, at least so many timeouts, and how lately others answered then; it is dead after so many timeouts
   pub hangs : HANGS_AFTER ≡ 5000
   pub answers : QUIET_AFTER ≡ 2000
   pub sooner : QUIET_AFTER < HANGS_AFTER
