@@ -3,6 +3,7 @@ ghost use Rattle.std.specs.Prelude.{◌≡◌, false, IfOk};
 
 use crate::file_disk::FileDisk;
 use crate::header::{is_older, renew_header};
+use crate::last_error::LastError;
 use crate::open_fault::OpenFault;
 use crate::system_file::SystemFile;
 use journal_store::{Disk, JournalStore};
@@ -38,6 +39,33 @@ pub fn open_journal<B: Wire, R: Files<File = File>>(
     ensures { IfOk result (λ j. j.broken ≡ false) }
 {
     let disk = FileDisk::open(rt, alloc, path)?;
+    over(rt, alloc, path, disk, beside)
+}
+
+/// The store in the journal of a path where a file is there, as `open_journal` says: none is made. Why a call of the file
+/// fails is noted in `last_error`.
+pub fn open_journal_late<B: Wire, R: Files<File = File>>(
+    rt: &R,
+    alloc: Global,
+    path: &str,
+    last_error: LastError,
+) -> Result<FileJournal<B>, OpenFault>
+    ensures { IfOk result (λ j. j.broken ≡ false) }
+{
+    let disk = FileDisk::open_late(rt, alloc, path, last_error)?;
+    over(rt, alloc, path, disk, &Log::new(alloc))
+}
+
+/// The store in the journal on a disk that was opened at a path.
+fn over<B: Wire, R: Files<File = File>>(
+    rt: &R,
+    alloc: Global,
+    path: &str,
+    disk: FileDisk<SystemFile>,
+    beside: &Log<B>,
+) -> Result<FileJournal<B>, OpenFault>
+    ensures { IfOk result (λ j. j.broken ≡ false) }
+{
     let made = match disk.made(alloc, path) {
         Ok(made) => made,
         Err(error) => {

@@ -50,9 +50,14 @@ impl LastError {
         ensures { result ≡ answer }
     {
         if let Err(error) = &answer {
-            self.code.store(code_of(error), Ordering::SeqCst);
+            self.note_error(error);
         }
         answer
+    }
+
+    /// A call failed for this error.
+    pub fn note_error(&self, error: &io::Error) {
+        self.code.store(code_of(error), Ordering::SeqCst);
     }
 }
 

@@ -22,7 +22,7 @@ pub use disk_file::DiskFile;
 pub use file_disk::FileDisk;
 pub use file_id::FileId;
 pub use header::{renew_header, renewed_journals_are_read_alike};
-pub use journal::{FileJournal, may_be_new, open_journal};
+pub use journal::{FileJournal, may_be_new, open_journal, open_journal_late};
 pub use last_error::LastError;
 pub use made_file::MadeFile;
 pub use open_fault::OpenFault;

@@ -91,9 +91,28 @@ impl FileDisk<SystemFile> {
         let file = locked(file)?;
         let len = file.metadata()?.len();
         if len > EMPTY_LEN {
-            return over_copy(rt, alloc, path, file);
+            return over_copy(rt, alloc, path, file, none(alloc)?);
         }
-        over(rt, alloc, path, file, None, is_made(was_there, len))
+        let opened = Opened {
+            file,
+            before: None,
+            is_made: is_made(was_there, len),
+        };
+        over(rt, path, opened, none(alloc)?)
+    }
+
+    /// The file of a path that is there, as `open` says. None is made: an error of the system tells that none is there.
+    /// Why a call of the file fails is noted in `last_error`.
+    pub fn open_late<R: Files<File = File>>(
+        rt: &R,
+        alloc: Global,
+        path: &str,
+        last_error: LastError,
+    ) -> Result<Self, OpenFault>
+        ensures { IfOk result (λ d. d.failures ≡ 0) }
+    {
+        let file = OpenOptions::new().read(true).write(true).open(rt, path)?;
+        over_copy(rt, alloc, path, locked(file)?, last_error)
     }
 
     /// The file of a path that is there, locked until the disk is dropped, as `open` says. None is made: an error of
@@ -106,7 +125,12 @@ impl FileDisk<SystemFile> {
         ensures { IfOk result (λ d. d.failures ≡ 0) }
     {
         let file = OpenOptions::new().read(true).write(true).open(rt, path)?;
-        over(rt, alloc, path, locked(file)?, None, false)
+        let opened = Opened {
+            file: locked(file)?,
+            before: None,
+            is_made: false,
+        };
+        over(rt, path, opened, none(alloc)?)
     }
 
     /// Why a call of its file failed last, now and later on.
@@ -158,6 +182,7 @@ fn over_copy<R: Files<File = File>>(
     alloc: Global,
     path: &str,
     file: File,
+    last_error: LastError,
 ) -> Result<FileDisk<SystemFile>, OpenFault>
     ensures { IfOk result (λ d. d.failures ≡ 0) }
 {
@@ -168,45 +193,61 @@ fn over_copy<R: Files<File = File>>(
         return Err(OpenFault::InUse);
     }
     let copy = copied(rt, alloc, place.as_str(), &file)?;
-    over(rt, alloc, place.as_str(), copy, Some(file), false)
+    let opened = Opened {
+        file: copy,
+        before: Some(file),
+        is_made: false,
+    };
+    over(rt, place.as_str(), opened, last_error)
 }
 
-/// A disk over a file that was opened at a path, and locked. Where it fails, the file is removed if it was made.
-fn over<R: Files<File = File>>(
-    rt: &R,
-    alloc: Global,
-    path: &str,
+/// A file that was opened at a path, and locked.
+#[derive(Drop)]
+struct Opened {
     file: File,
+    /// The file that lay there before, of which it is a copy.
     before: Option<File>,
     is_made: bool,
+}
+
+/// A disk over a file that was opened at a path. Where it fails, the file is removed if it was made.
+fn over<R: Files<File = File>>(
+    rt: &R,
+    path: &str,
+    opened: Opened,
+    last_error: LastError,
 ) -> Result<FileDisk<SystemFile>, OpenFault>
     ensures { IfOk result (λ d. d.failures ≡ 0) }
 {
-    match settle(rt, alloc, path, &file) {
-        Ok(last_error) => Ok(FileDisk::new(SystemFile {
+    let Opened {
+        file,
+        before,
+        is_made,
+    } = opened;
+    match settle(rt, path, &file) {
+        Ok(()) => Ok(FileDisk::new(SystemFile {
             file,
             last_error,
             is_made,
             before,
         })),
-        Err(fault) => {
+        Err(error) => {
             if is_made {
                 let _ = remove_file(rt, path, &file);
             }
-            Err(fault)
+            Err(OpenFault::System(error))
         }
     }
 }
 
 /// A crash leaves a file at its path.
-fn settle<R: Files<File = File>>(
-    rt: &R,
-    alloc: Global,
-    path: &str,
-    file: &File,
-) -> Result<LastError, OpenFault> {
+fn settle<R: Files<File = File>>(rt: &R, path: &str, file: &File) -> io::Result<()> {
     file.sync_all()?;
-    sync_folder(rt, path)?;
+    sync_folder(rt, path)
+}
+
+/// No call has failed.
+fn none(alloc: Global) -> Result<LastError, OpenFault> {
     LastError::none(alloc).map_err(|_| OpenFault::Store(StoreFault::Memory))
 }
 
