@@ -1,3 +1,4 @@
+pub mod Absent
 pub mod Beside
 pub mod Contents
 pub mod Counting

@@ -79,10 +79,21 @@ run_told node (saved ∷ group) = max (last_run node saved.log) (run_told node g
 abbrev pub is_older : ℕ → Saved TowerBody → List (Saved TowerBody) → Bool
 is_older node saved group = nat_lt saved.boot (run_told node group)
 
--- the first node from this one on, whose stores these are, one whose store is older than its group tells, if one is
-abbrev pub first_older : ℕ → List (Saved TowerBody) → List (Saved TowerBody) → Option ℕ
+-- those that are there
+abbrev pub those_there : {A : Type 0} → List (Option A) → List A
+those_there [] = []
+those_there (None ∷ xs) = those_there xs
+those_there (Some x ∷ xs) = x ∷ those_there xs
+
+-- the first node from this one on, whose stores these are as far as they are there, one whose store is older than its group tells, if one is
+abbrev pub first_older : ℕ → List (Option (Saved TowerBody)) → List (Saved TowerBody) → Option ℕ
 first_older node [] group = None
-first_older node (own ∷ owns) group = if is_older node own group then Some node else first_older (suc node) owns group
+first_older node (None ∷ owns) group = first_older (suc node) owns group
+first_older node (Some own ∷ owns) group = if is_older node own group then Some node else first_older (suc node) owns group
+
+-- the first of them of all stores that are there
+abbrev pub first_of_group : List (Option (Saved TowerBody)) → Option ℕ
+first_of_group owns = first_older 1 owns (those_there owns)
 
 -- the greatest boot of a node that the entries of a list tell of
 abbrev pub greatest_boot : ℕ → List (Entry TowerBody) → ℕ

@@ -8,6 +8,7 @@
 //! journals are lost, from the others.
 #![tactic(auto)]
 
+mod absent;
 mod adopting;
 mod changed_keys;
 mod coming;
@@ -43,6 +44,7 @@ mod store;
 mod store_file;
 mod store_name;
 
+pub use absent::goes_on;
 pub use changed_keys::ChangedKeys;
 pub use coming::{Coming, Foretold};
 pub use counting::{Numbers, greatest_of, most_entries, most_up_to_date};
@@ -58,7 +60,7 @@ pub use marks::{Marks, Stage, marks_of};
 pub use mixed::Mixed;
 pub use naming::{names_in, names_of};
 pub use old_folders::{OldFolder, OldFolders};
-pub use older::first_older;
+pub use older::{first_older, run_told};
 pub use paths::{NoPaths, Paths};
 pub use placing::{decide, finish_renewal, put_in_place};
 pub use planning::{Plan, planned};
@@ -69,3 +71,4 @@ pub use settled::Settled;
 pub use settling::{settle, settle_by_reading};
 pub use standing::{Journal, NodeJournal, Standing, stand_for};
 pub use store::{Found, Next, next_of, store_of};
+pub use store_file::setup_path;

@@ -57,7 +57,11 @@ fn seen(full: u8, size: u8) -> Look
 }
 
 /// Whether a node's journal lies in a folder, and is longer than an empty one.
-fn is_longer<R: Files + AllocGlobal>(rt: &R, folder: &str, node: NodeId) -> Result<bool, RenewFault>
+pub fn is_longer<R: Files + AllocGlobal>(
+    rt: &R,
+    folder: &str,
+    node: NodeId,
+) -> Result<bool, RenewFault>
     ensures { IfErr result IsOfFiles }
 {
     let path = journal_path(rt.alloc(), folder, node)?;

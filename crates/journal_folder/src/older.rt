@@ -1,6 +1,6 @@
 //! Journals that are older copies, which their group tells.
 ghost use Rattle.std.specs.Prelude.{◌≡◌, ◌≤◌, ◌+◌, length, map, option_map};
-ghost use Rattle.journal_folder.specs.Runs.{first_older, run_told};
+ghost use Rattle.journal_folder.specs.Runs.{first_of_group, first_older, run_told, those_there};
 
 use crate::earlier_runs::last_run;
 use bouncer_tower::TowerBody;
@@ -8,12 +8,11 @@ use file_disk::FileJournal;
 use raft_log::NodeId;
 use wire_bytes::Number;
 
-/// The first node whose journal, of these of a group, is older than their logs tell, if one is. They are open, node
-/// 1's first.
-pub fn first_older(journals: &[FileJournal<TowerBody>]) -> Option<NodeId>
+/// The first node whose journal, of these of a group, is older than their logs tell, if one is. They are in the order
+/// of their nodes, node 1's first; those that are not open are not there.
+pub fn first_older(journals: &[Option<FileJournal<TowerBody>>]) -> Option<NodeId>
     requires { length journals.now ≤ 7 }
-    ensures { result ≡ first_older 1 (map (λ j. j.saved) journals.now)
-        (map (λ j. j.saved) journals.now) }
+    ensures { result ≡ first_of_group (map (option_map (λ j. j.saved)) journals.now) }
 {
     first_older_of(1, journals, journals)
 }
@@ -21,17 +20,18 @@ pub fn first_older(journals: &[FileJournal<TowerBody>]) -> Option<NodeId>
 /// The same of those of a group, the first of which is of this node.
 fn first_older_of(
     node: u8,
-    journals: &[FileJournal<TowerBody>],
-    group: &[FileJournal<TowerBody>],
+    journals: &[Option<FileJournal<TowerBody>>],
+    group: &[Option<FileJournal<TowerBody>>],
 ) -> Option<NodeId>
     requires first { 1 ≤ node }
     requires last { node + length journals.now ≤ 8 }
-    ensures { result ≡ first_older node (map (λ j. j.saved) journals.now)
-        (map (λ j. j.saved) group.now) }
+    ensures { result ≡ first_older node (map (option_map (λ j. j.saved)) journals.now)
+        (those_there (map (option_map (λ j. j.saved)) group.now)) }
 {
     match journals {
         [] => None,
-        [own, journals @ ..] => {
+        [None, journals @ ..] => first_older_of(node + 1, journals, group),
+        [Some(own), journals @ ..] => {
             let of = NodeId::new(node);
             if own.boot() < run_told(of, group) {
                 Some(of)
@@ -43,12 +43,13 @@ fn first_older_of(
 }
 
 /// The last run of a node that the logs of these journals tell to have begun.
-fn run_told(node: NodeId, group: &[FileJournal<TowerBody>]) -> Number
-    ensures { result ≡ run_told node (map (λ j. j.saved) group.now) }
+pub fn run_told(node: NodeId, group: &[Option<FileJournal<TowerBody>>]) -> Number
+    ensures { result ≡ run_told node (those_there (map (option_map (λ j. j.saved)) group.now)) }
 {
     match group {
         [] => Number::new(0),
-        [first, group @ ..] => {
+        [None, group @ ..] => run_told(node, group),
+        [Some(first), group @ ..] => {
             let told = last_run(node, first.log());
             Number::new(told.max(run_told(node, group).value()))
         }
