@@ -7,13 +7,16 @@ use Rattle.world_views.specs.Own.{ViewOf}
 use Rattle.world_views.specs.Views.{IsAt}
 use Rattle.ether.specs.declared.pass.Pass.{Pass}
 use Rattle.ether.specs.Passes.{EtherParts, IsOpenPass, IsPass, view_of}
+use Rattle.ether.specs.Rule.{blank}
 use Rattle.recorder.specs.NodeLines.{fields_of}
 use Rattle.node_cells.specs.declared.record.Recording.{Recording}
-use Rattle.node_cells.specs.Books.{IsRecordBy}
+use Rattle.node_cells.specs.declared.record.Recording.TheVariants.{On, Off}
+use Rattle.node_cells.specs.Books.{IsRecordBy, NotedOf}
 use Rattle.node_cells.specs.Cells.{view_in}
 use Rattle.node_cells.specs.Groups.{AreLeftBy, ClosingParts, IsClosing, IsLeftBy, IsNextCell, RecordOf}
 use Rattle.node_cells.specs.Openings.{IsClosed}
 use Rattle.node_cells.specs.Turns.{CellOf}
+use Rattle.node_cells.specs.Unopened.{IsEmptyRecord, IsNextUnopened, IsUntouched, UnopenedParts}
 
 -- what stands at a place stands there in the list without its last item, or is that item
 at_end : {A : Type 0} (xs : List A) (x y : A) (i : ℕ) → IsAt (xs ++ x ∷ []) i y → IsAt xs i y ⊎ ((i ≡ length xs) × (x ≡ y))
@@ -52,6 +55,23 @@ module _ {Setup B L T : Type 0} where
   pub has_room : (e : EtherParts Setup) (recording : Recording) (ps : List (Pass B L T)) (d : ClosingParts Setup B L T) → record { ether = e; recording = recording; views = map view_of ps } ≡ d → length d.views < d.ether.size → length ps < e.size
   has_room e recording ps d is few = omega (arith, as_many e recording ps d is, ap (λ (z : ClosingParts Setup B L T). z.ether.size) is, few)
 
+module _ (M : Machine) {Setup : Type 0} (e : EtherParts Setup) (recording : Recording) (ps : List (Pass M.Body M.Line M.Target)) (rs : List (RecordOf M)) where
+  -- a pass and a record more, of the next node
+  one_more : (p : Pass M.Body M.Line M.Target) (r : RecordOf M) → IsClosing M e recording ps rs → IsPass e p → p.node ≡ length ps → IsLeftBy M recording (length (map view_of ps)) (view_of p) r
+      → IsClosing M e recording (ps ++ p ∷ []) (rs ++ r ∷ [])
+  one_more p r h pass node last =
+      record {
+        passes_are = λ i q at. ⊎_elim
+            (λ (old : IsAt ps i q). h.passes_are i q old)
+            (λ (here : (i ≡ length ps) × (p ≡ q)). subst (λ (z : Pass M.Body M.Line M.Target). IsPass e z × (z.node ≡ i)) here.1 (pass, node ∙ sym here.0))
+            (at_end ps p q i at);
+        left = subst (λ (vs : List (ViewOf M)). AreLeftBy M recording vs (rs ++ r ∷ [])) (sym (map_end view_of ps p))
+            (record {
+              many = length_end rs (map view_of ps) r (view_of p) h.left.many;
+              each = ends_alike (map view_of ps) rs h.left.many (IsLeftBy M recording) h.left.each (view_of p) r last;
+            });
+      }
+
 module _ (M : Machine) {Setup Hosted Store U : Type 0} where
   -- one more node's pass and record
   pub closed_next : (e : EtherParts Setup) (recording : Recording) (ps : List (Pass M.Body M.Line M.Target)) (rs : List (RecordOf M)) (d : ClosingParts Setup M.Body M.Line M.Target)
@@ -71,14 +91,30 @@ module _ (M : Machine) {Setup Hosted Store U : Type 0} where
         recorded = subst (λ (z : Recording × ViewOf M). IsRecordBy M z.0 z.1 r.turns.items) (λ i. (alike i, sym viewed i)) closed.recorded;
         state = λ honest. closed.state (ap (λ (v : ViewOf M). v.honest) (sym viewed) ∙ honest) ∙ ap (λ (v : ViewOf M). fields_of v.state) (sym viewed);
       } in
+      one_more M e recording ps rs p r h pass node last
+
+module _ (M : Machine) where
+  -- nothing is recorded of a node to which nothing happened
+  no_turns : (recording : Recording) (size node : ℕ) → IsRecordBy M recording (blank size node) []
+  no_turns On size node = record { turns_are = refl; outs_are = λ honest. refl }
+  no_turns Off size node = refl
+
+  -- one more node's pass and record, where the node was never opened
+  pub unopened_next : {Setup U : Type 0} (e : EtherParts Setup) (recording : Recording) (ps : List (Pass M.Body M.Line M.Target)) (rs : List (RecordOf M)) (d : ClosingParts Setup M.Body M.Line M.Target)
+      (u : UnopenedParts Setup M.Body M.Line M.Target U) (p : Pass M.Body M.Line M.Target) (r : RecordOf M)
+      → record { ether = e; recording = recording; views = map view_of ps } ≡ d → IsClosing M e recording ps rs → IsNextUnopened d u → p ≡ u.pass → IsUntouched u.ether p
+      → IsEmptyRecord M u.ether.size (suc u.pass.node) r → IsClosing M e recording (ps ++ p ∷ []) (rs ++ r ∷ [])
+  unopened_next {Setup} e recording ps rs d u p r is h next same mine empty =
+      let ether : u.ether ≡ e = next.ether ∙ sym (ap (λ (z : ClosingParts Setup M.Body M.Line M.Target). z.ether) is) in
+      let pass : IsPass e p = subst (λ (z : EtherParts Setup). IsPass z p) ether mine.pass in
+      let near : p.node ≡ u.pass.node = ap (λ (q : Pass M.Body M.Line M.Target). q.node) same in
+      let viewed : view_of p ≡ view_of u.pass = ap view_of same in
+      let node : p.node ≡ length ps = sym mine.pass.node ∙ (ap (λ (v : ViewOf M). v.node) viewed ∙ (next.node ∙ sym (as_many e recording ps d is))) in
+      let place : length ps ≡ length (map view_of ps) = sym (length-map ps view_of) in
+      let last : IsLeftBy M recording (length (map view_of ps)) (view_of p) r =
       record {
-        passes_are = λ i q at. ⊎_elim
-            (λ (old : IsAt ps i q). h.passes_are i q old)
-            (λ (here : (i ≡ length ps) × (p ≡ q)). subst (λ (z : Pass M.Body M.Line M.Target). IsPass e z × (z.node ≡ i)) here.1 (pass, node ∙ sym here.0))
-            (at_end ps p q i at);
-        left = subst (λ (vs : List (ViewOf M)). AreLeftBy M recording vs (rs ++ r ∷ [])) (sym (map_end view_of ps p))
-            (record {
-              many = length_end rs (map view_of ps) r (view_of p) h.left.many;
-              each = ends_alike (map view_of ps) rs h.left.many (IsLeftBy M recording) h.left.each (view_of p) r last;
-            });
-      }
+        node = empty.node_is ∙ ap suc (sym near ∙ (node ∙ place));
+        recorded = subst (λ (z : ViewOf M × List (NotedOf M)). IsRecordBy M recording z.0 z.1) (λ i. (sym mine.view i, sym empty.turns i)) (no_turns recording u.ether.size p.node);
+        state = λ honest. empty.state ∙ ap (λ (v : ViewOf M). fields_of v.state) (sym mine.view);
+      } in
+      one_more M e recording ps rs p r h pass node last

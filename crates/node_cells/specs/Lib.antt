@@ -14,3 +14,4 @@ pub mod Restarts
 pub mod Together
 pub mod Openings
 pub mod Groups
+pub mod Unopened

@@ -42,6 +42,8 @@ mod restart;
 mod starting;
 mod together;
 
+pub use starting::start_node;
+
 /// A turn sends at most one message to each node, of which there are at most 7.
 const MOST_SENT: usize = 7;
 

@@ -2,9 +2,11 @@
 ghost use Rattle.std.specs.Prelude.{◌≡◌, [], length, IfOk};
 ghost use Rattle.std.specs.Arc.{arc_value};
 ghost use Rattle.node_cells.specs.Groups.{AreRecordsOfGroup, HasClosed, IsNextCell};
+ghost use Rattle.node_cells.specs.Unopened.{HasClosedUnopened, IsNextUnopened};
 
 use crate::cell::NodeCell;
 use crate::record::{NodeRecord, Recording};
+use crate::unopened_cell::UnopenedCell;
 use crate::upstream::Upstream;
 use ether::{Ether, Pass};
 use machine_laws::{Hosted, Machine, Marking};
@@ -81,7 +83,19 @@ impl<M: Marking> Closing<M> {
         self.records.push_reserved(record);
     }
 
-    /// The records of all nodes, which are of one group. They have no turns where none were recorded.
+    /// A node of this ether that was never opened is closed, where it is the one behind those that were closed.
+    /// Its record has no turns.
+    pub fn close_unopened<U: Upstream>(&mut self, cell: UnopenedCell<M, U>)
+        requires { IsNextUnopened self.old cell }
+        ensures { HasClosedUnopened self.old cell self.new }
+    {
+        let (pass, record) = cell.leave();
+        self.passes.push_reserved(pass);
+        self.records.push_reserved(record);
+    }
+
+    /// The records of all nodes, which are of one group. They have no turns where none were recorded, or
+    /// the node was never opened.
     pub fn finish(self) -> Vec<NodeRecord<M::Command, M::Line, M::Target, M::Effect, M::Played>>
         requires { length self.views ≡ self.ether.size }
         ensures { AreRecordsOfGroup (⟦<M as Described>⟧.machine self.ether.setup) self.recording

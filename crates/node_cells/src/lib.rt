@@ -19,6 +19,7 @@ mod reaching;
 mod record;
 mod remembered;
 mod told_input;
+mod unopened_cell;
 mod upstream;
 
 pub use cell::NodeCell;
@@ -28,4 +29,5 @@ pub use laws::one_input_alone_is_a_turn;
 pub use mark_turn::MarkTurn;
 pub use phase::Phase;
 pub use record::{NodeRecord, NodeTurn, Recording, TurnOutput};
+pub use unopened_cell::UnopenedCell;
 pub use upstream::{Upstream, UpstreamFault};
