@@ -5,6 +5,7 @@ mod HomeMarked
 pub mod Started
 mod Going
 mod Inflows
+mod Waited
 mod Waiting
 mod Covered
 mod Taken

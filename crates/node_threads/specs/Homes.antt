@@ -1,15 +1,13 @@
 -- The cells of a group's nodes: as they were opened, and as their workers leave them.
-use Rattle.std.specs.Prelude.{◌≡◌, ◌⊎◌, ◌<◌, ℕ, suc, List, [], ◌∷◌, ◌++◌, length, map, Result, Ok, Err}
-use Rattle.raft_node.specs.Machine.{Machine}
+use Rattle.std.specs.Prelude.{◌≡◌, ◌⊎◌, ◌<◌, ℕ, suc, List, [], ◌∷◌, ◌++◌, length, Err}
 use Rattle.raft_node.specs.Parts.{Keeper}
 use Rattle.raft_node.specs.Starting.{IsStarted}
-use Rattle.world_views.specs.Own.{ViewOf}
 use Rattle.world_views.specs.Views.{IsAt, View}
 use Rattle.ether.specs.declared.pass.Pass.{Pass}
-use Rattle.ether.specs.Passes.{EtherParts, IsPass, IsUnopened, view_of}
+use Rattle.ether.specs.Passes.{EtherParts}
 use Rattle.node_cells.specs.declared.record.Recording.{Recording}
 use Rattle.node_cells.specs.Cells.{CellParts, view_in}
-use Rattle.node_cells.specs.Groups.{AreRecordsOfGroup, ClosingParts, RecordOf}
+use Rattle.node_cells.specs.Groups.{ClosingParts}
 use Rattle.node_cells.specs.Openings.{IsFresh}
 use Rattle.node_threads.specs.declared.cluster_fault.ClusterFault.{ClusterFault}
 use Rattle.node_threads.specs.declared.cluster_fault.ClusterFault.TheVariants.{Memory, NoNode, Stopped, Node, Spent}
@@ -20,6 +18,13 @@ abbrev pub AllFrom : {A : Type 0} → (ℕ → A → Type 0) → ℕ → List A 
 AllFrom P i [] = Unit {0}
 AllFrom P i (x ∷ xs) = P i x × AllFrom P (suc i) xs
 
+-- this holds of the items of two lists, place by place, and they are as many
+abbrev pub ArePaired : {A B : Type 0} → (A → B → Type 0) → List A → List B → Type 0
+ArePaired R [] [] = Unit {0}
+ArePaired R [] (y ∷ ys) = ⊥
+ArePaired R (x ∷ xs) [] = ⊥
+ArePaired R (x ∷ xs) (y ∷ ys) = R x y × ArePaired R xs ys
+
 module _ {B L T : Type 0} where
   -- a later view of the same node, opened as it was
   pub record IsLaterView (v w : View B L T) : Type 0 where
@@ -28,14 +33,7 @@ module _ {B L T : Type 0} where
     pub honest : w.honest ≡ v.honest
     pub opened : w.opened ≡ v.opened
 
-  -- later views of these nodes, in order
-  abbrev pub AreLaterViews : List (View B L T) → List (View B L T) → Type 0
-  AreLaterViews [] [] = Unit {0}
-  AreLaterViews [] (w ∷ ws) = ⊥
-  AreLaterViews (v ∷ vs) [] = ⊥
-  AreLaterViews (v ∷ vs) (w ∷ ws) = IsLaterView v w × AreLaterViews vs ws
-
--- the ether of a node, whether it records its turns, and its view as it was opened
+-- the ether of a node, whether it records its turns, and its view as it was opened, or as it was where it was not opened yet
 pub record Home (Setup B L T : Type 0) : Type 0 where
   pub ether : EtherParts Setup
   pub recording : Recording
@@ -53,12 +51,12 @@ module _ {Setup B L T : Type 0} where
     pub home : IsHome closing.ether closing.recording (length closing.views) h
     pub few : length closing.views < closing.ether.size
 
-  -- the node's cell was closed, by a later view
-  pub record HasJoined (old : ClosingParts Setup B L T) (h : Home Setup B L T) (new : ClosingParts Setup B L T) : Type 0 where
+  -- the node was closed, by a view that is left of it
+  pub record HasJoined (is_left : View B L T → Type 0) (old : ClosingParts Setup B L T) (new : ClosingParts Setup B L T) : Type 0 where
     pub ether : new.ether ≡ old.ether
     pub recording : new.recording ≡ old.recording
     pub view : View B L T
-    pub later : IsLaterView h.view view
+    pub left : is_left view
     pub views : new.views ≡ old.views ++ view ∷ []
 
 module _ {Setup Hosted Store B L T E P U : Type 0} where
@@ -79,18 +77,6 @@ module _ {Setup Hosted Store B L T E P U : Type 0} where
       pub at : IsAt parts i part
       pub pass : Pass B L T
       pub fresh : IsFresh k e pass part.store part.upstream r c
-
--- The nodes of a running cluster: their ether, whether they record their turns, and their cells as they were opened, node 1's first.
-pub record ClusterParts (Setup Hosted Store B L T E P U : Type 0) : Type 0 where
-  pub ether : EtherParts Setup
-  pub recording : Recording
-  pub cells : List (CellParts Setup Hosted Store B L T E P U)
-
-module _ {Setup B L T : Type 0} where
-  -- the pass of the node at this place of an ether, to which nothing happened yet
-  pub record IsNewPass (e : EtherParts Setup) (i : ℕ) (p : Pass B L T) : Type 0 where
-    pub pass : IsPass e p × IsUnopened p × ((view_of p).turns ≡ [])
-    pub node : p.node ≡ i
 
 module _ {Setup Store B : Type 0} (k : Keeper Store B) (size : ℕ) (setup : Setup) where
   -- why the node of this number was not opened over its store
@@ -117,25 +103,3 @@ module _ {Setup Store B U O : Type 0} (k : Keeper Store B) (size : ℕ) (setup :
   IsNoStart Stopped = ⊥
   IsNoStart (Node fault) = (i : ℕ) × (part : Part Store U O) × IsAt parts i part × IsNotOpened k size setup (suc i) part.store (Node fault)
   IsNoStart Spent = ⊥
-
-  module _ {Hosted L T E P : Type 0} where
-    -- a cluster that runs: each node was opened over the store of its part, no part is left over, and all record their turns, or none does
-    pub record AreStarted (recording : Recording) (c : ClusterParts Setup Hosted Store B L T E P U) : Type 0 where
-      pub nodes : c.ether.size ≡ size
-      pub setup_is : c.ether.setup ≡ setup
-      pub recording_is : c.recording ≡ recording
-      pub many : length c.cells ≡ size
-      pub paired : length parts ≡ size
-      pub opened : AllFrom (IsOpenedOver k c.ether recording parts) 0 c.cells
-
-    -- by what a start answers
-    abbrev pub HasStarted : Recording → Result (ClusterParts Setup Hosted Store B L T E P U) ClusterFault → Type 0
-    HasStarted recording (Ok c) = AreStarted recording c
-    HasStarted recording (Err fault) = IsNoStart fault
-
-module _ (M : Machine) {Setup Hosted Store U : Type 0} where
-  -- The records that a cluster leaves: those of all its nodes, which are of one group. Their views are of the nodes as they were opened.
-  pub record AreLeft (c : ClusterParts Setup Hosted Store M.Body M.Line M.Target M.Effect M.Played U) (records : List (RecordOf M)) : Type 0 where
-    pub views : List (ViewOf M)
-    pub group : AreRecordsOfGroup M c.recording c.ether.size views records
-    pub later : AreLaterViews (map view_in c.cells) views

@@ -5,6 +5,8 @@ pub mod Homes
 pub mod Inflows
 pub mod Jobs
 pub mod Joins
+pub mod Late
+pub mod Places
 pub mod Reports
 pub mod Requests
 pub mod Rounds

@@ -1,13 +1,15 @@
 //! The nodes of one process.
 ghost use Rattle.std.specs.Prelude.{◌≡◌, ◌-◌, IfOk, Some, length, slice_get};
 ghost use Rattle.node_threads.specs.Faults.{IsFound, IsTold};
-ghost use Rattle.node_threads.specs.Homes.{AreLeft};
+ghost use Rattle.raft_node.specs.Parts.{keeper};
+ghost use Rattle.node_threads.specs.Places.{AreLeft};
 
 use crate::cluster_fault::ClusterFault;
 use crate::inlet::Inlet;
 use crate::job::{Job, put};
 use crate::leaver::join_all;
 use crate::node_handle::NodeHandle;
+use crate::opener::{NoOpener, Opener};
 use crate::worker::Running;
 use crossbeam_channel::Sender;
 use machine_laws::{Hosted, Machine, Marking};
@@ -27,35 +29,37 @@ mod starting;
 
 /// The nodes of one process, each in a thread of its own.
 #[derive(Drop)]
-pub struct Cluster<M: Marking, S: Stable<M::Command>, U: Upstream> {
+pub struct Cluster<M: Marking, S: Stable<M::Command>, U: Upstream, L: Opener<S> = NoOpener> {
     alloc: Global,
     /// Node 1's first.
     inboxes: Vec<Sender<Job<M>>>,
     /// Node 1's first.
-    threads: Vec<Running<M, S, U>>,
+    threads: Vec<Running<M, S, U, L>>,
     /// For what they leave.
     closing: Closing<M>,
 }
 
-impl<M: Marking, S: Stable<M::Command>, U: Upstream> Model for Cluster<M, S, U> {
+impl<M: Marking, S: Stable<M::Command>, U: Upstream, L: Opener<S>> Model for Cluster<M, S, U, L> {
     ghost use Rattle.std.specs.Prelude.{◌≡◌, [], length, map};
-    ghost use Rattle.node_threads.specs.Homes.{AllFrom, ClusterParts, IsHome, home_of};
+    ghost use Rattle.node_threads.specs.Homes.{AllFrom, IsHome};
+    ghost use Rattle.node_threads.specs.Places.{ClusterParts, place_home};
 
-    ghost Value = { ClusterParts M.Setup M S M.Command M.Line M.Target M.Effect M.Played U };
+    ghost Value = { ClusterParts M S U L M.Action M.Line M.Target M.Played M.Setup M.Command
+        M.Effect };
 
     ghost view = { λ c. record {
       ether = c.closing.ether;
       recording = c.closing.recording;
-      cells = map (λ t. t.promise.cell.value.parts) c.threads.items;
+      places = map (λ t. t.promise.place.value) c.threads.items;
     } };
 
     ghost invariant = { λ c. (length c.inboxes.items ≡ c.closing.ether.size)
         × (length c.threads.items ≡ c.closing.ether.size) × (c.closing.views ≡ [])
         × AllFrom (λ i t. IsHome c.closing.ether c.closing.recording i
-        (home_of t.promise.cell.value.parts)) 0 c.threads.items };
+        (place_home t.promise.place.value)) 0 c.threads.items };
 }
 
-impl<M: Marking, S: Stable<M::Command>, U: Upstream> Cluster<M, S, U> {
+impl<M: Marking, S: Stable<M::Command>, U: Upstream, L: Opener<S>> Cluster<M, S, U, L> {
     /// A node, to be called.
     pub fn node(&self, node: NodeId) -> Result<NodeHandle<'_, M, Sender<Job<M>>>, ClusterFault>
         ensures { IsFound self.now.ether.size node result }
@@ -79,12 +83,13 @@ impl<M: Marking, S: Stable<M::Command>, U: Upstream> Cluster<M, S, U> {
 
     /// All workers end, and are joined. Gives what the nodes recorded, node 1's first.
     ///
-    /// What waits in an inbox by then is done first.
+    /// What waits in an inbox by then is done first. A node that was never opened leaves a record with no turns.
     pub fn stop<R: Threads + Wait>(
         self,
         rt: &R,
     ) -> Vec<NodeRecord<M::Command, M::Line, M::Target, M::Effect, M::Played>>
-        ensures { AreLeft (⟦<M as Described>⟧.machine self.ether.setup) self result.items }
+        ensures { AreLeft (⟦<M as Described>⟧.machine self.ether.setup)
+            (keeper S.saved S.may_stand S.condition) L.gives self result.items }
     {
         let Cluster {
             inboxes,

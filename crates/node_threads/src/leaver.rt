@@ -1,6 +1,8 @@
 //! Threads that are joined one by one, each into what the ones before it left.
 ghost use Rattle.node_threads.specs.Joins.{CanJoinAll, JoinsAll};
 
+use crate::opener::Opener;
+use crate::place::Place;
 use crate::worker::Running;
 use machine_laws::{Hosted, Marking};
 use node_cells::{Closing, Upstream};
@@ -21,16 +23,22 @@ pub trait Leaver<C>: Drop {
         ensures { joins left.old self left.new };
 }
 
-impl<M: Marking, S: Stable<M::Command>, U: Upstream> Leaver<Closing<M>> for Running<M, S, U> {
-    ghost use Rattle.node_threads.specs.Homes.{HasJoined, IsNextHome, home_of};
+impl<M: Marking, S: Stable<M::Command>, U: Upstream, L: Opener<S>> Leaver<Closing<M>>
+    for Running<M, S, U, L> {
+    ghost use Rattle.raft_node.specs.Parts.{keeper};
+    ghost use Rattle.node_threads.specs.Homes.{HasJoined, IsNextHome};
+    ghost use Rattle.node_threads.specs.Places.{IsLeftView, place_home};
 
-    ghost can_join = { λ left t. IsNextHome left (home_of t.promise.cell.value.parts) };
+    ghost can_join = { λ left t. IsNextHome left (place_home t.promise.place.value) };
 
-    ghost joins = { λ old t new. HasJoined old (home_of t.promise.cell.value.parts) new };
+    ghost joins = { λ old t new. HasJoined (IsLeftView (keeper S.saved S.may_stand S.condition)
+        L.gives t.promise.place.value) old new };
 
     fn join_into<R: Threads>(self, rt: &R, left: &mut Closing<M>) {
-        let cell = self.join(rt);
-        left.close(cell);
+        match self.join(rt) {
+            Place::Open(cell) => left.close(cell),
+            Place::Late(cell, _) => left.close_unopened(cell),
+        }
     }
 }
 

@@ -1,7 +1,8 @@
 //! The nodes of one process, each in a thread of its own, which alone has the node's cell.
 //! Stands under bouncer_run, and under node_cases.
 //! A cluster starts with each node over the store of its part, or says why not; what it leaves are the records of one
-//! group, which replay over honest stores.
+//! group, which replay over honest stores. A node whose store is not there yet is down until its opener gives the
+//! store, and then it is as the others are.
 #![tactic(auto)]
 
 mod beats;
@@ -14,8 +15,10 @@ mod inlet;
 mod job;
 mod leaver;
 mod node_handle;
+mod opener;
 mod outlet;
 mod part;
+mod place;
 mod task;
 mod worker;
 mod worker_loop;
@@ -28,5 +31,6 @@ pub use inbox::Inbox;
 pub use inlet::Inlet;
 pub use job::Job;
 pub use node_handle::NodeHandle;
+pub use opener::{NoOpener, Opener, PartStore};
 pub use outlet::Outlet;
 pub use part::Part;

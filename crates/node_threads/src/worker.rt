@@ -1,28 +1,38 @@
 //! The worker of a node.
-ghost use Rattle.node_threads.specs.Homes.{IsSameHome};
+ghost use Rattle.raft_node.specs.Parts.{keeper};
+ghost use Rattle.node_threads.specs.Places.{HasWorked};
 
 use crate::gate::Gate;
 use crate::job::Job;
+use crate::opener::Opener;
 use crate::outlet::Outlet;
+use crate::place::Place;
 use crate::task::Task;
 use crate::worker_loop::WorkerLoop;
 use crossbeam_channel::Receiver;
 use machine_laws::{Hosted, Machine, Marking};
-use node_cells::{NodeCell, Upstream};
+use node_cells::Upstream;
 use stable_store::Stable;
 use std::snapshot::Snapshot;
 use std::sync::Wait;
 use std::thread::{Promise, PromisedHandle};
 
-/// The worker of a node, which alone has its cell, and takes from its inbox.
+/// The worker of a node, which alone has it, and takes from its inbox.
 #[derive(Drop)]
-pub struct Worker<M: Marking, S: Stable<M::Command>, U: Upstream, G: Drop, O: Outlet<M::Effect>> {
-    pub cell: NodeCell<M, S, U>,
+pub struct Worker<
+    M: Marking,
+    S: Stable<M::Command>,
+    U: Upstream,
+    L: Opener<S>,
+    G: Drop,
+    O: Outlet<M::Effect>,
+> {
+    pub place: Place<M, S, U, L>,
     pub inbox: Receiver<Job<M>>,
     pub worker_loop: WorkerLoop<M, G, O>,
 }
 
-impl<M, S, U, G, O> Task for Worker<M, S, U, G, O>
+impl<M, S, U, L, G, O> Task for Worker<M, S, U, L, G, O>
 where
     M: Marking + Send + Sync + 'static,
     M::Setup: Send + Sync + 'static,
@@ -34,41 +44,47 @@ where
     M::Action: Send + Sync + 'static,
     S: Stable<M::Command> + Send + 'static,
     U: Upstream + Send + 'static,
+    L: Opener<S> + Send + 'static,
     G: Gate + Drop + Send + Sync + 'static,
     O: Outlet<M::Effect> + Send + 'static,
 {
-    ghost use Rattle.node_threads.specs.Homes.{IsSameHome};
+    ghost use Rattle.raft_node.specs.Parts.{keeper};
+    ghost use Rattle.node_threads.specs.Places.{HasWorked};
 
-    type Left = NodeCell<M, S, U>;
+    type Left = Place<M, S, U, L>;
 
-    ghost leaves = { λ worker cell. IsSameHome worker.cell.parts cell.parts };
+    ghost leaves = { λ worker left. HasWorked (keeper S.saved S.may_stand S.condition) L.gives
+        worker.place left };
 
-    fn run<R: Wait>(self, rt: &R) -> NodeCell<M, S, U> {
+    fn run<R: Wait>(self, rt: &R) -> Place<M, S, U, L> {
         let Worker {
-            cell,
+            place,
             inbox,
             worker_loop,
         } = self;
-        let mut cell = cell;
         let mut worker_loop = worker_loop;
         let mut inbox = inbox;
-        worker_loop.work(rt, &mut cell, &mut inbox);
-        cell
+        match place {
+            Place::Open(cell) => worker_loop.work_open(rt, cell, &mut inbox),
+            Place::Late(cell, opener) => worker_loop.work_late(rt, cell, opener, &mut inbox),
+        }
     }
 }
 
-/// That a worker leaves the cell of its node, which was this as it was opened.
+/// What a worker leaves of the node that it began with.
 #[derive(Drop)]
-pub struct WorkerPromise<M: Marking, S: Stable<M::Command>, U: Upstream> {
-    pub cell: Snapshot<NodeCell<M, S, U>>,
+pub struct WorkerPromise<M: Marking, S: Stable<M::Command>, U: Upstream, L: Opener<S>> {
+    pub place: Snapshot<Place<M, S, U, L>>,
 }
 
-impl<M: Marking, S: Stable<M::Command>, U: Upstream> Promise<NodeCell<M, S, U>>
-    for WorkerPromise<M, S, U> {
-    ghost use Rattle.node_threads.specs.Homes.{IsSameHome};
+impl<M: Marking, S: Stable<M::Command>, U: Upstream, L: Opener<S>> Promise<Place<M, S, U, L>>
+    for WorkerPromise<M, S, U, L> {
+    ghost use Rattle.raft_node.specs.Parts.{keeper};
+    ghost use Rattle.node_threads.specs.Places.{HasWorked};
 
-    ghost kept_by = { λ promise cell. IsSameHome promise.cell.value.parts cell.parts };
+    ghost kept_by = { λ promise left. HasWorked (keeper S.saved S.may_stand S.condition) L.gives
+        promise.place.value left };
 }
 
-/// The thread of a worker, which leaves the cell of its node.
-pub type Running<M, S, U> = PromisedHandle<NodeCell<M, S, U>, WorkerPromise<M, S, U>>;
+/// The thread of a worker, which leaves its node.
+pub type Running<M, S, U, L> = PromisedHandle<Place<M, S, U, L>, WorkerPromise<M, S, U, L>>;

@@ -29,6 +29,7 @@ mod asking;
 mod forwarding;
 mod gathering;
 mod jobs;
+mod late;
 mod messages;
 mod reported;
 mod reporting;

@@ -1,18 +1,21 @@
-//! The workers of a cluster, whose nodes are opened before a thread begins.
+//! The workers of a cluster, whose nodes are opened before a thread begins, where their stores are there.
 ghost use Rattle.std.specs.Prelude.{◌≡◌, ◌<◌, ◌≤◌, [], suc, length, IfOk, IfErr};
 ghost use Rattle.std.specs.Arc.{arc_value};
 ghost use Rattle.node_threads.specs.declared.cluster_fault.ClusterFault.TheVariants.{Memory};
-ghost use Rattle.ether.specs.Passes.{AreNew, IsPass, IsUnopened, view_of};
-ghost use Rattle.node_cells.specs.Openings.{IsFresh};
+ghost use Rattle.ether.specs.Passes.{AreNew};
+ghost use Rattle.node_cells.specs.Unopened.{IsUntouched};
 ghost use Rattle.raft_node.specs.Parts.{keeper};
-ghost use Rattle.node_threads.specs.Homes.{AllFrom, IsNoStart, IsNotOpened, IsOpenedOver};
+ghost use Rattle.node_threads.specs.Homes.{AllFrom};
+ghost use Rattle.node_threads.specs.Places.{IsBegunBy, IsBegunOver, IsNoBeginning, IsNotBegun};
 
 use crate::beats::Beats;
 use crate::cluster_fault::ClusterFault;
 use crate::gate::Gate;
 use crate::job::Job;
+use crate::opener::{Opener, PartStore};
 use crate::outlet::Outlet;
 use crate::part::Part;
+use crate::place::Place;
 use crate::worker::Worker;
 use crate::worker_loop::WorkerLoop;
 use crate::worker_loop::requests::Requests;
@@ -20,7 +23,7 @@ use crate::worker_loop::round::Round;
 use crossbeam_channel::{Receiver, Sender, unbounded};
 use ether::{Ether, Pass};
 use machine_laws::{Hosted, Machine, Marking};
-use node_cells::{NodeCell, Recording, Upstream};
+use node_cells::{NodeCell, Recording, UnopenedCell, Upstream};
 use raft_log::{GroupSize, NodeId};
 use stable_store::Stable;
 use std::alloc::Global;
@@ -35,31 +38,32 @@ pub struct Inboxes<J: Drop> {
     pub outboxes: Vec<Receiver<J>>,
 }
 
-/// The workers of all nodes, node 1's first.
+/// The workers of all nodes, node 1's first: each node whose store is there is opened over it.
 pub fn workers<
     M: Marking,
     S: Stable<M::Command>,
     U: Upstream,
+    L: Opener<S>,
     G: Gate + Drop,
     O: Outlet<M::Effect>,
 >(
     alloc: Global,
     ether: &Arc<Ether<M>, Global>,
     passes: Vec<Pass<M::Command, M::Line, M::Target>>,
-    parts: Vec<Part<S, U, O>>,
+    parts: Vec<Part<PartStore<S, L>, U, O>>,
     gate: G,
     ends: &Inboxes<Job<M>>,
     recording: Recording,
-) -> Result<Vec<Worker<M, S, U, G, O>>, ClusterFault>
+) -> Result<Vec<Worker<M, S, U, L, G, O>>, ClusterFault>
     requires passes { AreNew (arc_value ether.now) passes.items }
     requires parts { length parts.items ≡ length passes.items }
     requires size { length passes.items ≡ (arc_value ether.now).size }
     requires ends { length ends.now.outboxes.items ≡ (arc_value ether.now).size }
-    ensures opened { IfOk result (λ ws. AllFrom (λ i w. IsOpenedOver
+    ensures begun { IfOk result (λ ws. AllFrom (λ i w. IsBegunOver
         (keeper S.saved S.may_stand S.condition) (arc_value ether.now) recording parts.items i
-        w.cell.parts) 0 ws.items) }
+        w.place) 0 ws.items) }
     ensures all { IfOk result (λ ws. length ws.items ≡ (arc_value ether.now).size) }
-    ensures fault { IfErr result (IsNoStart (keeper S.saved S.may_stand S.condition)
+    ensures fault { IfErr result (IsNoBeginning (keeper S.saved S.may_stand S.condition)
         (arc_value ether.now).size (arc_value ether.now).setup parts.items) }
 {
     let gate = match Arc::new(alloc, gate) {
@@ -72,7 +76,7 @@ pub fn workers<
         let Some(part) = parts.next() else {
             unreachable!()
         };
-        let worker = match open_worker(alloc, ether, pass, part, &gate, ends, recording) {
+        let worker = match begin_worker(alloc, ether, pass, part, &gate, ends, recording) {
             Ok(worker) => worker,
             Err(fault) => return Err(fault),
         };
@@ -83,22 +87,28 @@ pub fn workers<
     Ok(workers)
 }
 
-/// The worker of a new pass, whose node is opened over the store of its part.
-fn open_worker<M: Marking, S: Stable<M::Command>, U: Upstream, G: Drop, O: Outlet<M::Effect>>(
+/// The worker of a new pass, with the node of its part.
+fn begin_worker<
+    M: Marking,
+    S: Stable<M::Command>,
+    U: Upstream,
+    L: Opener<S>,
+    G: Drop,
+    O: Outlet<M::Effect>,
+>(
     alloc: Global,
     ether: &Arc<Ether<M>, Global>,
     pass: Pass<M::Command, M::Line, M::Target>,
-    part: Part<S, U, O>,
+    part: Part<PartStore<S, L>, U, O>,
     gate: &Arc<G>,
     ends: &Inboxes<Job<M>>,
     recording: Recording,
-) -> Result<Worker<M, S, U, G, O>, ClusterFault>
-    requires pass { IsPass (arc_value ether.now) pass × IsUnopened pass
-        × ((view_of pass).turns ≡ []) }
+) -> Result<Worker<M, S, U, L, G, O>, ClusterFault>
+    requires pass { IsUntouched (arc_value ether.now) pass }
     requires ends { pass.node < length ends.now.outboxes.items }
-    ensures opened { IfOk result (λ w. IsFresh (keeper S.saved S.may_stand S.condition)
-        (arc_value ether.now) pass part.store part.upstream recording w.cell.parts) }
-    ensures fault { IfErr result (IsNotOpened (keeper S.saved S.may_stand S.condition)
+    ensures begun { IfOk result (λ w. IsBegunBy (keeper S.saved S.may_stand S.condition)
+        (arc_value ether.now) recording pass part.store part.upstream w.place) }
+    ensures fault { IfErr result (IsNotBegun (keeper S.saved S.may_stand S.condition)
         (arc_value ether.now).size (arc_value ether.now).setup (suc pass.node) part.store) }
 {
     let Part {
@@ -109,14 +119,45 @@ fn open_worker<M: Marking, S: Stable<M::Command>, U: Upstream, G: Drop, O: Outle
     let Ok(ether) = Arc::try_clone(ether) else {
         return Err(ClusterFault::Memory);
     };
-    let cell = NodeCell::open(alloc, ether, pass, store, upstream, recording)?;
-    let inbox = outbox_of(ends, cell.id())?;
-    let worker_loop = worker_loop(alloc, cell.id(), gate, outlet, ends)?;
+    ether.size().value();
+    let id = NodeId::new(pass.node() as u8 + 1);
+    let inbox = outbox_of(ends, id)?;
+    let worker_loop = worker_loop(alloc, id, gate, outlet, ends)?;
+    let place = place_of(alloc, ether, pass, store, upstream, recording)?;
     Ok(Worker {
-        cell,
+        place,
         inbox,
         worker_loop,
     })
+}
+
+/// The node of a new pass: opened, where its store is there.
+fn place_of<M: Marking, S: Stable<M::Command>, U: Upstream, L: Opener<S>>(
+    alloc: Global,
+    ether: Arc<Ether<M>, Global>,
+    pass: Pass<M::Command, M::Line, M::Target>,
+    store: PartStore<S, L>,
+    upstream: U,
+    recording: Recording,
+) -> Result<Place<M, S, U, L>, ClusterFault>
+    requires { IsUntouched (arc_value ether) pass }
+    ensures begun { IfOk result (IsBegunBy (keeper S.saved S.may_stand S.condition)
+        (arc_value ether) recording pass store upstream) }
+    ensures fault { IfErr result (IsNotBegun (keeper S.saved S.may_stand S.condition)
+        (arc_value ether).size (arc_value ether).setup (suc pass.node) store) }
+{
+    match store {
+        PartStore::Ready(store) => {
+            match NodeCell::open(alloc, ether, pass, store, upstream, recording) {
+                Ok(cell) => Ok(Place::Open(cell)),
+                Err(fault) => Err(ClusterFault::from(fault)),
+            }
+        }
+        PartStore::Late(opener) => {
+            let cell = UnopenedCell::new(alloc, ether, pass, upstream, recording);
+            Ok(Place::Late(cell, opener))
+        }
+    }
 }
 
 /// The end of this node's inbox from which its worker takes.
@@ -131,7 +172,7 @@ fn outbox_of<J: Drop>(ends: &Inboxes<J>, id: NodeId) -> Result<Receiver<J>, Clus
     }
 }
 
-/// What the worker of this node has beside its cell and its inbox.
+/// What the worker of this node has beside the node and its inbox.
 fn worker_loop<M: Marking, G: Drop, O: Outlet<M::Effect>>(
     alloc: Global,
     id: NodeId,

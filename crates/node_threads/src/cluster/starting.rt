@@ -4,7 +4,8 @@ ghost use Rattle.node_threads.specs.declared.cluster_fault.ClusterFault.TheVaria
 ghost use Rattle.std.specs.Arc.{arc_value};
 ghost use Rattle.ether.specs.Passes.{AreNew};
 ghost use Rattle.raft_node.specs.Parts.{keeper};
-ghost use Rattle.node_threads.specs.Homes.{AllFrom, HasStarted, IsHome, IsUnpaired, home_of};
+ghost use Rattle.node_threads.specs.Homes.{AllFrom, IsHome, IsUnpaired};
+ghost use Rattle.node_threads.specs.Places.{HasBegun, HasStarted, place_home, ready};
 
 use crate::beats::Beats;
 use crate::cluster::opening::{Inboxes, make_inboxes, workers};
@@ -12,6 +13,7 @@ use crate::cluster::{Cluster, end_all};
 use crate::cluster_fault::ClusterFault;
 use crate::gate::Gate;
 use crate::job::Job;
+use crate::opener::{NoOpener, Opener, PartStore};
 use crate::outlet::Outlet;
 use crate::part::Part;
 use crate::task::spawn_task;
@@ -61,6 +63,51 @@ where
             recording result }
     {
         unpaired(size, parts.len())?;
+        let parts = all_ready(alloc, parts)?;
+        Cluster::start_late(rt, alloc, size, setup, parts, gate, recording, beats)
+    }
+}
+
+impl<M, S, U, L> Cluster<M, S, U, L>
+where
+    M: Marking + Send + Sync + 'static,
+    M::Setup: Send + Sync + 'static,
+    M::Command: Send + Sync + 'static,
+    M::Effect: Send + Sync + 'static,
+    M::Line: Send + Sync + 'static,
+    M::Target: Send + Sync + 'static,
+    M::Played: Send + Sync + 'static,
+    M::Action: Send + Sync + 'static,
+    S: Stable<M::Command> + Send + 'static,
+    U: Upstream + Send + 'static,
+    L: Opener<S> + Send + 'static,
+{
+    /// Starts as many nodes as the group has, node 1's first, of which some have no store yet. Those that have
+    /// one are opened over it before the first thread begins; where one of them can't be started, what was
+    /// started is joined, and the parts are dropped.
+    ///
+    /// A node that has none is down. Its worker tells that at once, and each time it is told `Note::Restart`, or
+    /// `NodeHandle::restart` is called, it asks the opener of the node's part for the store, opens the node
+    /// over it, and from then on works as every other. Until then a request that it is told waits, as at any
+    /// node that is down; what else it is told does nothing, and tells `Down`; and its mailboxes are not taken.
+    pub fn start_late<R, G, O>(
+        rt: &R,
+        alloc: Global,
+        size: GroupSize,
+        setup: &M::Setup,
+        parts: Vec<Part<PartStore<S, L>, U, O>>,
+        gate: G,
+        recording: Recording,
+        beats: Beats,
+    ) -> Result<Self, ClusterFault>
+    where
+        R: Threads + Wait + Sync + Send + Copy + 'static,
+        G: Gate + Drop + Send + Sync + 'static,
+        O: Outlet<M::Effect> + Send + 'static,
+        ensures { HasBegun (keeper S.saved S.may_stand S.condition) size setup.now parts.items
+            recording result }
+    {
+        unpaired(size, parts.len())?;
         let ground = make_ground(alloc, size, setup, recording, beats)?;
         let Ground {
             ether,
@@ -76,7 +123,7 @@ where
     fn begin<R, G, O>(
         rt: &R,
         alloc: Global,
-        workers: Vec<Worker<M, S, U, G, O>>,
+        workers: Vec<Worker<M, S, U, L, G, O>>,
         inboxes: Vec<Sender<Job<M>>>,
         closing: Closing<M>,
     ) -> Result<Self, ClusterFault>
@@ -88,13 +135,13 @@ where
         requires workers { length workers.items ≡ closing.ether.size }
         requires closing { closing.views ≡ [] }
         requires homes { AllFrom (λ i w. IsHome closing.ether closing.recording i
-            (home_of w.cell.parts)) 0 workers.items }
+            (place_home w.place)) 0 workers.items }
         ensures ether { IfOk result (λ c. c.ether ≡ closing.ether) }
         ensures recording { IfOk result (λ c. c.recording ≡ closing.recording) }
-        ensures cells { IfOk result (λ c. c.cells ≡ map (λ w. w.cell.parts) workers.items) }
+        ensures places { IfOk result (λ c. c.places ≡ map (λ w. w.place) workers.items) }
         ensures fault { IfErr result (λ e. e ≡ Memory) }
     {
-        let mut threads: Vec<Running<M, S, U>> = Vec::with_capacity(alloc, workers.len())?;
+        let mut threads: Vec<Running<M, S, U, L>> = Vec::with_capacity(alloc, workers.len())?;
         for worker in workers {
             let Some(thread) = Cluster::spawn_worker(rt, worker) else {
                 call_off(rt, inboxes.as_slice(), threads);
@@ -111,15 +158,18 @@ where
     }
 
     /// The thread of a worker, if one can be had.
-    fn spawn_worker<R, G, O>(rt: &R, worker: Worker<M, S, U, G, O>) -> Option<Running<M, S, U>>
+    fn spawn_worker<R, G, O>(
+        rt: &R,
+        worker: Worker<M, S, U, L, G, O>,
+    ) -> Option<Running<M, S, U, L>>
     where
         R: Threads + Wait + Sync + Send + Copy + 'static,
         G: Gate + Drop + Send + Sync + 'static,
         O: Outlet<M::Effect> + Send + 'static,
-        ensures { IfSome result (λ t. t.promise.cell.value ≡ worker.cell) }
+        ensures { IfSome result (λ t. t.promise.place.value ≡ worker.place) }
     {
         let promise = WorkerPromise {
-            cell: Snapshot::of(&worker.cell),
+            place: Snapshot::of(&worker.place),
         };
         spawn_task(rt, promise, worker)
     }
@@ -169,6 +219,30 @@ fn make_ground<M: Marking>(
     })
 }
 
+/// Parts whose stores are all there.
+fn all_ready<S: Drop, U: Drop, O: Drop>(
+    alloc: Global,
+    parts: Vec<Part<S, U, O>>,
+) -> Result<Vec<Part<PartStore<S, NoOpener>, U, O>>, ClusterFault>
+    ensures all { IfOk result (λ all. all.items ≡ map ready parts.items) }
+    ensures fault { IfErr result (λ e. e ≡ Memory) }
+{
+    let mut all = Vec::with_capacity(alloc, parts.len())?;
+    for part in parts {
+        let Part {
+            store,
+            upstream,
+            outlet,
+        } = part;
+        all.push_reserved(Part {
+            store: PartStore::Ready(store),
+            upstream,
+            outlet,
+        });
+    }
+    Ok(all)
+}
+
 /// No fault, where there are as many parts as nodes.
 fn unpaired(size: GroupSize, parts: usize) -> Result<(), ClusterFault>
     ensures paired { IfOk result (λ _. parts ≡ size) }
@@ -185,10 +259,10 @@ fn unpaired(size: GroupSize, parts: usize) -> Result<(), ClusterFault>
 }
 
 /// All workers end, and are joined.
-fn call_off<R: Threads + Wait, M: Marking, S: Stable<M::Command>, U: Upstream>(
+fn call_off<R: Threads + Wait, M: Marking, S: Stable<M::Command>, U: Upstream, L: Opener<S>>(
     rt: &R,
     inboxes: &[Sender<Job<M>>],
-    threads: Vec<Running<M, S, U>>,
+    threads: Vec<Running<M, S, U, L>>,
 ) {
     end_all(rt, inboxes);
     join_each(rt, threads);

@@ -43,7 +43,20 @@ impl<M: Marking, G: Gate + Drop, O: Outlet<M::Effect>> WorkerLoop<M, G, O> {
         if !self.is_news(&now) || (has_grown && self.may_tell_later(&now)) {
             return true;
         }
-        let report = self.report(cell.id(), &now);
+        self.tell_now(rt, cell.id(), now)
+    }
+
+    /// Tells this of the node, with what left and the first fault. False where it was not taken, or where more
+    /// is to be told.
+    pub fn tell_now<R: Wait>(&mut self, rt: &R, node: NodeId, now: Told) -> bool
+        ensures order { TellsFirst (leaving self.old.round) (leaving self.new.round) }
+        ensures all { result ≡ true → self.new.round.effects.items ≡ [] }
+        ensures told { IsUntold self.old self.new
+            ⊎ HasTold O.has_taken (λ told. told ≡ now) node self.old self.new }
+        ensures known { result ≡ true → self.new.told ≡ Some now }
+        ensures requests { account_of self.new ≡ account_of self.old }
+    {
+        let report = self.report(node, &now);
         match self.outlet.report(rt, report) {
             Ok(()) => {
                 self.told = Some(now);
@@ -124,7 +137,7 @@ impl<M: Marking, G: Gate + Drop, O: Outlet<M::Effect>> WorkerLoop<M, G, O> {
 
     /// Whether this is to be told: something leaves, a turn did nothing, or the node or its worker stands
     /// as was not told last.
-    fn is_news(&self, now: &Told) -> bool
+    pub fn is_news(&self, now: &Told) -> bool
         ensures effects { result ≡ false → self.now.round.effects.items ≡ [] }
         ensures fault { result ≡ false → self.now.round.fault ≡ None }
         ensures told { result ≡ false → self.now.told ≡ Some now.now }

@@ -23,28 +23,28 @@ loop-pass-init g c =
           parts.ensures.rest,
     )
 
-pub returns-in-Err-open_worker-clause-fault : goal.returns-in-Err-open_worker-clause-fault
-returns-in-Err-open_worker-clause-fault g c =
+pub returns-in-Err-begin_worker-clause-fault : goal.returns-in-Err-begin_worker-clause-fault
+returns-in-Err-begin_worker-clause-fault g c =
     let l = c.loop-pass in
     no_start (kept g) (arc_value c.args.ether.now) c.args.recording c.args.parts.items _ l.workers.items (into_iter_items l.pass-iterator) (into_iter_items c.next.new.self)
     (into_iter_items l.parts) c.in-Some.pass l.invariant.4 c.in-Some.ensures.steps.0 (into_iter_items c.next-in-loop-pass.new.self) c.in-Some-next.part
-    c.in-Some-next.ensures.items c.in-Err-open_worker.fault (c.requires.parts ∙ c.requires.size) c.in-Err-open_worker.ensures.fault
+    c.in-Some-next.ensures.items c.in-Err-begin_worker.fault (c.requires.parts ∙ c.requires.size) c.in-Err-begin_worker.ensures.fault
 
 pub loop-pass-preserved : goal.loop-pass-preserved
 loop-pass-preserved g c =
     let l = c.loop-pass in
-    let more : c.push.new.self.items ≡ l.workers.items ++ c.in-Ok-open_worker.worker ∷ [] = search rules in (
+    let more : c.push.new.self.items ≡ l.workers.items ++ c.in-Ok-begin_worker.worker ∷ [] = search rules in (
       tt,
       tt,
       c.next.new.self.rest.ok.0,
       c.next-in-loop-pass.new.self.rest.ok.0,
       next_opening (kept g) (arc_value c.args.ether.now) c.args.recording c.args.parts.items _ l.workers.items (into_iter_items l.pass-iterator) (into_iter_items c.next.new.self)
           (into_iter_items l.parts) c.in-Some.pass l.invariant.4 c.in-Some.ensures.steps.0 (into_iter_items c.next-in-loop-pass.new.self) c.in-Some-next.part
-          c.in-Some-next.ensures.items c.in-Ok-open_worker.worker c.push.new.self.items c.in-Ok-open_worker.ensures.opened more,
+          c.in-Some-next.ensures.items c.in-Ok-begin_worker.worker c.push.new.self.items c.in-Ok-begin_worker.ensures.begun more,
     )
 
-pub returns-clause-opened : goal.returns-clause-opened
-returns-clause-opened g c =
+pub returns-clause-begun : goal.returns-clause-begun
+returns-clause-begun g c =
     let none = none_left (into_iter_items c.loop-pass.pass-iterator) _ c.loop-pass.invariant.2 c.in-None.ensures.steps.0 in
     (all_opened (kept g) (arc_value c.args.ether.now) c.args.recording c.args.parts.items _ c.loop-pass.workers.items _ _ c.loop-pass.invariant.4 none).0
 

@@ -11,5 +11,5 @@ invariant-loop-pass g l =
     × (goal.iterator-loop-pass g).is_finite l.pass-iterator
     × (into_iter_len l.pass-iterator ≡ length (into_iter_items l.pass-iterator))
     × (into_iter_len l.parts ≡ length (into_iter_items l.parts))
-    × AreOpening (keeper g.S.Stable.saved g.S.Stable.may_stand g.S.Stable.condition) (arc_value l.fn.ether) l.fn.recording l.fn.parts.items (λ w. w.cell.parts) l.workers.items
+    × AreOpening (keeper g.S.Stable.saved g.S.Stable.may_stand g.S.Stable.condition) (arc_value l.fn.ether) l.fn.recording l.fn.parts.items (λ w. w.place) l.workers.items
     (into_iter_items l.pass-iterator) (into_iter_items l.parts)
