@@ -5,5 +5,6 @@ pub mod SomeFolders
 pub mod Longest
 pub mod Marks
 pub mod Movements
+pub mod Over
 pub mod PasswordTexts
 pub mod Places

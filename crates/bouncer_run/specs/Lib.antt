@@ -7,7 +7,9 @@ pub mod Groups
 pub mod Guests
 pub mod Inputs
 pub mod Levels
+pub mod Limits
 pub mod Moving
+pub mod Opened
 pub mod Pasts
 pub mod Settings
 pub mod Stopping

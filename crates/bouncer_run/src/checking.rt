@@ -4,6 +4,9 @@ ghost use Rattle.raft_log.specs.Peers.{IsGroupSize};
 ghost use Rattle.bouncer_run.specs.Checks.{IsCheckFault, IsSomePlan};
 ghost use Rattle.bouncer_run.specs.Faults.{IsOrMemory};
 
+use crate::absent::{absent_to_be, tell_absent};
+use crate::group::size_of;
+use crate::journal_files::goes_on_without;
 use crate::reading::read;
 use crate::run_fault::RunFault;
 use crate::warnings::warn_of_readers;
@@ -48,7 +51,12 @@ fn store_of<R: Runtime<File = File> + AllocGlobal>(
     requires folders { 1 ≤ length config.now.store.items }
     ensures { IfErr result (IsOrMemory RunFault.Store) }
 {
-    let folders = config.store.as_slice();
+    let (folders, size) = (config.store.as_slice(), size_of(config));
+    let absent = absent_to_be(rt, folders, size)?;
+    if !absent.is_empty() && goes_on_without(rt, config, size, &absent)?.is_some() {
+        tell_absent(rt, &absent);
+        return Ok(None);
+    }
     let fault = match foretold(rt, folders, config, config.renew_at as u64) {
         Ok(store) => return Ok(Some(store)),
         Err(fault) => fault,

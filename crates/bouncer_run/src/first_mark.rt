@@ -1,5 +1,6 @@
 //! How fast a log grew before the program began, by the moments in its entries.
-ghost use Rattle.std.specs.Prelude.{◌≡◌, ◌⊎◌, ◌≤◌, ◌∷◌, IfOk, length, map};
+ghost use Rattle.std.specs.Prelude.{◌≡◌, ◌⊎◌, ◌≤◌, ◌∷◌, IfOk, length, map, option_map};
+ghost use Rattle.journal_folder.specs.Runs.{those_there};
 ghost use Rattle.bouncer_run.specs.Days.{IsDayBefore, IsFirst, IsLastBefore, IsLongest, IsOneOf, IsRateOf, is_before, moment_in};
 
 use crate::log_rate::{DAY, LogRate, Mark};
@@ -12,33 +13,41 @@ use std::alloc::{AllocError, Global};
 use upstream_claim::ClaimsCommand;
 use wire_bytes::{Moment, Number};
 
-/// How fast the longest log of these journals grew in the day before this moment, as its entries tell.
+/// How fast the longest log of those of these journals that are open grew in the day before this moment, as its entries
+/// tell.
 pub fn rate_of(
     alloc: Global,
-    journals: &[FileJournal<TowerBody>],
+    journals: &[Option<FileJournal<TowerBody>>],
     now: Moment,
 ) -> Result<LogRate, AllocError>
-    ensures { IfOk result (IsRateOf now (map (λ j. j.saved.log) journals.now)) }
+    ensures { IfOk result (IsRateOf now
+        (those_there (map (option_map (λ j. j.saved.log)) journals.now))) }
 {
-    let [first, others @ ..] = journals else {
-        return Ok(LogRate::new(alloc));
-    };
-    let mark = day_before(longest(first.log(), others), now);
-    LogRate::of(alloc, mark)
+    match journals {
+        [] => Ok(LogRate::new(alloc)),
+        [None, others @ ..] => rate_of(alloc, others, now),
+        [Some(first), others @ ..] => {
+            let mark = day_before(longest(first.log(), others), now);
+            LogRate::of(alloc, mark)
+        }
+    }
 }
 
-/// The longest one of a log and those of journals.
+/// The longest one of a log and those of journals that are open.
 #[tactic(auto, using(crate::proofs::Longest::longest_of_two, crate::proofs::Longest::one_of_two, crate::proofs::Longest::as_itself))]
 fn longest<'a>(
     first: &'a Log<TowerBody>,
-    others: &'a [FileJournal<TowerBody>],
+    others: &'a [Option<FileJournal<TowerBody>>],
 ) -> &'a Log<TowerBody>
-    ensures longest { IsLongest result.now (first.now ∷ map (λ j. j.saved.log) others.now) }
-    ensures one { IsOneOf result.now (first.now ∷ map (λ j. j.saved.log) others.now) }
+    ensures longest { IsLongest result.now
+        (first.now ∷ those_there (map (option_map (λ j. j.saved.log)) others.now)) }
+    ensures one { IsOneOf result.now
+        (first.now ∷ those_there (map (option_map (λ j. j.saved.log)) others.now)) }
 {
     match others {
         [] => first,
-        [next, others @ ..] => longest(longer(first, next.log()), others),
+        [None, others @ ..] => longest(first, others),
+        [Some(next), others @ ..] => longest(longer(first, next.log()), others),
     }
 }
 

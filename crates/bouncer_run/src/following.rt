@@ -14,6 +14,13 @@ enum Change {
 }
 
 impl Sockets {
+    /// A node is down from the start: its address, which could be had, refuses connections until it is up.
+    pub fn begin_down(&mut self, node: NodeId) {
+        if let Some(listening) = self.listeners.get_mut(node.value() as usize - 1) {
+            listening.was_open = true;
+        }
+    }
+
     /// Each node listens where it takes clients. Of one that did and does not, the clients that wait are told why, and
     /// then its address refuses connections.
     pub fn follow<N: Net>(

@@ -1,4 +1,5 @@
 //! Why journals failed.
+use crate::absent::Absent;
 use bouncer_tower::TowerBody;
 use driver::News;
 use file_disk::{FileJournal, LastError};
@@ -17,16 +18,34 @@ pub struct JournalErrors {
 }
 
 impl JournalErrors {
-    /// Of these journals.
+    /// Of these journals, and of those that are opened late.
     pub fn of(
         alloc: Global,
-        journals: &[FileJournal<TowerBody>],
+        journals: &[Option<FileJournal<TowerBody>>],
     ) -> Result<JournalErrors, AllocError> {
         let mut errors = Vec::new(alloc);
         for journal in journals {
-            errors.push(journal.disk().last_error()?)?;
+            errors.push(match journal {
+                Some(journal) => journal.disk().last_error()?,
+                None => LastError::none(alloc)?,
+            })?;
         }
         Ok(JournalErrors { errors })
+    }
+
+    /// The journals of these nodes could not be opened.
+    pub fn note(&self, absent: &[Absent]) {
+        for one in absent {
+            if let Some(error) = self.of_node(one.node) {
+                error.note_error(&one.error);
+            }
+        }
+    }
+
+    /// Where it is noted why the journal of a node failed, if there is such a node.
+    pub fn of_node(&self, node: NodeId) -> Option<&LastError> {
+        let place = (node.value() as usize).checked_sub(1)?;
+        self.errors.get(place)
     }
 
     /// The first node whose journal failed, if one did, and why, if the system told it.
@@ -46,8 +65,7 @@ impl JournalErrors {
         let News::Down(node, Cause::Store) = news else {
             return None;
         };
-        let place = (node.value() as usize).checked_sub(1)?;
-        self.errors.get(place)?.get()
+        self.of_node(*node)?.get()
     }
 }
 

@@ -4,6 +4,7 @@
 //! what waits for a connection is the rest of what was written, in order. No contract says what else the loop does.
 #![tactic(auto)]
 
+mod absent;
 mod accepting;
 mod checking;
 mod clients;
@@ -29,11 +30,14 @@ mod inlets;
 mod input;
 mod journal_errors;
 mod journal_files;
+mod late_journal;
 mod leaving;
+pub mod limits;
 mod listening;
 mod log_rate;
 mod loop_news;
 mod made;
+mod opening;
 mod operator;
 mod orders;
 mod outgoing;
@@ -50,6 +54,7 @@ mod record_file;
 mod run_fault;
 mod running;
 mod server;
+mod settling;
 mod sockets;
 mod stopping;
 mod store_news;

@@ -3,36 +3,34 @@ ghost use Rattle.std.specs.Prelude.{◌≡◌, ◌≤◌, ◌⊎◌, IfErr, IfOk
 ghost use Rattle.raft_log.specs.Peers.{IsGroupSize};
 ghost use Rattle.bouncer_run.specs.Faults.{IsOrMemory};
 
+use crate::absent::Absent;
 use crate::clock::{Clockwork, time_of_day};
 use crate::driver_settings::settings_of;
 use crate::ending::watch_input;
 use crate::event_loop::{LoopFault, run_loop};
 use crate::first_mark::rate_of;
-use crate::folders::Folders;
 use crate::group::{address_of, size_of};
 use crate::growth::Growth;
 use crate::inlet::{Inlet, LoopMessage};
 use crate::inlets::Inlets;
 use crate::input::open_input;
 use crate::journal_errors::JournalErrors;
-use crate::journal_files::journals;
+use crate::journal_files::{NodeJournals, journals};
 use crate::listening::listen_all;
 use crate::made::Made;
-use crate::parts::parts;
+use crate::parts::{parts, stores};
 use crate::reading::read;
 use crate::record_file::{TowerRecord, try_record, write_record};
 use crate::run_fault::RunFault;
 use crate::running::Running;
 use crate::sockets::Sockets;
-use crate::store_watch::StoreWatch;
+use crate::store_watch::{StoreWatch, tell_away, watch_of};
 use crate::system::System;
 use crate::telling::Telling;
 use crate::warnings::{warn, warn_of_readers};
 use bouncer_config::{Config, LogLevel};
-use bouncer_tower::TowerBody;
 use crossbeam_channel::{Receiver, unbounded};
 use driver::Driver;
-use file_disk::FileJournal;
 use node_cells::Upstream;
 use raft_log::{GroupSize, NodeId};
 use std::alloc::Global;
@@ -56,6 +54,8 @@ pub fn run<
     U: Upstream + Send + 'static,
     F: Fn(R, Global, NodeId, Inlet) -> U,
 >(rt: &R, path: &str, input: I, hands: &F) -> Result<(), RunFault>
+where
+    R::Dir: 'static,
     requires { F.IsAlwaysCallable hands.now }
 {
     let config = read(rt, path)?;
@@ -82,6 +82,8 @@ fn start<
     input: Option<I>,
     hands: &F,
 ) -> Result<Started<R, U>, RunFault>
+where
+    R::Dir: 'static,
     requires callable { F.IsAlwaysCallable hands.now }
     requires group { IsGroupSize (length config.now.listen.items) }
     requires folders { 1 ≤ length config.now.store.items }
@@ -99,7 +101,7 @@ fn start<
 #[derive(Drop)]
 struct Started<R: System, U: Upstream> {
     edge: Edge,
-    running: Running<U>,
+    running: Running<R, U>,
     driver: Driver,
     telling: Telling<R>,
     watch: StoreWatch,
@@ -116,20 +118,28 @@ impl<R: System, U: Upstream + Send + 'static> Started<R, U> {
         hands: &F,
         made: &mut Made,
     ) -> Result<Self, RunFault>
+    where
+        R::Dir: 'static,
         requires callable { F.IsAlwaysCallable hands.now }
         requires group { IsGroupSize (length config.now.listen.items) }
         requires folders { 1 ≤ length config.now.store.items }
     {
         let alloc = rt.alloc();
-        let journals = journals(rt, config, size, made)?;
-        let watch = watch_of(rt, config, journals.as_slice())?;
-        let errors = JournalErrors::of(alloc, journals.as_slice())?;
-        let rate = rate_of(alloc, journals.as_slice(), time_of_day(rt))?;
+        let NodeJournals {
+            opened,
+            absent,
+            setup,
+        } = journals(rt, config, size, made)?;
+        let watch = watch_of(rt, config, &opened)?;
+        let errors = JournalErrors::of(alloc, &opened)?;
+        errors.note(&absent);
+        let rate = rate_of(alloc, &opened, time_of_day(rt))?;
         let mut edge = Edge::new(rt, config)?;
-        let parts = parts(rt, &edge.inlets, journals, hands)?;
+        let stores = stores(rt, config, opened, &setup, &errors)?;
+        let parts = parts(rt, &edge.inlets, stores, hands)?;
         let running = Running::start(rt, config, size, parts, &errors)?;
         let telling = Telling::over(*rt, config.log, errors, Growth::new(rate));
-        match edge.open(rt, config, size, &telling, input) {
+        match edge.open(rt, config, size, &absent, &telling, input) {
             Ok((driver, reader)) => Ok(Started {
                 edge,
                 running,
@@ -180,32 +190,6 @@ impl<R: System, U: Upstream + Send + 'static> Started<R, U> {
     }
 }
 
-/// The watch over journals. Where there is none, a line was written to standard error that says why.
-fn watch_of<R: System>(
-    rt: &R,
-    config: &Config,
-    journals: &[FileJournal<TowerBody>],
-) -> Result<StoreWatch, RunFault>
-    ensures { IfErr result (IsOrMemory RunFault.Store) }
-{
-    let folders = config.store.as_slice();
-    match StoreWatch::of(rt.alloc(), folders, journals) {
-        Ok(watch) => Ok(watch),
-        Err(error) => {
-            let _ = eprintln!(rt; "{}: {error}", Folders(folders));
-            Err(RunFault::of_error(&error, RunFault::Store))
-        }
-    }
-}
-
-/// Says on standard error that the journals do not lie in their folders any more.
-fn tell_away<R: System>(rt: &R, folders: &[String]) {
-    let _ = eprintln!(rt;
-        "{}: the journals of this program lie here no more: move their folder back, and start again",
-        Folders(folders)
-    );
-}
-
 /// The sockets, and what the loop is told by other threads.
 #[derive(Drop)]
 struct Edge {
@@ -235,12 +219,14 @@ impl Edge {
         })
     }
 
-    /// Listens, and reads the input. `Write` is told at once, of a record that could not be written at the end.
+    /// Listens, but for the nodes that are absent, and reads the input. `Write` is told at once, of a record that could
+    /// not be written at the end.
     fn open<R: System, I: Read + Drop + Send + 'static>(
         &mut self,
         rt: &R,
         config: &Config,
         size: GroupSize,
+        absent: &[Absent],
         telling: &Telling<R>,
         input: Option<I>,
     ) -> Result<(Driver, Option<JoinHandle<()>>), RunFault>
@@ -253,6 +239,9 @@ impl Edge {
             .map_err(socket_fault)?;
         warn(&now, config, telling);
         listen_all(rt, config, &now, &mut self.sockets, telling)?;
+        for one in absent {
+            self.sockets.begin_down(one.node);
+        }
         try_record(rt, config)?;
         let driver = Driver::new(alloc, settings_of(alloc, config, size)?, &now);
         let reader = self.watch(rt, input)?;

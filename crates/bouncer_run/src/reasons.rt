@@ -74,13 +74,15 @@ impl Reasons {
     fn is_refusal(&mut self) -> bool {
         let command = command_of(self.line.as_slice());
         self.is_welcomed = self.is_welcomed || command == WELCOME;
-        command == ERROR || (!self.is_welcomed && REFUSALS.contains(&command))
+        command.eq_ignore_ascii_case(ERROR) || (!self.is_welcomed && REFUSALS.contains(&command))
     }
 }
 
-/// The first word of a line, behind who says it.
+/// The first word of a line, behind who says it. More than one space may stand between two words.
 fn command_of(line: &[u8]) -> &[u8] {
-    let mut words = line.split(|byte| *byte == b' ' || *byte == b'\r');
+    let mut words = line
+        .split(|byte| *byte == b' ' || *byte == b'\r')
+        .filter(|word| !word.is_empty());
     let first = words.next().unwrap_or(b"");
     if first.first() != Some(&b':') {
         return first;

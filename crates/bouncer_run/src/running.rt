@@ -9,6 +9,7 @@ use crate::fault::fault_of_cluster;
 use crate::folders::Folders;
 use crate::group::recording_of;
 use crate::journal_errors::JournalErrors;
+use crate::late_journal::LateJournal;
 use crate::parts::BouncerPart;
 use crate::record_file::TowerRecord;
 use crate::run_fault::RunFault;
@@ -26,21 +27,23 @@ use std::sync::Wait;
 
 /// The nodes of a bouncer, each in a thread of its own.
 #[derive(Drop)]
-pub struct Running<U: Upstream> {
-    nodes: Cluster<Tower, FileJournal<TowerBody>, U>,
+pub struct Running<R: System, U: Upstream> {
+    nodes: Cluster<Tower, FileJournal<TowerBody>, U, LateJournal<R>>,
 }
 
-impl<U: Upstream + Send + 'static> Running<U> {
-    /// Starts the nodes of a configuration, which keep their turns where it names a file for the
-    /// record. Where one does not start, a line was written to standard error that names its journal, and says why: what
-    /// the system told as the journal failed, if it did.
-    pub fn start<S: System>(
-        rt: &S,
+impl<R: System, U: Upstream + Send + 'static> Running<R, U> {
+    /// Starts the nodes of a configuration, which keep their turns where it names a file for the record. A node whose
+    /// journal is opened late is down until then. Where one does not start, a line was written to standard error that
+    /// names its journal, and says why: what the system told as the journal failed, if it did.
+    pub fn start(
+        rt: &R,
         config: &Config,
         size: GroupSize,
-        parts: Vec<BouncerPart<U>>,
+        parts: Vec<BouncerPart<R, U>>,
         errors: &JournalErrors,
-    ) -> Result<Running<U>, RunFault>
+    ) -> Result<Running<R, U>, RunFault>
+    where
+        R::Dir: 'static,
         requires { length parts.items ≡ size }
         ensures nodes { IfOk result (λ r. (r.nodes.ether.size ≡ size)
             × (r.nodes.ether.setup ≡ config.now.setup)) }
@@ -51,7 +54,7 @@ impl<U: Upstream + Send + 'static> Running<U> {
         let alloc = rt.alloc();
         let recording = recording_of(config);
         let setup = &config.setup;
-        match Cluster::start(
+        match Cluster::start_late(
             rt,
             alloc,
             size,
@@ -70,14 +73,14 @@ impl<U: Upstream + Send + 'static> Running<U> {
     }
 
     /// Ends the nodes. What each of them did, node 1's first.
-    pub fn stop<S: System>(self, rt: &S) -> Vec<TowerRecord> {
+    pub fn stop(self, rt: &R) -> Vec<TowerRecord> {
         let Running { nodes } = self;
         nodes.stop(rt)
     }
 }
 
-impl<U: Upstream> Nodes for Running<U> {
-    fn tell<R: Wait>(&self, rt: &R, node: NodeId, note: TowerNote) -> bool
+impl<R: System, U: Upstream> Nodes for Running<R, U> {
+    fn tell<W: Wait>(&self, rt: &W, node: NodeId, note: TowerNote) -> bool
         ensures { IsTrue result → node ≤ self.now.nodes.ether.size }
     {
         match self.nodes.node(node) {

@@ -1,9 +1,13 @@
 //! Whether the paths of the journals still lead to them.
-ghost use Rattle.std.specs.Prelude.{◌≡◌};
+ghost use Rattle.std.specs.Prelude.{◌≡◌, IfErr};
 ghost use Rattle.std.specs.IoError.{error_kind};
+ghost use Rattle.bouncer_run.specs.Faults.{IsOrMemory};
 ghost use Rattle.bouncer_run.specs.Watches.{IsAway, is_missing};
 
-use bouncer_config::folder_of;
+use crate::folders::Folders;
+use crate::run_fault::RunFault;
+use crate::system::System;
+use bouncer_config::{Config, folder_of};
 use bouncer_tower::TowerBody;
 use file_disk::{FileId, FileJournal};
 use raft_log::NodeId;
@@ -40,16 +44,17 @@ pub struct StoreWatch {
 }
 
 impl StoreWatch {
-    /// Of these journals, node 1's first, in one folder or in one for each. A look is due at once.
+    /// Of those of these journals that are open, node 1's first, in one folder or in one for each. A look is due at
+    /// once.
     pub fn of(
         alloc: Global,
         folders: &[String],
-        journals: &[FileJournal<TowerBody>],
+        journals: &[Option<FileJournal<TowerBody>>],
     ) -> io::Result<StoreWatch> {
         let mut places = Vec::new(alloc);
         for index in 0..MOST_NODES {
-            let Some(journal) = journals.get(index as usize) else {
-                break;
+            let Some(Some(journal)) = journals.get(index as usize) else {
+                continue;
             };
             let node = NodeId::new(index + 1);
             let path = journal_path(alloc, folder_of(folders, node), node)?;
@@ -82,6 +87,32 @@ impl Place {
     fn is_away<R: Files>(&self, rt: &R) -> bool {
         is_away(self.file, &FileId::at(rt, self.path.as_str()))
     }
+}
+
+/// The watch over journals. Where there is none, a line was written to standard error that says why.
+pub fn watch_of<R: System>(
+    rt: &R,
+    config: &Config,
+    journals: &[Option<FileJournal<TowerBody>>],
+) -> Result<StoreWatch, RunFault>
+    ensures { IfErr result (IsOrMemory RunFault.Store) }
+{
+    let folders = config.store.as_slice();
+    match StoreWatch::of(rt.alloc(), folders, journals) {
+        Ok(watch) => Ok(watch),
+        Err(error) => {
+            let _ = eprintln!(rt; "{}: {error}", Folders(folders));
+            Err(RunFault::of_error(&error, RunFault::Store))
+        }
+    }
+}
+
+/// Says on standard error that the journals do not lie in their folders any more.
+pub fn tell_away<R: System>(rt: &R, folders: &[String]) {
+    let _ = eprintln!(rt;
+        "{}: the journals of this program lie here no more: move their folder back, and start again",
+        Folders(folders)
+    );
 }
 
 /// Whether a journal lies at its path no more, where a look at the path gave this: another file, or that nothing is

@@ -5,8 +5,9 @@ use std::rt::Runtime;
 use std::sync::Wait;
 use std::thread::Threads;
 
-/// All that the system is asked for.
-pub trait System: Runtime<File = File>
+/// All that the system is asked for. What a folder is listed by may go to another thread: a node that is opened late
+/// opens its journal in its worker's thread.
+pub trait System: Runtime<File = File, Dir: Send>
     + AllocGlobal
     + Threads
     + Wait
@@ -18,5 +19,13 @@ pub trait System: Runtime<File = File>
 
 impl<R> System for R
 where
-    R: Runtime<File = File> + AllocGlobal + Threads + Wait + Net + Copy + Send + Sync + 'static,
+    R: Runtime<File = File, Dir: Send>
+        + AllocGlobal
+        + Threads
+        + Wait
+        + Net
+        + Copy
+        + Send
+        + Sync
+        + 'static,
 {}
