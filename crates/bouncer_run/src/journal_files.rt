@@ -10,7 +10,7 @@ use crate::absent::{Absent, absent_in, is_absent, tell_absent, tell_refused};
 use crate::made::Made;
 use crate::opening::{Unopened, open_all};
 use crate::run_fault::RunFault;
-use crate::settling::{finish, take};
+use crate::settling::{finish, finish_without, take};
 use crate::system::System;
 use bouncer_config::Config;
 use bouncer_tower::TowerBody;
@@ -124,7 +124,7 @@ fn without<R: System>(
     ensures fault { IfErr result (IsOrMemory RunFault.Store) }
 {
     let folders = config.store.as_slice();
-    finish(rt, folders)?;
+    finish_without(rt, folders, size, &absent)?;
     let mut absent = absent;
     for _ in 0..MOST_NODES {
         let Some(setup) = goes_on_without(rt, config, size, &absent)? else {

@@ -2,30 +2,78 @@
 ghost use Rattle.std.specs.Prelude.{IfErr};
 ghost use Rattle.bouncer_run.specs.Faults.{IsOrMemory};
 
+use crate::absent::{Absent, is_absent};
 use crate::made::Made;
 use crate::run_fault::RunFault;
 use crate::store_news::{tell_finished, tell_settled};
 use crate::system::System;
-use bouncer_config::Config;
-use journal_folder::{RenewFault, Settled, finish_renewal};
+use bouncer_config::{Config, folder_of};
+use journal_folder::{FolderFault, Paths, RenewFault, Settled, finish_renewal};
+use raft_log::{GroupSize, NodeId};
+use std::fs;
 
 /// A renewal that was decided is finished. Where it was not finished before, a line was written that says where the
 /// old folders lie now.
 pub fn finish<R: System>(rt: &R, folders: &[String]) -> Result<(), RunFault>
     ensures { IfErr result (IsOrMemory RunFault.Store) }
 {
-    match finish_renewal(rt, folders) {
-        Ok(None) => Ok(()),
-        Ok(Some(old)) => {
-            for one in &old.folders {
-                tell_finished(rt, one);
-            }
-            Ok(())
+    match finish_all(rt, folders) {
+        Ok(()) => Ok(()),
+        Err(fault) => Err(told(rt, &fault)),
+    }
+}
+
+/// So without some nodes. Where the system does not say what lies beside their folders, and no renewed folder lies
+/// beside one of the others, there is nothing to finish for these.
+pub fn finish_without<R: System>(
+    rt: &R,
+    folders: &[String],
+    size: GroupSize,
+    absent: &[Absent],
+) -> Result<(), RunFault>
+    ensures { IfErr result (IsOrMemory RunFault.Store) }
+{
+    match finish_all(rt, folders) {
+        Ok(()) => Ok(()),
+        Err(fault) if !fault.is_memory() && are_in_place(rt, folders, size, absent) => Ok(()),
+        Err(fault) => Err(told(rt, &fault)),
+    }
+}
+
+/// A renewal that was decided is finished, which is told.
+fn finish_all<R: System>(rt: &R, folders: &[String]) -> Result<(), FolderFault> {
+    if let Some(old) = finish_renewal(rt, folders)? {
+        for one in &old.folders {
+            tell_finished(rt, one);
         }
-        Err(fault) => {
-            let _ = eprintln!(rt; "{fault}");
-            Err(RunFault::of_store(fault.is_memory()))
+    }
+    Ok(())
+}
+
+/// A line is written that says why a renewal is not finished. What that is to the program.
+fn told<R: System>(rt: &R, fault: &FolderFault) -> RunFault
+    ensures { IsOrMemory RunFault.Store result }
+{
+    let _ = eprintln!(rt; "{fault}");
+    RunFault::of_store(fault.is_memory())
+}
+
+/// Whether no renewed folder lies beside that of any node but those that are absent, as the system says.
+fn are_in_place<R: System>(rt: &R, folders: &[String], size: GroupSize, absent: &[Absent]) -> bool {
+    for index in 0..size.value() {
+        let node = NodeId::new(index + 1);
+        if !is_absent(absent, node) && !is_in_place(rt, folder_of(folders, node)) {
+            return false;
         }
+    }
+    true
+}
+
+/// Whether no renewed folder lies beside this one, as the system says.
+fn is_in_place<R: System>(rt: &R, folder: &str) -> bool {
+    match Paths::of(rt.alloc(), folder) {
+        Ok(Some(paths)) => matches!(fs::exists(rt, paths.renewed.as_str()), Ok(false)),
+        _ => false,
     }
 }
 
