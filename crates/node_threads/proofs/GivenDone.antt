@@ -13,13 +13,15 @@ use Rattle.node_threads.specs.declared.inflow.Next.{Next}
 use Rattle.node_threads.specs.declared.inflow.Next.TheVariants as next
 use Rattle.node_threads.specs.Homes.{IsSameHome}
 use Rattle.node_threads.specs.Inflows.{jobs_in}
-use Rattle.node_threads.specs.Reports.{is_end, leads_in}
+use Rattle.node_threads.specs.Reports.{is_end, is_told, leads_in}
 use Rattle.node_threads.specs.Taking.{Covers, HasAdded, HasDoneAll, HasDoneBehind, HasDoneGiven, HasDoneThese, HasTakenLeading, HasTakenUp, HasTakenWhere, JobOf, PieceOf, gathered_piece, is_for_node, is_over}
 use Rattle.node_threads.specs.Taking.Piece.{Alone, Together}
 use Rattle.node_threads.specs.Together.{AreReady, HasTurnedAll, appended, is_idle}
+use Rattle.node_threads.specs.Waiting.{Account, Heeds, HeedsJob, counted}
 use Rattle.node_threads.specs.Work.{HasDone, HasHadTurn}
 use Rattle.node_threads.proofs.Covered.{covers_end, covers_more}
 use Rattle.node_threads.proofs.Inflows.{given_end}
+use Rattle.node_threads.proofs.Waiting.{heeds_next, heeds_one}
 use Rattle.node_threads.proofs.Taken.{for_node_idle, for_node_more, for_node_one, home_after_pieces, idle_same, job_appends, job_for_node, job_turned, none_gathered, none_ready, over_end, pieces_end, ready_more, ready_still}
 
 module _ (M : Machine) {Setup Hosted Store U : Type 0} (tally : U → Tally) where
@@ -28,9 +30,9 @@ module _ (M : Machine) {Setup Hosted Store U : Type 0} (tally : U → Tally) whe
         (d : CellOf M Setup Hosted Store U) → HasDoneThese M tally marked mark gives came left i c k d → IsSameHome c d
     home_after_these came left i c k d h = home_after_pieces M tally marked mark h.pieces c d h.done
 
-    pub home_after_given : (left : List (PieceOf M Setup Hosted Action)) (i : I) (c : CellOf M Setup Hosted Store U) (over : Bool) (k : I) (d : CellOf M Setup Hosted Store U)
-        → HasDoneGiven M tally marked mark gives left i c over k d → IsSameHome c d
-    home_after_given left i c over k d h = home_after_these h.came left i c k d h.these
+    pub home_after_given : (left : List (PieceOf M Setup Hosted Action)) (i : I) (p : Account M.Body) (c : CellOf M Setup Hosted Store U) (over : Bool) (k : I) (q : Account M.Body)
+        (d : CellOf M Setup Hosted Store U) → HasDoneGiven M tally marked mark gives left i p c over k q d → IsSameHome c d
+    home_after_given left i p c over k q d h = home_after_these h.came left i c k d h.these
 
     -- where nothing is gathered, nothing is left
     these_open : (came : List (Next (JobOf M Setup Hosted Action))) (inputs : List (NodeInput M.Body M.Line)) (i : I) (c : CellOf M Setup Hosted Store U) (k : I)
@@ -52,10 +54,11 @@ module _ (M : Machine) {Setup Hosted Store U : Type 0} (tally : U → Tally) whe
           done = pieces_end M tally marked mark h.pieces (Together (x ∷ inputs)) c b d h.done done;
         }
 
-    pub given_all : (inputs : List (NodeInput M.Body M.Line)) (i : I) (c : CellOf M Setup Hosted Store U) (over : Bool) (k : I) (b d : CellOf M Setup Hosted Store U)
-        → HasDoneGiven M tally marked mark gives (gathered_piece inputs) i c over k b → HasTurnedAll M inputs b d → HasDoneGiven M tally marked mark gives [] i c over k d
-    given_all inputs i c over k b d h done =
-        record { came = h.came; some = h.some; few = h.few; over_is = h.over_is; these = these_all h.came inputs i c k b d h.these done }
+    pub given_all : (inputs : List (NodeInput M.Body M.Line)) (i : I) (p : Account M.Body) (c : CellOf M Setup Hosted Store U) (over : Bool) (k : I) (q : Account M.Body)
+        (b d : CellOf M Setup Hosted Store U) → HasDoneGiven M tally marked mark gives (gathered_piece inputs) i p c over k q b → HasTurnedAll M inputs b d
+        → HasDoneGiven M tally marked mark gives [] i p c over k q d
+    given_all inputs i p c over k q b d h done =
+        record { came = h.came; some = h.some; few = h.few; over_is = h.over_is; these = these_all h.came inputs i c k b d h.these done; heeds = h.heeds }
 
     module _ (came : List (Next (JobOf M Setup Hosted Action))) (i : I) (c : CellOf M Setup Hosted Store U) (k : I) (b : CellOf M Setup Hosted Store U) where
       module _ (x : Next (JobOf M Setup Hosted Action)) (l : I) (gave : gives k x l) where
@@ -106,20 +109,22 @@ module _ (M : Machine) {Setup Hosted Store U : Type 0} (tally : U → Tally) whe
     -- ---- a round, job by job
 
     -- So many things came in a round so far, by none of which the worker is over, and they are done but for what is gathered; and that may be done together.
-    pub record IsTaking (n : ℕ) (gathered : List (NodeInput M.Body M.Line)) (i : I) (c : CellOf M Setup Hosted Store U) (k : I) (d : CellOf M Setup Hosted Store U) : Type 0 where
+    pub record IsTaking (n : ℕ) (gathered : List (NodeInput M.Body M.Line)) (i : I) (p : Account M.Body) (c : CellOf M Setup Hosted Store U) (k : I) (q : Account M.Body)
+        (d : CellOf M Setup Hosted Store U) : Type 0 where
       pub came : List (Next (JobOf M Setup Hosted Action))
       pub count : length came ≡ n
       pub goes_on : list_any is_over came ≡ false
       pub these : HasDoneThese M tally marked mark gives came (gathered_piece gathered) i c k d
       pub ready : AreReady gathered d
       pub few : length gathered ≤ n
+      pub heeds : Heeds (jobs_in came) p q
 
-    pub home_after_taking : (n : ℕ) (gathered : List (NodeInput M.Body M.Line)) (i : I) (c : CellOf M Setup Hosted Store U) (k : I) (d : CellOf M Setup Hosted Store U)
-        → IsTaking n gathered i c k d → IsSameHome c d
-    home_after_taking n gathered i c k d h = home_after_these h.came (gathered_piece gathered) i c k d h.these
+    pub home_after_taking : (n : ℕ) (gathered : List (NodeInput M.Body M.Line)) (i : I) (p : Account M.Body) (c : CellOf M Setup Hosted Store U) (k : I) (q : Account M.Body)
+        (d : CellOf M Setup Hosted Store U) → IsTaking n gathered i p c k q d → IsSameHome c d
+    home_after_taking n gathered i p c k q d h = home_after_these h.came (gathered_piece gathered) i c k d h.these
 
-    pub taking_none : (gathered : List (NodeInput M.Body M.Line)) (i : I) (c : CellOf M Setup Hosted Store U) → gathered ≡ [] → IsTaking 0 gathered i c i c
-    taking_none gathered i c none =
+    pub taking_none : (gathered : List (NodeInput M.Body M.Line)) (i : I) (p : Account M.Body) (c : CellOf M Setup Hosted Store U) → gathered ≡ [] → IsTaking 0 gathered i p c i p c
+    taking_none gathered i p c none =
         let short : length gathered ≡ 0 = ap length none in
         record {
           came = [];
@@ -128,21 +133,24 @@ module _ (M : Machine) {Setup Hosted Store U : Type 0} (tally : U → Tally) whe
           these = these_open [] gathered i c i c none (record { pieces = []; given = refl; covers = refl; done = refl });
           ready = none_ready gathered c none;
           few = omega (arith, short);
+          heeds = refl;
         }
 
     -- a round ends behind what came so far
-    pub taking_stop : (n : ℕ) (gathered : List (NodeInput M.Body M.Line)) (i : I) (c : CellOf M Setup Hosted Store U) (k : I) (d : CellOf M Setup Hosted Store U)
-        → IsTaking n gathered i c k d → 1 ≤ n → n ≤ batch_limit → HasDoneGiven M tally marked mark gives (gathered_piece gathered) i c false k d
-    taking_stop n gathered i c k d h some few =
+    pub taking_stop : (n : ℕ) (gathered : List (NodeInput M.Body M.Line)) (i : I) (p : Account M.Body) (c : CellOf M Setup Hosted Store U) (k : I) (q : Account M.Body)
+        (d : CellOf M Setup Hosted Store U) → IsTaking n gathered i p c k q d → 1 ≤ n → n ≤ batch_limit
+        → HasDoneGiven M tally marked mark gives (gathered_piece gathered) i p c false k q d
+    taking_stop n gathered i p c k q d h some few =
         let count = h.count in
         let most : length h.came ≤ batch_limit = omega (arith, count, few) in
-        record { came = h.came; some = omega (arith, count, some); few = most; over_is = sym h.goes_on; these = h.these }
+        record { came = h.came; some = omega (arith, count, some); few = most; over_is = sym h.goes_on; these = h.these; heeds = h.heeds }
 
     -- a round ends with what came last, which is no job for the node
-    pub taking_end : (n : ℕ) (gathered : List (NodeInput M.Body M.Line)) (i : I) (c : CellOf M Setup Hosted Store U) (k : I) (d : CellOf M Setup Hosted Store U)
-        (x : Next (JobOf M Setup Hosted Action)) (l : I) (over : Bool) → IsTaking n gathered i c k d → n < batch_limit → gives k x l → list_any is_over (x ∷ []) ≡ over
-        → filter is_for_node (jobs_in (x ∷ [])) ≡ [] → HasDoneGiven M tally marked mark gives (gathered_piece gathered) i c over l d
-    taking_end n gathered i c k d x l over h some gave ends none =
+    pub taking_end : (n : ℕ) (gathered : List (NodeInput M.Body M.Line)) (i : I) (p : Account M.Body) (c : CellOf M Setup Hosted Store U) (k : I) (q : Account M.Body)
+        (d : CellOf M Setup Hosted Store U) (x : Next (JobOf M Setup Hosted Action)) (l : I) (over : Bool) → IsTaking n gathered i p c k q d → n < batch_limit → gives k x l
+        → list_any is_over (x ∷ []) ≡ over → filter is_for_node (jobs_in (x ∷ [])) ≡ [] → Heeds (jobs_in (x ∷ [])) q q
+        → HasDoneGiven M tally marked mark gives (gathered_piece gathered) i p c over l q d
+    taking_end n gathered i p c k q d x l over h some gave ends none heeds =
         let count = h.count in
         let long : length (h.came ++ x ∷ []) ≡ length h.came + 1 = length_push h.came x in
         let most : length (h.came ++ x ∷ []) ≤ batch_limit = omega (arith, long, count, some) in
@@ -152,11 +160,13 @@ module _ (M : Machine) {Setup Hosted Store U : Type 0} (tally : U → Tally) whe
           few = most;
           over_is = sym (list_any-append is_over h.came (x ∷ []) ∙ (λ t. h.goes_on t || ends t));
           these = these_on h.came i c k d x l gave (gathered_piece gathered) h.these none;
+          heeds = heeds_next h.came x p q q h.heeds heeds;
         }
 
-    module _ (n m : ℕ) (i : I) (c : CellOf M Setup Hosted Store U) (k : I) (j : JobOf M Setup Hosted Action) (before : List (NodeInput M.Body M.Line)) (b : CellOf M Setup Hosted Store U)
-        (l : I) (after : List (NodeInput M.Body M.Line)) (d : CellOf M Setup Hosted Store U) (next_is : m ≡ n + 1) (room : n < batch_limit) (h : IsTaking n before i c k b)
-        (gave : gives k (next.Job j) l) (goes : is_end j ≡ false) where
+    module _ (n m : ℕ) (i : I) (p : Account M.Body) (c : CellOf M Setup Hosted Store U) (k : I) (q : Account M.Body) (j : JobOf M Setup Hosted Action)
+        (before : List (NodeInput M.Body M.Line)) (b : CellOf M Setup Hosted Store U) (l : I) (r : Account M.Body) (after : List (NodeInput M.Body M.Line))
+        (d : CellOf M Setup Hosted Store U) (next_is : m ≡ n + 1) (room : n < batch_limit) (h : IsTaking n before i p c k q b)
+        (gave : gives k (next.Job j) l) (goes : is_end j ≡ false) (heeds : HeedsJob j (counted (is_told j) q) r) where
       -- it is done behind all that was gathered
       behind_these : (e : CellOf M Setup Hosted Store U) → after ≡ [] → is_idle j ≡ false → HasTurnedAll M before b e → HasDone M tally marked mark j e d
           → HasDoneThese M tally marked mark gives (h.came ++ next.Job j ∷ []) (gathered_piece after) i c l d
@@ -171,7 +181,7 @@ module _ (M : Machine) {Setup Hosted Store U : Type 0} (tally : U → Tally) whe
           (λ t. (sym is t, sym same t)) (these_on h.came i c k b (next.Job j) l gave (gathered_piece before) h.these (for_node_idle j goes idle))
 
       taking_more : HasDoneThese M tally marked mark gives (h.came ++ next.Job j ∷ []) (gathered_piece after) i c l d → AreReady after d → length after ≤ length before + 1
-          → IsTaking m after i c l d
+          → IsTaking m after i p c l r d
       taking_more these ready short =
           let count = h.count in
           let few = h.few in
@@ -183,9 +193,10 @@ module _ (M : Machine) {Setup Hosted Store U : Type 0} (tally : U → Tally) whe
             these = these;
             ready = ready;
             few = omega (arith, short, few, next_is);
+            heeds = heeds_next h.came (next.Job j) p q r h.heeds (heeds_one j q r goes heeds);
           }
 
-      add_taking : (x : NodeInput M.Body M.Line) → appended j ≡ Some x → leads_in b ≡ true → HasAdded M tally x before b after d → IsTaking m after i c l d
+      add_taking : (x : NodeInput M.Body M.Line) → appended j ≡ Some x → leads_in b ≡ true → HasAdded M tally x before b after d → IsTaking m after i p c l r d
       add_taking x is leads taken =
           let few = h.few in
           ⊎_elim
@@ -200,7 +211,7 @@ module _ (M : Machine) {Setup Hosted Store U : Type 0} (tally : U → Tally) whe
           taking_more (behind_these s.1 s.0 (job_for_node j x is).1 s.2 (job_turned M tally marked mark j x s.1 d is s.3)) (none_ready after d s.0) (omega (arith, short)))
           taken
 
-      behind_taking : (idle : Bool) → is_idle j ≡ idle → HasDoneBehind M tally marked mark idle j before b after d → IsTaking m after i c l d
+      behind_taking : (idle : Bool) → is_idle j ≡ idle → HasDoneBehind M tally marked mark idle j before b after d → IsTaking m after i p c l r d
       behind_taking true is taken =
           let long : length after ≡ length before = ap length taken.0 in
           taking_more (idle_these taken.0 is taken.1) (ready_still before after b d taken.0 (idle_same M tally marked mark j b d is taken.1) h.ready) (omega (arith, long))
@@ -208,7 +219,7 @@ module _ (M : Machine) {Setup Hosted Store U : Type 0} (tally : U → Tally) whe
           let short : length after ≡ 0 = ap length taken.0 in
           taking_more (behind_these taken.1 taken.0 is taken.2 taken.3) (none_ready after d taken.0) (omega (arith, short))
 
-      leading_taking : (o : Option (NodeInput M.Body M.Line)) → appended j ≡ o → leads_in b ≡ true → HasTakenLeading M tally marked mark o j before b after d → IsTaking m after i c l d
+      leading_taking : (o : Option (NodeInput M.Body M.Line)) → appended j ≡ o → leads_in b ≡ true → HasTakenLeading M tally marked mark o j before b after d → IsTaking m after i p c l r d
       leading_taking (Some x) is leads taken = add_taking x is leads taken
       leading_taking None is leads taken = behind_taking (is_idle j) refl taken
 
@@ -218,7 +229,7 @@ module _ (M : Machine) {Setup Hosted Store U : Type 0} (tally : U → Tally) whe
       alone_these true is none same done = idle_these same is done
       alone_these false is none same done = behind_these b (same ∙ none) is (subst (λ (xs : List (NodeInput M.Body M.Line)). HasTurnedAll M xs b b) (sym none) refl) done
 
-      where_taking : (leads : Bool) → leads_in b ≡ leads → HasTakenWhere M tally marked mark leads j before b after d → IsTaking m after i c l d
+      where_taking : (leads : Bool) → leads_in b ≡ leads → HasTakenWhere M tally marked mark leads j before b after d → IsTaking m after i p c l r d
       where_taking true is taken = leading_taking (appended j) refl is taken
       where_taking false is taken =
           let none : before ≡ [] = none_gathered before b is h.ready in
@@ -226,5 +237,5 @@ module _ (M : Machine) {Setup Hosted Store U : Type 0} (tally : U → Tally) whe
           taking_more (alone_these (is_idle j) refl none taken.0 taken.1) (none_ready after d (taken.0 ∙ none)) (omega (arith, long))
 
       -- one job more was taken up
-      pub taking_next : HasTakenUp M tally marked mark j before b after d → IsTaking m after i c l d
+      pub taking_next : HasTakenUp M tally marked mark j before b after d → IsTaking m after i p c l r d
       taking_next taken = where_taking (leads_in b) refl taken

@@ -17,3 +17,6 @@ mod Told
 mod Telling
 mod Exits
 mod Crossing
+mod Fated
+mod Acted
+mod Serving

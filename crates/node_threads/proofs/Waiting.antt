@@ -6,16 +6,15 @@ use Rattle.node_notes.specs.declared.note.Note.{Note}
 use Rattle.node_notes.specs.declared.note.Note.TheVariants as note
 use Rattle.world_views.specs.Inputs.{NodeInput}
 use Rattle.node_threads.specs.declared.inflow.Next.{Next}
-use Rattle.node_threads.specs.declared.inflow.Next.TheVariants as next
 use Rattle.node_threads.specs.declared.job.Job.{Job}
 use Rattle.node_threads.specs.declared.job.Job.TheVariants as job
 use Rattle.node_threads.specs.declared.worker_loop.requests.Asked.{Asked}
 use Rattle.node_threads.specs.Inflows.{jobs_in}
-use Rattle.node_threads.specs.Reports.{is_end}
+use Rattle.node_threads.specs.Reports.{is_end, is_told}
 use Rattle.node_threads.specs.Requests.{HasAsked, Queue, WaitsOrIsLost, in_front, in_term, lose, lose_before, request}
 use Rattle.node_threads.specs.Together.{appended, input_in}
-use Rattle.node_threads.specs.Waiting.{Account, AreBack, ComesBack, HasHeeded, HaveComeBack, Heeds, HeedsJob, HeedsNote, HeedsUnless, brought_back}
-use Rattle.node_threads.proofs.Inflows.{given_end, jobs_end}
+use Rattle.node_threads.specs.Waiting.{Account, AreBack, ComesBack, HaveComeBack, Heeds, HeedsJob, HeedsNote, HeedsUnless, brought_back, counted}
+use Rattle.node_threads.proofs.Inflows.{jobs_end}
 
 pub some_pushed : {A : Type 0} (xs : List A) (x : A) → xs ++ x ∷ [] ≡ [] → ⊥
 some_pushed [] x is = cc is
@@ -96,30 +95,19 @@ module _ {M A L T P S C E : Type 0} where
   job_kept (job.Restart reply) x a b is h = absurd (cc is)
   job_kept (job.Status reply) x a b is h = h
 
-  heeds_end : (js : List (Job M A L T P S C E)) (j : Job M A L T P S C E) (a m b : Account C) → Heeds js a m → HeedsUnless (is_end j) j m b → Heeds (js ++ j ∷ []) a b
-  heeds_end [] j a m b h one = (b, subst (λ (z : Account C). HeedsUnless (is_end j) j z b) h one, refl)
-  heeds_end (i ∷ js) j a m b h one = (h.0, h.1, heeds_end js j h.0 m b h.2 one)
+  pub heeds_both : (js ks : List (Job M A L T P S C E)) (a m b : Account C) → Heeds js a m → Heeds ks m b → Heeds (js ++ ks) a b
+  heeds_both [] ks a m b h more = subst (λ (z : Account C). Heeds ks z b) h more
+  heeds_both (j ∷ js) ks a m b h more = (h.0, h.1, heeds_both js ks h.0 m b h.2 more)
 
-  module _ {I : Type 0} (gives : I → Next (Job M A L T P S C E) → I → Type 0) where
-    pub none_heeded : (i : I) (a : Account C) → HasHeeded gives i a i a
-    none_heeded i a = record { came = []; given = refl; heeds = refl }
+  -- a job that is taken up is heeded, and the end is not taken up
+  pub heeds_one : (j : Job M A L T P S C E) (a b : Account C) → is_end j ≡ false → HeedsJob j (counted (is_told j) a) b → Heeds (j ∷ []) a b
+  heeds_one j a b is h = (b, subst (λ (e : Bool). HeedsUnless e j a b) (sym is) h, refl)
 
-    -- a job came, and was heeded
-    pub heeded_next : (i : I) (a : Account C) (k : I) (m : Account C) (j : Job M A L T P S C E) (l : I) (b : Account C) (ends : Bool) → HasHeeded gives i a k m → gives k (next.Job j) l
-        → is_end j ≡ ends → HeedsUnless ends j m b → HasHeeded gives i a l b
-    heeded_next i a k m j l b ends h gave is one =
-        record {
-          came = h.came ++ next.Job j ∷ [];
-          given = given_end gives h.came (next.Job j) i k l h.given gave;
-          heeds = subst (λ (js : List (Job M A L T P S C E)). Heeds js a b) (sym (jobs_end h.came (next.Job j)))
-              (heeds_end (jobs_in h.came) j a m b h.heeds (subst (λ (e : Bool). HeedsUnless e j m b) (sym is) one));
-        }
+  pub heeds_stop : (j : Job M A L T P S C E) (a : Account C) → is_end j ≡ true → Heeds (j ∷ []) a a
+  heeds_stop j a is = (a, subst (λ (e : Bool). HeedsUnless e j a a) (sym is) refl, refl)
 
-    -- no job came
-    pub heeded_none : (i : I) (a : Account C) (k : I) (m : Account C) (x : Next (Job M A L T P S C E)) (l : I) → HasHeeded gives i a k m → gives k x l → jobs_in (x ∷ []) ≡ [] → HasHeeded gives i a l m
-    heeded_none i a k m x l h gave none =
-        record {
-          came = h.came ++ x ∷ [];
-          given = given_end gives h.came x i k l h.given gave;
-          heeds = subst (λ (js : List (Job M A L T P S C E)). Heeds js a m) (sym (jobs_end h.came x ∙ (ap (λ js. jobs_in h.came ++ js) none ∙ append-nil (jobs_in h.came)))) h.heeds;
-        }
+  -- what came next is heeded behind what came before
+  pub heeds_next : (came : List (Next (Job M A L T P S C E))) (x : Next (Job M A L T P S C E)) (a m b : Account C) → Heeds (jobs_in came) a m → Heeds (jobs_in (x ∷ [])) m b
+      → Heeds (jobs_in (came ++ x ∷ [])) a b
+  heeds_next came x a m b h one =
+      subst (λ (js : List (Job M A L T P S C E)). Heeds js a b) (sym (jobs_end came x)) (heeds_both (jobs_in came) (jobs_in (x ∷ [])) a m b h one)

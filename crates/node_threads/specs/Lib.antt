@@ -1,4 +1,5 @@
 pub mod Asking
+pub mod Fates
 pub mod Faults
 pub mod Forwarding
 pub mod Homes
@@ -10,6 +11,7 @@ pub mod Places
 pub mod Reports
 pub mod Requests
 pub mod Rounds
+pub mod Served
 pub mod Taking
 pub mod Telling
 pub mod Together

@@ -13,7 +13,7 @@ use Rattle.node_threads.specs.declared.job.Job.{Job}
 use Rattle.node_threads.specs.Inflows.{Given, jobs_in}
 use Rattle.node_threads.specs.Reports.{is_end, leads_in}
 use Rattle.node_threads.specs.Together.{HasTurnedAll, HasTurnedTogether, appended, is_idle}
-use Rattle.node_threads.specs.Waiting.{Account, HasHeeded}
+use Rattle.node_threads.specs.Waiting.{Account, Heeds}
 use Rattle.node_threads.specs.Work.{HasDone, HasGoneRound, HasHadTurn}
 
 -- a piece of what a worker does with the jobs of its inbox
@@ -105,22 +105,24 @@ module _ (M : Machine) {Setup Hosted Store U : Type 0} (tally : U → Tally) whe
       pub covers : Covers (pieces ++ left) (filter is_for_node (jobs_in came))
       pub done : HasDoneAll marked mark pieces c d
 
-    -- So with what came in a round: one thing at least, and not too many. The worker is over where it was told to end, or nothing will come any more.
-    pub record HasDoneGiven (left : List (PieceOf M Setup Hosted Action)) (i : I) (c : CellOf M Setup Hosted Store U) (over : Bool) (k : I) (d : CellOf M Setup Hosted Store U) : Type 0 where
+    -- So with what came in a round: one thing at least, and not too many, and each request among it waits. The worker is over where it was told to end,
+    -- or nothing will come any more.
+    pub record HasDoneGiven (left : List (PieceOf M Setup Hosted Action)) (i : I) (a : Account M.Body) (c : CellOf M Setup Hosted Store U) (over : Bool)
+        (k : I) (b : Account M.Body) (d : CellOf M Setup Hosted Store U) : Type 0 where
       pub came : List (Next (JobOf M Setup Hosted Action))
       pub some : 1 ≤ length came
       pub few : length came ≤ batch_limit
       pub over_is : over ≡ list_any is_over came
       pub these : HasDoneThese came left i c k d
+      pub heeds : Heeds (jobs_in came) a b
 
-    -- What came was done, and each request among it waits; then what a round does behind its jobs; and another round comes, unless the worker is over.
+    -- What came was done, and then what a round does behind its jobs; and another round comes, unless the worker is over.
     pub record HasDoneRound (i : I) (a : Account M.Body) (c : CellOf M Setup Hosted Store U) (goes_on : Bool) (k : I) (b : Account M.Body)
         (d : CellOf M Setup Hosted Store U) : Type 0 where
       pub between : CellOf M Setup Hosted Store U
       pub over : Bool
       pub forwarded : Option ℕ
       pub account : Account M.Body
-      pub jobs : HasDoneGiven [] i c over k between
-      pub requests : HasHeeded gives i a k account
+      pub jobs : HasDoneGiven [] i a c over k account between
       pub rest : HasGoneRound M tally forwarded account between b d
       pub goes_on_is : goes_on ≡ not over

@@ -7,13 +7,11 @@ use Rattle.raft_log.specs.declared.message.Message.{Message}
 use Rattle.world_views.specs.declared.envelope.Envelope.{Envelope}
 use Rattle.node_notes.specs.declared.note.Note.{Note}
 use Rattle.node_notes.specs.declared.note.Note.TheVariants as note
-use Rattle.node_threads.specs.declared.inflow.Next.{Next}
 use Rattle.node_threads.specs.declared.job.Job.{Job}
 use Rattle.node_threads.specs.declared.job.Job.TheVariants as job
 use Rattle.node_threads.specs.declared.worker_loop.WorkerLoop.{WorkerLoop}
 use Rattle.node_threads.specs.declared.worker_loop.requests.Asked.{Asked}
 use Rattle.node_threads.specs.declared.worker_loop.requests.Request.{Request}
-use Rattle.node_threads.specs.Inflows.{Given, jobs_in}
 use Rattle.node_threads.specs.Reports.{is_end, is_told}
 use Rattle.node_threads.specs.Requests.{HasAsked, Queue, WaitsOrIsLost, behind, ended, in_front, note_in, queue_of, request}
 
@@ -116,12 +114,6 @@ module _ {M A L T P S C E : Type 0} where
   abbrev pub Heeds : List (Job M A L T P S C E) → Account C → Account C → Type 0
   Heeds [] a b = b ≡ a
   Heeds (j ∷ js) a b = (m : Account C) × HeedsUnless (is_end j) j a m × Heeds js m b
-
-  -- An inbox gave jobs, and each was heeded, once and in order.
-  pub record HasHeeded {I : Type 0} (gives : I → Next (Job M A L T P S C E) → I → Type 0) (i : I) (a : Account C) (k : I) (b : Account C) : Type 0 where
-    pub came : List (Next (Job M A L T P S C E))
-    pub given : Given gives i came k
-    pub heeds : Heeds (jobs_in came) a b
 
 module _ {M G O A L T P S C E : Type 0} where
   abbrev pub account_of : WorkerLoop M G O A L T P S C E → Account C

@@ -13,6 +13,7 @@ mod inbox;
 mod inflow;
 mod inlet;
 mod job;
+mod laws;
 mod leaver;
 mod node_handle;
 mod opener;

@@ -2,6 +2,7 @@
 ghost use Rattle.std.specs.Prelude.{◌≡◌, ◌&&◌, false, length, true};
 ghost use Rattle.node_threads.specs.Homes.{IsSameHome};
 ghost use Rattle.node_threads.specs.Reports.{has_grown, is_news};
+ghost use Rattle.node_threads.specs.Served.{HasWorkedOff};
 ghost use Rattle.node_threads.specs.Taking.{HasDoneRound};
 ghost use Rattle.node_threads.specs.Waiting.{HaveComeBack, account_of};
 ghost use Rattle.node_threads.specs.Work.{HasBeaten, HasGoneRound};
@@ -89,7 +90,10 @@ impl<M: Marking, G: Gate + Drop, O: Outlet<M::Effect>> WorkerLoop<M, G, O> {
         cell: &mut NodeCell<M, S, U>,
         inbox: &mut I,
     )
-        ensures { IsSameHome cell.old.parts cell.new.parts }
+        ensures home { IsSameHome cell.old.parts cell.new.parts }
+        ensures rounds { HasWorkedOff (⟦<M as Described>⟧.machine cell.old.parts.ether.setup)
+            U.tally M.marked M.mark I.gives inbox.old (account_of self.old) cell.old.parts
+            inbox.new (account_of self.new) cell.new.parts }
     {
         for _ in rt.forever() {
             if !self.do_round(rt, cell, inbox) {

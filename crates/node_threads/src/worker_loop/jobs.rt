@@ -4,7 +4,7 @@ ghost use Rattle.node_notes.specs.declared.note.Note.TheVariants.{Beat};
 ghost use Rattle.node_threads.specs.Reports.{is_told, leads_in};
 ghost use Rattle.node_threads.specs.Taking.{HasDoneGiven, gathered_piece};
 ghost use Rattle.node_threads.specs.Together.{AreReady};
-ghost use Rattle.node_threads.specs.Waiting.{HasHeeded, HaveComeBack, HeedsJob, HeedsNote, account_of, counted};
+ghost use Rattle.node_threads.specs.Waiting.{HaveComeBack, HeedsJob, HeedsNote, account_of, counted};
 ghost use Rattle.node_threads.specs.Work.{HasDone, HasDoneNote, HasTimedOut};
 
 use crate::gate::Gate;
@@ -36,11 +36,9 @@ impl<M: Marking, G: Gate + Drop, O: Outlet<M::Effect>> WorkerLoop<M, G, O> {
         inbox: &mut I,
         may_wait: bool,
     ) -> bool
-        ensures done { HasDoneGiven (⟦<M as Described>⟧.machine cell.old.parts.ether.setup) U.tally
-            M.marked M.mark I.gives [] inbox.old cell.old.parts result
-            inbox.new cell.new.parts }
-        ensures requests { HasHeeded I.gives inbox.old (account_of self.old)
-            inbox.new (account_of self.new) }
+        ensures { HasDoneGiven (⟦<M as Described>⟧.machine cell.old.parts.ether.setup) U.tally
+            M.marked M.mark I.gives [] inbox.old (account_of self.old) cell.old.parts result
+            inbox.new (account_of self.new) cell.new.parts }
     {
         let mut gathered = Vec::new(self.alloc);
         let is_over = self.take_jobs(rt, cell, inbox, may_wait, &mut gathered);
@@ -59,11 +57,10 @@ impl<M: Marking, G: Gate + Drop, O: Outlet<M::Effect>> WorkerLoop<M, G, O> {
     ) -> bool
         requires { gathered.old.items ≡ [] }
         ensures done { HasDoneGiven (⟦<M as Described>⟧.machine cell.old.parts.ether.setup) U.tally
-            M.marked M.mark I.gives (gathered_piece gathered.new.items) inbox.old cell.old.parts
-            result inbox.new cell.new.parts }
+            M.marked M.mark I.gives (gathered_piece gathered.new.items) inbox.old
+            (account_of self.old) cell.old.parts result inbox.new (account_of self.new)
+            cell.new.parts }
         ensures ready { AreReady gathered.new.items cell.new.parts }
-        ensures requests { HasHeeded I.gives inbox.old (account_of self.old)
-            inbox.new (account_of self.new) }
     {
         let mut alone = 0u64;
         // What a leader only appends of them is saved at once, so that a slow disk is waited for once: a

@@ -5,7 +5,7 @@ use Rattle.node_threads.specs.Taking.{HasTakenUp}
 use Rattle.node_threads.specs.Waiting.{account_of}
 use Rattle.node_threads.proofs.GivenDone.{home_after_taking, taking_end, taking_next, taking_none, taking_stop}
 use Rattle.node_threads.proofs.Taken.{for_node_end, none_ready, over_end}
-use Rattle.node_threads.proofs.Waiting.{heeded_next, heeded_none, none_heeded}
+use Rattle.node_threads.proofs.Waiting.{heeds_stop}
 use Rattle.node_threads.proofs.worker_loop.WorkerLoop.take_jobs.Goals as goal
 use Rattle.node_threads.proofs.worker_loop.WorkerLoop.take_jobs.Invariants.{machine}
 
@@ -13,9 +13,8 @@ pub loop-place-init : goal.loop-place-init
 loop-place-init g c =
     let first = c.args.cell.now.parts in
     record {
-      taking = taking_none (machine g first.ether.setup) g.U.Upstream.tally g.M.Marking.marked g.M.Hosted.mark g.I.Inflow.gives c.args.gathered.now.items c.args.inbox.now first c.requires;
+      taking = taking_none (machine g first.ether.setup) g.U.Upstream.tally g.M.Marking.marked g.M.Hosted.mark g.I.Inflow.gives c.args.gathered.now.items c.args.inbox.now (account_of c.args.self.now) first c.requires;
       ready = none_ready c.args.gathered.now.items first c.requires;
-      requests = none_heeded g.I.Inflow.gives c.args.inbox.now (account_of c.args.self.now);
     }
 
 pub loop-place-preserved : goal.loop-place-preserved
@@ -33,16 +32,15 @@ loop-place-preserved g c =
     let gives = g.I.Inflow.gives in
     let M = machine g first.ether.setup in
     let job = c.in-Job.job in
-    let home = home_after_taking M tally marked mark gives l.place before c.args.inbox.now first l.inbox old l.invariant.taking in
+    let home = home_after_taking M tally marked mark gives l.place before c.args.inbox.now (account_of c.args.self.now) first l.inbox (account_of l.self) old l.invariant.taking in
     let taken = subst (λ (s : g.row.M-Setup.Denot). HasTakenUp (machine g s) tally marked mark job before old after new) (ap (λ e. e.setup) home.ether) c.take_up.ensures.taken in
     let gave = c.in-Job.ensures in
-    let more = taking_next M tally marked mark gives l.place (l.place + 1) c.args.inbox.now first l.inbox job before old c.next.new.self after new
-    refl (omega (arith, room)) l.invariant.taking gave (sym c.is_end.ensures ∙ c.if-is_end.false) taken in
+    let more = taking_next M tally marked mark gives l.place (l.place + 1) c.args.inbox.now (account_of c.args.self.now) first l.inbox (account_of l.self) job before old
+    c.next.new.self (account_of c.take_up.new.self) after new refl (omega (arith, room)) l.invariant.taking gave (sym c.is_end.ensures ∙ c.if-is_end.false)
+    c.take_up.ensures.requests taken in
     record {
       taking = more;
       ready = more.ready;
-      requests = heeded_next gives c.args.inbox.now (account_of c.args.self.now) l.inbox (account_of l.self) job c.next.new.self (account_of c.take_up.new.self) false
-          l.invariant.requests gave (sym c.is_end.ensures ∙ c.if-is_end.false) c.take_up.ensures.requests;
     }
 
 pub returns-then-is_end-clause-done : goal.returns-then-is_end-clause-done
@@ -53,34 +51,10 @@ returns-then-is_end-clause-done g c =
     let room = c.loop-place-test.true in
     let gives = g.I.Inflow.gives in
     let gave = c.in-Job.ensures in
-    taking_end (machine g first.ether.setup) g.U.Upstream.tally g.M.Marking.marked g.M.Hosted.mark gives l.place l.gathered.items c.args.inbox.now first l.inbox l.cell.parts
+    taking_end (machine g first.ether.setup) g.U.Upstream.tally g.M.Marking.marked g.M.Hosted.mark gives l.place l.gathered.items c.args.inbox.now (account_of c.args.self.now) first l.inbox
+    (account_of l.self) l.cell.parts
     (next.Job c.in-Job.job) c.next.new.self true l.invariant.taking (omega (arith, room)) gave (over_end c.in-Job.job true ends) (for_node_end c.in-Job.job ends)
-
-pub returns-then-is_end-clause-requests : goal.returns-then-is_end-clause-requests
-returns-then-is_end-clause-requests g c =
-    let ends : is_end c.in-Job.job ≡ true = sym c.is_end.ensures ∙ c.if-is_end.true in
-    let l = c.loop-place in
-    heeded_next g.I.Inflow.gives c.args.inbox.now (account_of c.args.self.now) l.inbox (account_of l.self) c.in-Job.job c.next.new.self (account_of l.self) true l.invariant.requests c.in-Job.ensures ends
-    refl
-
-pub returns-in-Nothing-clause-requests : goal.returns-in-Nothing-clause-requests
-returns-in-Nothing-clause-requests g c =
-    let l = c.loop-place in
-    heeded_none g.I.Inflow.gives c.args.inbox.now (account_of c.args.self.now) l.inbox (account_of l.self) next.Nothing c.next.new.self l.invariant.requests c.in-Nothing.ensures refl
-
-pub returns-in-Over-clause-requests : goal.returns-in-Over-clause-requests
-returns-in-Over-clause-requests g c =
-    let l = c.loop-place in
-    heeded_none g.I.Inflow.gives c.args.inbox.now (account_of c.args.self.now) l.inbox (account_of l.self) next.Over c.next.new.self l.invariant.requests c.in-Over.ensures refl
-
-pub returns-clause-requests : goal.returns-clause-requests
-returns-clause-requests g c = c.loop-place.invariant.requests
-
-pub returns-then-alone-ge-MOST_ALONE-clause-requests : goal.returns-then-alone-ge-MOST_ALONE-clause-requests
-returns-then-alone-ge-MOST_ALONE-clause-requests g c =
-    let l = c.loop-place in
-    heeded_next g.I.Inflow.gives c.args.inbox.now (account_of c.args.self.now) l.inbox (account_of l.self) c.in-Job.job c.next.new.self (account_of c.take_up.new.self) false l.invariant.requests
-    c.in-Job.ensures (sym c.is_end.ensures ∙ c.if-is_end.false) c.take_up.ensures.requests
+    (heeds_stop c.in-Job.job (account_of l.self) ends)
 
 pub returns-in-Nothing-clause-done : goal.returns-in-Nothing-clause-done
 returns-in-Nothing-clause-done g c =
@@ -89,8 +63,9 @@ returns-in-Nothing-clause-done g c =
     let room = c.loop-place-test.true in
     let gives = g.I.Inflow.gives in
     let gave = c.in-Nothing.ensures in
-    taking_end (machine g first.ether.setup) g.U.Upstream.tally g.M.Marking.marked g.M.Hosted.mark gives l.place l.gathered.items c.args.inbox.now first l.inbox l.cell.parts
-    next.Nothing c.next.new.self false l.invariant.taking (omega (arith, room)) gave refl refl
+    taking_end (machine g first.ether.setup) g.U.Upstream.tally g.M.Marking.marked g.M.Hosted.mark gives l.place l.gathered.items c.args.inbox.now (account_of c.args.self.now) first l.inbox
+    (account_of l.self) l.cell.parts
+    next.Nothing c.next.new.self false l.invariant.taking (omega (arith, room)) gave refl refl refl
 
 pub returns-in-Over-clause-done : goal.returns-in-Over-clause-done
 returns-in-Over-clause-done g c =
@@ -99,8 +74,9 @@ returns-in-Over-clause-done g c =
     let room = c.loop-place-test.true in
     let gives = g.I.Inflow.gives in
     let gave = c.in-Over.ensures in
-    taking_end (machine g first.ether.setup) g.U.Upstream.tally g.M.Marking.marked g.M.Hosted.mark gives l.place l.gathered.items c.args.inbox.now first l.inbox l.cell.parts
-    next.Over c.next.new.self true l.invariant.taking (omega (arith, room)) gave refl refl
+    taking_end (machine g first.ether.setup) g.U.Upstream.tally g.M.Marking.marked g.M.Hosted.mark gives l.place l.gathered.items c.args.inbox.now (account_of c.args.self.now) first l.inbox
+    (account_of l.self) l.cell.parts
+    next.Over c.next.new.self true l.invariant.taking (omega (arith, room)) gave refl refl refl
 
 pub returns-clause-done : goal.returns-clause-done
 returns-clause-done g c =
@@ -108,7 +84,8 @@ returns-clause-done g c =
     let l = c.loop-place in
     let least = c.loop-place-test.false in
     let most = l.auto.place-end in
-    taking_stop (machine g first.ether.setup) g.U.Upstream.tally g.M.Marking.marked g.M.Hosted.mark g.I.Inflow.gives l.place l.gathered.items c.args.inbox.now first l.inbox l.cell.parts
+    taking_stop (machine g first.ether.setup) g.U.Upstream.tally g.M.Marking.marked g.M.Hosted.mark g.I.Inflow.gives l.place l.gathered.items c.args.inbox.now (account_of c.args.self.now) first l.inbox
+    (account_of l.self) l.cell.parts
     l.invariant.taking (omega (arith, least)) (omega (arith, most))
 
 pub returns-then-alone-ge-MOST_ALONE-clause-done : goal.returns-then-alone-ge-MOST_ALONE-clause-done
@@ -126,12 +103,13 @@ returns-then-alone-ge-MOST_ALONE-clause-done g c =
     let gives = g.I.Inflow.gives in
     let M = machine g first.ether.setup in
     let job = c.in-Job.job in
-    let home = home_after_taking M tally marked mark gives l.place before c.args.inbox.now first l.inbox old l.invariant.taking in
+    let home = home_after_taking M tally marked mark gives l.place before c.args.inbox.now (account_of c.args.self.now) first l.inbox (account_of l.self) old l.invariant.taking in
     let taken = subst (λ (s : g.row.M-Setup.Denot). HasTakenUp (machine g s) tally marked mark job before old after new) (ap (λ e. e.setup) home.ether) c.take_up.ensures.taken in
     let gave = c.in-Job.ensures in
-    let more = taking_next M tally marked mark gives l.place (l.place + 1) c.args.inbox.now first l.inbox job before old c.next.new.self after new
-    refl (omega (arith, room)) l.invariant.taking gave (sym c.is_end.ensures ∙ c.if-is_end.false) taken in
-    taking_stop M tally marked mark gives (l.place + 1) after c.args.inbox.now first c.next.new.self new more (omega arith) (omega (arith, room))
+    let more = taking_next M tally marked mark gives l.place (l.place + 1) c.args.inbox.now (account_of c.args.self.now) first l.inbox (account_of l.self) job before old
+    c.next.new.self (account_of c.take_up.new.self) after new refl (omega (arith, room)) l.invariant.taking gave (sym c.is_end.ensures ∙ c.if-is_end.false)
+    c.take_up.ensures.requests taken in
+    taking_stop M tally marked mark gives (l.place + 1) after c.args.inbox.now (account_of c.args.self.now) first c.next.new.self (account_of c.take_up.new.self) new more (omega arith) (omega (arith, room))
 
 pub returns-then-alone-ge-MOST_ALONE-clause-ready : goal.returns-then-alone-ge-MOST_ALONE-clause-ready
 returns-then-alone-ge-MOST_ALONE-clause-ready g c =
@@ -148,9 +126,10 @@ returns-then-alone-ge-MOST_ALONE-clause-ready g c =
     let gives = g.I.Inflow.gives in
     let M = machine g first.ether.setup in
     let job = c.in-Job.job in
-    let home = home_after_taking M tally marked mark gives l.place before c.args.inbox.now first l.inbox old l.invariant.taking in
+    let home = home_after_taking M tally marked mark gives l.place before c.args.inbox.now (account_of c.args.self.now) first l.inbox (account_of l.self) old l.invariant.taking in
     let taken = subst (λ (s : g.row.M-Setup.Denot). HasTakenUp (machine g s) tally marked mark job before old after new) (ap (λ e. e.setup) home.ether) c.take_up.ensures.taken in
     let gave = c.in-Job.ensures in
-    let more = taking_next M tally marked mark gives l.place (l.place + 1) c.args.inbox.now first l.inbox job before old c.next.new.self after new
-    refl (omega (arith, room)) l.invariant.taking gave (sym c.is_end.ensures ∙ c.if-is_end.false) taken in
+    let more = taking_next M tally marked mark gives l.place (l.place + 1) c.args.inbox.now (account_of c.args.self.now) first l.inbox (account_of l.self) job before old
+    c.next.new.self (account_of c.take_up.new.self) after new refl (omega (arith, room)) l.invariant.taking gave (sym c.is_end.ensures ∙ c.if-is_end.false)
+    c.take_up.ensures.requests taken in
     more.ready

@@ -1,7 +1,7 @@
 use Rattle.raft_node.specs.Hosts.{hosted}
 use Rattle.raft_node.specs.Machine.{Machine}
 use Rattle.node_threads.specs.Together.{AreReady}
-use Rattle.node_threads.specs.Waiting.{HasHeeded, account_of}
+use Rattle.node_threads.specs.Waiting.{account_of}
 use Rattle.node_threads.proofs.GivenDone.{IsTaking}
 use Rattle.node_threads.proofs.worker_loop.WorkerLoop.take_jobs.Given as goal
 
@@ -14,7 +14,7 @@ abbrev pub invariant-loop-place : goal.invariant-loop-place
 invariant-loop-place g l =
     let first = l.fn.cell.parts in
     record {
-      taking : IsTaking (machine g first.ether.setup) g.U.Upstream.tally g.M.Marking.marked g.M.Hosted.mark g.I.Inflow.gives l.place l.gathered.items l.fn.inbox first l.inbox l.cell.parts;
+      taking : IsTaking (machine g first.ether.setup) g.U.Upstream.tally g.M.Marking.marked g.M.Hosted.mark g.I.Inflow.gives l.place l.gathered.items l.fn.inbox
+          (account_of l.fn.self) first l.inbox (account_of l.self) l.cell.parts;
       ready : AreReady l.gathered.items l.cell.parts;
-      requests : HasHeeded g.I.Inflow.gives l.fn.inbox (account_of l.fn.self) l.inbox (account_of l.self);
     }

@@ -1,0 +1,92 @@
+-- What becomes of the requests that a worker is told.
+use Rattle.std.specs.Prelude.{◌≡◌, ◌≤◌, ◌+◌, ◌-◌, ◌^◌, ◌&&◌, ℕ, min, nat_eq, not, Bool, true, false, IsPermutation, List, [], ◌∷◌, ◌++◌, if◌then◌else◌}
+use Rattle.std.specs.List.{AllByRecursion, sum_by}
+use Rattle.node_notes.specs.declared.note.Note.{Note}
+use Rattle.node_notes.specs.declared.note.Note.TheVariants as note
+use Rattle.node_threads.specs.declared.job.Job.{Job}
+use Rattle.node_threads.specs.declared.job.Job.TheVariants as job
+use Rattle.node_threads.specs.declared.worker_loop.requests.Request.{Request}
+use Rattle.node_threads.specs.Reports.{is_end, is_told}
+use Rattle.node_threads.specs.Requests.{Queue, request}
+
+module _ {B L : Type 0} where
+  -- the request that a note tells, under this number
+  abbrev pub request_in : ℕ → Note B L → List (Request B)
+  request_in number (note.Timeout contacts) = []
+  request_in number note.Beat = []
+  request_in number (note.Ask body) = request number body ∷ []
+  request_in number note.Opened = []
+  request_in number note.Closed = []
+  request_in number (note.Heard at line) = []
+  request_in number note.Claim = []
+  request_in number note.Wake = []
+  request_in number note.Restart = []
+  request_in number note.End = []
+
+  -- whether a note says that the node is to be started again
+  abbrev pub restarts : Note B L → Bool
+  restarts (note.Timeout contacts) = false
+  restarts note.Beat = false
+  restarts (note.Ask body) = false
+  restarts note.Opened = false
+  restarts note.Closed = false
+  restarts (note.Heard at line) = false
+  restarts note.Claim = false
+  restarts note.Wake = false
+  restarts note.Restart = true
+  restarts note.End = false
+
+module _ {M A L T P S C E : Type 0} where
+  -- how many notes are taken up with this job; the end is not taken up
+  abbrev pub counted_by : Job M A L T P S C E → ℕ → ℕ
+  counted_by j number = if not (is_end j) && is_told j then min (number + 1) (2 ^ 64 - 1) else number
+
+  -- and with these
+  abbrev pub counted_by_all : List (Job M A L T P S C E) → ℕ → ℕ
+  counted_by_all [] number = number
+  counted_by_all (j ∷ js) number = counted_by_all js (counted_by j number)
+
+  abbrev pub request_by : ℕ → Job M A L T P S C E → List (Request C)
+  request_by number (job.Note n) = request_in number n
+  request_by number (job.Look place target reply) = []
+  request_by number (job.Mark reply) = []
+  request_by number (job.LookAfter after target reply) = []
+  request_by number (job.Restart reply) = []
+  request_by number (job.Status reply) = []
+
+  -- the requests that these jobs tell, in order, each under the number of its note, where so many were taken up before
+  abbrev pub requests_by : ℕ → List (Job M A L T P S C E) → List (Request C)
+  requests_by number [] = []
+  requests_by number (j ∷ js) = request_by (counted_by j number) j ++ requests_by (counted_by j number) js
+
+  -- whether a job says that the node is to be started again
+  abbrev pub is_restart : Job M A L T P S C E → Bool
+  is_restart (job.Note n) = restarts n
+  is_restart (job.Look place target reply) = false
+  is_restart (job.Mark reply) = false
+  is_restart (job.LookAfter after target reply) = false
+  is_restart (job.Restart reply) = true
+  is_restart (job.Status reply) = false
+
+module _ {B : Type 0} where
+  -- how often the request of this number is among these
+  abbrev pub times : ℕ → List (Request B) → ℕ
+  times number requests = sum_by (λ (r : Request B). if nat_eq r.note number then 1 else 0) requests
+
+  -- Each request that waited, was told or came back is in exactly one place, as often as it waited, was told and came back: it was asked, or ended
+  -- by a restart, or there was no memory for it as it was told, or it waits. Where none came back, ended or found no memory, they were asked in the
+  -- order in which they waited and were told, and those that wait on are the last.
+  pub record EachHasOneFate (told asked : List (Request B)) (is_restarted : Bool) (old new : Queue B) : Type 0 where
+    pub back : List (Request B)
+    pub ended : List (Request B)
+    pub lost : List (Request B)
+    pub once : IsPermutation (old.waiting ++ (told ++ back)) ((asked ++ (ended ++ lost)) ++ new.waiting)
+    pub ended_by_restart : is_restarted ≡ false → ended ≡ []
+    pub lost_is_told : AllByRecursion (λ (r : Request B). r.note ≤ new.lost) lost
+    pub lost_grows : old.lost ≤ new.lost
+    pub in_order : back ≡ [] → ended ≡ [] → lost ≡ [] → old.waiting ++ told ≡ asked ++ new.waiting
+
+  -- By its number: as often as it was asked, ended, found no memory and waits on, it waited, was told and came back.
+  abbrev pub IsCounted : List (Request B) → List (Request B) → Queue B → Queue B → List (Request B) → List (Request B) → List (Request B) → ℕ → Type 0
+  IsCounted told asked old new back ended lost number =
+      times number asked + times number ended + times number lost + times number new.waiting ≡ times number old.waiting + times number told + times number back

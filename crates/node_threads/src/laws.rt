@@ -1,0 +1,31 @@
+//! What holds of a worker over any number of rounds, as contracts of functions that do nothing.
+ghost use Rattle.node_threads.specs.Served.{RequestsAreCounted, WhatComesIsServed, WhatStandsIsServed};
+
+use crate::inflow::Inflow;
+use crate::job::Job;
+use machine_laws::{Hosted, Machine, Marking};
+use node_cells::Upstream;
+use raft_node::Described;
+use stable_store::Stable;
+
+/// Over any number of rounds, with whatever comes in its inbox, a worker does each job that is for its node once and in
+/// order. Each request that it is told is asked, or ended by a restart, or found no memory, or waits on: one of these, and
+/// once more each time it comes back. Which requests come back no clause of a round says. The worker's loop does such rounds.
+pub fn what_comes_is_served<M: Marking, S: Stable<M::Command>, U: Upstream, I: Inflow<Job<M>>>()
+    ensures { (s : M.Setup) → WhatComesIsServed (⟦<M as Described>⟧.machine s) M.Setup M S U.tally
+        M.marked M.mark I.gives }
+{}
+
+/// After as many rounds as jobs stand in the inbox, or more, all of those have come: each that is for the node is done, and
+/// each request among them was asked, or waits on.
+pub fn what_stands_is_served<M: Marking, S: Stable<M::Command>, U: Upstream, I: Inflow<Job<M>>>()
+    ensures { (s : M.Setup) → WhatStandsIsServed (⟦<M as Described>⟧.machine s) M.Setup M S U.tally
+        M.marked M.mark I.gives }
+{}
+
+/// As often as a request was asked, ended by a restart, found no memory or waits on, it had waited, was told or came back.
+/// So none is forgotten, and none is asked once more than it was told and came back.
+pub fn requests_are_counted<M: Marking, S: Stable<M::Command>, U: Upstream, I: Inflow<Job<M>>>()
+    ensures { (s : M.Setup) → RequestsAreCounted (⟦<M as Described>⟧.machine s) M.Setup M S U.tally
+        M.marked M.mark I.gives }
+{}
