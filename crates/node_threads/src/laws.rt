@@ -17,7 +17,7 @@ pub fn what_comes_is_served<M: Marking, S: Stable<M::Command>, U: Upstream, I: I
 {}
 
 /// After as many rounds as jobs stand in the inbox, or more, all of those have come: each that is for the node is done, and
-/// each request among them was asked, or waits on.
+/// each request among them was asked, ended, found no memory, or waits on.
 pub fn what_stands_is_served<M: Marking, S: Stable<M::Command>, U: Upstream, I: Inflow<Job<M>>>()
     ensures { (s : M.Setup) → WhatStandsIsServed (⟦<M as Described>⟧.machine s) M.Setup M S U.tally
         M.marked M.mark I.gives }
