@@ -1,5 +1,5 @@
 -- What a worker does with its node in a round, behind its jobs, as a list of acts.
-use Rattle.std.proofs.Common.{◌≡◌, inl, inr, ⊎_elim, ℕ, zero, suc, Bool, true, false, List, [], ◌∷◌, ◌++◌, take, Option, None, Some, refl, sym, ap, ◌∙◌, subst, append_assoc, append-nil}
+use Rattle.std.proofs.Common.{◌≡◌, inl, inr, ⊎_elim, ℕ, zero, suc, Bool, true, false, List, [], ◌∷◌, ◌++◌, take, Option, refl, sym, ap, ◌∙◌, subst, append_assoc, append-nil}
 use Rattle.std.specs.List.{AllByRecursion}
 use Rattle.wire_bytes.specs.declared.mark.Mark.{Mark}
 use Rattle.raft_log.specs.Batches.{batch_limit}
@@ -9,7 +9,7 @@ use Rattle.world_views.specs.Inputs.{NodeInput}
 use Rattle.node_cells.specs.Turns.{CellOf}
 use Rattle.node_cells.specs.Upstreams.{Tally}
 use Rattle.node_threads.specs.declared.worker_loop.requests.Request.{Request}
-use Rattle.node_threads.specs.Asking.{HasLeft, term_in}
+use Rattle.node_threads.specs.Asking.{term_in}
 use Rattle.node_threads.specs.Fates.{EachHasOneFate}
 use Rattle.node_threads.specs.Forwarding.{is_left}
 use Rattle.node_threads.specs.Requests.{request}
@@ -17,7 +17,7 @@ use Rattle.node_threads.specs.Served.{Act, ActOf, HasActed, HasLookedOn, asked_i
 use Rattle.node_threads.specs.Served.Act.{Asks, Goes, Looks, Works}
 use Rattle.node_threads.specs.Taking.{HasDoneAll, Piece, PieceOf}
 use Rattle.node_threads.specs.Waiting.{Account, AsksFirst, HaveComeBack}
-use Rattle.node_threads.specs.Work.{AsksBefore, AsksWhere, Deed, Does, HasAskedEach, HasAskedFirstOf, HasAskedOn, HasAskedOne, HasAskedSome, HasAskedTogether, HasGoneRound, HasHadTurn, applies, beats_on, takes_but, takes_unless}
+use Rattle.node_threads.specs.Work.{AsksBefore, AsksWhere, Deed, Does, HasAskedEach, HasAskedFirstOf, HasAskedOn, HasAskedSome, HasAskedTogether, HasGoneRound, HasHadTurn, applies, beats_on, takes_but, takes_unless}
 use Rattle.node_threads.proofs.Fated.{all_both, fate_back, fate_first, fate_none, fate_together, fates_both}
 
 module _ {J B L : Type 0} where

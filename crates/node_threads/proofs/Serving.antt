@@ -1,10 +1,9 @@
 -- That what comes is served, over any number of rounds.
-use Rattle.std.proofs.Common.{◌≡◌, ◌≤◌, ◌+◌, ◌*◌, ◌||◌, ℕ, zero, suc, Bool, true, false, not, List, [], ◌∷◌, ◌++◌, length, length-append, Option, refl, sym, ap, ◌∙◌, subst, append_assoc, append-nil, arith}
+use Rattle.std.proofs.Common.{◌≡◌, ◌≤◌, ◌+◌, ◌||◌, ℕ, zero, suc, Bool, true, false, not, List, [], ◌∷◌, ◌++◌, length, length-append, Option, refl, sym, ap, ◌∙◌, subst, append_assoc, append-nil, arith}
 use Rattle.std.proofs.lemmas.List.Elements.{filter-append}
 use Rattle.std.proofs.lemmas.List.Folds.{list_any-append}
 use Rattle.std.specs.List.{filter, list_any}
 use Rattle.wire_bytes.specs.declared.mark.Mark.{Mark}
-use Rattle.raft_log.specs.Batches.{batch_limit}
 use Rattle.raft_node.specs.Machine.{Machine}
 use Rattle.world_views.specs.Inputs.{NodeInput}
 use Rattle.node_cells.specs.Turns.{CellOf}

@@ -1,6 +1,6 @@
 -- How the requests that wait at a worker change, over several steps.
 use Rattle.std.proofs.Common.{◌≡◌, ◌≤◌, ◌++◌, ◌+◌, ⊎_elim, ℕ, Bool, true, false, List, [], ◌∷◌, nat_lt, Option, Some, None, refl, sym, ap, ◌∙◌, subst, if◌then◌else◌, arith, ◌<◌, length, drop, get_or}
-use Rattle.std.proofs.lemmas.List.{drop_more, append-nil, append_assoc}
+use Rattle.std.proofs.lemmas.List.{drop_more, append_assoc}
 use Rattle.world_views.specs.declared.envelope.Envelope.{Envelope}
 use Rattle.node_notes.specs.declared.note.Note.{Note}
 use Rattle.node_notes.specs.declared.note.Note.TheVariants as note
