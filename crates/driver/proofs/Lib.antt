@@ -59,3 +59,11 @@ mod Joining
 mod Keys
 mod Opened
 mod Outcomes
+mod Moves
+mod Clocking
+mod Events
+mod Timely
+mod Awaiting
+mod Restarted
+mod Beaten
+mod Voting

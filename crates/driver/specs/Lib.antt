@@ -54,3 +54,4 @@ pub mod Joining
 pub mod Keys
 pub mod Missing
 pub mod Standing
+pub mod Schedule

@@ -33,6 +33,7 @@ mod retirement;
 mod retirements;
 mod rewording;
 mod said;
+pub mod schedule;
 mod settings;
 mod standing;
 mod timer;

@@ -1,0 +1,138 @@
+-- Each node is told in time what gets the group on, whatever else is called, as long as time passes.
+use Rattle.std.specs.Prelude.{◌≡◌, ◌≤◌, ℕ, ◌+◌, ◌-◌, ◌*◌, ◌/◌, ◌&&◌, ◌||◌, Bool, true, false, not, is_some, max, min, nat_eq, nat_le, if◌then◌else◌, List, [], ◌∷◌, Option, Some, None, slice_get}
+use Rattle.std.specs.List.{list_all, list_any}
+use Rattle.node_notes.specs.declared.note.Note.TheVariants.{Beat, Restart, Timeout}
+use Rattle.node_notes.specs.declared.progress.Progress.{Progress}
+use Rattle.node_notes.specs.declared.status.Status.{Status}
+use Rattle.node_notes.specs.Notes.{leads}
+use Rattle.driver.specs.declared.node_monitor.NodeMonitor.{NodeMonitor}
+use Rattle.driver.specs.declared.driver.Driver.{Driver}
+use Rattle.driver.specs.declared.order.Order.{Order}
+use Rattle.driver.specs.declared.order.Order.TheVariants.{Submit}
+use Rattle.driver.specs.Calls.{Call, DoesAll, Hear, Led, Step, Tick}
+use Rattle.driver.specs.Counting.{all_told}
+use Rattle.driver.specs.Links.{status_at}
+use Rattle.driver.specs.declared.node_monitor.TheConstants.{LONGEST}
+use Rattle.driver.specs.declared.node_monitor.clock.TheConstants.{APART}
+
+-- when the driver ran last, behind a call: it runs where time passes, and where a worker reports
+abbrev pub ran_by : ℕ → Call → ℕ
+ran_by ran (Tick now at) = now
+ran_by ran (Hear now at node status effects progress refused) = now
+ran_by ran call = ran
+
+-- Time goes on from this moment: the driver runs at no moment before one at which it ran.
+unfoldable pub GoesOn : ℕ → List Step → Type 0
+GoesOn ran [] = Unit {0}
+GoesOn ran (step ∷ more) = (ran ≤ ran_by ran step.call) × GoesOn (ran_by ran step.call) more
+
+-- A driver to which calls lead from a new one, as time goes on.
+pub record IsRunning (driver : Driver) : Type 0 where
+  pub steps : List Step
+  pub led : Led steps driver
+  pub goes_on : GoesOn led.now steps
+
+-- a call tells nothing of this node but what fits: it is no report of it, or one that fits
+abbrev pub tells_only : (Status → Progress → Bool) → ℕ → Call → Bool
+tells_only fits node (Hear now at other status effects progress refused) = if nat_eq other node then fits status progress else true
+tells_only fits node call = true
+
+-- A running driver is called so as time goes on, and all that this node reports fits.
+pub record Runs (fits : Status → Progress → Bool) (node : ℕ) (steps : List Step) (old new : Driver) : Type 0 where
+  pub low : 1 ≤ node
+  pub high : node ≤ 7
+  pub is_running : IsRunning old
+  pub does : DoesAll steps old new
+  pub goes_on : GoesOn old.ran.since steps
+  pub fit : list_all (λ step. tells_only fits node step.call) steps ≡ true
+
+-- time passes by this call
+abbrev pub is_tick : Call → Bool
+is_tick (Tick now at) = true
+is_tick call = false
+
+-- time passes to this moment or a later one by this call
+abbrev pub ticks_by : ℕ → Call → Bool
+ticks_by moment (Tick now at) = nat_le moment now
+ticks_by moment call = false
+
+-- it does by one of these
+abbrev pub passes : ℕ → List Step → Bool
+passes moment steps = list_any (λ step. ticks_by moment step.call) steps
+
+-- one of these calls orders such an order
+abbrev pub one_orders : (Order → Bool) → List Step → Bool
+one_orders is steps = list_any is (all_told steps)
+
+-- an order tells this node to start again
+abbrev pub restarts : ℕ → Order → Bool
+restarts node (Submit other Restart) = nat_eq other node
+restarts node order = false
+
+-- an order tells this node to send as a leader
+abbrev pub beats : ℕ → Order → Bool
+beats node (Submit other Beat) = nat_eq other node
+beats node order = false
+
+-- an order tells this node to ask for votes, unless it heard of a leader more often than this
+abbrev pub asks_for_votes : ℕ → ℕ → Order → Bool
+asks_for_votes node contacts (Submit other (Timeout most)) = nat_eq other node && nat_eq most contacts
+asks_for_votes node contacts order = false
+
+-- A node that is down is told to start again in time. It was down when it was last heard of, and is in all that it reports: once a minute has
+-- passed, or a timeout where that is longer, however often it fell before, it was told so.
+abbrev pub RestartsInTime : Type 0
+RestartsInTime =
+    (node : ℕ) (status : Status) (steps : List Step) (old new : Driver)
+    → Runs (λ told progress. is_some told.down) node steps old new
+    → status_at old.monitors node ≡ Some status → is_some status.down ≡ true
+    → passes (old.ran.since + max LONGEST old.settings.timeout_ms) steps ≡ true
+    → one_orders (restarts node) steps ≡ true
+
+-- the last beat that this monitor's node was told is done, as far as is known
+abbrev pub is_beat_done : Option NodeMonitor → Bool
+is_beat_done None = false
+is_beat_done (Some monitor) = nat_le monitor.beat.note monitor.progress.done
+
+-- A leader is told to send in time. It led when it was last heard of, and does in all that it reports, and its last beat is done: once the time
+-- of a beat has passed, it was told to send.
+abbrev pub BeatsInTime : Type 0
+BeatsInTime =
+    (node : ℕ) (status : Status) (steps : List Step) (old new : Driver)
+    → Runs (λ told progress. leads told) node steps old new
+    → status_at old.monitors node ≡ Some status → leads status ≡ true
+    → is_beat_done (slice_get old.monitors (node - 1)) ≡ true
+    → passes (old.ran.since + old.settings.beat_ms) steps ≡ true
+    → one_orders (beats node) steps ≡ true
+
+-- how often this monitor's node had heard of a leader, as far as is known
+abbrev pub contacts_of : Option NodeMonitor → ℕ
+contacts_of None = 0
+contacts_of (Some monitor) = monitor.progress.contacts
+
+-- A report that tells of no leader: the node is up, does not lead, is in this term, and heard of a leader no more often than so.
+abbrev pub tells_of_none : ℕ → ℕ → Status → Progress → Bool
+tells_of_none term contacts status progress =
+    not (is_some status.down) && not (leads status) && nat_eq status.term term && nat_le progress.contacts contacts
+
+-- how much of the time until a call counts as silence: half a timeout at most, since the driver may have slept meanwhile
+abbrev pub counts : ℕ → ℕ → Call → ℕ
+counts half ran call = min (ran_by ran call - ran) half
+
+-- time passes where at least so much has counted
+unfoldable pub passes_counted : ℕ → ℕ → ℕ → List Step → Bool
+passes_counted half ran wait [] = false
+passes_counted half ran wait (step ∷ more) =
+    let left = wait - counts half ran step.call in
+    is_tick step.call && nat_eq left 0 || passes_counted half (ran_by ran step.call) left more
+
+-- A node that hears of no leader is told in time to ask for votes. It was up when it was last heard of, and is in all that it reports, which
+-- tells of no leader: once a timeout has counted, and 50 ms more for each node up to it, it was told to ask for votes, by as many contacts
+-- as it told of.
+abbrev pub VotesInTime : Type 0
+VotesInTime =
+    (node : ℕ) (status : Status) (steps : List Step) (old new : Driver)
+    → Runs (tells_of_none status.term (contacts_of (slice_get old.monitors (node - 1)))) node steps old new
+    → status_at old.monitors node ≡ Some status → is_some status.down ≡ false → leads status ≡ false
+    → passes_counted (old.settings.timeout_ms / 2) old.ran.since (old.settings.timeout_ms + APART * node) steps ≡ true
+    → one_orders (asks_for_votes node (contacts_of (slice_get old.monitors (node - 1)))) steps ≡ true
