@@ -34,11 +34,11 @@ use Rattle.driver.specs.Telling.{Ordered, ordered}
 use Rattle.driver.proofs.Cycling.{numbers_kept}
 
 -- what orders tell, and those behind them
-told_append : (xs ys : List Order) → numbers_told (xs ++ ys) ≡ numbers_told xs ++ numbers_told ys
+pub told_append : (xs ys : List Order) → numbers_told (xs ++ ys) ≡ numbers_told xs ++ numbers_told ys
 told_append xs ys = flat_map-append number_told xs ys
 
 -- the requests of a client, as they are told
-told_asks : (origin : Origin) (at : Moment) (requests : List Request) → numbers_told (asks_of origin at requests) ≡ numbers_of requests
+pub told_asks : (origin : Origin) (at : Moment) (requests : List Request) → numbers_told (asks_of origin at requests) ≡ numbers_of requests
 unfolding asks_of
 told_asks origin at [] = refl
 told_asks origin at (request ∷ requests) = ap (λ numbers. request.number ∷ numbers) (told_asks origin at requests)
@@ -56,7 +56,7 @@ told_all attached origin at (request ∷ requests) =
     ∙ told_asks origin at (request ∷ requests)
 
 -- as they are told to the node
-told_by : (c : Client) (at : Moment) (requests : List Request) → numbers_told (asked_by c at requests) ≡ numbers_of requests
+pub told_by : (c : Client) (at : Moment) (requests : List Request) → numbers_told (asked_by c at requests) ≡ numbers_of requests
 told_by c at requests =
     told_all c.is_attached c.origin at (reworded c.channels c.parting requests) ∙ numbers_kept c.channels c.parting requests
 
@@ -64,11 +64,11 @@ told_some : (client : ℕ) (bytes : Vec ℕ) (items : List ℕ) → numbers_told
 told_some client bytes [] = refl
 told_some client bytes (byte ∷ more) = refl
 
-told_written : (gone : Bool) (client : ℕ) (bytes : Vec ℕ) → numbers_told (written gone client bytes) ≡ []
+pub told_written : (gone : Bool) (client : ℕ) (bytes : Vec ℕ) → numbers_told (written gone client bytes) ≡ []
 told_written true client bytes = refl
 told_written false client bytes = told_some client bytes bytes.items
 
-told_last : (attached : Bool) (origin : Origin) (at : Moment) (last : Option Request) → numbers_told (parting_unless false attached origin at last) ≡ numbers_of (option_to_list last)
+pub told_last : (attached : Bool) (origin : Origin) (at : Moment) (last : Option Request) → numbers_told (parting_unless false attached origin at last) ≡ numbers_of (option_to_list last)
 unfolding parting_unless
 told_last true origin at None = refl
 told_last true origin at (Some request) = refl
@@ -231,7 +231,7 @@ hears_once e nick now at s calls old new before after h =
     (parts_once (is_done (gate s first.behind).waiting h.told) at s first.behind h.told new h.orders after first.stands (h.parts first.behind first.stands))
 
 -- a client that is to leave asks for that once
-told_asked : (origin : Origin) (at : Moment) (last : Option Request) → numbers_told (last_asks origin at last) ≡ numbers_of (option_to_list last)
+pub told_asked : (origin : Origin) (at : Moment) (last : Option Request) → numbers_told (last_asks origin at last) ≡ numbers_of (option_to_list last)
 told_asked origin at None = refl
 told_asked origin at (Some request) = refl
 

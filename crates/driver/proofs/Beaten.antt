@@ -2,7 +2,7 @@
 use Rattle.std.proofs.Common.{◌≡◌, ◌∙◌, ◌⊎◌, inl, inr, ℕ, ◌+◌, ◌-◌, ◌<◌, ◌≤◌, Bool, true, false, List, Option, Some, None, refl, sym, ap, subst, slice_get, ⊎_elim, arith}
 use Rattle.std.specs.Prelude.{◌&&◌, if◌then◌else◌, is_some, max, min, nat_le}
 use Rattle.std.specs.List.{list_any}
-use Rattle.std.proofs.lemmas.Bool.{le-leb, leb-false, leb-true, lt-leb}
+use Rattle.std.proofs.lemmas.Bool.{le-leb, leb-false, lt-leb}
 use Rattle.bouncer_tower.specs.Bodies.{TowerBody}
 use Rattle.buffer_commands.specs.declared.wire_line.WireLine.{WireLine}
 use Rattle.node_notes.specs.declared.note.Note.{Note}
@@ -25,7 +25,8 @@ use Rattle.driver.specs.Driving.{clocked}
 use Rattle.driver.specs.Hearing.{begins_run, heard_behind, stood_behind, told_behind, up_behind, was_up}
 use Rattle.driver.specs.Links.{status_in}
 use Rattle.driver.specs.Monitors.{is_over, is_to_beat, note_at, note_for, note_up, patience}
-use Rattle.driver.specs.Schedule.{BeatsInTime, beats, is_beat_done, ticks_by}
+use Rattle.driver.specs.Reports.{done_in}
+use Rattle.driver.specs.Schedule.{BeatsInTime, beats, ticks_by}
 use Rattle.driver.specs.Telling.{ordered, told_to}
 use Rattle.driver.proofs.Awaiting.{Advance, Comes, Waits, found_waits, until}
 use Rattle.driver.proofs.Claiming.{same_eq}
@@ -36,7 +37,7 @@ use Rattle.driver.proofs.Moves.{Base, Core, base, core, hastened_by}
 use Rattle.driver.proofs.Reporting.{heard_look}
 use Rattle.driver.proofs.Restarted.{none_behind}
 use Rattle.driver.proofs.Staying.{is_down_so}
-use Rattle.driver.proofs.Timely.{running}
+use Rattle.driver.proofs.Noted.{both_below, running_noted, told_is}
 
 -- A node leads, its last beat is done, and the next is due at this moment at the latest.
 pub record IsDue (n moment beat_ms : ℕ) (c : Core) : Type 0 where
@@ -195,17 +196,20 @@ sooner since ran wait before = omega (arith, before)
 
 pub beats_in_time : BeatsInTime
 beats_in_time node status steps old new r so leader done passed =
-    let i = running node old r.low r.high r.is_running in
+    let noted = running_noted node old r.low r.high r.is_running in
+    let i = noted.in_time in
     let here : i.own.status ≡ Some status = ap status_in (sym i.is) ∙ so in
     let up : is_some i.own.down ≡ false = i.stands ∙ ap is_down_so here ∙ leads_none status.role status.down leader in
-    let free : is_beat_done (Some i.own) ≡ true = ap is_beat_done (sym i.is) ∙ done in
+    let all : told_to old.orders node ≤ i.own.progress.done = subst (λ (k : ℕ). told_to old.orders node ≤ k) (ap done_in i.is) done in
     let w : IsDue node (old.ran.since + old.settings.beat_ms) old.settings.beat_ms (core i.own) = record {
       id = i.timely.id;
       is_up = none_is i.own.down up;
       status = status;
       is_status = here;
       is_leader = leader;
-      done = leb-true i.own.beat.note i.own.progress.done free;
+      done =
+          both_below i.own.beat.note (told_to old.orders node) i.own.progress.done
+          (subst (λ (k : ℕ). i.own.beat.note ≤ k) (sym (told_is node old.orders)) noted.beat) all;
       in_time = sooner i.own.beat.at.since old.ran.since old.settings.beat_ms i.timely.beat;
     } in
     until node (IsDue node (old.ran.since + old.settings.beat_ms) old.settings.beat_ms) (beats node) tells_leading (old.ran.since + old.settings.beat_ms) old.settings

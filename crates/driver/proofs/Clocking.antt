@@ -41,13 +41,13 @@ pub record More (before after : Ordered) : Type 0 where
   pub told : List Order
   pub orders : after ≡ ordered before told
 
-more_none : (before : Ordered) → More before before
+pub more_none : (before : Ordered) → More before before
 more_none before = record {
   told = [];
   orders = sym (ap (λ (items : List Order). record before { items = items }) (append-nil before.items));
 }
 
-more_both : (before between after : Ordered) → More before between → More between after → More before after
+pub more_both : (before between after : Ordered) → More before between → More between after → More before after
 more_both before between after first last = record {
   told = first.told ++ last.told;
   orders =
@@ -56,10 +56,10 @@ more_both before between after first last = record {
       ∙ ap (λ (items : List Order). record before { items = items }) (append_assoc before.items first.told last.told);
 }
 
-kept_more : (n : ℕ) (old new : Driver) → Keeps n old new → More old.orders new.orders
+pub kept_more : (n : ℕ) (old new : Driver) → Keeps n old new → More old.orders new.orders
 kept_more n old new k = record { told = k.adds.told; orders = k.adds.orders }
 
-result_more : (n : ℕ) (old new : Driver) → Result n old new → More old.orders new.orders
+pub result_more : (n : ℕ) (old new : Driver) → Result n old new → More old.orders new.orders
 result_more n old new r =
     ⊎_elim (λ k. kept_more n old new k) (λ c. record { told = c.told; orders = c.orders }) r
 

@@ -12,7 +12,7 @@ use Rattle.driver.specs.Telling.{Ordered, counted, counts, none_told, one_more, 
 use Rattle.driver.proofs.Claiming.{apart_eq, same_eq}
 use Rattle.driver.proofs.Growing.{by_number}
 
-abbrev most : ℕ
+abbrev pub most : ℕ
 most = 2 ^ 64 - 1
 
 -- a count that is one more, or the same, and behind it more
@@ -26,7 +26,7 @@ raised_none count more = omega (arith)
 raised_zero : (more : ℕ) → min more most ≡ min (0 + more) most
 raised_zero more = omega (arith)
 
-counted_length : (told : List ℕ) (o : Order) → length (counted told o) ≡ length told
+pub counted_length : (told : List ℕ) (o : Order) → length (counted told o) ≡ length told
 counted_length told (order.Submit other note) = length-set told (other - 1) _
 counted_length told (order.Write client bytes) = refl
 counted_length told (order.Close client) = refl
@@ -88,7 +88,7 @@ counts_one node told (order.Log news) more within small = counts_none node told 
 small_is : (count : ℕ) → count ≤ most → count ≡ min (count + 0) most
 small_is count small = omega (arith, small)
 
-counts_all : (node : ℕ) (items : List Order) (told : List ℕ) → node - 1 < length told → slice_index told (node - 1) ≤ most → slice_index (counts told items) (node - 1) ≡ min (slice_index told (node - 1) + notes_told node items) most
+pub counts_all : (node : ℕ) (items : List Order) (told : List ℕ) → node - 1 < length told → slice_index told (node - 1) ≤ most → slice_index (counts told items) (node - 1) ≡ min (slice_index told (node - 1) + notes_told node items) most
 unfolding counts notes_told
 counts_all node [] told within small = small_is (slice_index told (node - 1)) small
 counts_all node (o ∷ items) told within small =
@@ -96,19 +96,19 @@ counts_all node (o ∷ items) told within small =
     let inside = subst (λ (k : ℕ). node - 1 < k) (sym (counted_length told o)) within in
     counts_all node items (counted told o) inside one.small ∙ one.same
 
-counts_append : (told : List ℕ) (xs ys : List Order) → counts told (xs ++ ys) ≡ counts (counts told xs) ys
+pub counts_append : (told : List ℕ) (xs ys : List Order) → counts told (xs ++ ys) ≡ counts (counts told xs) ys
 unfolding counts
 counts_append told [] ys = refl
 counts_append told (x ∷ xs) ys = counts_append (counted told x) xs ys
 
 -- what was told in all
-abbrev in_all : Ordered → List ℕ
+abbrev pub in_all : Ordered → List ℕ
 in_all orders = counts orders.before orders.items
 
 ordered_all : (before after : Ordered) (told : List Order) → after ≡ ordered before told → in_all after ≡ counts (in_all before) told
 ordered_all before after told is = ap in_all is ∙ counts_append before.before before.items told
 
-step_all : (call : Call) (told : List Order) (old new : Driver) → Does call old new → IsTold call told old.orders new.orders → in_all new.orders ≡ counts (in_all old.orders) told
+pub step_all : (call : Call) (told : List Order) (old new : Driver) → Does call old new → IsTold call told old.orders new.orders → in_all new.orders ≡ counts (in_all old.orders) told
 unfolding counts
 step_all (Connect now node) told old new does is = ordered_all old.orders new.orders told is
 step_all (Receive bytes now at number) told old new does is = ordered_all old.orders new.orders told is

@@ -67,3 +67,9 @@ mod Awaiting
 mod Restarted
 mod Beaten
 mod Voting
+mod Noted
+mod Served
+mod Claimed
+mod Marked
+mod Reclaimed
+mod Retold

@@ -359,7 +359,7 @@ new_timely n now settings = record {
 }
 
 -- of each of the seven nodes there is a monitor
-new_at : (n : ℕ) (settings : Settings) (now : ℕ) → 1 ≤ n → n ≤ 7 → slice_get (new_monitors settings now) (n - 1) ≡ Some (new_monitor settings now n)
+pub new_at : (n : ℕ) (settings : Settings) (now : ℕ) → 1 ≤ n → n ≤ 7 → slice_get (new_monitors settings now) (n - 1) ≡ Some (new_monitor settings now n)
 new_at zero settings now low high = absurd (omega (arith, low))
 new_at (suc zero) settings now low high = refl
 new_at (suc (suc zero)) settings now low high = refl
@@ -370,7 +370,7 @@ new_at (suc (suc (suc (suc (suc (suc zero)))))) settings now low high = refl
 new_at (suc (suc (suc (suc (suc (suc (suc zero))))))) settings now low high = refl
 new_at (suc (suc (suc (suc (suc (suc (suc (suc k)))))))) settings now low high = absurd (omega (arith, high))
 
-new_in_time : (n : ℕ) (settings : Settings) (now : ℕ) (driver : Driver) → 1 ≤ n → n ≤ 7 → IsNewDriver settings now driver → InTime n driver
+pub new_in_time : (n : ℕ) (settings : Settings) (now : ℕ) (driver : Driver) → 1 ≤ n → n ≤ 7 → IsNewDriver settings now driver → InTime n driver
 new_in_time n settings now driver low high new = record {
   own = new_monitor settings now n;
   is = ap (λ (monitors : List NodeMonitor). slice_get monitors (n - 1)) new.monitors ∙ new_at n settings now low high;
@@ -388,3 +388,21 @@ running n driver low high r =
     let first = new_in_time n r.led.settings r.led.now r.led.first low high new in
     let start : r.led.first.ran.since ≡ r.led.now = ap (λ (timer : Timer). timer.since) new.ran in
     steps_in_time n r.steps r.led.first driver low high first (subst (λ (k : ℕ). GoesOn k r.steps) (sym start) r.goes_on) r.led.calls
+
+-- and they go by what they went by
+
+settings_kept : (n : ℕ) (call : Call) (d : NodeMonitor) (old new : Driver) → Event n call d old new → new.settings ≡ old.settings
+settings_kept n call d old new (Idle ran quiet r f) = ap (λ (b : Base). b.settings) r.based
+settings_kept n call d old new (Hastened ran quiet h) = ap (λ (b : Base). b.settings) h.based
+settings_kept n call d old new (Other now ran quiet o) = ap (λ (b : Base). b.settings) o.based
+settings_kept n call d old new (Own now status progress ran quiet said given h) = ap (λ (b : Base). b.settings) h.based
+settings_kept n call d old new (Passed now ran ticks given t) = ap (λ (b : Base). b.settings) t.based
+
+pub steps_settings : (n : ℕ) (steps : List Step) (old new : Driver) → 1 ≤ n → n ≤ 7 → InTime n old → GoesOn old.ran.since steps → DoesAll steps old new → new.settings ≡ old.settings
+unfolding DoesAll GoesOn
+steps_settings n [] old new low high i goes same = ap (λ (driver : Driver). driver.settings) same
+steps_settings n (step ∷ more) old new low high i (first, rest) (behind, does, later) =
+    let next = call_in_time n step.call step.told old behind low high i first does.does does.told in
+    let ran = call_ran n step.call old behind low high i does.does in
+    steps_settings n more behind new low high next (subst (λ (k : ℕ). GoesOn k more) (sym ran) rest) later
+    ∙ settings_kept n step.call i.own old behind (event n step.call i.own old behind low high i.sound i.is does.does)

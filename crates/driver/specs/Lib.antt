@@ -55,3 +55,4 @@ pub mod Keys
 pub mod Missing
 pub mod Standing
 pub mod Schedule
+pub mod Lost

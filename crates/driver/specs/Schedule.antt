@@ -6,12 +6,22 @@ use Rattle.node_notes.specs.declared.progress.Progress.{Progress}
 use Rattle.node_notes.specs.declared.status.Status.{Status}
 use Rattle.node_notes.specs.Notes.{leads}
 use Rattle.driver.specs.declared.node_monitor.NodeMonitor.{NodeMonitor}
+use Rattle.driver.specs.declared.node_monitor.standing.Claimed.{Claimed}
+use Rattle.irc_line.specs.Lines.{Parts}
+use Rattle.machine_laws.specs.Sessions.{same_session}
+use Rattle.wire_bytes.specs.declared.moment.Moment.{Moment}
 use Rattle.driver.specs.declared.driver.Driver.{Driver}
 use Rattle.driver.specs.declared.order.Order.{Order}
 use Rattle.driver.specs.declared.order.Order.TheVariants.{Submit}
-use Rattle.driver.specs.Calls.{Call, DoesAll, Hear, Led, Step, Tick}
+use Rattle.driver.specs.Calls.{Call, DoesAll, DoesStep, Hear, Led, Step, Tick}
+use Rattle.driver.specs.Claiming.{claims}
 use Rattle.driver.specs.Counting.{all_told}
-use Rattle.driver.specs.Links.{status_at}
+use Rattle.driver.specs.Links.{is_session_of, status_at}
+use Rattle.driver.specs.Monitors.{line_to_claim}
+use Rattle.driver.specs.Outgoing.{Waiting}
+use Rattle.driver.specs.Writing.{may_write}
+use Rattle.driver.specs.Reports.{done_at}
+use Rattle.driver.specs.Telling.{told_to}
 use Rattle.driver.specs.declared.node_monitor.TheConstants.{LONGEST}
 use Rattle.driver.specs.declared.node_monitor.clock.TheConstants.{APART}
 
@@ -89,19 +99,14 @@ RestartsInTime =
     → passes (old.ran.since + max LONGEST old.settings.timeout_ms) steps ≡ true
     → one_orders (restarts node) steps ≡ true
 
--- the last beat that this monitor's node was told is done, as far as is known
-abbrev pub is_beat_done : Option NodeMonitor → Bool
-is_beat_done None = false
-is_beat_done (Some monitor) = nat_le monitor.beat.note monitor.progress.done
-
--- A leader is told to send in time. It led when it was last heard of, and does in all that it reports, and its last beat is done: once the time
--- of a beat has passed, it was told to send.
+-- A leader is told to send in time. It led when it was last heard of, and does in all that it reports, and had done all that it was told: once
+-- the time of a beat has passed, it was told to send.
 abbrev pub BeatsInTime : Type 0
 BeatsInTime =
     (node : ℕ) (status : Status) (steps : List Step) (old new : Driver)
     → Runs (λ told progress. leads told) node steps old new
     → status_at old.monitors node ≡ Some status → leads status ≡ true
-    → is_beat_done (slice_get old.monitors (node - 1)) ≡ true
+    → told_to old.orders node ≤ done_at old.monitors node
     → passes (old.ran.since + old.settings.beat_ms) steps ≡ true
     → one_orders (beats node) steps ≡ true
 
@@ -136,3 +141,53 @@ VotesInTime =
     → status_at old.monitors node ≡ Some status → is_some status.down ≡ false → leads status ≡ false
     → passes_counted (old.settings.timeout_ms / 2) old.ran.since (old.settings.timeout_ms + APART * node) steps ≡ true
     → one_orders (asks_for_votes node (contacts_of (slice_get old.monitors (node - 1)))) steps ≡ true
+
+-- nothing waits to go out but questions
+abbrev pub only_questions : List Parts → Waiting
+only_questions questions = record { opening = []; joins = []; joining = None; said = []; questions = questions }
+
+-- A line may go out at this moment, and none waits to but questions.
+pub record IsFree (now : ℕ) (driver : Driver) : Type 0 where
+  pub questions : List Parts
+  pub waiting : driver.link.waiting ≡ only_questions questions
+  pub may : may_write driver now ≡ true
+
+-- A report tells of this node that it did all that it was told up to this note, and that it has applied all of its log.
+abbrev pub settles : ℕ → ℕ → Call → Bool
+settles node note (Hear now at other status effects progress refused) =
+    nat_eq other node && nat_le note progress.done && nat_eq status.applied status.last
+settles node note call = false
+
+-- A claim is told again in time. Of a node no claim was told meanwhile, and it told that it did all that it was told before, and has applied all
+-- of its log, so that its last claim is not in there: where time passes a timeout later, its session to the server stands on, the node has a line
+-- to claim, and the line could go out at once, it is told to claim it.
+abbrev pub ClaimsInTime : Type 0
+ClaimsInTime =
+    (node now : ℕ) (at : Moment) (line : (ℕ × ℕ) × ℕ) (steps : List Step) (told : List Order) (old next new : Driver)
+    → Runs (λ status progress. true) node steps old next
+    → one_orders (claims node) steps ≡ false
+    → list_any (λ step. settles node (told_to old.orders node) step.call) steps ≡ true
+    → old.ran.since + old.settings.timeout_ms ≤ now
+    → DoesStep (record { call = Tick now at; told = told }) next new
+    → is_session_of new.link.stage node ≡ true → line_to_claim (status_at next.monitors node) ≡ Some line → IsFree now next
+    → list_any (claims node) told ≡ true
+
+-- the last claim that a monitor's node was told was of this line
+abbrev pub is_claim_of : (ℕ × ℕ) × ℕ → Option Claimed → Bool
+is_claim_of line None = false
+is_claim_of line (Some claim) = same_session claim.session line.0 && nat_eq claim.number line.1
+
+abbrev pub is_claimed_last : Option NodeMonitor → (ℕ × ℕ) × ℕ → Bool
+is_claimed_last None line = false
+is_claimed_last (Some monitor) line = is_claim_of line monitor.claimed
+
+-- A line is claimed in time that was not claimed before: the last claim that the node was told, if there is one, was of another line. Where time
+-- passes, its session to the server stands on, and the line could go out at once, the node is told to claim it.
+abbrev pub NewClaimsInTime : Type 0
+NewClaimsInTime =
+    (node now : ℕ) (at : Moment) (line : (ℕ × ℕ) × ℕ) (told : List Order) (next new : Driver)
+    → 1 ≤ node → node ≤ 7 → IsRunning next
+    → is_claimed_last (slice_get next.monitors (node - 1)) line ≡ false
+    → DoesStep (record { call = Tick now at; told = told }) next new
+    → is_session_of new.link.stage node ≡ true → line_to_claim (status_at next.monitors node) ≡ Some line → IsFree now next
+    → list_any (claims node) told ≡ true

@@ -1,6 +1,7 @@
 //! What each node is told in time, as contracts of functions that do nothing: as long as time passes, and however nodes
 //! report, what the group needs to go on is told to them.
-ghost use Rattle.driver.specs.Schedule.{BeatsInTime, RestartsInTime, VotesInTime};
+ghost use Rattle.driver.specs.Lost.{AsksAgain};
+ghost use Rattle.driver.specs.Schedule.{BeatsInTime, ClaimsInTime, NewClaimsInTime, RestartsInTime, VotesInTime};
 
 /// Over every list of calls of a driver as time goes on: a node that is down is told to start again within a minute, or a
 /// timeout where that is longer, however often it fell before.
@@ -8,7 +9,7 @@ pub fn nodes_start_again_in_time()
     ensures { RestartsInTime }
 {}
 
-/// Over every list of calls of a driver as time goes on: a node that leads, and whose last beat is done, is told to send
+/// Over every list of calls of a driver as time goes on: a node that leads, and did all that it was told, is told to send
 /// once the time of a beat has passed.
 pub fn leaders_are_heard_in_time()
     ensures { BeatsInTime }
@@ -19,4 +20,18 @@ pub fn leaders_are_heard_in_time()
 /// half a timeout counts at most.
 pub fn votes_are_asked_for_in_time()
     ensures { VotesInTime }
+{}
+
+/// In a session of a node that stands on, as time passes: a line that was not claimed, and could go out at once, is claimed
+/// at once. A claim is told again a timeout later, where the node told meanwhile that it did all that it was told before, and
+/// has applied all of its log.
+pub fn lines_are_claimed_in_time()
+    ensures first { NewClaimsInTime }
+    ensures again { ClaimsInTime }
+{}
+
+/// Whatever happens to a client behind a report by which what it asked may be lost: each of its requests that waits was told
+/// to its node with that report, or behind it.
+pub fn requests_are_asked_again()
+    ensures { AsksAgain }
 {}

@@ -1,0 +1,435 @@
+-- Each request of a client that waits is told behind the last loss.
+use Rattle.std.proofs.Common.{◌≡◌, ◌∙◌, ◌++◌, ℕ, ◌+◌, Bool, true, false, List, [], ◌∷◌, Option, Some, None, refl, sym, ap, subst, ⊎_elim}
+use Rattle.std.specs.Prelude.{◌||◌, option_to_list, if◌then◌else◌, nat_eq, nat_le}
+use Rattle.std.specs.List.{list_any}
+use Rattle.std.proofs.lemmas.List.{append_assoc, append-nil, map-append}
+use Rattle.std.proofs.lemmas.List.Folds.{list_any-append}
+use Rattle.wire_bytes.specs.declared.moment.Moment.{Moment}
+use Rattle.wire_bytes.specs.declared.origin.Origin.{Origin}
+use Rattle.machine_laws.specs.Origins.{same_origin}
+use Rattle.buffer_commands.specs.declared.effect.Effect.TheVariants as effect
+use Rattle.session_fence.specs.declared.effect.FenceEffect.TheVariants as fence
+use Rattle.upstream_claim.specs.declared.effect.ClaimsEffect.TheVariants as claims
+use Rattle.request_once.specs.declared.answer.Answer.TheVariants as answer
+use Rattle.client_gate.specs.declared.fed.Fed.{Fed}
+use Rattle.client_gate.specs.declared.phase.Phase.{Phase}
+use Rattle.client_gate.specs.declared.phase.Phase.TheVariants.{Arriving, Attached, Left}
+use Rattle.client_gate.specs.declared.request.Request.{Request}
+use Rattle.client_gate.specs.declared.settings.Settings.{Settings}
+use Rattle.client_gate.specs.Calls.{Call, End, Feed, Hear, Refused, Stands, fed_answer, gate, items_brought}
+use Rattle.client_gate.specs.Gates.{Gate, GateEffect, Given, after_effect, answered, begun, behind_number, ended as gate_ended, given, given_effect, is_turned_down, kept, last_request, leave_of, nothing, shut}
+use Rattle.client_gate.specs.Serving.{all_fed}
+use Rattle.client_gate.specs.Turns.{Progress}
+use Rattle.client_gate.specs.Answers.{given_in}
+use Rattle.driver.specs.declared.client.Client.{Client}
+use Rattle.driver.specs.declared.order.Order.{Order}
+use Rattle.driver.specs.declared.order.Order.TheVariants.{Write}
+use Rattle.driver.specs.Asking.{HearsNode, anew_if, asks_if, held_if, is_stuck, may_be_lost, now_asked}
+use Rattle.driver.specs.Clients.{asked_by, asks_of, is_cut, is_leaving, is_shut, is_some_asked, last_asks, parting_unless, passed, written}
+use Rattle.driver.specs.Crowds.{Ticks}
+use Rattle.driver.specs.Leaving.{IsDismissed, Leaves, is_overdue}
+use Rattle.driver.specs.Lost.{AreAmong, AsksAgain, TellsAll, is_among}
+use Rattle.driver.specs.Once.{Dismissed, Event, Goes, HappenAll, Happening, Happens, Learns, Speaks, Waits, Words, numbers_of, numbers_told}
+use Rattle.driver.specs.Serving.{HasPassed, Hears, HearsEffect, IsCutOff, IsLost, IsParted, PartsIf, Receives, TakesBy, ended, ended_if, is_done}
+use Rattle.driver.specs.Silence.{IsKept, IsSentOff, held_back, is_silent, is_to_go, waited}
+use Rattle.driver.specs.Telling.{Ordered, ordered}
+use Rattle.driver.proofs.Asking.{told_append, told_asked, told_asks, told_by, told_last, told_written}
+
+-- Numbers among numbers.
+
+or_left : (a b : Bool) → a ≡ true → (a || b) ≡ true
+or_left true b is = refl
+or_left false b is = absurd (cc is)
+
+or_right : (a b : Bool) → b ≡ true → (a || b) ≡ true
+or_right true b is = refl
+or_right false b is = is
+
+among_all : (xs : List ℕ) → AreAmong xs xs
+among_all xs number is = is
+
+among_then : (xs ys zs : List ℕ) → AreAmong xs ys → AreAmong ys zs → AreAmong xs zs
+among_then xs ys zs first last number is = last number (first number is)
+
+among_left : (xs ys : List ℕ) → AreAmong xs (xs ++ ys)
+among_left xs ys number is = list_any-append (nat_eq number) xs ys ∙ or_left (list_any (nat_eq number) xs) (list_any (nat_eq number) ys) is
+
+among_right : (xs ys : List ℕ) → AreAmong ys (xs ++ ys)
+among_right xs ys number is = list_any-append (nat_eq number) xs ys ∙ or_right (list_any (nat_eq number) xs) (list_any (nat_eq number) ys) is
+
+or_either : (a b c : Bool) → (a ≡ true → c ≡ true) → (b ≡ true → c ≡ true) → (a || b) ≡ true → c ≡ true
+or_either true b c first last is = first refl
+or_either false b c first last is = last is
+
+among_either : (xs ys zs : List ℕ) → AreAmong xs zs → AreAmong ys zs → AreAmong (xs ++ ys) zs
+among_either xs ys zs first last number is =
+    or_either (list_any (nat_eq number) xs) (list_any (nat_eq number) ys) (is_among number zs) (first number) (last number)
+    (sym (list_any-append (nat_eq number) xs ys) ∙ is)
+
+among_as : (xs ys zs : List ℕ) → ys ≡ zs → AreAmong xs ys → AreAmong xs zs
+among_as xs ys zs is some = subst (λ (all : List ℕ). AreAmong xs all) is some
+
+from_as : (xs ys zs : List ℕ) → ys ≡ xs → AreAmong xs zs → AreAmong ys zs
+from_as xs ys zs is some = subst (λ (all : List ℕ). AreAmong all zs) (sym is) some
+
+-- what waits behind two stretches was among what waited first, or was told in one of them
+among_both : (w w1 w2 t1 t2 : List ℕ) → AreAmong w1 (w ++ t1) → AreAmong w2 (w1 ++ t2) → AreAmong w2 (w ++ (t1 ++ t2))
+among_both w w1 w2 t1 t2 first last =
+    among_as w2 ((w ++ t1) ++ t2) (w ++ (t1 ++ t2)) (append_assoc w t1 t2)
+    (among_then w2 (w1 ++ t2) ((w ++ t1) ++ t2) last
+    (among_either w1 t2 ((w ++ t1) ++ t2) (among_then w1 (w ++ t1) ((w ++ t1) ++ t2) first (among_left (w ++ t1) t2)) (among_right (w ++ t1) t2)))
+
+-- What waits at a gate.
+
+abbrev pub waiting_of : Settings → List Call → List ℕ
+waiting_of s calls = numbers_of (gate s calls).waiting
+
+numbers_both : (xs ys : List Request) → numbers_of (xs ++ ys) ≡ numbers_of xs ++ numbers_of ys
+numbers_both xs ys = map-append (λ (request : Request). request.number) xs ys
+
+fed_by : (closed : Bool) (g : Gate) (p : Progress) → numbers_of (if closed then g else kept g p).waiting ≡ numbers_of g.waiting ++ numbers_of (if closed then nothing else given p).requests
+fed_by true g p = sym (append-nil (numbers_of g.waiting))
+fed_by false g p = numbers_both g.waiting p.requests
+
+feed_waiting : (s : Settings) (calls : List Call) (bytes : List ℕ) → waiting_of s (Feed bytes ∷ calls) ≡ waiting_of s calls ++ numbers_of (fed_answer s calls bytes).requests
+unfolding gate fed_answer
+feed_waiting s calls bytes = fed_by (gate s calls).closed (gate s calls) (all_fed s (begun (gate s calls)) (items_brought calls bytes))
+
+among_more : (x : ℕ) (ys : List ℕ) → AreAmong ys (x ∷ ys)
+among_more x ys number is = or_right (nat_eq number x) (list_any (nat_eq number) ys) is
+
+fewer_by : (b : Bool) (r : Request) (some rs : List Request) → AreAmong (numbers_of some) (numbers_of rs) → AreAmong (numbers_of (if b then some else r ∷ rs)) (numbers_of (r ∷ rs))
+fewer_by true r some rs less = among_then (numbers_of some) (numbers_of rs) (numbers_of (r ∷ rs)) less (among_more r.number (numbers_of rs))
+fewer_by false r some rs less = among_all (numbers_of (r ∷ rs))
+
+behind_fewer : (n : ℕ) (rs : List Request) → AreAmong (numbers_of (behind_number n rs)) (numbers_of rs)
+behind_fewer n [] = among_all []
+behind_fewer n (r ∷ rs) = fewer_by (nat_le r.number n) r (behind_number n rs) rs (behind_fewer n rs)
+
+answered_fewer : (b : Bool) (n : ℕ) (g : Gate) → AreAmong (numbers_of (if b then answered n g else g).waiting) (numbers_of g.waiting)
+answered_fewer true n g = behind_fewer n g.waiting
+answered_fewer false n g = among_all (numbers_of g.waiting)
+
+shut_same : (b : Bool) (g : Gate) → AreAmong (numbers_of (if b then shut g else g).waiting) (numbers_of g.waiting)
+shut_same true g = among_all (numbers_of g.waiting)
+shut_same false g = among_all (numbers_of g.waiting)
+
+effect_fewer : (s : Settings) (g : Gate) (e : GateEffect) → AreAmong (numbers_of (after_effect s g e).waiting) (numbers_of g.waiting)
+effect_fewer s g (answer.Effect (claims.Inner (fence.Inner (effect.Close o)))) = shut_same (same_origin s.origin o) g
+effect_fewer s g (answer.Effect (claims.Inner (fence.Inner (effect.Show o x)))) = among_all (numbers_of g.waiting)
+effect_fewer s g (answer.Effect (claims.Inner (fence.Inner (effect.Send o x)))) = among_all (numbers_of g.waiting)
+effect_fewer s g (answer.Effect (claims.Inner (fence.Inner (effect.Rejoin x)))) = among_all (numbers_of g.waiting)
+effect_fewer s g (answer.Effect (claims.Inner (fence.Rejoin id x))) = among_all (numbers_of g.waiting)
+effect_fewer s g (answer.Effect (claims.Busy o)) = among_all (numbers_of g.waiting)
+effect_fewer s g (answer.Effect (claims.Hand id n x)) = among_all (numbers_of g.waiting)
+effect_fewer s g (answer.Done o n) = answered_fewer (same_origin s.origin o) n g
+effect_fewer s g (answer.Repeat o n) = answered_fewer (same_origin s.origin o) n g
+effect_fewer s g (answer.Gap o n) = among_all (numbers_of g.waiting)
+effect_fewer s g (answer.Marked m) = among_all (numbers_of g.waiting)
+
+hear_waiting : (s : Settings) (calls : List Call) (e : GateEffect) → AreAmong (waiting_of s (Hear e ∷ calls)) (waiting_of s calls)
+unfolding gate
+hear_waiting s calls e = effect_fewer s (gate s calls) e
+
+end_by : (phase : Phase) (g : Gate) → numbers_of (gate_ended phase g).waiting ≡ numbers_of g.waiting ++ numbers_of (option_to_list (leave_of phase g.numbered))
+end_by (Arriving arrival) g = sym (append-nil (numbers_of g.waiting))
+end_by Attached g = numbers_both g.waiting (option_to_list (leave_of Attached g.numbered))
+end_by Left g = sym (append-nil (numbers_of g.waiting))
+
+end_waiting : (s : Settings) (calls : List Call) → waiting_of s (End ∷ calls) ≡ waiting_of s calls ++ numbers_of (option_to_list (last_request (gate s calls)))
+unfolding gate
+end_waiting s calls = end_by (gate s calls).phase (gate s calls)
+
+refused_waiting : (s : Settings) (calls : List Call) → waiting_of s (Refused ∷ calls) ≡ waiting_of s calls
+unfolding gate
+refused_waiting s calls = refl
+
+-- a gate that is ended waits for what the parting tells
+ended_told : (gone attached : Bool) (s : Settings) (calls : List Call) (origin : Origin) (at : Moment) → AreAmong (waiting_of s (ended gone calls)) (waiting_of s calls ++ numbers_told (parting_unless gone attached origin at (last_request (gate s calls))))
+ended_told true attached s calls origin at = among_left (waiting_of s calls) _
+ended_told false attached s calls origin at =
+    let last = last_request (gate s calls) in
+    let all = waiting_of s calls ++ numbers_told (parting_unless false attached origin at last) in
+    from_as all (waiting_of s (End ∷ calls)) all
+    (end_waiting s calls ∙ ap (λ (numbers : List ℕ). waiting_of s calls ++ numbers) (sym (told_last attached origin at last)))
+    (among_all all)
+
+closed_told : (close gone attached : Bool) (s : Settings) (calls : List Call) (origin : Origin) (at : Moment) → AreAmong (waiting_of s (ended_if close gone calls)) (waiting_of s calls ++ numbers_told (if close then parting_unless gone attached origin at (last_request (gate s calls)) else []))
+closed_told false gone attached s calls origin at = among_left (waiting_of s calls) _
+closed_told true gone attached s calls origin at = ended_told gone attached s calls origin at
+
+-- What waits of a client waited before, or was told meanwhile.
+pub record Retells (s : Settings) (calls : List Call) (before : Ordered) (new : Client) (after : Ordered) : Type 0 where
+  pub behind : List Call
+  pub stands : Stands s behind new.gate
+  pub told : List Order
+  pub orders : after ≡ ordered before told
+  pub among : AreAmong (waiting_of s behind) (waiting_of s calls ++ numbers_told told)
+
+passed_told : (c : Client) (at : Moment) (last : Option Request) (fed : Fed) → numbers_told (passed c at last fed) ≡ numbers_of fed.requests.items ++ numbers_told (if is_cut fed then parting_unless c.is_gone (c.is_attached || is_some_asked fed.requests.items) c.origin at last else [])
+passed_told c at last fed =
+    let bytes = written c.is_gone c.origin.2 fed.reply in
+    let asks = asked_by c at fed.requests.items in
+    let end = if is_cut fed then parting_unless c.is_gone (c.is_attached || is_some_asked fed.requests.items) c.origin at last else [] in
+    told_append (bytes ++ asks) end
+    ∙ ap (λ (numbers : List ℕ). numbers ++ numbers_told end) (told_append bytes asks ∙ ap (λ (numbers : List ℕ). numbers ++ numbers_told asks) (told_written c.is_gone c.origin.2 fed.reply) ∙ told_by c at fed.requests.items)
+
+fed_told : (s : Settings) (calls behind : List Call) (c : Client) (at : Moment) (fed : Fed) → AreAmong (waiting_of s behind) (waiting_of s calls ++ numbers_of fed.requests.items) → AreAmong (waiting_of s (ended_if (is_cut fed) c.is_gone behind)) (waiting_of s calls ++ numbers_told (passed c at (last_request (gate s behind)) fed))
+fed_told s calls behind c at fed first =
+    let attached = c.is_attached || is_some_asked fed.requests.items in
+    let end = if is_cut fed then parting_unless c.is_gone attached c.origin at (last_request (gate s behind)) else [] in
+    let asked = numbers_of fed.requests.items in
+    among_as (waiting_of s (ended_if (is_cut fed) c.is_gone behind)) (waiting_of s calls ++ (asked ++ numbers_told end)) (waiting_of s calls ++ numbers_told (passed c at (last_request (gate s behind)) fed))
+    (ap (λ (numbers : List ℕ). waiting_of s calls ++ numbers) (sym (passed_told c at (last_request (gate s behind)) fed)))
+    (among_both (waiting_of s calls) (waiting_of s behind) (waiting_of s (ended_if (is_cut fed) c.is_gone behind)) asked (numbers_told end) first
+    (closed_told (is_cut fed) c.is_gone attached s behind c.origin at))
+
+given_as : (s : Settings) (calls behind : List Call) (answer : Given) (fed : Fed) → given_in fed ≡ answer → AreAmong (waiting_of s behind) (waiting_of s calls ++ numbers_of answer.requests) → AreAmong (waiting_of s behind) (waiting_of s calls ++ numbers_of fed.requests.items)
+given_as s calls behind answer fed is some =
+    subst (λ (given : Given). AreAmong (waiting_of s behind) (waiting_of s calls ++ numbers_of given.requests)) (sym is) some
+
+passed_retells : (s : Settings) (calls behind : List Call) (answer : Given) (now : ℕ) (at : Moment) (c new : Client) (before after : Ordered) → AreAmong (waiting_of s behind) (waiting_of s calls ++ numbers_of answer.requests) → HasPassed s behind answer now at c before new after → Retells s calls before new after
+passed_retells s calls behind answer now at c new before after some h = record {
+  behind = ended_if (is_cut h.fed) c.is_gone behind;
+  stands = h.stands.gate;
+  told = passed c at (last_request (gate s behind)) h.fed;
+  orders = h.orders;
+  among = fed_told s calls behind c at h.fed (given_as s calls behind answer h.fed h.is some);
+}
+
+-- it is parted from
+parted_retells : (s : Settings) (calls behind : List Call) (at : Moment) (c new : Client) (before after : Ordered) → waiting_of s behind ≡ waiting_of s calls → IsParted at s behind c before new after → Retells s calls before new after
+parted_retells s calls behind at c new before after same h =
+    let told = parting_unless c.is_gone c.is_attached c.origin at (last_request (gate s behind)) in
+    record {
+      behind = ended c.is_gone behind;
+      stands = h.stands.gate;
+      told = told;
+      orders = h.orders;
+      among =
+          subst (λ (numbers : List ℕ). AreAmong (waiting_of s (ended c.is_gone behind)) (numbers ++ numbers_told told)) same
+          (ended_told c.is_gone c.is_attached s behind c.origin at);
+    }
+
+cut_retells : (s : Settings) (calls : List Call) (at : Moment) (c new : Client) (before after : Ordered) → IsCutOff s calls at c before new after → Retells s calls before new after
+cut_retells s calls at c new before after h = parted_retells s calls (Refused ∷ calls) at c new before after (refused_waiting s calls) h
+
+-- nothing came of it
+nothing_retells : (s : Settings) (calls : List Call) (old new : Client) (before after : Ordered) → Stands s calls old.gate → new ≡ old → after ≡ before → Retells s calls before new after
+nothing_retells s calls old new before after stands same none = record {
+  behind = calls;
+  stands = subst (λ (client : Client). Stands s calls client.gate) (sym same) stands;
+  told = [];
+  orders = none ∙ sym (ap (λ (items : List Order). record before { items = items }) (append-nil before.items));
+  among = among_left (waiting_of s calls) [];
+}
+
+-- what is told first, and then
+both_retell : (s : Settings) (calls : List Call) (before between after : Ordered) (client new : Client) → (first : Retells s calls before client between) → Retells s first.behind between new after → Retells s calls before new after
+both_retell s calls before between after client new first last = record {
+  behind = last.behind;
+  stands = last.stands;
+  told = first.told ++ last.told;
+  orders =
+      last.orders
+      ∙ ap (λ (orders : Ordered). ordered orders last.told) first.orders
+      ∙ ap (λ (items : List Order). record before { items = items }) (append_assoc before.items first.told last.told);
+  among =
+      among_as (waiting_of s last.behind) (waiting_of s calls ++ (numbers_told first.told ++ numbers_told last.told)) (waiting_of s calls ++ numbers_told (first.told ++ last.told))
+      (ap (λ (numbers : List ℕ). waiting_of s calls ++ numbers) (sym (told_append first.told last.told)))
+      (among_both (waiting_of s calls) (waiting_of s first.behind) (waiting_of s last.behind) (numbers_told first.told) (numbers_told last.told) first.among last.among);
+}
+
+parts_retell : (parts : Bool) (at : Moment) (s : Settings) (calls : List Call) (old new : Client) (before after : Ordered) → Stands s calls old.gate → PartsIf parts at s calls old before new after → Retells s calls before new after
+parts_retell false at s calls old new before after stands (same, none) = nothing_retells s calls old new before after stands same none
+parts_retell true at s calls old new before after stands h = parted_retells s calls calls at old new before after refl h
+
+takes_retell : (wrong : Bool) (answer : Given) (now : ℕ) (at : Moment) (due : ℕ) (s : Settings) (calls behind : List Call) (fed : Fed) (c new : Client) (before after : Ordered) → AreAmong (waiting_of s behind) (waiting_of s calls ++ numbers_of answer.requests) → given_in fed ≡ answer → TakesBy wrong s behind fed now at due c before new after → Retells s calls before new after
+takes_retell false answer now at due s calls behind fed c new before after some is (orders, stands) =
+    passed_retells s calls behind answer now at c new before after some (record { fed = fed; is = is; orders = orders; stands = stands })
+takes_retell true answer now at due s calls behind fed c new before after some is (orders, stands) = record {
+  behind = behind;
+  stands = stands.gate;
+  told = asked_by c at fed.requests.items;
+  orders = orders;
+  among =
+      among_as (waiting_of s behind) (waiting_of s calls ++ numbers_of fed.requests.items) (waiting_of s calls ++ numbers_told (asked_by c at fed.requests.items))
+      (ap (λ (numbers : List ℕ). waiting_of s calls ++ numbers) (sym (told_by c at fed.requests.items)))
+      (given_as s calls behind answer fed is some);
+}
+
+feed_among : (s : Settings) (calls : List Call) (bytes : List ℕ) → AreAmong (waiting_of s (Feed bytes ∷ calls)) (waiting_of s calls ++ numbers_of (fed_answer s calls bytes).requests)
+feed_among s calls bytes =
+    let all = waiting_of s calls ++ numbers_of (fed_answer s calls bytes).requests in
+    from_as all (waiting_of s (Feed bytes ∷ calls)) all (feed_waiting s calls bytes) (among_all all)
+
+reads_retell : (shut : Bool) (bytes : List ℕ) (now : ℕ) (at : Moment) (due : ℕ) (s : Settings) (calls : List Call) (old new : Client) (before after : Ordered) → is_shut old ≡ shut → Stands s calls old.gate → Receives bytes now at due s calls old before new after → Retells s calls before new after
+reads_retell true bytes now at due s calls old new before after is stands h =
+    let (same, none) = h.shut is in nothing_retells s calls old new before after stands same none
+reads_retell false bytes now at due s calls old new before after is stands h =
+    ⊎_elim
+    (λ p. takes_retell (is_turned_down (gate s (Feed bytes ∷ calls)).phase) (fed_answer s calls bytes) now at due s calls (Feed bytes ∷ calls) p.fed _ new before after (feed_among s calls bytes) p.is p.takes)
+    (λ p. cut_retells s calls at _ new before after p)
+    (h.hears is)
+
+effect_retells : (e : GateEffect) (nick : List ℕ) (now : ℕ) (at : Moment) (s : Settings) (calls : List Call) (old new : Client) (before after : Ordered) → HearsEffect e nick now at s calls old before new after → Retells s calls before new after
+effect_retells e nick now at s calls old new before after h =
+    ⊎_elim
+    (λ p.
+    passed_retells s calls (Hear e ∷ calls) (given_effect s e) now at _ new before after
+    (among_then (waiting_of s (Hear e ∷ calls)) (waiting_of s calls) (waiting_of s calls ++ numbers_of (given_effect s e).requests) (hear_waiting s calls e) (among_left (waiting_of s calls) _)) p)
+    (λ p. cut_retells s calls at _ new before after p)
+    h
+
+hears_retell : (e : GateEffect) (nick : List ℕ) (now : ℕ) (at : Moment) (s : Settings) (calls : List Call) (old new : Client) (before after : Ordered) → Hears e nick now at s calls old before new after → Retells s calls before new after
+hears_retell e nick now at s calls old new before after h =
+    let first = effect_retells e nick now at s calls old h.told before h.orders h.hears in
+    both_retell s calls before h.orders after h.told new first
+    (parts_retell (is_done (gate s first.behind).waiting h.told) at s first.behind h.told new h.orders after first.stands (h.parts first.behind first.stands))
+
+leaves_retell : (now : ℕ) (at : Moment) (s : Settings) (calls : List Call) (old new : Client) (before after : Ordered) → Leaves now at s calls old before new after → Retells s calls before new after
+leaves_retell now at s calls old new before after h =
+    let last = last_request (gate s calls) in
+    let all = waiting_of s calls ++ numbers_told (last_asks old.origin at last) in
+    let first : Retells s calls before h.told h.orders = record {
+      behind = End ∷ calls;
+      stands = h.stands.gate;
+      told = last_asks old.origin at last;
+      orders = h.asks;
+      among =
+          from_as all (waiting_of s (End ∷ calls)) all
+          (end_waiting s calls ∙ ap (λ (numbers : List ℕ). waiting_of s calls ++ numbers) (sym (told_asked old.origin at last)))
+          (among_all all);
+    } in
+    both_retell s calls before h.orders after h.told new first
+    (parts_retell (is_done (gate s (End ∷ calls)).waiting h.told) at s (End ∷ calls) h.told new h.orders after h.stands.gate h.parts)
+
+dismissed_retells : (leaves : Bool) (now : ℕ) (at : Moment) (s : Settings) (calls : List Call) (old new : Client) (before after : Ordered) → is_leaving old ≡ leaves → Stands s calls old.gate → IsDismissed now at s calls old before new after → Retells s calls before new after
+dismissed_retells true now at s calls old new before after is stands h =
+    let (same, none) = h.leaving is in nothing_retells s calls old new before after stands same none
+dismissed_retells false now at s calls old new before after is stands h = leaves_retell now at s calls old new before after (h.leaves is)
+
+lost_retells : (gone : Bool) (now : ℕ) (at : Moment) (s : Settings) (calls : List Call) (old new : Client) (before after : Ordered) → old.is_gone ≡ gone → Stands s calls old.gate → IsLost now at s calls old before new after → Retells s calls before new after
+lost_retells true now at s calls old new before after is stands h = record {
+  behind = calls;
+  stands = subst (λ (client : Client). Stands s calls client.gate) (sym (h.gone is)) stands;
+  told = parting_unless old.is_gone old.is_attached old.origin at (last_request (gate s calls));
+  orders = h.orders;
+  among = among_left (waiting_of s calls) _;
+}
+lost_retells false now at s calls old new before after is stands h = record {
+  behind = End ∷ calls;
+  stands = (h.stays is).gate;
+  told = parting_unless old.is_gone old.is_attached old.origin at (last_request (gate s calls));
+  orders = h.orders;
+  among =
+      subst (λ (gone : Bool). AreAmong (waiting_of s (End ∷ calls)) (waiting_of s calls ++ numbers_told (parting_unless gone old.is_attached old.origin at (last_request (gate s calls))))) (sym is)
+      (ended_told false old.is_attached s calls old.origin at);
+}
+
+-- what waits is asked again, or is not
+asked_gate : (again : Bool) (c : Client) (note now : ℕ) (s : Settings) (calls : List Call) → Stands s calls c.gate → Stands s calls (anew_if again (record { note = note; at = record { since = now } }) c).gate
+asked_gate true c note now s calls stands = stands
+asked_gate false c note now s calls stands = stands
+
+words_retell : (lost : ℕ) (refused : Bool) (now : ℕ) (at : Moment) (s : Settings) (calls : List Call) (old new : Client) (before after : Ordered) → Stands s calls old.gate → HearsNode lost refused now at s calls old before new after → Retells s calls before new after
+words_retell lost refused now at s calls old new before after stands h = record {
+  behind = calls;
+  stands =
+      subst (λ (client : Client). Stands s calls client.gate) (sym h.client)
+      (asked_gate (may_be_lost lost old) (held_if refused (gate s calls).waiting old) (now_asked before now old).note now s calls stands);
+  told = if may_be_lost lost old then asks_of old.origin at (gate s calls).waiting else [];
+  orders = h.orders;
+  among = among_left (waiting_of s calls) _;
+}
+
+kept_retells : (timeout now : ℕ) (at : Moment) (s : Settings) (calls : List Call) (old new : Client) (before after : Ordered) → Stands s calls old.gate → IsKept timeout now at s calls old before new after → Retells s calls before new after
+kept_retells timeout now at s calls old new before after stands k =
+    let ping = k.asked.ping in
+    let again = if is_stuck timeout now old then asks_of old.origin at (gate s calls).waiting else [] in
+    let pinged = subst (λ (client : Client). Stands s calls client.gate) (sym k.asked.is_known) stands in
+    record {
+      behind = calls;
+      stands =
+          subst (λ (client : Client). Stands s calls client.gate) (sym k.client)
+          (asked_gate (is_stuck timeout now old) k.pinged (now_asked k.told now old).note now s calls pinged);
+      told = ping ++ again;
+      orders =
+          k.orders
+          ∙ ap (λ (orders : Ordered). ordered orders again) k.asked.orders
+          ∙ ap (λ (items : List Order). record before { items = items }) (append_assoc before.items ping again);
+      among = among_left (waiting_of s calls) _;
+    }
+
+sent_retells : (now : ℕ) (at : Moment) (s : Settings) (calls : List Call) (old new : Client) (before after : Ordered) → Stands s calls old.gate → IsSentOff now at s calls old before new after → Retells s calls before new after
+sent_retells now at s calls old new before after stands sent =
+    let line = Write old.origin.2 sent.line in
+    let h = lost_retells old.is_gone now at s calls old new (ordered before (line ∷ [])) after refl stands sent.lost in
+    record {
+      behind = h.behind;
+      stands = h.stands;
+      told = line ∷ h.told;
+      orders = h.orders ∙ ap (λ (items : List Order). record before { items = items }) (append_assoc before.items (line ∷ []) h.told);
+      among = h.among;
+    }
+
+ticks_retell : (overdue reads slow : Bool) (timeout now : ℕ) (at : Moment) (s : Settings) (calls : List Call) (old new : Client) (before after : Ordered) → is_overdue old now ≡ overdue → is_to_go (waited reads now old) now ≡ slow → Stands s calls old.gate → Ticks reads timeout now at s calls old before new after → Retells s calls before new after
+ticks_retell true reads slow timeout now at s calls old new before after late is stands t =
+    lost_retells old.is_gone now at s calls old new before after refl stands (t.overdue late)
+ticks_retell false true true timeout now at s calls old new before after late is stands t =
+    sent_retells now at s calls old new before after stands (t.slow late is)
+ticks_retell false false true timeout now at s calls old new before after late is stands t =
+    sent_retells now at s calls (held_back now old) new before after stands (t.slow late is)
+ticks_retell false true false timeout now at s calls old new before after late is stands t =
+    kept_retells timeout now at s calls old new before after stands (t.kept late is)
+ticks_retell false false false timeout now at s calls old new before after late is stands t =
+    kept_retells timeout now at s calls (held_back now old) new before after stands (t.kept late is)
+
+event_retells : (event : Event) (now : ℕ) (at : Moment) (s : Settings) (calls : List Call) (old new : Client) (before after : Ordered) → Happens event now at old before new after → Stands s calls old.gate → Retells s calls before new after
+event_retells (Speaks bytes due) now at s calls old new before after h stands =
+    reads_retell (is_shut old) bytes now at due s calls old new before after refl stands (h s calls stands)
+event_retells (Learns e nick) now at s calls old new before after h stands =
+    hears_retell e nick now at s calls old new before after (h s calls stands)
+event_retells Goes now at s calls old new before after h stands =
+    lost_retells old.is_gone now at s calls old new before after refl stands (h s calls stands)
+event_retells Dismissed now at s calls old new before after h stands =
+    dismissed_retells (is_leaving old) now at s calls old new before after refl stands (h s calls stands)
+event_retells (Words lost refused) now at s calls old new before after h stands =
+    words_retell lost refused now at s calls old new before after stands (h s calls stands)
+event_retells (Waits reads timeout) now at s calls old new before after h stands =
+    ticks_retell (is_overdue old now) reads (is_to_go (waited reads now old) now) timeout now at s calls old new before after refl refl stands (h s calls stands)
+
+all_retell : (happenings : List Happening) (s : Settings) (calls : List Call) (old new : Client) (before after : Ordered) → HappenAll happenings old before new after → Stands s calls old.gate → Retells s calls before new after
+unfolding HappenAll
+all_retell [] s calls old new before after (same, none) stands = nothing_retells s calls old new before after stands same none
+all_retell (h ∷ more) s calls old new before after (client, orders, happens, rest) stands =
+    let first = event_retells h.event h.now h.at s calls old client before orders happens stands in
+    let last = all_retell more s first.behind client new orders after rest first.stands in
+    both_retell s calls before orders after client new first last
+
+-- With the report all is told again.
+lost_told : (again : Bool) (origin : Origin) (at : Moment) (requests : List Request) → again ≡ true → numbers_told (if again then asks_of origin at requests else []) ≡ numbers_of requests
+lost_told true origin at requests is = told_asks origin at requests
+lost_told false origin at requests is = absurd (cc is)
+
+pub asks_again : AsksAgain
+unfolding HappenAll
+asks_again lost now at refused happenings s calls old new before after (client, orders, happens, rest) stands is =
+    let h = happens s calls stands in
+    let again = if may_be_lost lost old then asks_of old.origin at (gate s calls).waiting else [] in
+    let held = subst (λ (c : Client). Stands s calls c.gate) (sym h.client) (asked_gate (may_be_lost lost old) (held_if refused (gate s calls).waiting old) (now_asked before now old).note now s calls stands) in
+    let last = all_retell happenings s calls client new orders after rest held in
+    let told : numbers_told again ≡ waiting_of s calls = lost_told (may_be_lost lost old) old.origin at (gate s calls).waiting is in
+    record {
+      behind = last.behind;
+      stands = last.stands;
+      told = again ++ last.told;
+      orders =
+          last.orders
+          ∙ ap (λ (orders : Ordered). ordered orders last.told) h.orders
+          ∙ ap (λ (items : List Order). record before { items = items }) (append_assoc before.items again last.told);
+      all =
+          among_as (waiting_of s last.behind) (waiting_of s calls ++ numbers_told last.told) (numbers_told (again ++ last.told))
+          (ap (λ (numbers : List ℕ). numbers ++ numbers_told last.told) (sym told) ∙ sym (told_append again last.told))
+          last.among;
+    }

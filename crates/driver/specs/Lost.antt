@@ -1,0 +1,36 @@
+-- What a client asked is told to its node again where it may be lost.
+use Rattle.std.specs.Prelude.{◌≡◌, ℕ, Bool, true, nat_eq, List, ◌∷◌}
+use Rattle.std.specs.List.{list_any}
+use Rattle.wire_bytes.specs.declared.moment.Moment.{Moment}
+use Rattle.client_gate.specs.Calls.{Call, Stands, gate}
+use Rattle.client_gate.specs.declared.settings.Settings.{Settings}
+use Rattle.driver.specs.declared.client.Client.{Client}
+use Rattle.driver.specs.declared.order.Order.{Order}
+use Rattle.driver.specs.Asking.{may_be_lost}
+use Rattle.driver.specs.Once.{HappenAll, Happening, Words, numbers_of, numbers_told}
+use Rattle.driver.specs.Telling.{Ordered, ordered}
+
+-- a number is one of these
+abbrev pub is_among : ℕ → List ℕ → Bool
+is_among number numbers = list_any (nat_eq number) numbers
+
+-- Each of these numbers is one of those.
+abbrev pub AreAmong : List ℕ → List ℕ → Type 0
+AreAmong some all = (number : ℕ) → is_among number some ≡ true → is_among number all ≡ true
+
+-- What was ordered between tells the node each request that waits of a client.
+pub record TellsAll (s : Settings) (before : Ordered) (new : Client) (after : Ordered) : Type 0 where
+  pub behind : List Call
+  pub stands : Stands s behind new.gate
+  pub told : List Order
+  pub orders : after ≡ ordered before told
+  pub all : AreAmong (numbers_of (gate s behind).waiting) (numbers_told told)
+
+-- A client's node tells that what it was told of the client's may be lost. Whatever happens to the client behind that, and however often it is
+-- asked again: each of its requests that waits was told to the node with that report, or behind it.
+abbrev pub AsksAgain : Type 0
+AsksAgain =
+    (lost now : ℕ) (at : Moment) (refused : Bool) (happenings : List Happening) (s : Settings) (calls : List Call) (old new : Client) (before after : Ordered)
+    → HappenAll (record { event = Words lost refused; now = now; at = at } ∷ happenings) old before new after
+    → Stands s calls old.gate → may_be_lost lost old ≡ true
+    → TellsAll s before new after
