@@ -1,11 +1,8 @@
 -- A leader is told to send in time.
-use Rattle.std.proofs.Common.{◌≡◌, ◌∙◌, ◌⊎◌, inl, inr, ℕ, ◌+◌, ◌-◌, ◌<◌, ◌≤◌, Bool, true, false, List, Option, Some, None, refl, sym, ap, subst, slice_get, ⊎_elim, arith}
+use Rattle.std.proofs.Common.{◌≡◌, ◌∙◌, ◌⊎◌, inl, inr, ℕ, ◌+◌, ◌-◌, ◌<◌, ◌≤◌, Bool, true, false, List, Option, Some, None, refl, sym, ap, subst, ⊎_elim, arith}
 use Rattle.std.specs.Prelude.{◌&&◌, if◌then◌else◌, is_some, max, min, nat_le}
 use Rattle.std.specs.List.{list_any}
 use Rattle.std.proofs.lemmas.Bool.{le-leb, leb-false, lt-leb}
-use Rattle.bouncer_tower.specs.Bodies.{TowerBody}
-use Rattle.buffer_commands.specs.declared.wire_line.WireLine.{WireLine}
-use Rattle.node_notes.specs.declared.note.Note.{Note}
 use Rattle.node_notes.specs.declared.note.Note.TheVariants as note
 use Rattle.node_notes.specs.declared.progress.Progress.{Progress}
 use Rattle.node_notes.specs.declared.status.Status.{Status}
@@ -20,8 +17,7 @@ use Rattle.driver.specs.declared.order.Order.{Order}
 use Rattle.driver.specs.declared.order.Order.TheVariants.{Submit}
 use Rattle.driver.specs.declared.settings.Settings.{Settings}
 use Rattle.driver.specs.Absences.{shortened}
-use Rattle.driver.specs.Calls.{Call, IsTold}
-use Rattle.driver.specs.Driving.{clocked}
+use Rattle.driver.specs.Calls.{Call}
 use Rattle.driver.specs.Hearing.{begins_run, heard_behind, stood_behind, told_behind, up_behind, was_up}
 use Rattle.driver.specs.Links.{status_in}
 use Rattle.driver.specs.Monitors.{is_over, is_to_beat, note_at, note_for, note_up, patience}
@@ -31,10 +27,8 @@ use Rattle.driver.specs.Telling.{ordered, told_to}
 use Rattle.driver.proofs.Awaiting.{Advance, Comes, Waits, found_waits, until}
 use Rattle.driver.proofs.Claiming.{same_eq}
 use Rattle.driver.proofs.Clocking.{Clocks, woken}
-use Rattle.driver.proofs.Events.{Event, Hastened, Idle, Other, Own, Passed, clock_tells, not_passed}
-use Rattle.driver.proofs.Monitors.{Look}
-use Rattle.driver.proofs.Moves.{Base, Core, base, core, hastened_by}
-use Rattle.driver.proofs.Reporting.{heard_look}
+use Rattle.driver.proofs.Events.{Hastened, Idle, Other, Own, Passed, clock_tells, not_passed}
+use Rattle.driver.proofs.Moves.{Base, Core, core, hastened_by}
 use Rattle.driver.proofs.Restarted.{none_behind}
 use Rattle.driver.proofs.Staying.{is_down_so}
 use Rattle.driver.proofs.Noted.{both_below, running_noted, told_is}

@@ -1,39 +1,32 @@
 -- A line is claimed in time, and again where its claim is not in the log.
-use Rattle.std.proofs.Common.{◌≡◌, ◌∙◌, ◌++◌, ℕ, zero, suc, ◌+◌, ◌-◌, ◌<◌, ◌≤◌, Bool, true, false, List, [], ◌∷◌, Option, Some, None, refl, sym, ap, subst, slice_get, slice_index, ⊎_elim, arith}
-use Rattle.std.specs.Prelude.{◌&&◌, ◌||◌, if◌then◌else◌, is_some, max, min, nat_eq, nat_le, not, option_map}
-use Rattle.std.specs.BTreeMap.{keys}
+use Rattle.std.proofs.Common.{◌≡◌, ◌∙◌, ◌++◌, ℕ, zero, suc, ◌+◌, ◌-◌, ◌≤◌, Bool, true, false, List, [], ◌∷◌, Option, Some, None, refl, sym, ap, subst, slice_get, arith}
+use Rattle.std.specs.Prelude.{◌&&◌, ◌||◌, if◌then◌else◌, is_some, nat_eq, not}
 use Rattle.std.specs.List.{list_any}
-use Rattle.std.proofs.lemmas.Bool.{and_right, eqb-true, le-leb, leb-true}
 use Rattle.std.proofs.lemmas.List.{append_assoc}
 use Rattle.irc_line.specs.Lines.{Parts}
-use Rattle.machine_laws.specs.Sessions.{same_session}
 use Rattle.node_notes.specs.declared.note.Note.TheVariants as note
-use Rattle.node_notes.specs.declared.progress.Progress.{Progress}
-use Rattle.node_notes.specs.declared.status.Status.{Status}
 use Rattle.driver.specs.declared.driver.Driver.{Driver}
 use Rattle.driver.specs.declared.driver.writing.TheConstants.{MOST_AT_ONCE}
 use Rattle.driver.specs.declared.node_monitor.NodeMonitor.{NodeMonitor}
-use Rattle.driver.specs.declared.node_monitor.standing.Claimed.{Claimed}
 use Rattle.driver.specs.declared.order.Order.{Order}
 use Rattle.driver.specs.declared.order.Order.TheVariants.{Submit}
 use Rattle.driver.specs.declared.outgoing.Piece.{Piece}
 use Rattle.driver.specs.declared.settings.Settings.{Settings}
-use Rattle.driver.specs.Calls.{DoesStep}
 use Rattle.driver.specs.Claiming.{claims}
 use Rattle.driver.specs.Driving.{Claims, ServesIf, orders_of}
 use Rattle.driver.specs.Leading.{is_that}
-use Rattle.driver.specs.Links.{is_session_of, status_at, status_in}
-use Rattle.driver.specs.Monitors.{claim_at, claim_due, claim_if, is_claimed, is_over, line_to_claim, monitor_claimed, told, unless_claimed}
-use Rattle.driver.specs.Outgoing.{Waiting, has_said, next_piece}
-use Rattle.driver.specs.Schedule.{IsFree, is_claim_of, only_questions}
+use Rattle.driver.specs.Links.{is_session_of, status_in}
+use Rattle.driver.specs.Monitors.{claim_at, claim_due, claim_if, is_claimed, line_to_claim, told, unless_claimed}
+use Rattle.driver.specs.Outgoing.{Waiting, has_said}
+use Rattle.driver.specs.Schedule.{IsFree, only_questions}
 use Rattle.driver.specs.Telling.{Ordered, ordered}
 use Rattle.driver.specs.Writing.{GoesOutIf, WriteLines, are_due, may_claim, may_write, piece_at, piece_of}
-use Rattle.driver.proofs.Claiming.{claim_change, claim_orders, claims_sound, same_eq}
+use Rattle.driver.proofs.Claiming.{claims_sound, same_eq}
 use Rattle.driver.proofs.Clocking.{More, kept_more, more_both}
-use Rattle.driver.proofs.Events.{any_first, any_last}
-use Rattle.driver.proofs.Keeping.{Keeps, Line, Sound, connects_keep}
-use Rattle.driver.proofs.Monitors.{Look, look, look_at, look_in}
-use Rattle.driver.proofs.Served.{Goes, Turn}
+use Rattle.driver.proofs.Events.{any_last}
+use Rattle.driver.proofs.Keeping.{Keeps, Line, connects_keep}
+use Rattle.driver.proofs.Monitors.{Look, look, look_in}
+use Rattle.driver.proofs.Served.{Turn}
 use Rattle.driver.proofs.Waiting.{items_same, status_of}
 
 -- Nothing goes out where a line is to be claimed, and only questions wait.

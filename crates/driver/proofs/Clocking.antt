@@ -1,5 +1,5 @@
 -- What time, and a report, tell a node, as the clock finds its monitor.
-use Rattle.std.proofs.Common.{◌≡◌, ◌∙◌, ◌++◌, ℕ, zero, suc, ◌+◌, ◌-◌, ◌<◌, ◌≤◌, Bool, true, false, List, [], ◌∷◌, Option, Some, None, refl, sym, ap, subst, slice_get, ⊎_elim, arith}
+use Rattle.std.proofs.Common.{◌≡◌, ◌∙◌, ◌++◌, ℕ, zero, suc, ◌+◌, ◌-◌, ◌<◌, ◌≤◌, Bool, true, false, List, [], Option, Some, refl, sym, ap, subst, slice_get, ⊎_elim, arith}
 use Rattle.std.specs.Prelude.{option_map}
 use Rattle.std.specs.BTreeMap.{keys}
 use Rattle.std.proofs.lemmas.List.{append_assoc, append-nil}
@@ -11,12 +11,11 @@ use Rattle.node_notes.specs.declared.status.Status.{Status}
 use Rattle.driver.specs.declared.driver.Driver.{Driver}
 use Rattle.driver.specs.declared.driver.writing.TheConstants.{MOST_AT_ONCE}
 use Rattle.driver.specs.declared.news.Ending.{Ending}
-use Rattle.driver.specs.declared.news.Ending.TheVariants.{LedNoMore, Silent}
+use Rattle.driver.specs.declared.news.Ending.TheVariants.{Silent}
 use Rattle.driver.specs.declared.node_monitor.NodeMonitor.{NodeMonitor}
 use Rattle.driver.specs.declared.order.Order.{Order}
-use Rattle.driver.specs.declared.retirement.Retirement.{Retirement}
 use Rattle.driver.specs.declared.settings.Settings.{Settings}
-use Rattle.driver.specs.Driving.{LeavesIf, LeavesOlder, QuitsIf, ServesIf, TickNodes, Ticks, TicksNode, changed_at, clock_told, clocked, orders_at, orders_of, round_of, tick_orders, ticked, told_of}
+use Rattle.driver.specs.Driving.{LeavesIf, LeavesOlder, QuitsIf, ServesIf, TickNodes, Ticks, TicksNode, clock_told, clocked, orders_of, round_of, tick_orders, ticked, told_of}
 use Rattle.driver.specs.Hearing.{heard_behind}
 use Rattle.driver.specs.Leading.{is_older, is_that}
 use Rattle.driver.specs.Links.{is_open, node_of}
@@ -30,8 +29,8 @@ use Rattle.driver.specs.Writing.{may_claim}
 use Rattle.driver.proofs.Adding.{passes_grow}
 use Rattle.driver.proofs.Claiming.{node_apart, node_result, nodes_behind, serves_own, sound_behind}
 use Rattle.driver.proofs.Growing.{by_number, ticks_grow}
-use Rattle.driver.proofs.Keeping.{Keeps, Result, Sound, asks_keep, keeps_both, leaves_keep, monitor_keeps, older_keep, orders_keep}
-use Rattle.driver.proofs.Moves.{Base, Found, KeepsCore, Rests, base, changed_here, changed_rests, claimed_core, core, monitors_of, other_rests, passes_rest, restarted_core, rests_both, rests_by, rests_same}
+use Rattle.driver.proofs.Keeping.{Keeps, Result, Sound, asks_keep, keeps_both, leaves_keep, monitor_keeps, older_keep}
+use Rattle.driver.proofs.Moves.{Base, Found, Rests, base, changed_here, changed_rests, claimed_core, core, monitors_of, other_rests, passes_rest, restarted_core, rests_both, rests_by, rests_same}
 use Rattle.driver.proofs.Quiet.{NoClaim}
 use Rattle.driver.proofs.Reporting.{awake_keeps, begins_keep, grows_keep, spreads_by, stood_adds, stood_sound, words_by}
 use Rattle.driver.proofs.Writing.{lines_rest}

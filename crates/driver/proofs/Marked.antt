@@ -1,7 +1,6 @@
 -- What each call does to what is known of the last claim of a node.
-use Rattle.std.proofs.Common.{◌≡◌, ◌∙◌, ◌++◌, ℕ, ◌+◌, ◌-◌, ◌≤◌, Bool, true, false, List, [], ◌∷◌, Option, Some, None, refl, sym, ap, subst, slice_get, arith}
-use Rattle.std.specs.Prelude.{max, min, nat_eq, option_map}
-use Rattle.std.specs.BTreeMap.{keys}
+use Rattle.std.proofs.Common.{◌≡◌, ◌∙◌, ℕ, ◌+◌, ◌-◌, ◌≤◌, Bool, true, false, List, [], ◌∷◌, Option, Some, None, refl, sym, ap, subst, slice_get, arith}
+use Rattle.std.specs.Prelude.{max, min, option_map}
 use Rattle.wire_bytes.specs.declared.moment.Moment.{Moment}
 use Rattle.client_gate.specs.Gates.{GateEffect}
 use Rattle.node_notes.specs.declared.note.Note.TheVariants as note
@@ -11,33 +10,24 @@ use Rattle.driver.specs.declared.driver.Driver.{Driver}
 use Rattle.driver.specs.declared.driver.writing.TheConstants.{MOST_AT_ONCE}
 use Rattle.driver.specs.declared.node_monitor.NodeMonitor.{NodeMonitor}
 use Rattle.driver.specs.declared.node_monitor.standing.Claimed.{Claimed}
-use Rattle.driver.specs.declared.order.Order.{Order}
 use Rattle.driver.specs.declared.order.Order.TheVariants.{Submit}
-use Rattle.driver.specs.Calls.{Call, Does}
-use Rattle.driver.specs.Calls.{Connect, Connected, Dismiss, End, Hand, Hear, Lose, Notice, Receive, ReceiveLine, Refuse, Take, Tick, Watch, WatchNodes, WatchPasswords}
 use Rattle.driver.specs.Driving.{Claims, ServesIf, orders_of, told_of}
 use Rattle.driver.specs.Hearing.{heard_behind, progressed, settled}
 use Rattle.driver.specs.Leading.{is_that}
-use Rattle.driver.specs.Links.{node_of}
 use Rattle.driver.specs.Monitors.{claim_at, claim_due, claim_if, claim_told, monitor_claimed, told}
 use Rattle.driver.specs.Reports.{Hears, heard_at}
-use Rattle.driver.specs.Rosters.{client_at}
-use Rattle.driver.specs.Schedule.{ran_by}
 use Rattle.driver.specs.Telling.{Ordered, next_note, ordered, told_to}
 use Rattle.driver.specs.Waking.{awake}
 use Rattle.driver.specs.Writing.{may_claim}
 use Rattle.driver.proofs.Adding.{passes_grow}
-use Rattle.driver.proofs.Calling.{connect_keeps, goes_by, speaks_by, takes_keep, watch_keeps}
-use Rattle.driver.proofs.Claiming.{claim_change, claims_sound, same_eq}
+use Rattle.driver.proofs.Claiming.{claim_change, claims_sound}
 use Rattle.driver.proofs.Clocking.{More, kept_more, more_both, more_none, woken, woken_is}
-use Rattle.driver.proofs.Growing.{by_number}
-use Rattle.driver.proofs.Keeping.{Keeps, Line, Sound, connects_keep, ends_keep, keeps_both, writes_keep}
-use Rattle.driver.proofs.Monitors.{Look, changed_other, changed_own, look, look_at, look_in}
+use Rattle.driver.proofs.Keeping.{Keeps, Line, Sound, connects_keep, keeps_both, writes_keep}
+use Rattle.driver.proofs.Monitors.{Look, changed_own, look, look_at, look_in}
 use Rattle.driver.proofs.Moves.{changed_here, monitors_of}
 use Rattle.driver.proofs.Quiet.{NoClaim}
 use Rattle.driver.proofs.Reporting.{awake_keeps, begins_keep, grows_keep, heard_look, stood_adds, stood_sound, words_by}
-use Rattle.driver.proofs.Served.{Turn, node_turn, tick_turn}
-use Rattle.driver.proofs.Watching.{nodes_keep}
+use Rattle.driver.proofs.Served.{Turn, node_turn}
 
 -- What is known of a node that was known so: the same, or that it was just told a claim.
 pub data Trace (n now : ℕ) (was : Option Look) (before : Ordered) (new : Driver) : Type 0 where

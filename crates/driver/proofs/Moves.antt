@@ -12,7 +12,6 @@ use Rattle.driver.specs.declared.backoff.Backoff.{Backoff}
 use Rattle.driver.specs.declared.driver.Driver.{Driver}
 use Rattle.driver.specs.declared.driver.TheConstants.{MOST_NUMBER}
 use Rattle.driver.specs.declared.level.Level.{Level}
-use Rattle.driver.specs.declared.news.Ending.{Ending}
 use Rattle.driver.specs.declared.node_monitor.NodeMonitor.{NodeMonitor}
 use Rattle.driver.specs.declared.node_monitor.standing.Following.{Following}
 use Rattle.driver.specs.declared.node_monitor.standing.LastBeat.{LastBeat}
@@ -22,7 +21,7 @@ use Rattle.driver.specs.declared.timer.Timer.{Timer}
 use Rattle.driver.specs.Absences.{CutsBy, HangNodes, HangsIf, TellsGroupIf, WatchesNodes, begins_in, goes_on, hang_limit, hanging, hastened, hastened_if, is_new, is_short}
 use Rattle.driver.specs.Arriving.{boot_at, visited}
 use Rattle.driver.specs.Calls.{ConnectsTo}
-use Rattle.driver.specs.Driving.{changed_at, changed_if}
+use Rattle.driver.specs.Driving.{changed_at}
 use Rattle.driver.specs.Filling.{TellsLevelIf, WatchesFor, is_left_out}
 use Rattle.driver.specs.Hearing.{turned_away}
 use Rattle.driver.specs.Monitors.{is_over, monitor_claimed}

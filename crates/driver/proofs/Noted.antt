@@ -1,6 +1,6 @@
 -- The numbers of notes that are known of a node are of notes that it was told.
-use Rattle.std.proofs.Common.{◌≡◌, ◌∙◌, ◌++◌, ℕ, zero, suc, ◌+◌, ◌-◌, ◌<◌, ◌≤◌, Bool, true, false, List, [], ◌∷◌, Option, Some, None, length, refl, sym, ap, subst, slice_get, slice_index, arith}
-use Rattle.std.specs.Prelude.{◌^◌, if◌then◌else◌, min, nat_eq}
+use Rattle.std.proofs.Common.{◌≡◌, ◌∙◌, ℕ, zero, suc, ◌+◌, ◌-◌, ◌<◌, ◌≤◌, Bool, true, false, List, [], ◌∷◌, Option, Some, None, length, refl, sym, ap, subst, slice_get, slice_index, arith}
+use Rattle.std.specs.Prelude.{if◌then◌else◌, min, nat_eq}
 use Rattle.bouncer_tower.specs.Bodies.{TowerBody}
 use Rattle.buffer_commands.specs.declared.wire_line.WireLine.{WireLine}
 use Rattle.node_notes.specs.declared.note.Note.{Note}
@@ -16,14 +16,14 @@ use Rattle.driver.specs.declared.order.Order.{Order}
 use Rattle.driver.specs.declared.order.Order.TheVariants.{Submit}
 use Rattle.driver.specs.declared.settings.Settings.{Settings}
 use Rattle.driver.specs.declared.timer.Timer.{Timer}
-use Rattle.driver.specs.Arriving.{IsNewDriver, new_monitors}
+use Rattle.driver.specs.Arriving.{IsNewDriver}
 use Rattle.driver.specs.Calls.{Call, Does, DoesAll, IsTold, Step}
 use Rattle.driver.specs.Counting.{notes_in, notes_told}
 use Rattle.driver.specs.Driving.{clocked}
 use Rattle.driver.specs.Hearing.{begins_run, down_behind, heard_behind, stood_behind, told_behind, up_behind, was_up}
 use Rattle.driver.specs.Monitors.{monitor_behind, new_monitor, note_at, told}
 use Rattle.driver.specs.Schedule.{GoesOn, IsRunning, ran_by}
-use Rattle.driver.specs.Telling.{Ordered, counted, counts, next_note, none_told, one_more, ordered, told_to}
+use Rattle.driver.specs.Telling.{Ordered, counted, counts, next_note, none_told, ordered, told_to}
 use Rattle.driver.proofs.Claiming.{same_eq}
 use Rattle.driver.proofs.Clocking.{Clocks, More, woken}
 use Rattle.driver.proofs.Counting.{counted_length, counts_all, counts_append, in_all, most, step_all}

@@ -1,5 +1,5 @@
 -- A claim is told again in time, and a line that was not claimed is.
-use Rattle.std.proofs.Common.{◌≡◌, ◌∙◌, ◌++◌, ℕ, zero, suc, ◌+◌, ◌-◌, ◌≤◌, Bool, true, false, List, [], ◌∷◌, Option, Some, None, refl, sym, ap, subst, slice_get, slice_index, arith}
+use Rattle.std.proofs.Common.{◌≡◌, ◌∙◌, ℕ, ◌+◌, ◌-◌, ◌≤◌, Bool, true, false, List, [], ◌∷◌, Option, Some, None, refl, sym, ap, subst, slice_get, slice_index, arith}
 use Rattle.std.specs.Prelude.{◌&&◌, ◌||◌, min, nat_eq, nat_le, not}
 use Rattle.std.specs.List.{list_any}
 use Rattle.std.proofs.lemmas.Bool.{le-leb, leb-true}
@@ -17,14 +17,14 @@ use Rattle.driver.specs.declared.order.Order.{Order}
 use Rattle.driver.specs.declared.order.Order.TheVariants.{Submit}
 use Rattle.driver.specs.declared.settings.Settings.{Settings}
 use Rattle.driver.specs.declared.timer.Timer.{Timer}
-use Rattle.driver.specs.Arriving.{IsNewDriver, new_monitors}
-use Rattle.driver.specs.Calls.{Call, Does, DoesAll, DoesStep, IsTold, Step}
+use Rattle.driver.specs.Arriving.{IsNewDriver}
+use Rattle.driver.specs.Calls.{Call, Does, DoesAll, IsTold, Step}
 use Rattle.driver.specs.Calls.{Connect, Connected, Dismiss, End, Hand, Hear, Lose, Notice, Receive, ReceiveLine, Refuse, Take, Tick, Watch, WatchNodes, WatchPasswords}
 use Rattle.driver.specs.Claiming.{claims}
 use Rattle.driver.specs.Counting.{all_told}
 use Rattle.driver.specs.Hearing.{heard_behind, settled}
 use Rattle.driver.specs.Links.{node_of, status_in}
-use Rattle.driver.specs.Monitors.{is_claimed, is_over, line_to_claim, new_monitor}
+use Rattle.driver.specs.Monitors.{is_claimed, is_over, line_to_claim}
 use Rattle.driver.specs.Reports.{Hears, heard_at}
 use Rattle.driver.specs.Driving.{told_of}
 use Rattle.driver.specs.Schedule.{ClaimsInTime, GoesOn, IsRunning, NewClaimsInTime, is_claim_of, is_claimed_last, one_orders, ran_by, settles}
@@ -37,12 +37,11 @@ use Rattle.driver.proofs.Claiming.{apart_eq, node_apart, same_eq}
 use Rattle.driver.proofs.Clocking.{More, more_both, more_none}
 use Rattle.driver.proofs.Counting.{in_all}
 use Rattle.driver.proofs.Growing.{by_number}
-use Rattle.driver.proofs.Keeping.{Line, Sound, keeps_both}
+use Rattle.driver.proofs.Keeping.{Line, Sound}
 use Rattle.driver.proofs.Marked.{Anew, HearMark, Same, Trace, hear_mark, seen, turn_trace}
 use Rattle.driver.proofs.Monitors.{Look, changed_other, look_at, look_in}
 use Rattle.driver.proofs.Moves.{monitors_of}
 use Rattle.driver.proofs.Noted.{Counted, CountsOn, Noted, both_below, call_counts, call_noted, more_counts, new_noted, next_told, told_is}
-use Rattle.driver.proofs.OneClaim.{outcome}
 use Rattle.driver.proofs.Quiet.{NoClaim}
 use Rattle.driver.proofs.Reporting.{awake_keeps, begins_keep, grows_keep, stood_sound, words_by}
 use Rattle.driver.proofs.Served.{tick_turn}

@@ -1,6 +1,6 @@
 -- A node that is down is told to start again in time.
-use Rattle.std.proofs.Common.{◌≡◌, ◌∙◌, ◌⊎◌, inl, inr, ℕ, ◌+◌, ◌-◌, ◌<◌, ◌≤◌, Bool, true, false, List, Option, Some, None, refl, sym, ap, subst, slice_get, ⊎_elim, arith}
-use Rattle.std.specs.Prelude.{if◌then◌else◌, is_some, max, min, nat_le}
+use Rattle.std.proofs.Common.{◌≡◌, ◌∙◌, ◌⊎◌, inl, inr, ℕ, ◌+◌, ◌-◌, ◌<◌, ◌≤◌, Bool, true, false, List, Option, Some, None, refl, sym, ap, subst, ⊎_elim, arith}
+use Rattle.std.specs.Prelude.{if◌then◌else◌, is_some, min, nat_le}
 use Rattle.std.specs.List.{list_any}
 use Rattle.std.proofs.lemmas.Bool.{leb-false, lt-leb}
 use Rattle.bouncer_tower.specs.Bodies.{TowerBody}
@@ -12,29 +12,28 @@ use Rattle.node_notes.specs.declared.status.Status.{Status}
 use Rattle.raft_node.specs.declared.node_fault.Cause.{Cause}
 use Rattle.driver.specs.declared.driver.Driver.{Driver}
 use Rattle.driver.specs.declared.node_monitor.NodeMonitor.{NodeMonitor}
-use Rattle.driver.specs.declared.node_monitor.TheConstants.{LONGEST}
 use Rattle.driver.specs.declared.node_monitor.standing.Outage.{Outage}
 use Rattle.driver.specs.declared.order.Order.{Order}
 use Rattle.driver.specs.declared.order.Order.TheVariants.{Submit}
 use Rattle.driver.specs.declared.settings.Settings.{Settings}
-use Rattle.driver.specs.Absences.{hastened, shortened}
-use Rattle.driver.specs.Calls.{Call, IsTold}
+use Rattle.driver.specs.Absences.{shortened}
+use Rattle.driver.specs.Calls.{Call}
 use Rattle.driver.specs.Driving.{clocked}
 use Rattle.driver.specs.Hearing.{begins_run, down_behind, heard_behind, stood_behind, told_behind, was_up}
-use Rattle.driver.specs.Links.{status_at, status_in}
+use Rattle.driver.specs.Links.{status_in}
 use Rattle.driver.specs.Monitors.{is_over, monitor_behind, note_at, note_for}
-use Rattle.driver.specs.Schedule.{RestartsInTime, restarts, tells_only, ticks_by}
+use Rattle.driver.specs.Schedule.{RestartsInTime, restarts, ticks_by}
 use Rattle.driver.specs.Telling.{Ordered, ordered, told_to}
 use Rattle.driver.proofs.Awaiting.{Advance, Comes, Waits, found_waits, until}
 use Rattle.driver.proofs.Claiming.{same_eq}
 use Rattle.driver.proofs.Clocking.{Clocks, woken}
-use Rattle.driver.proofs.Events.{Event, clock_tells, not_passed}
+use Rattle.driver.proofs.Events.{clock_tells, not_passed}
 use Rattle.driver.proofs.Events.{Idle, Hastened, Other, Own, Passed}
 use Rattle.driver.proofs.Monitors.{Look}
-use Rattle.driver.proofs.Moves.{Base, Core, base, core, hastened_by}
+use Rattle.driver.proofs.Moves.{Base, Core, core, hastened_by}
 use Rattle.driver.proofs.Reporting.{heard_look}
 use Rattle.driver.proofs.Staying.{is_down_so}
-use Rattle.driver.proofs.Timely.{InTime, OutageFits, longest, running}
+use Rattle.driver.proofs.Timely.{OutageFits, longest, running}
 
 -- A node that is down waits at most to this moment.
 pub record IsDown (n moment : ℕ) (c : Core) : Type 0 where

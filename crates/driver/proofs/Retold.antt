@@ -1,5 +1,5 @@
 -- Each request of a client that waits is told behind the last loss.
-use Rattle.std.proofs.Common.{◌≡◌, ◌∙◌, ◌++◌, ℕ, ◌+◌, Bool, true, false, List, [], ◌∷◌, Option, Some, None, refl, sym, ap, subst, ⊎_elim}
+use Rattle.std.proofs.Common.{◌≡◌, ◌∙◌, ◌++◌, ℕ, Bool, true, false, List, [], ◌∷◌, Option, refl, sym, ap, subst, ⊎_elim}
 use Rattle.std.specs.Prelude.{◌||◌, option_to_list, if◌then◌else◌, nat_eq, nat_le}
 use Rattle.std.specs.List.{list_any}
 use Rattle.std.proofs.lemmas.List.{append_assoc, append-nil, map-append}
@@ -24,14 +24,14 @@ use Rattle.client_gate.specs.Answers.{given_in}
 use Rattle.driver.specs.declared.client.Client.{Client}
 use Rattle.driver.specs.declared.order.Order.{Order}
 use Rattle.driver.specs.declared.order.Order.TheVariants.{Write}
-use Rattle.driver.specs.Asking.{HearsNode, anew_if, asks_if, held_if, is_stuck, may_be_lost, now_asked}
+use Rattle.driver.specs.Asking.{HearsNode, anew_if, held_if, is_stuck, may_be_lost, now_asked}
 use Rattle.driver.specs.Clients.{asked_by, asks_of, is_cut, is_leaving, is_shut, is_some_asked, last_asks, parting_unless, passed, written}
 use Rattle.driver.specs.Crowds.{Ticks}
 use Rattle.driver.specs.Leaving.{IsDismissed, Leaves, is_overdue}
-use Rattle.driver.specs.Lost.{AreAmong, AsksAgain, TellsAll, is_among}
+use Rattle.driver.specs.Lost.{AreAmong, AsksAgain, is_among}
 use Rattle.driver.specs.Once.{Dismissed, Event, Goes, HappenAll, Happening, Happens, Learns, Speaks, Waits, Words, numbers_of, numbers_told}
 use Rattle.driver.specs.Serving.{HasPassed, Hears, HearsEffect, IsCutOff, IsLost, IsParted, PartsIf, Receives, TakesBy, ended, ended_if, is_done}
-use Rattle.driver.specs.Silence.{IsKept, IsSentOff, held_back, is_silent, is_to_go, waited}
+use Rattle.driver.specs.Silence.{IsKept, IsSentOff, held_back, is_to_go, waited}
 use Rattle.driver.specs.Telling.{Ordered, ordered}
 use Rattle.driver.proofs.Asking.{told_append, told_asked, told_asks, told_by, told_last, told_written}
 

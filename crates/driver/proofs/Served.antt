@@ -1,6 +1,6 @@
 -- How a node comes to its turn as nodes tick, and what stays until then of what a claim goes by.
-use Rattle.std.proofs.Common.{◌≡◌, ◌∙◌, ℕ, zero, suc, ◌+◌, ◌-◌, ◌<◌, ◌≤◌, Bool, true, false, List, [], ◌∷◌, Option, Some, None, refl, sym, ap, subst, slice_get, arith}
-use Rattle.std.specs.Prelude.{if◌then◌else◌, map, nat_eq, nat_lt, not}
+use Rattle.std.proofs.Common.{◌≡◌, ◌∙◌, ℕ, zero, suc, ◌+◌, ◌<◌, ◌≤◌, Bool, true, false, List, [], Option, refl, sym, ap, subst, arith}
+use Rattle.std.specs.Prelude.{if◌then◌else◌, not}
 use Rattle.std.specs.BTreeMap.{keys}
 use Rattle.std.proofs.lemmas.Bool.{eqb-true}
 use Rattle.irc_line.specs.Lines.{Parts}
@@ -15,7 +15,7 @@ use Rattle.driver.specs.declared.news.Ending.TheVariants.{Silent}
 use Rattle.driver.specs.declared.node_monitor.NodeMonitor.{NodeMonitor}
 use Rattle.driver.specs.declared.pace.Pace.{Pace}
 use Rattle.driver.specs.declared.settings.Settings.{Settings}
-use Rattle.driver.specs.Driving.{Connects, Ends, LeavesIf, LeavesOlder, QuitsIf, ServesIf, TickNodes, Ticks, TicksMonitor, TicksNode, round_of, ticked, told_of}
+use Rattle.driver.specs.Driving.{Ends, LeavesIf, LeavesOlder, QuitsIf, ServesIf, TickNodes, Ticks, TicksMonitor, TicksNode, round_of, ticked, told_of}
 use Rattle.driver.specs.Leading.{is_older, is_that}
 use Rattle.driver.specs.Links.{idle_behind, is_open, is_session_of, lingering, may_connect, node_of, waiting_behind}
 use Rattle.driver.specs.Outgoing.{Waiting}
@@ -23,7 +23,7 @@ use Rattle.driver.specs.Pacing.{may_go}
 use Rattle.driver.specs.Schedule.{IsFree, only_questions}
 use Rattle.driver.specs.Servers.{is_silent}
 use Rattle.driver.specs.Waking.{awake, slept, waited_longer}
-use Rattle.driver.proofs.Claiming.{apart_eq, node_apart, node_result, nodes_behind, same_eq, serves_own, sound_behind}
+use Rattle.driver.proofs.Claiming.{apart_eq, node_apart, node_result, nodes_behind, serves_own, sound_behind}
 use Rattle.driver.proofs.Growing.{by_number, ticks_grow}
 use Rattle.driver.proofs.Keeping.{Keeps, Sound, asks_keep, keeps_both, leaves_keep, monitor_keeps, older_keep, orders_keep, same_keeps}
 use Rattle.driver.proofs.Led.{that_is}

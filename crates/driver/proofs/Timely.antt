@@ -1,9 +1,6 @@
 -- What holds of each monitor of a driver as time goes on: its timers are no later than the driver ran, and no wait is longer than the longest.
 use Rattle.std.proofs.Common.{◌≡◌, ◌∙◌, ℕ, zero, suc, ◌+◌, ◌-◌, ◌*◌, ◌≤◌, Bool, true, false, List, [], ◌∷◌, Option, Some, None, refl, sym, ap, subst, slice_get, arith}
 use Rattle.std.specs.Prelude.{◌^◌, ◌/◌, ◌&&◌, ◌||◌, not, if◌then◌else◌, is_some, max, min, nat_lt}
-use Rattle.bouncer_tower.specs.Bodies.{TowerBody}
-use Rattle.buffer_commands.specs.declared.wire_line.WireLine.{WireLine}
-use Rattle.node_notes.specs.declared.note.Note.{Note}
 use Rattle.node_notes.specs.declared.note.Note.TheVariants as note
 use Rattle.node_notes.specs.declared.progress.Progress.{Progress}
 use Rattle.node_notes.specs.declared.status.Status.{Status}
@@ -16,18 +13,18 @@ use Rattle.driver.specs.declared.node_monitor.hearing.TheConstants.{GOOD_RUN}
 use Rattle.driver.specs.declared.node_monitor.standing.Outage.{Outage}
 use Rattle.driver.specs.declared.settings.Settings.{Settings}
 use Rattle.driver.specs.declared.timer.Timer.{Timer}
-use Rattle.driver.specs.Absences.{hastened, shortened}
+use Rattle.driver.specs.Absences.{shortened}
 use Rattle.driver.specs.Arriving.{IsNewDriver, new_monitors}
 use Rattle.driver.specs.Calls.{Call, Does, DoesAll, IsTold, Step}
 use Rattle.driver.specs.declared.order.Order.{Order}
 use Rattle.driver.specs.Driving.{clocked}
 use Rattle.driver.specs.Hearing.{begins_run, down_behind, heard_behind, is_raised, stood_behind, told_behind, up_behind, wait_behind, was_up}
-use Rattle.driver.specs.Monitors.{at, is_over, is_to_beat, monitor_behind, new_monitor, note_at, note_for, note_up, patience}
+use Rattle.driver.specs.Monitors.{at, is_over, is_to_beat, monitor_behind, new_monitor, note_for, note_up, patience}
 use Rattle.driver.specs.Pacing.{doubled}
 use Rattle.driver.specs.Schedule.{GoesOn, IsRunning, ran_by}
 use Rattle.driver.specs.Telling.{Ordered, told_to}
 use Rattle.driver.specs.Waking.{awake}
-use Rattle.driver.proofs.Clocking.{Clocks, HearClocks, woken}
+use Rattle.driver.proofs.Clocking.{Clocks, woken}
 use Rattle.driver.proofs.Events.{Event, event}
 use Rattle.driver.proofs.Events.{Idle, Hastened, Other, Own, Passed}
 use Rattle.driver.proofs.Falling.{heard_stands}

@@ -1,11 +1,8 @@
 -- A node that hears of no leader is told in time to ask for votes.
-use Rattle.std.proofs.Common.{◌≡◌, ◌∙◌, ◌⊎◌, inl, inr, ℕ, ◌+◌, ◌-◌, ◌*◌, ◌<◌, ◌≤◌, Bool, true, false, List, [], ◌∷◌, Option, Some, None, refl, sym, ap, subst, slice_get, ⊎_elim, arith}
+use Rattle.std.proofs.Common.{◌≡◌, ◌∙◌, ◌⊎◌, inl, inr, ℕ, zero, suc, ◌+◌, ◌-◌, ◌*◌, ◌<◌, ◌≤◌, Bool, true, false, List, [], ◌∷◌, length, Option, Some, None, refl, sym, ap, subst, slice_get, ⊎_elim, arith}
 use Rattle.std.specs.Prelude.{◌^◌, ◌/◌, ◌&&◌, ◌||◌, if◌then◌else◌, is_some, max, min, nat_eq, nat_le, nat_lt, not}
 use Rattle.std.specs.List.{list_all, list_any}
 use Rattle.std.proofs.lemmas.Bool.{and_right, eqb-true, le-ltb, leb-false, leb-true, ne_eqb}
-use Rattle.bouncer_tower.specs.Bodies.{TowerBody}
-use Rattle.buffer_commands.specs.declared.wire_line.WireLine.{WireLine}
-use Rattle.node_notes.specs.declared.note.Note.{Note}
 use Rattle.node_notes.specs.declared.note.Note.TheVariants as note
 use Rattle.node_notes.specs.declared.progress.Progress.{Progress}
 use Rattle.node_notes.specs.declared.status.Status.{Status}
@@ -18,25 +15,22 @@ use Rattle.driver.specs.declared.node_monitor.NodeMonitor.{NodeMonitor}
 use Rattle.driver.specs.declared.node_monitor.clock.TheConstants.{APART}
 use Rattle.driver.specs.declared.node_monitor.standing.Outage.{Outage}
 use Rattle.driver.specs.declared.order.Order.{Order}
-use Rattle.driver.specs.declared.order.Order.TheVariants.{Submit}
 use Rattle.driver.specs.declared.settings.Settings.{Settings}
 use Rattle.driver.specs.declared.timer.Timer.{Timer}
 use Rattle.driver.specs.Absences.{shortened}
 use Rattle.driver.specs.Calls.{Call, DoesAll, IsTold, Step}
 use Rattle.driver.specs.Counting.{all_told}
-use Rattle.driver.specs.Hearing.{begins_run, heard_behind, is_follower, is_none, is_raised, stood_behind, told_behind, up_behind, was_up}
+use Rattle.driver.specs.Hearing.{begins_run, heard_behind, is_follower, is_none, is_raised, stood_behind, told_behind, was_up}
 use Rattle.driver.specs.Links.{status_in}
 use Rattle.driver.specs.Monitors.{at, is_over, is_to_beat, note_at, note_for, note_up, patience}
-use Rattle.driver.specs.Schedule.{GoesOn, VotesInTime, asks_for_votes, contacts_of, counts, is_tick, one_orders, passes_counted, ran_by, tells_of_none, tells_only, ticks_by}
+use Rattle.driver.specs.Schedule.{EachTicks, GoesOn, VotesInTicks, VotesInTime, asks_for_votes, contacts_of, counts, is_tick, one_orders, passes_counted, ran_by, tells_of_none, tells_only}
 use Rattle.driver.specs.Telling.{ordered, told_to}
 use Rattle.driver.proofs.Claiming.{same_eq}
 use Rattle.driver.proofs.Clocking.{Clocks, woken}
 use Rattle.driver.proofs.Events.{Event, Hastened, Idle, Other, Own, Passed, any_first, any_last, clock_tells, event}
 use Rattle.driver.proofs.Keeping.{Sound}
-use Rattle.driver.proofs.Monitors.{Look}
-use Rattle.driver.proofs.Moves.{Base, Core, Found, base, core, hastened_by}
+use Rattle.driver.proofs.Moves.{Base, Core, Found, core, hastened_by}
 use Rattle.driver.proofs.OneClaim.{outcome}
-use Rattle.driver.proofs.Reporting.{heard_look}
 use Rattle.driver.proofs.Restarted.{none_behind}
 use Rattle.driver.proofs.Staying.{is_down_so}
 use Rattle.driver.proofs.Timely.{running}
@@ -385,3 +379,45 @@ votes_in_time node status steps old new r so up follows passed =
     } in
     until_votes node status.term contacts old.ran.since wait old.settings steps old new r.low r.high i.sound
     (record { own = i.own; is = i.is; waits = w; goes_by = refl; ran_is = refl }) r.goes_on r.fit r.does passed
+
+-- Of so many ticks one is late enough.
+
+counted_once : (gap half wait : ℕ) → 1 ≤ gap → 1 ≤ half → wait - min gap half ≤ wait - 1
+counted_once gap half wait first last = omega (arith, first, last)
+
+later_gap : (ran now : ℕ) → ran < now → 1 ≤ now - ran
+later_gap ran now goes = omega (arith, goes)
+
+fewer_left : (wait left count : ℕ) → left ≤ wait - 1 → wait ≤ suc count → left ≤ count
+fewer_left wait left count first last = omega (arith, first, last)
+
+is_left : (left : ℕ) → nat_eq left 0 ≡ false → 1 ≤ left
+is_left zero none = absurd (cc none)
+is_left (suc left) none = omega (arith)
+
+ticks_by_count : (tick none more : Bool) → tick ≡ true → (none ≡ false → more ≡ true) → (tick && none || more) ≡ true
+ticks_by_count true true more is rest = refl
+ticks_by_count true false more is rest = rest refl
+ticks_by_count false none more is rest = absurd (cc is)
+
+ticks_count : (half ran wait : ℕ) (steps : List Step) → 1 ≤ half → 1 ≤ wait → wait ≤ length steps → EachTicks ran steps → passes_counted half ran wait steps ≡ true
+unfolding EachTicks passes_counted
+ticks_count half ran wait [] some waits most each = absurd (omega (arith, waits, most))
+ticks_count half ran wait (step ∷ more) some waits most (ticks, later, each) =
+    let now = ran_by ran step.call in
+    let left = wait - min (now - ran) half in
+    ticks_by_count (is_tick step.call) (nat_eq left 0) (passes_counted half now left more) ticks
+    (λ none.
+    ticks_count half now left more some (is_left left none)
+    (fewer_left wait left (length more) (counted_once (now - ran) half wait (later_gap ran now later) some) most)
+    each)
+
+some_wait : (timeout more : ℕ) → 1 ≤ timeout / 2 → 1 ≤ timeout + more
+some_wait zero more half = absurd (omega (arith, half))
+some_wait (suc timeout) more half = omega (arith)
+
+pub votes_in_ticks : VotesInTicks
+votes_in_ticks node status steps old new r so up follows each half most =
+    votes_in_time node status steps old new r so up follows
+    (ticks_count (old.settings.timeout_ms / 2) old.ran.since (old.settings.timeout_ms + APART * node) steps half
+    (some_wait old.settings.timeout_ms (APART * node) half) most each)

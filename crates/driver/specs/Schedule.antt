@@ -1,5 +1,5 @@
 -- Each node is told in time what gets the group on, whatever else is called, as long as time passes.
-use Rattle.std.specs.Prelude.{◌≡◌, ◌≤◌, ℕ, ◌+◌, ◌-◌, ◌*◌, ◌/◌, ◌&&◌, ◌||◌, Bool, true, false, not, is_some, max, min, nat_eq, nat_le, if◌then◌else◌, List, [], ◌∷◌, Option, Some, None, slice_get}
+use Rattle.std.specs.Prelude.{◌≡◌, ◌≤◌, ◌<◌, ℕ, ◌+◌, ◌-◌, ◌*◌, ◌/◌, ◌&&◌, ◌||◌, Bool, true, false, not, is_some, max, min, nat_eq, nat_le, if◌then◌else◌, List, [], ◌∷◌, length, Option, Some, None, slice_get}
 use Rattle.std.specs.List.{list_all, list_any}
 use Rattle.node_notes.specs.declared.note.Note.TheVariants.{Beat, Restart, Timeout}
 use Rattle.node_notes.specs.declared.progress.Progress.{Progress}
@@ -140,6 +140,22 @@ VotesInTime =
     → Runs (tells_of_none status.term (contacts_of (slice_get old.monitors (node - 1)))) node steps old new
     → status_at old.monitors node ≡ Some status → is_some status.down ≡ false → leads status ≡ false
     → passes_counted (old.settings.timeout_ms / 2) old.ran.since (old.settings.timeout_ms + APART * node) steps ≡ true
+    → one_orders (asks_for_votes node (contacts_of (slice_get old.monitors (node - 1)))) steps ≡ true
+
+-- By each of these calls time passes, and the driver runs later than before.
+unfoldable pub EachTicks : ℕ → List Step → Type 0
+EachTicks ran [] = Unit {0}
+EachTicks ran (step ∷ more) = (is_tick step.call ≡ true) × (ran < ran_by ran step.call) × EachTicks (ran_by ran step.call) more
+
+-- So of that many ticks, each at least a millisecond later than the one before it, one tells it to ask for votes, where half a timeout is a
+-- millisecond or more.
+abbrev pub VotesInTicks : Type 0
+VotesInTicks =
+    (node : ℕ) (status : Status) (steps : List Step) (old new : Driver)
+    → Runs (tells_of_none status.term (contacts_of (slice_get old.monitors (node - 1)))) node steps old new
+    → status_at old.monitors node ≡ Some status → is_some status.down ≡ false → leads status ≡ false
+    → EachTicks old.ran.since steps → 1 ≤ old.settings.timeout_ms / 2
+    → old.settings.timeout_ms + APART * node ≤ length steps
     → one_orders (asks_for_votes node (contacts_of (slice_get old.monitors (node - 1)))) steps ≡ true
 
 -- nothing waits to go out but questions

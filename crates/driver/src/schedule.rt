@@ -1,7 +1,7 @@
 //! What each node is told in time, as contracts of functions that do nothing: as long as time passes, and however nodes
 //! report, what the group needs to go on is told to them.
 ghost use Rattle.driver.specs.Lost.{AsksAgain};
-ghost use Rattle.driver.specs.Schedule.{BeatsInTime, ClaimsInTime, NewClaimsInTime, RestartsInTime, VotesInTime};
+ghost use Rattle.driver.specs.Schedule.{BeatsInTime, ClaimsInTime, NewClaimsInTime, RestartsInTime, VotesInTicks, VotesInTime};
 
 /// Over every list of calls of a driver as time goes on: a node that is down is told to start again within a minute, or a
 /// timeout where that is longer, however often it fell before.
@@ -17,9 +17,10 @@ pub fn leaders_are_heard_in_time()
 
 /// Over every list of calls of a driver as time goes on: a node that hears of no leader is told to ask for votes once its
 /// wait has passed, a timeout and 50 ms for each node up to it; of what lies between two moments at which the driver ran,
-/// half a timeout counts at most.
+/// half a timeout counts at most. So one of as many ticks tells it that, each a millisecond later than the one before it.
 pub fn votes_are_asked_for_in_time()
-    ensures { VotesInTime }
+    ensures silence { VotesInTime }
+    ensures ticks { VotesInTicks }
 {}
 
 /// In a session of a node that stands on, as time passes: a line that was not claimed, and could go out at once, is claimed
