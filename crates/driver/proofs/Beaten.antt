@@ -26,7 +26,7 @@ use Rattle.driver.specs.Schedule.{BeatsInTime, beats, ticks_by}
 use Rattle.driver.specs.Telling.{ordered, told_to}
 use Rattle.driver.proofs.Awaiting.{Advance, Comes, Waits, found_waits, until}
 use Rattle.driver.proofs.Claiming.{same_eq}
-use Rattle.driver.proofs.Clocking.{Clocks, woken}
+use Rattle.driver.proofs.Clocks.{Clocks, woken}
 use Rattle.driver.proofs.Events.{Hastened, Idle, Other, Own, Passed, clock_tells, not_passed}
 use Rattle.driver.proofs.Moves.{Base, Core, core, hastened_by}
 use Rattle.driver.proofs.Restarted.{none_behind}

@@ -22,7 +22,7 @@ use Rattle.driver.specs.Schedule.{IsFree, only_questions}
 use Rattle.driver.specs.Telling.{Ordered, ordered}
 use Rattle.driver.specs.Writing.{GoesOutIf, WriteLines, are_due, may_claim, may_write, piece_at, piece_of}
 use Rattle.driver.proofs.Claiming.{claims_sound, same_eq}
-use Rattle.driver.proofs.Clocking.{More, kept_more, more_both}
+use Rattle.driver.proofs.Clocks.{More, kept_more, more_both}
 use Rattle.driver.proofs.Events.{any_last}
 use Rattle.driver.proofs.Keeping.{Keeps, Line, connects_keep}
 use Rattle.driver.proofs.Monitors.{Look, look, look_in}

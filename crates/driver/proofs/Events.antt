@@ -22,7 +22,8 @@ use Rattle.driver.specs.Reports.{Hears}
 use Rattle.driver.specs.Schedule.{is_tick, ran_by, tells_only, ticks_by}
 use Rattle.driver.specs.Telling.{Ordered, ordered}
 use Rattle.driver.proofs.Claiming.{same_eq}
-use Rattle.driver.proofs.Clocking.{Clocks, HearClocks, HearsOther, TickClocks, hear_clocks, hears_other, tick_clocks}
+use Rattle.driver.proofs.Clocks.{Clocks, TickClocks, tick_clocks}
+use Rattle.driver.proofs.Clocking.{HearClocks, HearsOther, hear_clocks, hears_other}
 use Rattle.driver.proofs.Growing.{by_number}
 use Rattle.driver.proofs.Keeping.{Sound}
 use Rattle.driver.proofs.Moves.{Found, Hastens, Rests, base, connect_rests, monitors_of, nodes_hasten, rests_same, takes_rest, watch_rests}
@@ -64,7 +65,6 @@ not_passed moment Take is = refl
 if_so : (b x : Bool) → b ≡ true → (if b then x else true) ≡ true → x ≡ true
 if_so true x is said = said
 if_so false x is said = absurd (cc is)
-
 
 idle : (n : ℕ) (call : Call) (d : NodeMonitor) (old new : Driver) → slice_get old.monitors (n - 1) ≡ Some d → ((ran : ℕ) → ran_by ran call ≡ ran) → is_tick call ≡ false → Rests n old new → Event n call d old new
 idle n call d old new is ran quiet r = Idle ran quiet r (r.found d is)

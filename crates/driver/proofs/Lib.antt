@@ -73,3 +73,9 @@ mod Claimed
 mod Marked
 mod Reclaimed
 mod Retold
+mod Clocks
+mod Timers
+mod Silent
+mod Marking
+mod Among
+mod Stood

@@ -21,7 +21,7 @@ use Rattle.driver.specs.Waking.{awake}
 use Rattle.driver.specs.Writing.{may_claim}
 use Rattle.driver.proofs.Adding.{passes_grow}
 use Rattle.driver.proofs.Claiming.{claim_change, claims_sound}
-use Rattle.driver.proofs.Clocking.{More, kept_more, more_both, more_none, woken, woken_is}
+use Rattle.driver.proofs.Clocks.{More, kept_more, more_both, more_none, woken, woken_is}
 use Rattle.driver.proofs.Keeping.{Keeps, Line, Sound, connects_keep, keeps_both, writes_keep}
 use Rattle.driver.proofs.Monitors.{Look, changed_own, look, look_at, look_in}
 use Rattle.driver.proofs.Moves.{changed_here, monitors_of}

@@ -25,7 +25,7 @@ use Rattle.driver.specs.Monitors.{monitor_behind, new_monitor, note_at, told}
 use Rattle.driver.specs.Schedule.{GoesOn, IsRunning, ran_by}
 use Rattle.driver.specs.Telling.{Ordered, counted, counts, next_note, none_told, ordered, told_to}
 use Rattle.driver.proofs.Claiming.{same_eq}
-use Rattle.driver.proofs.Clocking.{Clocks, More, woken}
+use Rattle.driver.proofs.Clocks.{Clocks, More, woken}
 use Rattle.driver.proofs.Counting.{counted_length, counts_all, counts_append, in_all, most, step_all}
 use Rattle.driver.proofs.Events.{Event, Hastened, Idle, Other, Own, Passed, event}
 use Rattle.driver.proofs.Moves.{Core, core, hastened_by}

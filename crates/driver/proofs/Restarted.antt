@@ -26,14 +26,15 @@ use Rattle.driver.specs.Schedule.{RestartsInTime, restarts, ticks_by}
 use Rattle.driver.specs.Telling.{Ordered, ordered, told_to}
 use Rattle.driver.proofs.Awaiting.{Advance, Comes, Waits, found_waits, until}
 use Rattle.driver.proofs.Claiming.{same_eq}
-use Rattle.driver.proofs.Clocking.{Clocks, woken}
+use Rattle.driver.proofs.Clocks.{Clocks, woken}
 use Rattle.driver.proofs.Events.{clock_tells, not_passed}
 use Rattle.driver.proofs.Events.{Idle, Hastened, Other, Own, Passed}
 use Rattle.driver.proofs.Monitors.{Look}
 use Rattle.driver.proofs.Moves.{Base, Core, core, hastened_by}
 use Rattle.driver.proofs.Reporting.{heard_look}
 use Rattle.driver.proofs.Staying.{is_down_so}
-use Rattle.driver.proofs.Timely.{OutageFits, longest, running}
+use Rattle.driver.proofs.Timers.{OutageFits, longest}
+use Rattle.driver.proofs.Timely.{running}
 
 -- A node that is down waits at most to this moment.
 pub record IsDown (n moment : ℕ) (c : Core) : Type 0 where

@@ -1,32 +1,26 @@
 -- A node that hears of no leader is told in time to ask for votes.
 use Rattle.std.proofs.Common.{◌≡◌, ◌∙◌, ◌⊎◌, inl, inr, ℕ, zero, suc, ◌+◌, ◌-◌, ◌*◌, ◌<◌, ◌≤◌, Bool, true, false, List, [], ◌∷◌, length, Option, Some, None, refl, sym, ap, subst, slice_get, ⊎_elim, arith}
-use Rattle.std.specs.Prelude.{◌^◌, ◌/◌, ◌&&◌, ◌||◌, if◌then◌else◌, is_some, max, min, nat_eq, nat_le, nat_lt, not}
+use Rattle.std.specs.Prelude.{◌/◌, ◌&&◌, ◌||◌, if◌then◌else◌, is_some, min, nat_eq}
 use Rattle.std.specs.List.{list_all, list_any}
-use Rattle.std.proofs.lemmas.Bool.{and_right, eqb-true, le-ltb, leb-false, leb-true, ne_eqb}
+use Rattle.std.proofs.lemmas.Bool.{and_right, leb-false, ne_eqb}
 use Rattle.node_notes.specs.declared.note.Note.TheVariants as note
-use Rattle.node_notes.specs.declared.progress.Progress.{Progress}
 use Rattle.node_notes.specs.declared.status.Status.{Status}
 use Rattle.node_notes.specs.Notes.{leads}
-use Rattle.raft_log.specs.declared.role.Role.{Role}
-use Rattle.raft_log.specs.declared.role.Role.TheVariants.{Candidate, Follower, Leader}
-use Rattle.raft_node.specs.declared.node_fault.Cause.{Cause}
 use Rattle.driver.specs.declared.driver.Driver.{Driver}
 use Rattle.driver.specs.declared.node_monitor.NodeMonitor.{NodeMonitor}
 use Rattle.driver.specs.declared.node_monitor.clock.TheConstants.{APART}
 use Rattle.driver.specs.declared.node_monitor.standing.Outage.{Outage}
 use Rattle.driver.specs.declared.order.Order.{Order}
 use Rattle.driver.specs.declared.settings.Settings.{Settings}
-use Rattle.driver.specs.declared.timer.Timer.{Timer}
-use Rattle.driver.specs.Absences.{shortened}
 use Rattle.driver.specs.Calls.{Call, DoesAll, IsTold, Step}
 use Rattle.driver.specs.Counting.{all_told}
-use Rattle.driver.specs.Hearing.{begins_run, heard_behind, is_follower, is_none, is_raised, stood_behind, told_behind, was_up}
+use Rattle.driver.specs.Hearing.{heard_behind}
 use Rattle.driver.specs.Links.{status_in}
-use Rattle.driver.specs.Monitors.{at, is_over, is_to_beat, note_at, note_for, note_up, patience}
+use Rattle.driver.specs.Monitors.{is_over, is_to_beat, note_at, note_for, note_up, patience}
 use Rattle.driver.specs.Schedule.{EachTicks, GoesOn, VotesInTicks, VotesInTime, asks_for_votes, contacts_of, counts, is_tick, one_orders, passes_counted, ran_by, tells_of_none, tells_only}
 use Rattle.driver.specs.Telling.{ordered, told_to}
 use Rattle.driver.proofs.Claiming.{same_eq}
-use Rattle.driver.proofs.Clocking.{Clocks, woken}
+use Rattle.driver.proofs.Clocks.{Clocks, woken}
 use Rattle.driver.proofs.Events.{Event, Hastened, Idle, Other, Own, Passed, any_first, any_last, clock_tells, event}
 use Rattle.driver.proofs.Keeping.{Sound}
 use Rattle.driver.proofs.Moves.{Base, Core, Found, core, hastened_by}
@@ -35,157 +29,7 @@ use Rattle.driver.proofs.Restarted.{none_behind}
 use Rattle.driver.proofs.Staying.{is_down_so}
 use Rattle.driver.proofs.Timely.{running}
 use Rattle.driver.proofs.Beaten.{none_is}
-
--- A node is up and hears of no leader; when the driver ran last, this was left of its wait.
-pub record IsSilent (n term contacts : ℕ) (settings : Settings) (ran left : ℕ) (c : Core) : Type 0 where
-  pub id : c.id ≡ n
-  pub is_up : c.down ≡ None
-  pub status : Status
-  pub is_status : c.status ≡ Some status
-  pub stands : is_some status.down ≡ false
-  pub follows : leads status ≡ false
-  pub is_term : status.term ≡ term
-  pub heard : c.progress.contacts ≡ contacts
-  pub before : c.following.last_leader_contact.since ≤ ran
-  pub enough : settings.timeout_ms + APART * n ≤ (ran - c.following.last_leader_contact.since) + left
-
-hastened_silent : (n term contacts : ℕ) (settings : Settings) (ran left : ℕ) (short : Bool) (d : NodeMonitor) → IsSilent n term contacts settings ran left (core d) → IsSilent n term contacts settings ran left (core (hastened_by short d))
-hastened_silent n term contacts settings ran left false d w = w
-hastened_silent n term contacts settings ran left true d w = record {
-  id = w.id;
-  is_up = ap shortened w.is_up;
-  status = w.status;
-  is_status = w.is_status;
-  stands = w.stands;
-  follows = w.follows;
-  is_term = w.is_term;
-  heard = w.heard;
-  before = w.before;
-  enough = w.enough;
-}
-
--- the driver was awake
-later_before : (since ran now half : ℕ) → since ≤ ran → ran ≤ now → min (since + ((now - ran) - half)) (2 ^ 64 - 1) ≤ now
-later_before since ran now half before goes = omega (arith, before, goes)
-
-later_enough : (since ran now half wait left : ℕ) → since ≤ ran → ran ≤ now → wait ≤ (ran - since) + left → wait ≤ (now - min (since + ((now - ran) - half)) (2 ^ 64 - 1)) + (left - min (now - ran) half)
-later_enough since ran now half wait left before goes enough = omega (arith, before, goes, enough)
-
-woken_silent : (n term contacts left now : ℕ) (old : Driver) (d : NodeMonitor) → old.ran.since ≤ now → IsSilent n term contacts old.settings old.ran.since left (core d) → IsSilent n term contacts old.settings now (left - min (now - old.ran.since) (old.settings.timeout_ms / 2)) (core (woken old now d))
-woken_silent n term contacts left now old d goes w = record {
-  id = w.id;
-  is_up = w.is_up;
-  status = w.status;
-  is_status = w.is_status;
-  stands = w.stands;
-  follows = w.follows;
-  is_term = w.is_term;
-  heard = w.heard;
-  before = later_before d.following.last_leader_contact.since old.ran.since now (old.settings.timeout_ms / 2) w.before goes;
-  enough = later_enough d.following.last_leader_contact.since old.ran.since now (old.settings.timeout_ms / 2) (old.settings.timeout_ms + APART * n) left w.before goes w.enough;
-}
-
--- A report tells of no leader.
-pub record OfNone (term contacts : ℕ) (status : Status) (progress : Progress) : Type 0 where
-  pub stands : is_some status.down ≡ false
-  pub follows : leads status ≡ false
-  pub is_term : status.term ≡ term
-  pub most : progress.contacts ≤ contacts
-
-abbrev or_this : Status → Option Status → Status
-or_this status None = status
-or_this status (Some other) = other
-
-none_so : (cause : Option Cause) → is_some cause ≡ false → is_none cause ≡ true
-none_so None so = refl
-none_so (Some cause) so = absurd (cc so)
-
-and_first : (a b : Bool) → (a && b) ≡ true → a ≡ true
-and_first true b is = refl
-and_first false b is = absurd (cc is)
-
-and_last : (a b : Bool) → (a && b) ≡ true → b ≡ true
-and_last true b is = is
-and_last false b is = absurd (cc is)
-
-of_none_by : (a b c d : Bool) → (not a && not b && c && d) ≡ true → (a ≡ false) × (b ≡ false) × (c ≡ true) × (d ≡ true)
-of_none_by true b c d is = absurd (cc is)
-of_none_by false true c d is = absurd (cc is)
-of_none_by false false false d is = absurd (cc is)
-of_none_by false false true false is = absurd (cc is)
-of_none_by false false true true is = (refl, refl, refl, refl)
-
-of_none : (term contacts : ℕ) (status : Status) (progress : Progress) → tells_of_none term contacts status progress ≡ true → OfNone term contacts status progress
-of_none term contacts status progress is =
-    let (a, b, c, d) = of_none_by (is_some status.down) (leads status) (nat_eq status.term term) (nat_le progress.contacts contacts) is in
-    record { stands = a; follows = b; is_term = eqb-true status.term term c; most = leb-true progress.contacts contacts d }
-
--- it moves no timer
-kept_since : (led leads raised yielded : Bool) (now : ℕ) (timer : Timer) → led ≡ false → leads ≡ false → raised ≡ false → (if (led || leads) || raised && not yielded then at now else timer) ≡ timer
-kept_since true leads raised yielded now timer a b c = absurd (cc a)
-kept_since false true raised yielded now timer a b c = absurd (cc b)
-kept_since false false true yielded now timer a b c = absurd (cc c)
-kept_since false false false yielded now timer a b c = refl
-
-raised_by : (role : Role) (before after term : ℕ) → before ≡ term → after ≡ term → (is_follower role && nat_lt before after) ≡ false
-raised_by Candidate before after term first last = refl
-raised_by Leader before after term first last = refl
-raised_by Follower before after term first last = le-ltb before after (omega (arith, first, last))
-
-is_not_raised : (known : Option Status) (status before : Status) (term : ℕ) → known ≡ Some before → before.term ≡ term → status.term ≡ term → is_raised known status ≡ false
-is_not_raised None status before term is first last = absurd (cc is)
-is_not_raised (Some other) status before term is first last =
-    raised_by status.role other.term status.term term (ap (λ (found : Option Status). (or_this before found).term) is ∙ first) last
-
-no_more : (known heard contacts : ℕ) → known ≡ contacts → heard ≤ contacts → nat_lt known heard ≡ false
-no_more known heard contacts is most = le-ltb known heard (omega (arith, is, most))
-
-same_most : (known heard contacts : ℕ) → known ≡ contacts → heard ≤ contacts → max known heard ≡ contacts
-same_most known heard contacts is most = omega (arith, is, most)
-
-was_up_by : (known : Option Status) (before : Status) → known ≡ Some before → is_some before.down ≡ false → was_up known ≡ true
-was_up_by None before is so = absurd (cc is)
-was_up_by (Some other) before is so = none_so other.down (ap (λ (found : Option Status). is_some (or_this before found).down) is ∙ so)
-
-same_least : (known contacts : ℕ) → known ≡ contacts → known ≤ contacts
-same_least known contacts is = omega (arith, is)
-
-or_last : (a b : Bool) → a ≡ false → (a || b) ≡ true → b ≡ true
-or_last true b none is = absurd (cc none)
-or_last false b none is = is
-
--- what is known of it behind such a report
-told_silent : (n term contacts : ℕ) (settings : Settings) (ran left : ℕ) (status : Status) (m : NodeMonitor) (new up : Bool) (cause : Option Cause) → up ≡ true → is_some cause ≡ false → m.id ≡ n → m.status ≡ Some status → OfNone term contacts status m.progress → m.progress.contacts ≡ contacts → m.following.last_leader_contact.since ≤ ran → settings.timeout_ms + APART * n ≤ (ran - m.following.last_leader_contact.since) + left → (now : ℕ) → IsSilent n term contacts settings ran left (core (stood_behind m now new up cause))
-told_silent n term contacts settings ran left status m new true None is so id here o heard before enough now = record {
-  id = id;
-  is_up = refl;
-  status = status;
-  is_status = here;
-  stands = o.stands;
-  follows = o.follows;
-  is_term = o.is_term;
-  heard = heard;
-  before = before;
-  enough = enough;
-}
-told_silent n term contacts settings ran left status m new false cause is so id here o heard before enough now = absurd (cc is)
-told_silent n term contacts settings ran left status m new true (Some cause) is so id here o heard before enough now = absurd (cc so)
-
-heard_silent : (n term contacts : ℕ) (settings : Settings) (ran left now told : ℕ) (status : Status) (progress : Progress) (d : NodeMonitor) → OfNone term contacts status progress → IsSilent n term contacts settings ran left (core d) → IsSilent n term contacts settings ran left (core (heard_behind d now told status progress))
-heard_silent n term contacts settings ran left now told status progress d o w =
-    let m = told_behind d now told status progress in
-    let raised = is_not_raised d.status status w.status term w.is_status w.is_term o.is_term in
-    let led = no_more d.progress.contacts progress.contacts contacts w.heard o.most in
-    let timer : m.following.last_leader_contact ≡ d.following.last_leader_contact =
-    kept_since (nat_lt d.progress.contacts progress.contacts) (leads status) (is_raised d.status status) d.following.has_yielded now d.following.last_leader_contact led o.follows raised
-    in
-    let heard : m.progress.contacts ≡ contacts = same_most d.progress.contacts progress.contacts contacts w.heard o.most in
-    told_silent n term contacts settings ran left status m (begins_run d.status status) (was_up d.status) status.down
-    (was_up_by d.status w.status w.is_status w.stands) o.stands w.id refl
-    (record { stands = o.stands; follows = o.follows; is_term = o.is_term; most = same_least m.progress.contacts contacts heard }) heard
-    (subst (λ (t : Timer). t.since ≤ ran) (sym timer) w.before)
-    (subst (λ (t : Timer). settings.timeout_ms + APART * n ≤ (ran - t.since) + left) (sym timer) w.enough)
-    now
+use Rattle.driver.proofs.Silent.{IsSilent, and_first, and_last, hastened_silent, heard_silent, of_none, or_last, woken_silent}
 
 -- what the clock tells it
 note_silent : (d : NodeMonitor) (settings : Settings) (now : ℕ) (status : Status) → d.status ≡ Some status → d.down ≡ None → leads status ≡ false → note_at d settings now ≡ (if is_over d.following.last_leader_contact (patience settings d.id) now then Some (note.Timeout d.progress.contacts) else None)
@@ -274,7 +118,7 @@ stays_silent n term contacts ran left settings call told d new same quiet goes_b
     inr (
       ap (λ (b : Bool). b && nat_eq (left - counts half ran call) 0) quiet,
       subst (λ (k : ℕ). WaitsOn n term contacts settings k (left - counts half ran call) new) (sym same)
-      (subst (λ (k : ℕ). WaitsOn n term contacts settings ran k new) rest waits),
+          (subst (λ (k : ℕ). WaitsOn n term contacts settings ran k new) rest waits),
     )
 
 -- where it ran

@@ -94,7 +94,7 @@ asks_for_votes node contacts order = false
 abbrev pub RestartsInTime : Type 0
 RestartsInTime =
     (node : ℕ) (status : Status) (steps : List Step) (old new : Driver)
-    → Runs (λ told progress. is_some told.down) node steps old new
+    → Runs (λ reported progress. is_some reported.down) node steps old new
     → status_at old.monitors node ≡ Some status → is_some status.down ≡ true
     → passes (old.ran.since + max LONGEST old.settings.timeout_ms) steps ≡ true
     → one_orders (restarts node) steps ≡ true
@@ -104,7 +104,7 @@ RestartsInTime =
 abbrev pub BeatsInTime : Type 0
 BeatsInTime =
     (node : ℕ) (status : Status) (steps : List Step) (old new : Driver)
-    → Runs (λ told progress. leads told) node steps old new
+    → Runs (λ reported progress. leads reported) node steps old new
     → status_at old.monitors node ≡ Some status → leads status ≡ true
     → told_to old.orders node ≤ done_at old.monitors node
     → passes (old.ran.since + old.settings.beat_ms) steps ≡ true
@@ -180,7 +180,7 @@ settles node note call = false
 abbrev pub ClaimsInTime : Type 0
 ClaimsInTime =
     (node now : ℕ) (at : Moment) (line : (ℕ × ℕ) × ℕ) (steps : List Step) (told : List Order) (old next new : Driver)
-    → Runs (λ status progress. true) node steps old next
+    → Runs (λ reported progress. true) node steps old next
     → one_orders (claims node) steps ≡ false
     → list_any (λ step. settles node (told_to old.orders node) step.call) steps ≡ true
     → old.ran.since + old.settings.timeout_ms ≤ now
