@@ -67,7 +67,7 @@ woken_due n moment beat_ms now old d w = record {
 }
 
 -- a leader is up
-leads_none : (role : Role) (down : Option Cause) → leads_up role down ≡ true → is_some down ≡ false
+pub leads_none : (role : Role) (down : Option Cause) → leads_up role down ≡ true → is_some down ≡ false
 leads_none Leader None is = refl
 leads_none Leader (Some cause) is = absurd (cc is)
 leads_none Follower down is = absurd (cc is)
@@ -107,7 +107,7 @@ heard_due n moment beat_ms now told status progress d so w =
     (further d.beat.note d.progress.done (min progress.done told) w.done) w.in_time
 
 -- what the clock tells it
-note_leader : (d : NodeMonitor) (settings : Settings) (now : ℕ) (status : Status) → d.status ≡ Some status → d.down ≡ None → leads status ≡ true → note_at d settings now ≡ (if is_to_beat d settings now then Some note.Beat else None)
+pub note_leader : (d : NodeMonitor) (settings : Settings) (now : ℕ) (status : Status) → d.status ≡ Some status → d.down ≡ None → leads status ≡ true → note_at d settings now ≡ (if is_to_beat d settings now then Some note.Beat else None)
 unfolding note_for note_up
 note_leader d settings now status is up leader =
     ap (λ (status : Option Status). note_for d settings now status d.down) is
@@ -147,7 +147,7 @@ clock_by n moment now settings d old new given c w false is goes_by orders =
       },
     )
 
-clock_due : (n moment now : ℕ) (settings : Settings) (d : NodeMonitor) (old new : Driver) (given : List Order) → Clocks n now settings d old new → IsDue n moment settings.beat_ms (core d) → new.settings ≡ settings → new.orders ≡ ordered old.orders given → Ticks n moment settings.beat_ms settings given now new
+pub clock_due : (n moment now : ℕ) (settings : Settings) (d : NodeMonitor) (old new : Driver) (given : List Order) → Clocks n now settings d old new → IsDue n moment settings.beat_ms (core d) → new.settings ≡ settings → new.orders ≡ ordered old.orders given → Ticks n moment settings.beat_ms settings given now new
 clock_due n moment now settings d old new given c w goes_by orders =
     let own = subst (λ (k : Core). IsDue n moment settings.beat_ms k) (sym c.from) w in
     clock_by n moment now settings d old new given c own (is_over c.own.beat.at settings.beat_ms now) refl goes_by orders
@@ -161,7 +161,7 @@ tick_comes n moment now settings call told new is t = ⊎_elim (λ told. inl tol
 abbrev pub tells_leading : Status → Progress → Bool
 tells_leading told progress = leads told
 
-advance : (n moment : ℕ) (settings : Settings) → Advance n (IsDue n moment settings.beat_ms) (beats n) tells_leading moment settings
+pub advance : (n moment : ℕ) (settings : Settings) → Advance n (IsDue n moment settings.beat_ms) (beats n) tells_leading moment settings
 advance n moment settings call told d old new goes_by w fit is (Idle ran quiet r f) =
     inr (not_passed moment call quiet, found_waits n (IsDue n moment settings.beat_ms) settings d new (ap (λ (b : Base). b.settings) r.based ∙ goes_by) f w)
 advance n moment settings call told d old new goes_by w fit is (Hastened ran quiet h) =
@@ -185,7 +185,7 @@ pub none_is : (down : Option Outage) → is_some down ≡ false → down ≡ Non
 none_is None so = refl
 none_is (Some o) so = absurd (cc so)
 
-sooner : (since ran wait : ℕ) → since ≤ ran → since + wait ≤ ran + wait
+pub sooner : (since ran wait : ℕ) → since ≤ ran → since + wait ≤ ran + wait
 sooner since ran wait before = omega (arith, before)
 
 pub beats_in_time : BeatsInTime

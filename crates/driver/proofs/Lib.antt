@@ -79,3 +79,4 @@ mod Silent
 mod Marking
 mod Among
 mod Stood
+mod Beating

@@ -110,6 +110,25 @@ BeatsInTime =
     → passes (old.ran.since + old.settings.beat_ms) steps ≡ true
     → one_orders (beats node) steps ≡ true
 
+-- a report tells of this node that it did all that it was told up to this note
+abbrev pub did : ℕ → ℕ → Call → Bool
+did node note (Hear now at other status effects progress refused) = nat_eq other node && nat_le note progress.done
+did node note call = false
+
+-- one of these calls is such a report, and behind it time passes to this moment
+unfoldable pub did_then_passes : ℕ → ℕ → ℕ → List Step → Bool
+did_then_passes node note moment [] = false
+did_then_passes node note moment (step ∷ more) = did node note step.call && passes moment more || did_then_passes node note moment more
+
+-- The same of a leader that reports meanwhile that it did all that it was told before.
+abbrev pub BeatsBehindReports : Type 0
+BeatsBehindReports =
+    (node : ℕ) (status : Status) (steps : List Step) (old new : Driver)
+    → Runs (λ reported progress. leads reported) node steps old new
+    → status_at old.monitors node ≡ Some status → leads status ≡ true
+    → did_then_passes node (told_to old.orders node) (old.ran.since + old.settings.beat_ms) steps ≡ true
+    → one_orders (beats node) steps ≡ true
+
 -- how often this monitor's node had heard of a leader, as far as is known
 abbrev pub contacts_of : Option NodeMonitor → ℕ
 contacts_of None = 0

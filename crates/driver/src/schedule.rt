@@ -1,7 +1,7 @@
 //! What each node is told in time, as contracts of functions that do nothing: as long as time passes, and however nodes
 //! report, what the group needs to go on is told to them.
 ghost use Rattle.driver.specs.Lost.{AsksAgain};
-ghost use Rattle.driver.specs.Schedule.{BeatsInTime, ClaimsInTime, NewClaimsInTime, RestartsInTime, VotesInTicks, VotesInTime};
+ghost use Rattle.driver.specs.Schedule.{BeatsBehindReports, BeatsInTime, ClaimsInTime, NewClaimsInTime, RestartsInTime, VotesInTicks, VotesInTime};
 
 /// Over every list of calls of a driver as time goes on: a node that is down is told to start again within a minute, or a
 /// timeout where that is longer, however often it fell before.
@@ -9,10 +9,11 @@ pub fn nodes_start_again_in_time()
     ensures { RestartsInTime }
 {}
 
-/// Over every list of calls of a driver as time goes on: a node that leads, and did all that it was told, is told to send
-/// once the time of a beat has passed.
+/// Over every list of calls of a driver as time goes on: a node that leads, and had done all that it was told, or reports
+/// meanwhile that it did all that it was told before, is told to send once the time of a beat has passed.
 pub fn leaders_are_heard_in_time()
-    ensures { BeatsInTime }
+    ensures done { BeatsInTime }
+    ensures reported { BeatsBehindReports }
 {}
 
 /// Over every list of calls of a driver as time goes on: a node that hears of no leader is told to ask for votes once its
