@@ -44,14 +44,14 @@ among_then xs ys zs first last number is = last number (first number is)
 pub among_left : (xs ys : List ℕ) → AreAmong xs (xs ++ ys)
 among_left xs ys number is = list_any-append (nat_eq number) xs ys ∙ or_left (list_any (nat_eq number) xs) (list_any (nat_eq number) ys) is
 
-among_right : (xs ys : List ℕ) → AreAmong ys (xs ++ ys)
+pub among_right : (xs ys : List ℕ) → AreAmong ys (xs ++ ys)
 among_right xs ys number is = list_any-append (nat_eq number) xs ys ∙ or_right (list_any (nat_eq number) xs) (list_any (nat_eq number) ys) is
 
 or_either : (a b c : Bool) → (a ≡ true → c ≡ true) → (b ≡ true → c ≡ true) → (a || b) ≡ true → c ≡ true
 or_either true b c first last is = first refl
 or_either false b c first last is = last is
 
-among_either : (xs ys zs : List ℕ) → AreAmong xs zs → AreAmong ys zs → AreAmong (xs ++ ys) zs
+pub among_either : (xs ys zs : List ℕ) → AreAmong xs zs → AreAmong ys zs → AreAmong (xs ++ ys) zs
 among_either xs ys zs first last number is =
     or_either (list_any (nat_eq number) xs) (list_any (nat_eq number) ys) (is_among number zs) (first number) (last number)
     (sym (list_any-append (nat_eq number) xs ys) ∙ is)

@@ -80,3 +80,4 @@ mod Marking
 mod Among
 mod Stood
 mod Beating
+mod Unlost

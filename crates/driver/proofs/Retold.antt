@@ -130,7 +130,7 @@ feed_among s calls bytes =
     let all = waiting_of s calls ++ numbers_of (fed_answer s calls bytes).requests in
     from_as all (waiting_of s (Feed bytes ∷ calls)) all (feed_waiting s calls bytes) (among_all all)
 
-reads_retell : (shut : Bool) (bytes : List ℕ) (now : ℕ) (at : Moment) (due : ℕ) (s : Settings) (calls : List Call) (old new : Client) (before after : Ordered) → is_shut old ≡ shut → Stands s calls old.gate → Receives bytes now at due s calls old before new after → Retells s calls before new after
+pub reads_retell : (shut : Bool) (bytes : List ℕ) (now : ℕ) (at : Moment) (due : ℕ) (s : Settings) (calls : List Call) (old new : Client) (before after : Ordered) → is_shut old ≡ shut → Stands s calls old.gate → Receives bytes now at due s calls old before new after → Retells s calls before new after
 reads_retell true bytes now at due s calls old new before after is stands h =
     let (same, none) = h.shut is in nothing_retells s calls old new before after stands same none
 reads_retell false bytes now at due s calls old new before after is stands h =
@@ -139,7 +139,7 @@ reads_retell false bytes now at due s calls old new before after is stands h =
     (λ p. cut_retells s calls at _ new before after p)
     (h.hears is)
 
-effect_retells : (e : GateEffect) (nick : List ℕ) (now : ℕ) (at : Moment) (s : Settings) (calls : List Call) (old new : Client) (before after : Ordered) → HearsEffect e nick now at s calls old before new after → Retells s calls before new after
+pub effect_retells : (e : GateEffect) (nick : List ℕ) (now : ℕ) (at : Moment) (s : Settings) (calls : List Call) (old new : Client) (before after : Ordered) → HearsEffect e nick now at s calls old before new after → Retells s calls before new after
 effect_retells e nick now at s calls old new before after h =
     ⊎_elim
     (λ p.
@@ -148,7 +148,7 @@ effect_retells e nick now at s calls old new before after h =
     (λ p. cut_retells s calls at _ new before after p)
     h
 
-hears_retell : (e : GateEffect) (nick : List ℕ) (now : ℕ) (at : Moment) (s : Settings) (calls : List Call) (old new : Client) (before after : Ordered) → Hears e nick now at s calls old before new after → Retells s calls before new after
+pub hears_retell : (e : GateEffect) (nick : List ℕ) (now : ℕ) (at : Moment) (s : Settings) (calls : List Call) (old new : Client) (before after : Ordered) → Hears e nick now at s calls old before new after → Retells s calls before new after
 hears_retell e nick now at s calls old new before after h =
     let first = effect_retells e nick now at s calls old h.told before h.orders h.hears in
     both_retell s calls before h.orders after h.told new first
@@ -171,12 +171,12 @@ leaves_retell now at s calls old new before after h =
     both_retell s calls before h.orders after h.told new first
     (parts_retell (is_done (gate s (End ∷ calls)).waiting h.told) at s (End ∷ calls) h.told new h.orders after h.stands.gate h.parts)
 
-dismissed_retells : (leaves : Bool) (now : ℕ) (at : Moment) (s : Settings) (calls : List Call) (old new : Client) (before after : Ordered) → is_leaving old ≡ leaves → Stands s calls old.gate → IsDismissed now at s calls old before new after → Retells s calls before new after
+pub dismissed_retells : (leaves : Bool) (now : ℕ) (at : Moment) (s : Settings) (calls : List Call) (old new : Client) (before after : Ordered) → is_leaving old ≡ leaves → Stands s calls old.gate → IsDismissed now at s calls old before new after → Retells s calls before new after
 dismissed_retells true now at s calls old new before after is stands h =
     let (same, none) = h.leaving is in nothing_retells s calls old new before after stands same none
 dismissed_retells false now at s calls old new before after is stands h = leaves_retell now at s calls old new before after (h.leaves is)
 
-lost_retells : (gone : Bool) (now : ℕ) (at : Moment) (s : Settings) (calls : List Call) (old new : Client) (before after : Ordered) → old.is_gone ≡ gone → Stands s calls old.gate → IsLost now at s calls old before new after → Retells s calls before new after
+pub lost_retells : (gone : Bool) (now : ℕ) (at : Moment) (s : Settings) (calls : List Call) (old new : Client) (before after : Ordered) → old.is_gone ≡ gone → Stands s calls old.gate → IsLost now at s calls old before new after → Retells s calls before new after
 lost_retells true now at s calls old new before after is stands h = record {
   behind = calls;
   stands = subst (λ (client : Client). Stands s calls client.gate) (sym (h.gone is)) stands;

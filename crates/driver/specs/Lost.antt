@@ -1,5 +1,5 @@
 -- What a client asked is told to its node again where it may be lost.
-use Rattle.std.specs.Prelude.{◌≡◌, ℕ, Bool, true, nat_eq, List, ◌∷◌}
+use Rattle.std.specs.Prelude.{◌≡◌, ◌<◌, ℕ, Bool, true, false, nat_eq, List, [], ◌∷◌}
 use Rattle.std.specs.List.{list_any}
 use Rattle.wire_bytes.specs.declared.moment.Moment.{Moment}
 use Rattle.client_gate.specs.Calls.{Call, Stands, gate}
@@ -8,7 +8,7 @@ use Rattle.driver.specs.declared.client.Client.{Client}
 use Rattle.driver.specs.declared.order.Order.{Order}
 use Rattle.driver.specs.Asking.{may_be_lost}
 use Rattle.driver.specs.Once.{HappenAll, Happening, Words, numbers_of, numbers_told}
-use Rattle.driver.specs.Telling.{Ordered, ordered}
+use Rattle.driver.specs.Telling.{Ordered, next_note, ordered}
 
 -- a number is one of these
 abbrev pub is_among : ℕ → List ℕ → Bool
@@ -34,3 +34,21 @@ AsksAgain =
     → HappenAll (record { event = Words lost refused; now = now; at = at } ∷ happenings) old before new after
     → Stands s calls old.gate → may_be_lost lost old ≡ true
     → TellsAll s before new after
+
+-- A request of a client was told behind these orders, behind which the next note that the client's node is told is none that may be lost.
+pub record IsNotLost (lost number : ℕ) (new : Client) (after : Ordered) : Type 0 where
+  pub before : Ordered
+  pub next : lost < next_note before new.origin.0
+  pub told : List Order
+  pub orders : after ≡ ordered before told
+  pub tells : is_among number (numbers_told told) ≡ true
+
+-- A client's node tells that notes up to this one may be lost, and by that nothing is asked again. Whatever happened to the client before, from
+-- where nothing waited on: each of its requests that waits was told by a later note.
+abbrev pub OthersAreNotLost : Type 0
+OthersAreNotLost =
+    (lost number : ℕ) (happenings : List Happening) (s : Settings) (calls : List Call) (old new : Client) (before after : Ordered)
+    → HappenAll happenings old before new after → Stands s calls old.gate → (gate s calls).waiting ≡ []
+    → may_be_lost lost new ≡ false
+    → is_among number (numbers_of new.gate.gate.waiting) ≡ true
+    → IsNotLost lost number new after

@@ -1,7 +1,8 @@
 //! What each node is told in time, as contracts of functions that do nothing: as long as time passes, and however nodes
 //! report, what the group needs to go on is told to them.
-ghost use Rattle.driver.specs.Lost.{AsksAgain};
-ghost use Rattle.driver.specs.Schedule.{BeatsBehindReports, BeatsInTime, ClaimsInTime, NewClaimsInTime, RestartsInTime, VotesInTicks, VotesInTime};
+ghost use Rattle.driver.specs.Lost.{AsksAgain, OthersAreNotLost};
+ghost use Rattle.driver.specs.Schedule.{BeatsBehindReports, BeatsInTime, ClaimsInTime};
+ghost use Rattle.driver.specs.Schedule.{NewClaimsInTime, RestartsInTime, VotesInTicks, VotesInTime};
 
 /// Over every list of calls of a driver as time goes on: a node that is down is told to start again within a minute, or a
 /// timeout where that is longer, however often it fell before.
@@ -33,7 +34,8 @@ pub fn lines_are_claimed_in_time()
 {}
 
 /// Whatever happens to a client behind a report by which what it asked may be lost: each of its requests that waits was told
-/// to its node with that report, or behind it.
+/// to its node with that report, or behind it. Where a report leaves them, each was told by a note behind those that may be lost.
 pub fn requests_are_asked_again()
-    ensures { AsksAgain }
+    ensures again { AsksAgain }
+    ensures others { OthersAreNotLost }
 {}
