@@ -81,3 +81,4 @@ mod Among
 mod Stood
 mod Beating
 mod Unlost
+mod Unasked
