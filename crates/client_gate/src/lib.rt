@@ -27,4 +27,5 @@ mod writing;
 pub use fed::Fed;
 pub use gate::{ClientGate, GateEffect};
 pub use request::Request;
+pub use splitting::pieces;
 pub use status_word::StatusWord;

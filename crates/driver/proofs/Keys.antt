@@ -1,18 +1,16 @@
 -- What is known of the keys of channels, whatever lines go to the server.
-use Rattle.std.proofs.Common.{◌≡◌, ◌∙◌, ◌++◌, ◌≤◌, ◌<◌, ◌+◌, ◌-◌, ℕ, suc, Bool, true, false, not, List, [], ◌∷◌, length, drop, refl, sym, ap, subst, arith}
+use Rattle.std.proofs.Common.{◌≡◌, ◌∙◌, ◌++◌, ◌≤◌, ◌<◌, ◌+◌, ℕ, suc, Bool, true, false, not, List, [], ◌∷◌, length, drop, refl, sym, ap, subst, arith}
 use Rattle.std.specs.Prelude.{◌&&◌, ◌||◌, codes, filter, if◌then◌else◌, nat_le}
-use Rattle.std.specs.List.{list_any}
+use Rattle.std.specs.List.{list_all, list_any}
 use Rattle.std.proofs.lemmas.Bool.{leb-false, leb-true}
-use Rattle.std.proofs.lemmas.List.{length-append, length-drop}
-use Rattle.irc_line.specs.Lines.{Parts, parameter}
+use Rattle.std.proofs.lemmas.List.{append_assoc, length-append, length-drop}
+use Rattle.std.proofs.lemmas.List.Elements.{filter-append}
+use Rattle.std.proofs.lemmas.List.Folds.{list_all-append}
+use Rattle.irc_line.specs.Lines.{Parts}
 use Rattle.buffer_machine.specs.Messages.{has_command}
 use Rattle.irc_line.specs.Names.{fold_name, is_channel, same_bytes, same_name}
 use Rattle.irc_line.proofs.SameBytes.{same_bytes-eq, same_bytes-refl}
-use Rattle.driver.specs.Keys.{KeyOf, Keys, KeysAreLearnt, is_key, joined_by, key_in, known_by, learnt_all, learnt_by, refused_by, tells_key, tried_by, with_key, with_room, without}
-
--- a key is of this channel
-abbrev is_of : List ℕ → KeyOf → Bool
-is_of channel known = same_name channel known.channel
+use Rattle.driver.specs.Keys.{IsLast, KeyOf, Keys, KeysAreLearnt, is_key, is_of, is_pair, joined_by, key_in, known_by, learnt_all, learnt_by, learnt_from, pairs_of, refused_by, told_by, tried_by, with_key, with_room, without}
 
 -- How many are known.
 
@@ -37,15 +35,14 @@ with_few channel key keys few =
     let left : length (without channel keys) ≤ 256 = omega (arith, few, fewer_now) in
     one_more (with_room (without channel keys)) _ (room_by (nat_le 256 (length (without channel keys))) (without channel keys) refl left)
 
-learnt_few_by : (tells : Bool) (line : Parts) (keys : List KeyOf) → length keys ≤ 256
-    → length (if tells then with_key (parameter 0 line) (parameter 1 line) keys else keys) ≤ 256
-learnt_few_by true line keys few = with_few (parameter 0 line) (parameter 1 line) keys few
-learnt_few_by false line keys few = few
+from_few : (told keys : List KeyOf) → length keys ≤ 256 → length (learnt_from told keys) ≤ 256
+from_few [] keys few = few
+from_few (pair ∷ more) keys few = from_few more (with_key pair.channel pair.key keys) (with_few pair.channel pair.key keys few)
 
 learnt_few : (lines : List Parts) (keys : List KeyOf) → length keys ≤ 256 → length (learnt_all lines keys) ≤ 256
 unfolding learnt_all
 learnt_few [] keys few = few
-learnt_few (line ∷ lines) keys few = learnt_few lines (learnt_by line keys) (learnt_few_by (tells_key line) line keys few)
+learnt_few (line ∷ lines) keys few = learnt_few lines (learnt_by line keys) (from_few (told_by line) keys few)
 
 last_true : (a b : Bool) → (a && b) ≡ true → b ≡ true
 last_true true b is = is
@@ -105,10 +102,115 @@ newest_with channel key keys =
     key_past channel (with_room left) (record { channel = channel; key = key } ∷ []) (room_none channel (nat_le 256 (length left)) left (gone channel keys))
     ∙ ap (λ (b : Bool). if b then key else []) (same_self channel)
 
-newest_by : (tells : Bool) (line : Parts) (keys : List KeyOf) → tells ≡ true
-    → key_in (parameter 0 line) (if tells then with_key (parameter 0 line) (parameter 1 line) keys else keys) ≡ parameter 1 line
-newest_by true line keys is = newest_with (parameter 0 line) (parameter 1 line) keys
-newest_by false line keys is = absurd (cc is)
+-- the keys behind those that a channel's last place stands among
+from_append : (before more keys : List KeyOf) → learnt_from (before ++ more) keys ≡ learnt_from more (learnt_from before keys)
+from_append [] more keys = refl
+from_append (pair ∷ before) more keys = from_append before more (with_key pair.channel pair.key keys)
+
+-- a channel's key stands among these, and so many behind it
+record Stands (pair : KeyOf) (count : ℕ) (keys : List KeyOf) : Type 0 where
+  front : List KeyOf
+  back : List KeyOf
+  are : keys ≡ front ++ pair ∷ back
+  none : list_any (is_of pair.channel) front ≡ false
+  few : length back ≤ count
+
+back_by : (one two : List ℕ) (same : Bool) → same_name two one ≡ same → same_name one two ≡ false → same_name two one ≡ false
+unfolding same_name
+back_by one two false is other = is
+back_by one two true is other =
+    let equal : fold_name one ≡ fold_name two = sym (same_bytes-eq (fold_name two) (fold_name one) is) in
+    absurd (cc (sym (ap (λ (name : List ℕ). same_bytes name (fold_name two)) equal ∙ same_bytes-refl (fold_name two)) ∙ other))
+
+same_back : (one two : List ℕ) → same_name one two ≡ false → same_name two one ≡ false
+same_back one two other = back_by one two (same_name two one) refl other
+
+kept_by : (of : Bool) (known : KeyOf) (rest : List KeyOf) → of ≡ false → (if not of then known ∷ rest else rest) ≡ known ∷ rest
+kept_by true known rest is = absurd (cc is)
+kept_by false known rest is = refl
+
+none_if : (channel : List ℕ) (kept : Bool) (known : KeyOf) (rest : List KeyOf) → is_of channel known ≡ false → list_any (is_of channel) rest ≡ false
+    → list_any (is_of channel) (if kept then known ∷ rest else rest) ≡ false
+none_if channel true known rest first none = ap (λ (b : Bool). b || list_any (is_of channel) rest) first ∙ none
+none_if channel false known rest first none = none
+
+none_kept : (channel other : List ℕ) (keys : List KeyOf) → list_any (is_of channel) keys ≡ false → list_any (is_of channel) (without other keys) ≡ false
+none_kept channel other [] none = refl
+none_kept channel other (known ∷ keys) none =
+    none_if channel (not (is_of other known)) known (without other keys)
+    (first_none (is_of channel known) (list_any (is_of channel) keys) none)
+    (none_kept channel other keys (rest_none (is_of channel known) (list_any (is_of channel) keys) none))
+
+stands_without : (pair : KeyOf) (other : List ℕ) (count : ℕ) (keys : List KeyOf) → same_name pair.channel other ≡ false → Stands pair count keys → Stands pair count (without other keys)
+stands_without pair other count keys apart s = record {
+  front = without other s.front;
+  back = without other s.back;
+  are =
+      ap (without other) s.are
+      ∙ filter-append (λ (known : KeyOf). not (is_of other known)) s.front (pair ∷ s.back)
+      ∙ ap (λ (rest : List KeyOf). without other s.front ++ rest) (kept_by (is_of other pair) pair (without other s.back) (same_back pair.channel other apart));
+  none = none_kept pair.channel other s.front s.none;
+  few = let less = fewer other s.back in let few = s.few in omega (arith, less, few);
+}
+
+stands_room : (pair : KeyOf) (count : ℕ) (full : Bool) (front back : List KeyOf) → nat_le 256 (length (front ++ pair ∷ back)) ≡ full → list_any (is_of pair.channel) front ≡ false → length back ≤ count → count < 255
+    → Stands pair count (if full then drop 1 (front ++ pair ∷ back) else front ++ pair ∷ back)
+stands_room pair count false front back is none few less = record { front = front; back = back; are = refl; none = none; few = few }
+stands_room pair count true [] back is none few less =
+    let long : 256 ≤ suc (length back) = leb-true 256 (suc (length back)) is in absurd (omega (arith, long, few, less))
+stands_room pair count true (known ∷ front) back is none few less =
+    record { front = front; back = back; are = refl; none = rest_none (is_of pair.channel known) (list_any (is_of pair.channel) front) none; few = few }
+
+stands_roomy : (pair : KeyOf) (count : ℕ) (keys : List KeyOf) → count < 255 → Stands pair count keys → Stands pair count (with_room keys)
+stands_roomy pair count keys less s =
+    subst (λ (keys : List KeyOf). Stands pair count (with_room keys)) (sym s.are)
+    (stands_room pair count (nat_le 256 (length (s.front ++ pair ∷ s.back))) s.front s.back refl s.none s.few less)
+
+stands_more : (pair known : KeyOf) (count : ℕ) (keys : List KeyOf) → Stands pair count keys → Stands pair (suc count) (keys ++ known ∷ [])
+stands_more pair known count keys s = record {
+  front = s.front;
+  back = s.back ++ known ∷ [];
+  are = ap (λ (keys : List KeyOf). keys ++ known ∷ []) s.are ∙ append_assoc s.front (pair ∷ s.back) (known ∷ []);
+  none = s.none;
+  few = subst (λ (n : ℕ). n ≤ suc count) (sym (length-append s.back (known ∷ []))) (let few = s.few in omega (arith, few));
+}
+
+stands_from : (pair : KeyOf) (count : ℕ) (later keys : List KeyOf) → list_any (is_of pair.channel) later ≡ false → length later + count < 256 → Stands pair count keys → Stands pair (length later + count) (learnt_from later keys)
+stands_from pair count [] keys none less s = subst (λ (n : ℕ). Stands pair n keys) (omega arith) s
+stands_from pair count (known ∷ later) keys none less s =
+    let apart = first_none (is_of pair.channel known) (list_any (is_of pair.channel) later) none in
+    let left = stands_without pair known.channel count keys apart s in
+    let roomy = stands_roomy pair count (without known.channel keys) (omega (arith, less)) left in
+    let more = stands_more pair (record { channel = known.channel; key = known.key }) count (with_room (without known.channel keys)) roomy in
+    subst (λ (n : ℕ). Stands pair n (learnt_from later (with_key known.channel known.key keys))) (omega arith)
+    (stands_from pair (suc count) later (with_key known.channel known.key keys)
+    (rest_none (is_of pair.channel known) (list_any (is_of pair.channel) later) none) (omega (arith, less)) more)
+
+stands_first : (pair : KeyOf) (keys : List KeyOf) → Stands pair 0 (with_key pair.channel pair.key keys)
+stands_first pair keys =
+    let left = without pair.channel keys in
+    record {
+      front = with_room left;
+      back = [];
+      are = refl;
+      none = room_none pair.channel (nat_le 256 (length left)) left (gone pair.channel keys);
+      few = omega arith;
+    }
+
+key_stands : (pair : KeyOf) (count : ℕ) (keys : List KeyOf) → Stands pair count keys → key_in pair.channel keys ≡ pair.key
+key_stands pair count keys s =
+    ap (key_in pair.channel) s.are
+    ∙ key_past pair.channel s.front (pair ∷ s.back) s.none
+    ∙ ap (λ (b : Bool). if b then pair.key else key_in pair.channel s.back) (same_self pair.channel)
+
+newest_of : (line : Parts) (before : List KeyOf) (pair : KeyOf) (later keys : List KeyOf) → IsLast line before pair later → key_in pair.channel (learnt_by line keys) ≡ pair.key
+newest_of line before pair later keys last =
+    let first = with_key pair.channel pair.key (learnt_from before keys) in
+    let few = last.few in
+    let stands = stands_from pair 0 later first last.last (omega (arith, few)) (stands_first pair (learnt_from before keys)) in
+    ap (λ (told : List KeyOf). key_in pair.channel (learnt_from told keys)) last.told
+    ∙ ap (key_in pair.channel) (from_append before (pair ∷ later) keys)
+    ∙ key_stands pair (length later + 0) (learnt_from later first) stands
 
 -- The key of another channel.
 
@@ -140,26 +242,68 @@ other_with channel joined key keys other less =
     ∙ ap (key_in channel) (roomy_by (nat_le 256 (length left)) left refl roomy)
     ∙ stays channel joined keys other
 
-other_by : (tells : Bool) (line : Parts) (channel : List ℕ) (keys : List KeyOf) → same_name channel (parameter 0 line) ≡ false → length keys < 256
-    → key_in channel (if tells then with_key (parameter 0 line) (parameter 1 line) keys else keys) ≡ key_in channel keys
-other_by true line channel keys other less = other_with channel (parameter 0 line) (parameter 1 line) keys other less
-other_by false line channel keys other less = refl
+room_few : (full : Bool) (keys : List KeyOf) → length (if full then drop 1 keys else keys) ≤ length keys
+room_few true keys = subst (λ (count : ℕ). count ≤ length keys) (sym (length-drop 1 keys)) (omega arith)
+room_few false keys = omega arith
+
+one_longer : (pair : KeyOf) (keys : List KeyOf) → length (with_key pair.channel pair.key keys) ≤ length keys + 1
+one_longer pair keys =
+    let left = without pair.channel keys in
+    let less = fewer pair.channel keys in
+    let roomy = room_few (nat_le 256 (length left)) left in
+    subst (λ (count : ℕ). count ≤ length keys + 1) (sym (length-append (with_room left) (record { channel = pair.channel; key = pair.key } ∷ [])))
+    (omega (arith, less, roomy))
+
+others_stay : (channel : List ℕ) (told keys : List KeyOf) → list_any (is_of channel) told ≡ false → length keys + length told ≤ 256 → key_in channel (learnt_from told keys) ≡ key_in channel keys
+others_stay channel [] keys none few = refl
+others_stay channel (pair ∷ more) keys none few =
+    let longer = one_longer pair keys in
+    others_stay channel more (with_key pair.channel pair.key keys) (rest_none (is_of channel pair) (list_any (is_of channel) more) none) (omega (arith, few, longer))
+    ∙ other_with channel pair.channel pair.key keys (first_none (is_of channel pair) (list_any (is_of channel) more) none) (omega (arith, few))
 
 -- A channel is joined by what was tried, and by what was refused it is not.
 
+and_first : (a b : Bool) → (a && b) ≡ true → a ≡ true
+and_first true b is = refl
+and_first false b is = absurd (cc is)
+
+passes_if : (passes : Bool) (pair : KeyOf) (rest : List KeyOf) → is_pair pair ≡ passes → list_all is_pair rest ≡ true → list_all is_pair (if passes then pair ∷ rest else rest) ≡ true
+passes_if true pair rest is all = ap (λ (b : Bool). b && list_all is_pair rest) is ∙ all
+passes_if false pair rest is all = all
+
+all_pass : (told : List KeyOf) → list_all is_pair (filter is_pair told) ≡ true
+all_pass [] = refl
+all_pass (pair ∷ more) = passes_if (is_pair pair) pair (filter is_pair more) refl (all_pass more)
+
+told_pass_by : (joins : Bool) (told : List KeyOf) → list_all is_pair (if joins then filter is_pair told else []) ≡ true
+told_pass_by true told = all_pass told
+told_pass_by false told = refl
+
+told_pass : (line : Parts) → list_all is_pair (told_by line) ≡ true
+told_pass line = told_pass_by (has_command (codes "JOIN") line) (pairs_of line)
+
 -- a key is not empty
-some_key : (line : Parts) (tells : Bool) → tells_key line ≡ tells → tells ≡ true → is_key (parameter 1 line) ≡ true
-some_key line tells is so = last_true (has_command (codes "JOIN") line && is_channel (parameter 0 line)) (is_key (parameter 1 line)) (is ∙ so)
+some_key : (line : Parts) (before : List KeyOf) (pair : KeyOf) (later : List KeyOf) → IsLast line before pair later → is_key pair.key ≡ true
+some_key line before pair later last =
+    let all : list_all is_pair (before ++ pair ∷ later) ≡ true = ap (list_all is_pair) (sym last.told) ∙ told_pass line in
+    let both : (list_all is_pair before && list_all is_pair (pair ∷ later)) ≡ true = sym (list_all-append is_pair before (pair ∷ later)) ∙ all in
+    let here : (is_pair pair && list_all is_pair later) ≡ true = last_true (list_all is_pair before) (list_all is_pair (pair ∷ later)) both in
+    last_true (is_channel pair.channel) (is_key pair.key) (and_first (is_pair pair) (list_all is_pair later) here)
 
 known_is : (channel key : List ℕ) (keys : Keys) → is_key key ≡ true → key_in channel (known_by channel key keys).known ≡ key
 known_is channel [] keys is = absurd (cc is)
 known_is channel (byte ∷ key) keys is = newest_with channel (byte ∷ key) keys.known
 
-joined_tried : (line : Parts) (keys : Keys) → tells_key line ≡ true → key_in (parameter 0 line) (joined_by (parameter 0 line) (tried_by line keys)).known ≡ parameter 1 line
-joined_tried line keys tells =
-    let tried : key_in (parameter 0 line) (tried_by line keys).tried ≡ parameter 1 line = newest_by (tells_key line) line keys.tried tells in
-    ap (λ (key : List ℕ). key_in (parameter 0 line) (known_by (parameter 0 line) key (tried_by line keys)).known) tried
-    ∙ known_is (parameter 0 line) (parameter 1 line) (tried_by line keys) (some_key line (tells_key line) refl tells)
+joined_tried : (line : Parts) (before : List KeyOf) (pair : KeyOf) (later : List KeyOf) (keys : Keys) → IsLast line before pair later
+    → key_in pair.channel (joined_by pair.channel (tried_by line keys)).known ≡ pair.key
+joined_tried line before pair later keys last =
+    let tried : key_in pair.channel (tried_by line keys).tried ≡ pair.key = newest_of line before pair later keys.tried last in
+    ap (λ (key : List ℕ). key_in pair.channel (known_by pair.channel key (tried_by line keys)).known) tried
+    ∙ known_is pair.channel pair.key (tried_by line keys) (some_key line before pair later last)
+
+known_apart : (channel other key : List ℕ) (keys : Keys) → same_name channel other ≡ false → length keys.known < 256 → key_in channel (known_by other key keys).known ≡ key_in channel keys.known
+known_apart channel other [] keys apart less = refl
+known_apart channel other (byte ∷ key) keys apart less = other_with channel other (byte ∷ key) keys.known apart less
 
 none_in : (channel : List ℕ) (keys : List KeyOf) → list_any (is_of channel) keys ≡ false → key_in channel keys ≡ []
 none_in channel [] none = refl
@@ -174,9 +318,10 @@ refused_stays channel keys =
 pub keys_are_learnt : KeysAreLearnt
 keys_are_learnt = record {
   bounded = λ lines. learnt_few lines [] (omega (arith));
-  newest = λ line keys tells. newest_by (tells_key line) line keys tells;
-  others = λ line channel keys other less. other_by (tells_key line) line channel keys other less;
-  joined = λ line keys tells. joined_tried line keys tells;
+  newest = λ line before pair later keys last. newest_of line before pair later keys last;
+  others = λ line channel keys none few. others_stay channel (told_by line) keys none few;
+  joined = λ line before pair later keys last. joined_tried line before pair later keys last;
+  apart = λ channel other keys apart less. known_apart channel other (key_in other keys.tried) keys apart less;
   refused = λ channel keys. refused_stays channel keys;
   stays = λ channel keys. refl;
 }

@@ -1,9 +1,10 @@
 -- The keys by which channels are joined.
-use Rattle.std.specs.Prelude.{◌≡◌, ◌≤◌, ◌<◌, ◌&&◌, ℕ, Bool, true, false, codes, nat_eq, nat_le, not, if◌then◌else◌, List, [], ◌∷◌, ◌++◌, drop, filter, length}
-use Rattle.std.specs.List.{list_all}
+use Rattle.std.specs.Prelude.{◌≡◌, ◌≤◌, ◌<◌, ◌+◌, ◌&&◌, ℕ, Bool, false, codes, nat_eq, nat_le, not, if◌then◌else◌, List, [], ◌∷◌, ◌++◌, drop, filter, length}
+use Rattle.std.specs.List.{list_all, list_any}
 use Rattle.irc_line.specs.Lines.{Parts, parameter}
 use Rattle.irc_line.specs.Names.{is_channel, same_bytes, same_name}
 use Rattle.buffer_machine.specs.Messages.{has_command, is_own}
+use Rattle.client_gate.specs.Words.{pieces}
 use Rattle.driver.specs.declared.key_ring.TheConstants.{MOST_KEYS}
 
 -- a channel and its key
@@ -46,15 +47,34 @@ abbrev pub is_key : List ℕ → Bool
 is_key [] = false
 is_key (byte ∷ key) = not (nat_eq byte 58) && list_all is_key_byte (byte ∷ key)
 
--- a line joins one channel by a key (RFC 2812, 3.2.1)
-abbrev pub tells_key : Parts → Bool
-tells_key line = has_command (codes "JOIN") line && is_channel (parameter 0 line) && is_key (parameter 1 line)
+-- each of these channels with the key at its place, as far as there is one
+abbrev pub pairs : List (List ℕ) → List (List ℕ) → List KeyOf
+pairs [] keys = []
+pairs (channel ∷ channels) [] = []
+pairs (channel ∷ channels) (key ∷ keys) = record { channel = channel; key = key } ∷ pairs channels keys
+
+-- a channel's name, and a key
+abbrev pub is_pair : KeyOf → Bool
+is_pair pair = is_channel pair.channel && is_key pair.key
+
+-- a line asks for the channels of a list with commas, each by the key at its place in another (RFC 2812, 3.2.1)
+abbrev pub pairs_of : Parts → List KeyOf
+pairs_of line = pairs (pieces 44 (parameter 0 line)) (pieces 44 (parameter 1 line))
+
+-- the channels that a line asks for by keys: where it is a JOIN
+abbrev pub told_by : Parts → List KeyOf
+told_by line = if has_command (codes "JOIN") line then filter is_pair (pairs_of line) else []
+
+-- these keys behind others by which channels are asked for in turn
+abbrev pub learnt_from : List KeyOf → List KeyOf → List KeyOf
+learnt_from [] keys = keys
+learnt_from (pair ∷ more) keys = learnt_from more (with_key pair.channel pair.key keys)
 
 -- these keys behind a line that goes to the server
 abbrev pub learnt_by : Parts → List KeyOf → List KeyOf
-learnt_by line keys = if tells_key line then with_key (parameter 0 line) (parameter 1 line) keys else keys
+learnt_by line keys = learnt_from (told_by line) keys
 
--- a line goes to the server: the key by which it asks for a channel is tried
+-- a line goes to the server: the keys by which it asks for channels are tried
 abbrev pub tried_by : Parts → Keys → Keys
 tried_by line keys = record keys { tried = learnt_by line keys.tried }
 
@@ -96,16 +116,33 @@ unfoldable pub learnt_all : List Parts → List KeyOf → List KeyOf
 learnt_all [] keys = keys
 learnt_all (line ∷ lines) keys = learnt_all lines (learnt_by line keys)
 
--- Whatever lines go to the server: at most 256 keys are tried. Behind a line that asks for one channel by a key, that is the one that is tried. Where
--- the channel is joined by it it is known; where it was wrong, what is known stays, and does so where the channel is joined by no key.
+-- a key is of this channel
+abbrev pub is_of : List ℕ → KeyOf → Bool
+is_of channel known = same_name channel known.channel
+
+-- Of the channels that a line asks for by keys this one comes behind some and before others; no later one is the same, and these are no more
+-- than a line of IRC has room for.
+pub record IsLast (line : Parts) (before : List KeyOf) (pair : KeyOf) (later : List KeyOf) : Type 0 where
+  pub told : told_by line ≡ before ++ pair ∷ later
+  pub last : list_any (is_of pair.channel) later ≡ false
+  pub few : length later < 256
+
+-- Whatever lines go to the server: at most 256 keys are tried. Behind a line that asks for channels by keys, the key at a channel's last place there is
+-- the one by which it is tried; other channels' keys stay as long as there is room. Where the channel is joined by it it is known, and stays so as others
+-- are joined, as long as there is room; where it was wrong, what is known stays, and does so where the channel is joined by no key.
 pub record KeysAreLearnt : Type 0 where
   pub bounded : (lines : List Parts) → length (learnt_all lines []) ≤ 256
-  pub newest : (line : Parts) (keys : List KeyOf) → tells_key line ≡ true → key_in (parameter 0 line) (learnt_by line keys) ≡ parameter 1 line
+  pub newest :
+      (line : Parts) (before : List KeyOf) (pair : KeyOf) (later keys : List KeyOf) → IsLast line before pair later
+      → key_in pair.channel (learnt_by line keys) ≡ pair.key
   pub others :
-      (line : Parts) (channel : List ℕ) (keys : List KeyOf) → same_name channel (parameter 0 line) ≡ false → length keys < 256
-      → key_in channel (learnt_by line keys) ≡ key_in channel keys
+      (line : Parts) (channel : List ℕ) (keys : List KeyOf) → list_any (is_of channel) (told_by line) ≡ false
+      → length keys + length (told_by line) ≤ 256 → key_in channel (learnt_by line keys) ≡ key_in channel keys
   pub joined :
-      (line : Parts) (keys : Keys) → tells_key line ≡ true
-      → key_in (parameter 0 line) (joined_by (parameter 0 line) (tried_by line keys)).known ≡ parameter 1 line
+      (line : Parts) (before : List KeyOf) (pair : KeyOf) (later : List KeyOf) (keys : Keys) → IsLast line before pair later
+      → key_in pair.channel (joined_by pair.channel (tried_by line keys)).known ≡ pair.key
+  pub apart :
+      (channel other : List ℕ) (keys : Keys) → same_name channel other ≡ false → length keys.known < 256
+      → key_in channel (joined_by other keys).known ≡ key_in channel keys.known
   pub refused : (channel : List ℕ) (keys : Keys) → joined_by channel (refused_by channel keys) ≡ refused_by channel keys
   pub stays : (channel : List ℕ) (keys : Keys) → (refused_by channel keys).known ≡ keys.known

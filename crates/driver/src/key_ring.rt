@@ -1,11 +1,14 @@
 //! The keys by which channels were joined, and by which that was tried.
-ghost use Rattle.std.specs.Prelude.{◌≡◌, OnOk};
+ghost use Rattle.std.specs.Prelude.{◌≡◌, OnOk, filter, map};
 ghost use Rattle.std.specs.List.{list_all};
-ghost use Rattle.driver.specs.Keys.{is_key, is_key_byte, joined_by, key_in, keys_heard, no_keys, tells_key, tried_by, with_key, with_room, without};
+ghost use Rattle.client_gate.specs.Words.{pieces};
+ghost use Rattle.driver.specs.Keys.{is_key, is_key_byte, is_pair, joined_by, key_in, keys_heard, learnt_from, no_keys};
+ghost use Rattle.driver.specs.Keys.{pairs, tried_by, with_key, with_room, without};
 
 use crate::channel_key::ChannelKey;
 use crate::channel_lines::{is_bad_key, is_own};
 use buffer_machine::has_command;
+use client_gate::pieces;
 use irc_line::{Line, is_channel_name, is_same_name};
 use std::alloc::{AllocError, Global};
 use std::marker::Model;
@@ -45,15 +48,15 @@ impl KeyRing {
         }
     }
 
-    /// A line goes to the server. Where it asks for one channel by a key, that is tried.
+    /// A line goes to the server. Where it asks for channels by keys, these are tried.
     pub fn hear(&mut self, line: &Line) -> Result<(), AllocError>
         ensures { OnOk result (self.new ≡ tried_by line.now self.old) }
     {
-        if !tells_key(line) {
+        if !has_command(line, b"JOIN") {
             return Ok(());
         }
-        let (channel, key) = (line.parameter(0), line.parameter(1));
-        learn(self.alloc, &mut self.tried, channel, key)
+        let (channels, keys) = (line.parameter(0), line.parameter(1));
+        learn_all(self.alloc, &mut self.tried, channels, keys)
     }
 
     /// A line came from the server, to who has this nick. Where a channel is joined the key by which that was tried is
@@ -87,6 +90,44 @@ impl KeyRing {
     {
         key_in(channel, self.known.as_slice())
     }
+}
+
+/// Each channel of a list with commas goes with the key at its place in another, as far as there is one.
+fn learn_all(
+    alloc: Global,
+    known: &mut Vec<ChannelKey>,
+    channels: &[u8],
+    keys: &[u8],
+) -> Result<(), AllocError>
+    ensures { OnOk result (known.new.items
+        ≡ learnt_from (filter is_pair (pairs (pieces 44 channels.now) (pieces 44 keys.now)))
+        known.old.items) }
+{
+    let channels = pieces(alloc, channels, b',')?;
+    let keys = pieces(alloc, keys, b',')?;
+    learn_each(alloc, known, channels.as_slice(), keys.as_slice())
+}
+
+/// Each of these channels goes with the key at its place, as far as there is one.
+fn learn_each(
+    alloc: Global,
+    known: &mut Vec<ChannelKey>,
+    channels: &[&[u8]],
+    keys: &[&[u8]],
+) -> Result<(), AllocError>
+    ensures { OnOk result (known.new.items ≡ learnt_from (filter is_pair
+        (pairs (map (λ x. x.now) channels.now) (map (λ x. x.now) keys.now))) known.old.items) }
+{
+    let [channel, channels @ ..] = channels else {
+        return Ok(());
+    };
+    let [key, keys @ ..] = keys else {
+        return Ok(());
+    };
+    if is_pair(*channel, *key) {
+        learn(alloc, known, *channel, *key)?;
+    }
+    learn_each(alloc, known, channels, keys)
 }
 
 /// The key of a channel is this: what was known of it counts no more, nor does the oldest where too many are known.
@@ -135,11 +176,11 @@ pub fn key_in<'a>(channel: &[u8], keys: &'a [ChannelKey]) -> &'a [u8]
     key_in(channel, others)
 }
 
-/// Whether a line joins one channel by a key (RFC 2812, 3.2.1).
-fn tells_key(line: &Line) -> bool
-    ensures { result ≡ tells_key line.now }
+/// Whether this is a channel's name, and that a key.
+fn is_pair(channel: &[u8], key: &[u8]) -> bool
+    ensures { result ≡ is_pair (record { channel = channel.now; key = key.now }) }
 {
-    has_command(line, b"JOIN") && is_channel_name(line.parameter(0)) && is_key(line.parameter(1))
+    is_channel_name(channel) && is_key(key)
 }
 
 /// Whether a key may stand among others in a JOIN: it is not empty, has no space and no comma, and begins with no colon.

@@ -1,6 +1,6 @@
 use Rattle.std.proofs.Common.{sym, ◌∷◌, ◌++◌, ap, ◌∙◌, take, ◌+◌}
 use Rattle.std.proofs.lemmas.List.{take_rest}
-use Rattle.client_gate.proofs.Pieces.{at_place, no_place}
+use Rattle.client_gate.proofs.Separators.{at_place, no_place}
 use Rattle.client_gate.proofs.splitting.at_separator.Goals as goal
 
 pub returns-in-None : goal.returns-in-None

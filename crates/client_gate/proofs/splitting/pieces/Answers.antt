@@ -1,6 +1,6 @@
 use Rattle.std.proofs.Common.{map}
 use Rattle.std.proofs.lemmas.List.{map-append}
-use Rattle.client_gate.proofs.Pieces.{one_piece_more, last_piece}
+use Rattle.client_gate.proofs.Separators.{one_piece_more, last_piece}
 use Rattle.client_gate.proofs.splitting.pieces.Goals as goal
 
 pub loop-piece-preserved : goal.loop-piece-preserved
