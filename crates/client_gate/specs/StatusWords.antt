@@ -1,5 +1,5 @@
 -- What a client says to `*status`: words that ask for something, in letters of either case.
-use Rattle.std.specs.Prelude.{ℕ, ◌+◌, ◌*◌, ◌-◌, min, Bool, if◌then◌else◌, List, [], ◌∷◌, map, Option, Some, None, codes}
+use Rattle.std.specs.Prelude.{ℕ, ◌+◌, ◌*◌, ◌-◌, ◌&&◌, min, Bool, if◌then◌else◌, List, [], ◌∷◌, map, Option, Some, None, codes}
 use Rattle.std.specs.List.{list_all}
 use Rattle.irc_line.specs.Names.{is_channel, is_name, same_bytes}
 use Rattle.irc_line.specs.Lines.{is_digit}
@@ -7,7 +7,7 @@ use Rattle.irc_line.specs.Grammar.{upper}
 use Rattle.buffer_commands.specs.declared.command.Action.{Action}
 use Rattle.buffer_commands.specs.declared.command.Action.TheVariants as action
 use Rattle.client_gate.specs.declared.status_word.StatusWord.{StatusWord}
-use Rattle.client_gate.specs.declared.status_word.StatusWord.TheVariants.{Clients, Help, Status, Unknown}
+use Rattle.client_gate.specs.declared.status_word.StatusWord.TheVariants.{Clients, DropWaiting, Help, Status, Unknown}
 use Rattle.client_gate.specs.Turns.{Deed, Ask, Note, Write}
 use Rattle.client_gate.specs.Replies.{status}
 use Rattle.client_gate.specs.Words.{words}
@@ -79,9 +79,14 @@ said_by_one word =
     else if is_spelled word (codes "CLIENTS") then Clients
     else Unknown
 
+-- what a word says with an argument that asks for nothing of the buffers
+abbrev pub said_by_two : List ℕ → List ℕ → StatusWord
+said_by_two word argument = if is_spelled word (codes "DROP") && is_spelled argument (codes "WAITING") then DropWaiting else Unknown
+
 -- what words say that ask for nothing of the buffers
 abbrev pub said_by : List (List ℕ) → StatusWord
 said_by (word ∷ []) = said_by_one word
+said_by (word ∷ argument ∷ []) = said_by_two word argument
 said_by _ = Unknown
 
 -- what is asked for, or that nothing is, and what these words say then

@@ -1,6 +1,6 @@
 //! Words to the bouncer that ask for nothing of the buffers.
 ghost use Rattle.std.specs.Prelude.{◌≡◌, map};
-ghost use Rattle.client_gate.specs.StatusWords.{said_by, said_by_one};
+ghost use Rattle.client_gate.specs.StatusWords.{said_by, said_by_one, said_by_two};
 
 use crate::status::is_spelled;
 
@@ -14,6 +14,8 @@ pub enum StatusWord {
     Status,
     /// It asks which clients there are.
     Clients,
+    /// It asks that nothing more waits to go to the server.
+    DropWaiting,
     /// Nobody knows what it asks.
     Unknown,
 }
@@ -25,6 +27,7 @@ impl StatusWord {
     {
         match words {
             [word] => StatusWord::of_one(*word),
+            [word, argument] => StatusWord::of_two(*word, *argument),
             _ => StatusWord::Unknown,
         }
     }
@@ -39,6 +42,17 @@ impl StatusWord {
             StatusWord::Status
         } else if is_spelled(word, b"CLIENTS") {
             StatusWord::Clients
+        } else {
+            StatusWord::Unknown
+        }
+    }
+
+    /// What a word says with an argument.
+    fn of_two(word: &[u8], argument: &[u8]) -> StatusWord
+        ensures { result ≡ said_by_two word.now argument.now }
+    {
+        if is_spelled(word, b"DROP") && is_spelled(argument, b"WAITING") {
+            StatusWord::DropWaiting
         } else {
             StatusWord::Unknown
         }

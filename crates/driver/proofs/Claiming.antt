@@ -14,13 +14,14 @@ use Rattle.driver.specs.Monitors.{claim_due, claim_if, claim_told, monitor_claim
 use Rattle.driver.specs.Driving.{Claims, ServesIf, TickNodes, TicksNode, orders_of}
 use Rattle.driver.specs.Leading.{is_older, is_that}
 use Rattle.driver.specs.Links.{node_of}
+use Rattle.driver.specs.Dropping.{drop_end}
 use Rattle.driver.specs.Telling.{Ordered, ordered}
 use Rattle.driver.specs.declared.driver.writing.TheConstants.{MOST_AT_ONCE}
 use Rattle.driver.specs.Writing.{may_claim}
 use Rattle.driver.proofs.Monitors.{Ids, changed_other, changed_own, ids_changed, look, look_at, look_in}
 use Rattle.driver.proofs.Growing.{AllAre, AllGood, by_number}
 use Rattle.driver.proofs.Quiet.{NoClaim}
-use Rattle.driver.proofs.Keeping.{Keeps, Line, Result, Sound, connects_keep, monitor_keeps, keeps_both, keeps_result, older_keep, result_keeps, same_keeps, writes_keep}
+use Rattle.driver.proofs.Keeping.{Keeps, Line, Result, Sound, connects_keep, drop_keeps, monitor_keeps, keeps_both, keeps_result, older_keep, result_keeps, same_keeps, writes_keep}
 
 -- numbers that are apart are not the same
 pub apart_eq : (a b : ℕ) → (a ≡ b → ⊥) → nat_eq a b ≡ false
@@ -158,7 +159,8 @@ serves_own n false now old new low sound same = inl (same_keeps n old new sound 
 serves_own n true now old new low sound s =
     let first = writes_keep n MOST_AT_ONCE now n old s.written sound s.writes in
     let second = claims_own n now s.written s.claimed low first.sound s.claims in
-    let last = connects_keep n now n s.claimed new (claims_sound n now n s.written s.claimed first.sound s.claims) s.connects in
+    let connects = connects_keep n now n s.claimed s.connected (claims_sound n now n s.written s.claimed first.sound s.claims) s.connects in
+    let last = keeps_both n s.claimed s.connected new connects (drop_keeps n (drop_end s.connected n) s.connected new connects.sound s.ends) in
     keeps_result n old s.written new first (result_keeps n s.written s.claimed new second last)
 
 pub serves_apart : (n : ℕ) (serves : Bool) (now node : ℕ) (old new : Driver) → 1 ≤ n → 1 ≤ node → (node ≡ n → ⊥) → Sound n old → ServesIf serves now node old new → Keeps n old new
@@ -166,7 +168,8 @@ serves_apart n false now node old new low low_node apart sound same = same_keeps
 serves_apart n true now node old new low low_node apart sound s =
     let first = writes_keep n MOST_AT_ONCE now node old s.written sound s.writes in
     let second = claims_apart n now node s.written s.claimed low low_node apart first.sound s.claims in
-    let last = connects_keep n now node s.claimed new second.sound s.connects in
+    let connects = connects_keep n now node s.claimed s.connected second.sound s.connects in
+    let last = keeps_both n s.claimed s.connected new connects (drop_keeps n (drop_end s.connected node) s.connected new connects.sound s.ends) in
     keeps_both n old s.written new first (keeps_both n s.written s.claimed new second last)
 
 -- a node ticks

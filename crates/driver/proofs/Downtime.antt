@@ -159,7 +159,9 @@ unfolding Follows
 call_result n down (Connect now node) told old new low steady up (low_node, c) is =
     kept n down old new told (connect_stays n now node down old new steady c) (ap (λ (driver : Driver). driver.link) c.rest) up is
 call_result n down (Receive bytes now at number) told old new low steady up s is =
-    kept n down old new told (speaks_stay n down bytes now at number (client_at old.clients number) old new refl steady s) (ap (λ (driver : Driver). driver.link) s.rest) up is
+    stayed n down old new told (speaks_stay n down bytes now at number (client_at old.clients number) old new refl steady s)
+    (up_kept n down old.link.stage new.link.stage (ap (λ (driver : Driver). node_of driver.link.stage) s.rest) up)
+    is
 call_result n down (Lose now at number) told old new low steady up s is =
     kept n down old new told (goes_stay n down now at number (client_at old.clients number) old new refl steady s) (ap (λ (driver : Driver). driver.link) s.rest) up is
 call_result n down (Hand node line) told old new low steady up h is =

@@ -1,5 +1,5 @@
 -- What clients, and a look at the log and the nodes, bring for the connection to the server: nothing.
-use Rattle.std.proofs.Common.{◌≡◌, ℕ, zero, suc, ◌-◌, Bool, true, false, List, [], ◌∷◌, Option, Some, None, refl, ap, slice_get}
+use Rattle.std.proofs.Common.{◌≡◌, ◌∙◌, ℕ, zero, suc, ◌-◌, Bool, true, false, List, [], ◌∷◌, Option, Some, None, refl, sym, ap, subst, slice_get}
 use Rattle.std.specs.Prelude.{if◌then◌else◌, ◌+◌}
 use Rattle.std.specs.BTreeMap.{keys}
 use Rattle.wire_bytes.specs.declared.moment.Moment.{Moment}
@@ -18,22 +18,25 @@ use Rattle.driver.specs.Once.{IsFor}
 use Rattle.driver.specs.Absences.{CutsBy, HangNodes, HangsIf, TellsGroupIf, WatchesNodes, begins_in, goes_on, group_news, hang_limit, hangs_news, is_new, is_short}
 use Rattle.driver.specs.Arriving.{boot_at, next_number, turned_away_by}
 use Rattle.driver.specs.Calls.{ConnectsTo, Goes as GoesCall, Orders, Speaks}
-use Rattle.driver.specs.Clients.{is_leaving, is_shut}
+use Rattle.driver.specs.Clients.{is_shut}
 use Rattle.driver.specs.Crowds.{told as crowd}
 use Rattle.driver.specs.Driving.{orders_at, told_of}
 use Rattle.driver.specs.Filling.{TellsLevelIf, WatchesFor}
 use Rattle.driver.specs.Hearing.{turned_away_news}
 use Rattle.driver.specs.Monitors.{is_over}
-use Rattle.driver.specs.Nicks.{nick_in, warned}
+use Rattle.driver.specs.Nicks.{nick_in}
 use Rattle.driver.specs.Quitting.{Connection}
+use Rattle.driver.specs.Links.{is_open}
+use Rattle.driver.specs.declared.link.Stage.{Stage}
 use Rattle.driver.specs.Rosters.{client_at, is_attached_in}
 use Rattle.driver.specs.Telling.{Ordered, ordered}
-use Rattle.driver.proofs.Adding.{Adds, adds_both, all_written_add, nothing_adds, one_adds}
-use Rattle.driver.proofs.Calling.{arrive_good, greeted_adds, comes_add}
+use Rattle.driver.proofs.Answered.{answers_empty_if}
+use Rattle.driver.proofs.Adding.{Adds, adds_both, adds_grow, all_written_add, nothing_adds, one_adds}
+use Rattle.driver.proofs.Calling.{arrive_good, comes_add}
 use Rattle.driver.proofs.Growing.{AllAre, AllGood, cuts_grow, one_grows}
 use Rattle.driver.proofs.Owning.{lost_own, reads_own}
 use Rattle.driver.proofs.Quiet.{NoClaim, quiet_client}
-use Rattle.driver.proofs.Quitting.{Fits, Goes, Inner, adds_goes, goes_both, inner_client, inner_goes, same_goes}
+use Rattle.driver.proofs.Quitting.{Fits, Goes, Inner, StandsAs, adds_goes, goes_both, inner_client, inner_goes, moved_goes, same_goes}
 use Rattle.driver.proofs.Used.{of_inner}
 
 -- Clients.
@@ -70,9 +73,22 @@ nobody_goes : (c : Connection) (old new : Driver) → Fits c old.link → AllGoo
 nobody_goes c old new fits good link (clients, orders) =
     adds_goes 0 c old new fits good link clients (nothing_adds Inner old.orders new.orders orders)
 
+-- what fits what waits, fits what is left of it
+speaks_fits : (bytes : List ℕ) (now : ℕ) (at : Moment) (number : ℕ) (c : Connection) (old new : Driver) → Speaks bytes now at number old new → Fits c old.link → Fits c new.link
+speaks_fits bytes now at number c old new s fits =
+    let stage : new.link.stage ≡ old.link.stage = ap (λ (driver : Driver). driver.link.stage) s.rest in
+    record {
+      stands = subst (λ (stage : Stage). StandsAs c stage) (sym stage) fits.stands;
+      empty = λ closed.
+          answers_empty_if (is_attached_in (client_at new.clients number)) s.comes.words now number _ _ s.comes.answers
+          (fits.empty (sym (ap is_open stage) ∙ closed));
+    }
+
 pub speaks_go : (bytes : List ℕ) (now : ℕ) (at : Moment) (number : ℕ) (found : Option Client) (c : Connection) (old new : Driver) → client_at old.clients number ≡ found → Fits c old.link → AllGood Inner old.clients → Speaks bytes now at number old new → Goes 0 c old new
 speaks_go bytes now at number None c old new is fits good s =
-    nobody_goes c old new fits good (ap (λ (driver : Driver). driver.link) s.rest) (s.nobody is)
+    let (clients, orders) = s.nobody is in
+    moved_goes 0 c old new fits (λ d has. speaks_fits bytes now at number d old new s has)
+    (adds_grow Inner (told_of old) (told_of new) good clients (nothing_adds Inner old.orders new.orders orders))
 speaks_go bytes now at number (Some client) c old new is fits good s =
     let behind = crowd new.clients s.comes.told in
     let g =
@@ -81,7 +97,7 @@ speaks_go bytes now at number (Some client) c old new is fits good s =
     in
     let greeted = comes_add Inner bytes now at number old new g.good (λ origin. tt) s.comes in
     let all = adds_both Inner old.orders s.comes.told new.orders (record { told = g.told; orders = g.orders; all = g.all }) greeted in
-    inner_goes 0 c old new fits (ap (λ (driver : Driver). driver.link) s.rest)
+    moved_goes 0 c old new fits (λ d has. speaks_fits bytes now at number d old new s has)
     (record { told = all.told; orders = all.orders; all = all.all; good = g.good })
 
 pub loses_go : (now : ℕ) (at : Moment) (number : ℕ) (found : Option Client) (c : Connection) (old new : Driver) → client_at old.clients number ≡ found → Fits c old.link → AllGood Inner old.clients → GoesCall now at number old new → Goes 0 c old new

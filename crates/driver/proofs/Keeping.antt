@@ -1,5 +1,6 @@
 -- What keeps what is known of the last claim of a node.
 use Rattle.std.proofs.Common.{◌≡◌, ◌∙◌, ◌++◌, ◌⊎◌, inl, inr, ℕ, ◌-◌, Bool, true, false, List, [], ◌∷◌, Option, Some, None, refl, sym, ap, subst, slice_get, ⊎_elim}
+use Rattle.std.specs.BTreeMap.{keys}
 use Rattle.std.specs.Prelude.{◌||◌, if◌then◌else◌}
 use Rattle.std.specs.List.{list_any}
 use Rattle.std.proofs.lemmas.List.{append_assoc}
@@ -10,6 +11,7 @@ use Rattle.driver.specs.declared.node_monitor.NodeMonitor.{NodeMonitor}
 use Rattle.driver.specs.declared.driver.Driver.{Driver}
 use Rattle.driver.specs.declared.link.Stage.{Stage}
 use Rattle.driver.specs.declared.link.Stage.TheVariants.{Closing, Connecting, Idle, Open}
+use Rattle.driver.specs.Dropping.{TellsDroppedIf}
 use Rattle.driver.specs.declared.news.Ending.{Ending}
 use Rattle.driver.specs.declared.news.Ending.TheVariants.{LedNoMore}
 use Rattle.driver.specs.declared.order.Order.{Order}
@@ -22,7 +24,7 @@ use Rattle.driver.specs.Servers.{AsksForWord, is_quiet}
 use Rattle.driver.specs.Telling.{Ordered, ordered}
 use Rattle.driver.specs.Writing.{Hands, WriteLines}
 use Rattle.irc_line.specs.Lines.{Parts}
-use Rattle.driver.proofs.Adding.{Adds, adds_both, nothing_adds, one_adds}
+use Rattle.driver.proofs.Adding.{Adds, adds_both, all_written_add, nothing_adds, one_adds}
 use Rattle.driver.proofs.Monitors.{Ids, Look, changed_same, ids_kept, look_at, ticked_look}
 use Rattle.driver.proofs.Growing.{AllAre, AllGood, all_append}
 use Rattle.driver.proofs.Quiet.{NoClaim, none_claims, quiet_tick}
@@ -252,6 +254,15 @@ connects_keep n now node old new sound c =
     (ap (λ (driver : Driver). driver.monitors) c.rest)
     (ap (λ (driver : Driver). driver.clients) c.rest)
     (connects_add n (may_connect old.link.stage now) old.orders new.orders c.orders)
+
+-- a drop ends
+pub drop_keeps : (n : ℕ) (ended : Option ℕ) (old new : Driver) → Sound n old → TellsDroppedIf ended old new → Keeps n old new
+drop_keeps n None old new sound same = same_keeps n old new sound same
+drop_keeps n (Some count) old new sound t =
+    orders_keep n old new sound
+    (ap (λ (driver : Driver). driver.monitors) t.rest)
+    (ap (λ (driver : Driver). driver.clients) t.rest)
+    (all_written_add (NoClaim n) (keys old.clients.all) old.clients _ old.orders new.orders sound.good t.written)
 
 -- lines go out
 pub writes_keep : (n count now node : ℕ) (old new : Driver) → Sound n old → WriteLines count now node old new → Keeps n old new

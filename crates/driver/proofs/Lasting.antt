@@ -26,6 +26,7 @@ use Rattle.driver.specs.declared.retirement.Retirement.{Retirement}
 use Rattle.driver.specs.declared.settings.Settings.{Settings}
 use Rattle.driver.specs.Links.{node_of, Connects, Receives, is_fresh, is_open, is_session_of, opened as opened_stage, send_some}
 use Rattle.driver.specs.Writing.{handed}
+use Rattle.driver.specs.Dropping.{with_handed}
 use Rattle.driver.specs.Calls.{Call, Does, DoesAll, IsTold, Step, Connect, Connected, Dismiss, End, Hand, Hear, Lose, Notice, Receive, ReceiveLine, Refuse, Take, Tick, Watch, WatchNodes, WatchPasswords}
 use Rattle.driver.specs.Driving.{AsksServer, Ticks, round_of, told_of}
 use Rattle.driver.specs.Filling.{is_left_out}
@@ -257,7 +258,8 @@ call_goes c (Lose now at number) told old new fits good s is =
 call_goes c (Hand node line) told old new fits good h is =
     of_goes 0 c told old new
     (moved_goes 0 c old new fits
-    (λ d has. same_fits d (handed node line old.link) new.link (ap (λ (driver : Driver). driver.link) h) (handed_fits d (is_session_of old.link.stage node) node line old.link refl has))
+    (λ d has. same_fits d (handed old.dropping node line old.link) new.link (ap (λ (driver : Driver). driver.link) h)
+    (handed_fits d (is_session_of old.link.stage node) node (with_handed old.dropping line old.link.waiting) old.link refl has))
     (adds_grow Inner (told_of old) (told_of new) good (ap (λ (driver : Driver). driver.clients) h) (nothing_adds Inner old.orders new.orders (ap (λ (driver : Driver). driver.orders) h))))
     is
 call_goes c (Hear now at node status effects progress refused) told old new fits good r is =

@@ -9,6 +9,7 @@ use Rattle.driver.specs.declared.node_monitor.NodeMonitor.{NodeMonitor}
 use Rattle.driver.specs.declared.driver.Driver.{Driver}
 use Rattle.driver.specs.declared.link.Stage.{Stage}
 use Rattle.driver.specs.declared.link.Stage.TheVariants.{Closing, Idle, Connecting, Open}
+use Rattle.driver.specs.Dropping.{TellsDroppedIf, drop_end}
 use Rattle.driver.specs.Monitors.{claim_due, monitor_claimed}
 use Rattle.driver.specs.Driving.{Claims, Connects, LeavesOlder, QuitsIf, ServesIf, TickNodes, TicksNode, changed_at, changed_if}
 use Rattle.driver.specs.Leading.{IsLeader, is_older, is_that, term_at, term_in, term_of}
@@ -140,6 +141,15 @@ claimed_of now node old claimed new leader is claims connects leads own =
           (connects_of (may_connect old.link.stage now) old.link.stage node leader (that_is leader node is) own);
     }
 
+-- a drop ends
+dropped_of : (ended : Option ℕ) (old new : Driver) → TellsDroppedIf ended old new → IsOfLeader old → IsOfLeader new
+dropped_of None old new same of = subst IsOfLeader (sym same) of
+dropped_of (Some count) old new t of = record {
+  leader = of.leader;
+  is_leader = subst (λ (monitors : List NodeMonitor). IsLeader monitors of.leader) (sym (ap (λ (driver : Driver). driver.monitors) t.rest)) of.is_leader;
+  is_of = subst (λ (stage : Stage). IsOf (node_of stage) of.leader) (sym (ap (λ (driver : Driver). driver.link.stage) t.rest)) of.is_of;
+}
+
 served_of : (serves : Bool) (now node : ℕ) (left new : Driver) (leader : Option ℕ) → is_that leader node ≡ serves → ServesIf serves now node left new → IsLeader left.monitors leader → IsOf (node_of left.link.stage) leader → IsOfLeader new
 served_of false now node left new leader is same leads own = record {
   leader = leader;
@@ -150,7 +160,8 @@ served_of true now node left new leader is h leads own =
     let rest = lines_rest MOST_AT_ONCE now node left h.written h.writes in
     let leads_still = subst (λ (monitors : List NodeMonitor). IsLeader monitors leader) (sym (ap (λ (driver : Driver). driver.monitors) rest)) leads in
     let own_still = subst (λ (stage : Stage). IsOf (node_of stage) leader) (sym (ap (λ (driver : Driver). driver.link.stage) rest)) own in
-    claimed_of now node h.written h.claimed new leader is h.claims h.connects leads_still own_still
+    dropped_of (drop_end h.connected node) h.connected new h.ends
+    (claimed_of now node h.written h.claimed h.connected leader is h.claims h.connects leads_still own_still)
 
 node_of_leader : (now node : ℕ) (old new : Driver) → TicksNode now node old new → IsOfLeader new
 node_of_leader now node old new h =

@@ -11,6 +11,7 @@ mod Cycling
 mod Dialing
 mod Downtime
 mod Driving
+mod Dropping
 mod Endings
 mod Falling
 mod Farewells
@@ -37,6 +38,8 @@ mod Parted
 mod Pings
 mod Parting
 mod Passing
+mod Foremost
+mod Questions
 mod Queueing
 mod Quiet
 mod Quitting

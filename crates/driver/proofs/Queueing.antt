@@ -1,31 +1,33 @@
 -- In which order lines go to the server in a session.
-use Rattle.std.proofs.Common.{◌≡◌, ◌∙◌, ◌++◌, ℕ, Bool, true, false, not, List, [], ◌∷◌, Option, Some, None, refl, sym, ap, subst}
-use Rattle.std.specs.Prelude.{◌||◌, if◌then◌else◌, length, nat_le}
-use Rattle.driver.specs.declared.outgoing.TheConstants.{MOST_QUESTIONS}
+use Rattle.std.proofs.Common.{◌≡◌, ◌∙◌, ◌++◌, ℕ, Bool, true, false, not, List, [], ◌∷◌, Option, Some, None, refl, sym, ap, subst, inl, inr}
+use Rattle.std.specs.Prelude.{◌||◌, ◌&&◌, if◌then◌else◌, is_some}
 use Rattle.std.specs.List.{list_any}
 use Rattle.std.proofs.lemmas.List.{append_assoc, append-nil}
 use Rattle.std.proofs.lemmas.List.Folds.{list_any-append}
-use Rattle.irc_line.specs.Lines.{Parts, parameter}
-use Rattle.driver.specs.declared.outgoing.Piece.{Piece}
-use Rattle.driver.specs.declared.outgoing.Piece.TheVariants.{Joins, Opens, Says}
+use Rattle.irc_line.specs.Lines.{Parts}
 use Rattle.driver.specs.Joining.{Joined, fits_in, no_channels, with_channel}
-use Rattle.driver.specs.Outgoing.{Waiting, asks_names, is_about, is_asked, is_dropped, join_by, next_of, nothing_waits, piece_by, rest_by, rest_of}
-use Rattle.driver.specs.Queueing.{AreApart, Go, Hand, Join, Open, OpeningGoesFirst, QuestionsWait, SaidGoInOrder, Turn, opened_at, opened_by, opened_in, opened_out, said_by, said_handed, said_in, said_out, waiting_at_last, waiting_behind}
+use Rattle.driver.specs.Outgoing.{Waiting, asks_names, is_dropped, join_by, next_of, piece_by, rest_by, rest_of}
+use Rattle.driver.specs.Queueing.{Drop, End, Go, Hand, IsMerged, Join, Open, Queue, SaidGoInOrder, Turn, at_last, behind, dropped_by, handed_in, is_drop, nothing_queued, piece_in, said_dropped, said_handed, said_in, said_out}
 
 -- a line does not ask who is in a channel
 abbrev is_other : Parts → Bool
 is_other line = not (asks_names line)
 
 -- of what waits no question is among what is said, and nothing else is among the questions
-record Sorted (waiting : Waiting) : Type 0 where
-  said : list_any asks_names waiting.said ≡ false
-  questions : list_any is_other waiting.questions ≡ false
+pub record Sorted (waiting : Waiting) : Type 0 where
+  pub said : list_any asks_names waiting.said ≡ false
+  pub questions : list_any is_other waiting.questions ≡ false
 
-first_none : (a b : Bool) → (a || b) ≡ false → a ≡ false
+-- and while a drop goes on nothing that is said waits
+pub record Fine (queue : Queue) : Type 0 where
+  pub sorted : Sorted queue.waiting
+  pub empty : is_some queue.dropping ≡ true → queue.waiting.said ≡ []
+
+pub first_none : (a b : Bool) → (a || b) ≡ false → a ≡ false
 first_none true b is = is
 first_none false b is = refl
 
-rest_none : (a b : Bool) → (a || b) ≡ false → b ≡ false
+pub rest_none : (a b : Bool) → (a || b) ≡ false → b ≡ false
 rest_none true b is = absurd (cc is)
 rest_none false b is = is
 
@@ -67,7 +69,7 @@ joined_lines : (fits : Bool) (last one more : Joined) (waiting : Waiting)
 joined_lines true last one more waiting = (refl, refl, refl)
 joined_lines false last one more waiting = (refl, refl, refl)
 
-join_lines : (joining : Option Joined) (channel key : List ℕ) (waiting : Waiting)
+pub join_lines : (joining : Option Joined) (channel key : List ℕ) (waiting : Waiting)
     → ((join_by joining channel key waiting).said ≡ waiting.said)
     × ((join_by joining channel key waiting).questions ≡ waiting.questions)
     × ((join_by joining channel key waiting).opening ≡ waiting.opening)
@@ -108,203 +110,174 @@ go_sorted : (due : Bool) (opening : List Parts) (waiting : Waiting) → Sorted w
 go_sorted due [] waiting sorted = gone_sorted due waiting.joins waiting.joining waiting.said waiting.questions sorted.said sorted.questions
 go_sorted due (line ∷ opening) waiting sorted = record { said = sorted.said; questions = sorted.questions }
 
+-- Lines of two others.
+
+pub merged_left : (lines ones others all : List Parts) → IsMerged ones others all → IsMerged (lines ++ ones) others (lines ++ all)
+unfolding IsMerged
+merged_left [] ones others all merged = merged
+merged_left (line ∷ lines) ones others all merged = inl (lines ++ ones, refl, merged_left lines ones others all merged)
+
+pub merged_right : (lines ones others all : List Parts) → IsMerged ones others all → IsMerged ones (lines ++ others) (lines ++ all)
+unfolding IsMerged
+merged_right [] ones others all merged = merged
+merged_right (line ∷ lines) ones others all merged = inr (lines ++ others, refl, merged_right lines ones others all merged)
+
+merged_none : IsMerged [] [] []
+unfolding IsMerged
+merged_none = (refl, refl)
+
+-- where none are of the other all are of the one
+pub merged_one : (ones all : List Parts) → IsMerged ones [] all → ones ≡ all
+unfolding IsMerged
+merged_one ones [] (none, others) = none
+merged_one ones (line ∷ all) (inl (more, is, merged)) = is ∙ ap (λ (lines : List Parts). line ∷ lines) (merged_one more all merged)
+merged_one ones (line ∷ all) (inr (more, is, merged)) = absurd (cc is)
+
 -- Turns.
 
--- the line that is said, if one is handed out in this turn
-abbrev handed_by : Turn → List Parts
-handed_by (Open lines) = []
-handed_by (Hand line) = if asks_names line then [] else line ∷ []
-handed_by (Join channel key) = []
-handed_by (Go due) = []
+-- a line that is handed out is dropped, or not
+handed_waits : (asks dropping dropped : Bool) (line : Parts) (waiting : Waiting)
+    → (if dropping && not asks then waiting else (if asks then (if dropped then waiting else record waiting { questions = waiting.questions ++ line ∷ [] }) else record waiting { said = waiting.said ++ line ∷ [] })).said
+    ≡ waiting.said ++ (if dropping && not asks then [] else (if asks then [] else line ∷ []))
+handed_waits asks false dropped line waiting = handed_said asks dropped line waiting
+handed_waits true true dropped line waiting = handed_said true dropped line waiting
+handed_waits false true dropped line waiting = sym (append-nil waiting.said)
 
-turn_said : (turn : Turn) (waiting : Waiting) → Sorted waiting → said_by turn waiting ++ (waiting_behind turn waiting).said ≡ waiting.said ++ handed_by turn
-turn_said (Open lines) waiting sorted = sym (append-nil waiting.said)
-turn_said (Hand line) waiting sorted = handed_said (asks_names line) (is_dropped line waiting) line waiting
-turn_said (Join channel key) waiting sorted =
-    let (said, questions, opening) = join_lines waiting.joining channel key waiting in said ∙ sym (append-nil waiting.said)
-turn_said (Go due) waiting sorted = go_said due waiting.opening waiting sorted ∙ sym (append-nil waiting.said)
+handed_fine : (asks dropping dropped : Bool) (line : Parts) (waiting : Waiting) → asks_names line ≡ asks → Sorted waiting
+    → Sorted (if dropping && not asks then waiting else (if asks then (if dropped then waiting else record waiting { questions = waiting.questions ++ line ∷ [] }) else record waiting { said = waiting.said ++ line ∷ [] }))
+handed_fine asks false dropped line waiting is sorted = handed_sorted asks dropped line waiting is sorted
+handed_fine true true dropped line waiting is sorted = handed_sorted true dropped line waiting is sorted
+handed_fine false true dropped line waiting is sorted = sorted
 
-turn_sorted : (turn : Turn) (waiting : Waiting) → Sorted waiting → Sorted (waiting_behind turn waiting)
-turn_sorted (Open lines) waiting sorted = record { said = sorted.said; questions = sorted.questions }
-turn_sorted (Hand line) waiting sorted = handed_sorted (asks_names line) (is_dropped line waiting) line waiting refl sorted
-turn_sorted (Join channel key) waiting sorted =
-    let (said, questions, opening) = join_lines waiting.joining channel key waiting in
-    record { said = ap (list_any asks_names) said ∙ sorted.said; questions = ap (list_any is_other) questions ∙ sorted.questions }
-turn_sorted (Go due) waiting sorted = go_sorted due waiting.opening waiting sorted
+-- what is said and waits is what goes out, and what waits behind that
+pub go_out : (due : Bool) (queue : Queue) → Fine queue → said_in (piece_in (Go due) queue) ++ (behind (Go due) queue).waiting.said ≡ queue.waiting.said
+go_out due queue fine = go_said due queue.waiting.opening queue.waiting fine.sorted
 
-handed_first : (turn : Turn) (turns : List Turn) → said_handed (turn ∷ turns) ≡ handed_by turn ++ said_handed turns
-unfolding said_handed
-handed_first (Open lines) turns = refl
-handed_first (Hand line) turns = refl
-handed_first (Join channel key) turns = refl
-handed_first (Go due) turns = refl
+rest_empty : (first rest : List Parts) → first ++ rest ≡ [] → rest ≡ []
+rest_empty [] rest is = is
+rest_empty (line ∷ first) rest is = absurd (cc is)
 
-turns_said : (turns : List Turn) (waiting : Waiting) → Sorted waiting → said_out turns waiting ++ (waiting_at_last turns waiting).said ≡ waiting.said ++ said_handed turns
-unfolding said_out waiting_at_last said_handed
-turns_said [] waiting sorted = sym (append-nil waiting.said)
-turns_said (turn ∷ turns) waiting sorted =
-    let behind = waiting_behind turn waiting in
-    append_assoc (said_by turn waiting) (said_out turns behind) (waiting_at_last turns behind).said
-    ∙ ap (λ (lines : List Parts). said_by turn waiting ++ lines) (turns_said turns behind (turn_sorted turn waiting sorted))
-    ∙ sym (append_assoc (said_by turn waiting) behind.said (said_handed turns))
-    ∙ ap (λ (lines : List Parts). lines ++ said_handed turns) (turn_said turn waiting sorted)
-    ∙ append_assoc waiting.said (handed_by turn) (said_handed turns)
-    ∙ ap (λ (lines : List Parts). waiting.said ++ lines) (sym (handed_first turn turns))
+hand_empty : (asks dropped : Bool) (dropping : Option ℕ) (line : Parts) (waiting : Waiting) (count : Option ℕ) → (is_some dropping ≡ true → waiting.said ≡ [])
+    → is_some (if is_some dropping && not asks then count else dropping) ≡ true
+    → (if is_some dropping && not asks then waiting else (if asks then (if dropped then waiting else record waiting { questions = waiting.questions ++ line ∷ [] }) else record waiting { said = waiting.said ++ line ∷ [] })).said ≡ []
+hand_empty asks dropped None line waiting count empty goes = absurd (cc goes)
+hand_empty true true (Some n) line waiting count empty goes = empty goes
+hand_empty true false (Some n) line waiting count empty goes = empty goes
+hand_empty false dropped (Some n) line waiting count empty goes = empty refl
 
-turns_sorted : (turns : List Turn) (waiting : Waiting) → Sorted waiting → Sorted (waiting_at_last turns waiting)
-unfolding waiting_at_last
-turns_sorted [] waiting sorted = sorted
-turns_sorted (turn ∷ turns) waiting sorted = turns_sorted turns (waiting_behind turn waiting) (turn_sorted turn waiting sorted)
+pub turn_fine : (turn : Turn) (queue : Queue) → Fine queue → Fine (behind turn queue)
+turn_fine (Open lines) queue fine =
+    record { sorted = record { said = fine.sorted.said; questions = fine.sorted.questions }; empty = fine.empty }
+turn_fine (Hand line) queue fine = record {
+  sorted = handed_fine (asks_names line) (is_some queue.dropping) (is_dropped line queue.waiting) line queue.waiting refl fine.sorted;
+  empty = hand_empty (asks_names line) (is_dropped line queue.waiting) queue.dropping line queue.waiting _ fine.empty;
+}
+turn_fine (Join channel key) queue fine =
+    let (said, questions, opening) = join_lines queue.waiting.joining channel key queue.waiting in
+    record {
+      sorted = record { said = ap (list_any asks_names) said ∙ fine.sorted.said; questions = ap (list_any is_other) questions ∙ fine.sorted.questions };
+      empty = λ goes. said ∙ fine.empty goes;
+    }
+turn_fine (Go due) queue fine = record {
+  sorted = go_sorted due queue.waiting.opening queue.waiting fine.sorted;
+  empty = λ goes. rest_empty (said_in (piece_in (Go due) queue)) (behind (Go due) queue).waiting.said (go_out due queue fine ∙ fine.empty goes);
+}
+turn_fine Drop queue fine = record { sorted = record { said = refl; questions = fine.sorted.questions }; empty = λ goes. refl }
+turn_fine End queue fine = record { sorted = fine.sorted; empty = λ goes. absurd (cc goes) }
 
-nothing_sorted : Sorted nothing_waits
-nothing_sorted = record { said = refl; questions = refl }
+pub turns_fine : (turns : List Turn) (queue : Queue) → Fine queue → Fine (at_last turns queue)
+unfolding at_last
+turns_fine [] queue fine = fine
+turns_fine (turn ∷ turns) queue fine = turns_fine turns (behind turn queue) (turn_fine turn queue fine)
+
+pub nothing_fine : Fine nothing_queued
+nothing_fine = record { sorted = record { said = refl; questions = refl }; empty = λ goes. refl }
+
+same_said : (said handed ones others all : List Parts) → handed ≡ [] → IsMerged ones others (said ++ all) → IsMerged ones others (said ++ (handed ++ all))
+same_said said handed ones others all none merged =
+    subst (λ (handed : List Parts). IsMerged ones others (said ++ (handed ++ all))) (sym none) merged
+
+-- a line is handed out: it waits behind what waits, or it is dropped while nothing waits
+hand_merged : (asks dropped : Bool) (dropping : Option ℕ) (line : Parts) (waiting : Waiting) (ones others all : List Parts) → (is_some dropping ≡ true → waiting.said ≡ [])
+    → IsMerged ones others ((if is_some dropping && not asks then waiting else (if asks then (if dropped then waiting else record waiting { questions = waiting.questions ++ line ∷ [] }) else record waiting { said = waiting.said ++ line ∷ [] })).said ++ all)
+    → IsMerged ones ((if is_some dropping && not asks then line ∷ [] else []) ++ others) (waiting.said ++ ((if asks then [] else line ∷ []) ++ all))
+hand_merged true true None line waiting ones others all empty merged = merged
+hand_merged true false None line waiting ones others all empty merged = merged
+hand_merged false dropped None line waiting ones others all empty merged =
+    subst (λ (lines : List Parts). IsMerged ones others lines) (append_assoc waiting.said (line ∷ []) all) merged
+hand_merged true true (Some n) line waiting ones others all empty merged = merged
+hand_merged true false (Some n) line waiting ones others all empty merged = merged
+hand_merged false dropped (Some n) line waiting ones others all empty merged =
+    let none : waiting.said ≡ [] = empty refl in
+    subst (λ (said : List Parts). IsMerged ones (line ∷ others) (said ++ (line ∷ all))) (sym none)
+    (merged_right (line ∷ []) ones others all (subst (λ (said : List Parts). IsMerged ones others (said ++ all)) none merged))
+
+turn_merged : (turn : Turn) (queue : Queue) (ones others all : List Parts) → Fine queue → IsMerged ones others ((behind turn queue).waiting.said ++ all)
+    → IsMerged (said_in (piece_in turn queue) ++ ones) (dropped_by turn queue ++ others) (queue.waiting.said ++ (handed_in turn ++ all))
+turn_merged (Open lines) queue ones others all fine merged = merged
+turn_merged (Hand line) queue ones others all fine merged =
+    hand_merged (asks_names line) (is_dropped line queue.waiting) queue.dropping line queue.waiting ones others all fine.empty merged
+turn_merged (Join channel key) queue ones others all fine merged =
+    let (said, questions, opening) = join_lines queue.waiting.joining channel key queue.waiting in
+    subst (λ (lines : List Parts). IsMerged ones others (lines ++ all)) said merged
+turn_merged (Go due) queue ones others all fine merged =
+    let out = said_in (piece_in (Go due) queue) in
+    let rest = (behind (Go due) queue).waiting.said in
+    let parts : out ++ (rest ++ all) ≡ queue.waiting.said ++ all =
+    sym (append_assoc out rest all) ∙ ap (λ (lines : List Parts). lines ++ all) (go_out due queue fine)
+    in
+    subst (λ (lines : List Parts). IsMerged (out ++ ones) others lines) parts (merged_left out ones others (rest ++ all) merged)
+turn_merged Drop queue ones others all fine merged = merged_right queue.waiting.said ones others all merged
+turn_merged End queue ones others all fine merged = merged
+
+nil_merged : (said : List Parts) → IsMerged said [] (said ++ [])
+nil_merged said = subst (λ (lines : List Parts). IsMerged lines [] (said ++ [])) (append-nil said) (merged_left said [] [] [] merged_none)
+
+pub turns_merged : (turns : List Turn) (queue : Queue) → Fine queue
+    → IsMerged (said_out turns queue ++ (at_last turns queue).waiting.said) (said_dropped turns queue) (queue.waiting.said ++ said_handed turns)
+unfolding said_out at_last said_handed said_dropped
+turns_merged [] queue fine = nil_merged queue.waiting.said
+turns_merged (turn ∷ turns) queue fine =
+    let next = behind turn queue in
+    let out = said_out turns next in
+    let last = (at_last turns next).waiting.said in
+    subst (λ (lines : List Parts). IsMerged lines (dropped_by turn queue ++ said_dropped turns next) (queue.waiting.said ++ (handed_in turn ++ said_handed turns)))
+    (sym (append_assoc (said_in (piece_in turn queue)) out last))
+    (turn_merged turn queue (out ++ last) (said_dropped turns next) (said_handed turns) fine (turns_merged turns next (turn_fine turn queue fine)))
+
+-- Where nobody says DROP WAITING.
+
+hand_kept : (asks : Bool) (dropping count : Option ℕ) (line : Parts) → dropping ≡ None
+    → ((if is_some dropping && not asks then count else dropping) ≡ None) × ((if is_some dropping && not asks then line ∷ [] else []) ≡ [])
+hand_kept asks None count line none = (refl, refl)
+hand_kept asks (Some n) count line none = absurd (cc none)
+
+turn_kept : (turn : Turn) (queue : Queue) → is_drop turn ≡ false → queue.dropping ≡ None → ((behind turn queue).dropping ≡ None) × (dropped_by turn queue ≡ [])
+turn_kept (Open lines) queue is none = (none, refl)
+turn_kept (Hand line) queue is none = hand_kept (asks_names line) queue.dropping _ line none
+turn_kept (Join channel key) queue is none = (none, refl)
+turn_kept (Go due) queue is none = (none, refl)
+turn_kept Drop queue is none = absurd (cc is)
+turn_kept End queue is none = (refl, refl)
+
+turns_kept : (turns : List Turn) (queue : Queue) → list_any is_drop turns ≡ false → queue.dropping ≡ None → said_dropped turns queue ≡ []
+unfolding said_dropped
+turns_kept [] queue are none = refl
+turns_kept (turn ∷ turns) queue are none =
+    let (still, dropped) = turn_kept turn queue (first_none (is_drop turn) (list_any is_drop turns) are) none in
+    ap (λ (lines : List Parts). lines ++ said_dropped turns (behind turn queue)) dropped
+    ∙ turns_kept turns (behind turn queue) (rest_none (is_drop turn) (list_any is_drop turns) are) still
+
+-- all that is said goes out, or waits
+pub kept_said : (turns : List Turn) (queue : Queue) → Fine queue → list_any is_drop turns ≡ false → queue.dropping ≡ None
+    → said_out turns queue ++ (at_last turns queue).waiting.said ≡ queue.waiting.said ++ said_handed turns
+kept_said turns queue fine are none =
+    let out = said_out turns queue ++ (at_last turns queue).waiting.said in
+    merged_one out (queue.waiting.said ++ said_handed turns)
+    (subst (λ (others : List Parts). IsMerged out others (queue.waiting.said ++ said_handed turns)) (turns_kept turns queue are none) (turns_merged turns queue fine))
 
 pub said_in_order : SaidGoInOrder
-said_in_order turns = turns_said turns nothing_waits nothing_sorted
-
--- Questions.
-
-abbrev or_line : Parts → Option Piece → Parts
-or_line line (Some (Says other)) = other
-or_line line (Some (Opens other)) = line
-or_line line (Some (Joins join)) = line
-or_line line None = line
-
-behind_said : (due : Bool) (joins : List Joined) (joining : Option Joined) (said questions : List Parts) (line : Parts) → list_any asks_names said ≡ false
-    → next_of due joins joining said questions ≡ Some (Says line) → asks_names line ≡ true → said ≡ []
-behind_said due (join ∷ joins) joining said questions line none is asks = absurd (cc is)
-behind_said due [] (Some join) said questions line none is asks = absurd (cc is)
-behind_said due [] None [] questions line none is asks = refl
-behind_said due [] None (other ∷ said) questions line none is asks =
-    let same : other ≡ line = ap (or_line line) is in
-    let none_here = first_none (asks_names other) (list_any asks_names said) none in
-    absurd (cc (sym (ap asks_names same ∙ asks) ∙ none_here))
-
-go_behind : (due : Bool) (opening : List Parts) (waiting : Waiting) (line : Parts) → list_any asks_names waiting.said ≡ false
-    → piece_by due opening waiting ≡ Some (Says line) → asks_names line ≡ true → waiting.said ≡ []
-go_behind due [] waiting line none is asks = behind_said due waiting.joins waiting.joining waiting.said waiting.questions line none is asks
-go_behind due (first ∷ opening) waiting line none is asks = absurd (cc is)
-
-apart_less : (first : Parts) (before lines : List Parts) → AreApart (first ∷ before) lines → AreApart before lines
-unfolding AreApart
-apart_less first before [] apart = tt
-apart_less first before (line ∷ more) (none, apart) = (
-  rest_none (is_about (parameter 0 line) first) (list_any (is_about (parameter 0 line)) before) none,
-  apart_less first (before ++ line ∷ []) more apart,
-)
-
-apart_more : (before lines : List Parts) (line : Parts) → list_any (is_about (parameter 0 line)) (before ++ lines) ≡ false → AreApart before lines → AreApart before (lines ++ line ∷ [])
-unfolding AreApart
-apart_more before [] line none apart =
-    (ap (list_any (is_about (parameter 0 line))) (sym (append-nil before)) ∙ none, tt)
-apart_more before (first ∷ lines) line none (here, apart) = (
-  here,
-  apart_more (before ++ first ∷ []) lines line (ap (list_any (is_about (parameter 0 line))) (append_assoc before (first ∷ []) lines) ∙ none) apart,
-)
-
-handed_apart : (asks asked full : Bool) (line : Parts) (waiting : Waiting) → is_asked line waiting ≡ asked → AreApart [] waiting.questions
-    → AreApart [] (if asks then (if asked || full then waiting else record waiting { questions = waiting.questions ++ line ∷ [] }) else record waiting { said = waiting.said ++ line ∷ [] }).questions
-handed_apart false asked full line waiting is apart = apart
-handed_apart true true full line waiting is apart = apart
-handed_apart true false true line waiting is apart = apart
-handed_apart true false false line waiting is apart = apart_more [] waiting.questions line is apart
-
-gone_apart : (due : Bool) (joins : List Joined) (joining : Option Joined) (said questions : List Parts) → AreApart [] questions → AreApart [] (rest_of due joins joining said questions).questions
-unfolding AreApart
-gone_apart due (join ∷ joins) joining said questions apart = apart
-gone_apart due [] (Some join) said questions apart = apart
-gone_apart due [] None (line ∷ said) questions apart = apart
-gone_apart false [] None [] questions apart = apart
-gone_apart true [] None [] [] apart = tt
-gone_apart true [] None [] (line ∷ questions) (none, apart) = apart_less line [] questions apart
-
-go_apart : (due : Bool) (opening : List Parts) (waiting : Waiting) → AreApart [] waiting.questions → AreApart [] (rest_by due opening waiting).questions
-go_apart due [] waiting apart = gone_apart due waiting.joins waiting.joining waiting.said waiting.questions apart
-go_apart due (line ∷ opening) waiting apart = apart
-
-turn_apart : (turn : Turn) (waiting : Waiting) → AreApart [] waiting.questions → AreApart [] (waiting_behind turn waiting).questions
-turn_apart (Open lines) waiting apart = apart
-turn_apart (Hand line) waiting apart =
-    handed_apart (asks_names line) (is_asked line waiting) (nat_le MOST_QUESTIONS (length waiting.questions)) line waiting refl apart
-turn_apart (Join channel key) waiting apart =
-    let (said, questions, opening) = join_lines waiting.joining channel key waiting in
-    subst (λ (lines : List Parts). AreApart [] lines) (sym questions) apart
-turn_apart (Go due) waiting apart = go_apart due waiting.opening waiting apart
-
-turns_apart : (turns : List Turn) (waiting : Waiting) → AreApart [] waiting.questions → AreApart [] (waiting_at_last turns waiting).questions
-unfolding waiting_at_last
-turns_apart [] waiting apart = apart
-turns_apart (turn ∷ turns) waiting apart = turns_apart turns (waiting_behind turn waiting) (turn_apart turn waiting apart)
-
-none_apart : AreApart [] []
-unfolding AreApart
-none_apart = tt
-
-pub questions_wait : QuestionsWait
-questions_wait = record {
-  behind = λ turns due line is asks.
-      let last = waiting_at_last turns nothing_waits in
-      go_behind due last.opening last line (turns_sorted turns nothing_waits nothing_sorted).said is asks;
-  apart = λ turns. turns_apart turns nothing_waits none_apart;
-}
-
--- What goes before all else.
-
-gone_opened : (due : Bool) (joins : List Joined) (joining : Option Joined) (said questions : List Parts)
-    → opened_in (next_of due joins joining said questions) ++ (rest_of due joins joining said questions).opening ≡ []
-gone_opened due (join ∷ joins) joining said questions = refl
-gone_opened due [] (Some join) said questions = refl
-gone_opened due [] None (line ∷ said) questions = refl
-gone_opened false [] None [] questions = refl
-gone_opened true [] None [] [] = refl
-gone_opened true [] None [] (line ∷ questions) = refl
-
-go_opened : (due : Bool) (opening : List Parts) (waiting : Waiting) → opened_in (piece_by due opening waiting) ++ (rest_by due opening waiting).opening ≡ opening
-go_opened due [] waiting = gone_opened due waiting.joins waiting.joining waiting.said waiting.questions
-go_opened due (line ∷ opening) waiting = refl
-
-handed_opening : (asks dropped : Bool) (line : Parts) (waiting : Waiting)
-    → (if asks then (if dropped then waiting else record waiting { questions = waiting.questions ++ line ∷ [] }) else record waiting { said = waiting.said ++ line ∷ [] }).opening
-    ≡ waiting.opening
-handed_opening true true line waiting = refl
-handed_opening true false line waiting = refl
-handed_opening false dropped line waiting = refl
-
--- the lines that are to go before all else in this turn
-abbrev opening_of : Turn → List Parts
-opening_of (Open lines) = lines
-opening_of (Hand line) = []
-opening_of (Join channel key) = []
-opening_of (Go due) = []
-
-turn_opened : (turn : Turn) (waiting : Waiting) → opened_by turn waiting ++ (waiting_behind turn waiting).opening ≡ waiting.opening ++ opening_of turn
-turn_opened (Open lines) waiting = refl
-turn_opened (Hand line) waiting = handed_opening (asks_names line) (is_dropped line waiting) line waiting ∙ sym (append-nil waiting.opening)
-turn_opened (Join channel key) waiting =
-    let (said, questions, opening) = join_lines waiting.joining channel key waiting in opening ∙ sym (append-nil waiting.opening)
-turn_opened (Go due) waiting = go_opened due waiting.opening waiting ∙ sym (append-nil waiting.opening)
-
-opened_first : (turn : Turn) (turns : List Turn) → opened_at (turn ∷ turns) ≡ opening_of turn ++ opened_at turns
-unfolding opened_at
-opened_first (Open lines) turns = refl
-opened_first (Hand line) turns = refl
-opened_first (Join channel key) turns = refl
-opened_first (Go due) turns = refl
-
-turns_opened : (turns : List Turn) (waiting : Waiting) → opened_out turns waiting ++ (waiting_at_last turns waiting).opening ≡ waiting.opening ++ opened_at turns
-unfolding opened_out waiting_at_last opened_at
-turns_opened [] waiting = sym (append-nil waiting.opening)
-turns_opened (turn ∷ turns) waiting =
-    let behind = waiting_behind turn waiting in
-    append_assoc (opened_by turn waiting) (opened_out turns behind) (waiting_at_last turns behind).opening
-    ∙ ap (λ (lines : List Parts). opened_by turn waiting ++ lines) (turns_opened turns behind)
-    ∙ sym (append_assoc (opened_by turn waiting) behind.opening (opened_at turns))
-    ∙ ap (λ (lines : List Parts). lines ++ opened_at turns) (turn_opened turn waiting)
-    ∙ append_assoc waiting.opening (opening_of turn) (opened_at turns)
-    ∙ ap (λ (lines : List Parts). waiting.opening ++ lines) (sym (opened_first turn turns))
-
-pub opening_first : OpeningGoesFirst
-opening_first = record {
-  order = λ turns. turns_opened turns nothing_waits;
-  first = λ turns due line more is. ap (λ (opening : List Parts). piece_by due opening (waiting_at_last turns nothing_waits)) is;
+said_in_order = record {
+  all = λ turns. turns_merged turns nothing_queued nothing_fine;
+  kept = λ turns are. kept_said turns nothing_queued nothing_fine are refl;
 }

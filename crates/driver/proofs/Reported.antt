@@ -28,7 +28,7 @@ use Rattle.driver.specs.Keys.{KeyOf}
 use Rattle.driver.specs.Learning.{LearnsIf, nick_learnt}
 use Rattle.driver.specs.Links.{is_open, is_session_of}
 use Rattle.driver.specs.Opening.{joined_as}
-use Rattle.driver.specs.Outgoing.{with_line, nothing_waits}
+use Rattle.driver.specs.Outgoing.{Waiting, nothing_waits}
 use Rattle.driver.specs.Writing.{joined, link_passed}
 use Rattle.driver.specs.Crowds.{Told}
 use Rattle.driver.specs.Driving.{orders_of, told_of}
@@ -65,9 +65,9 @@ passed_fits c keys (To origin) node link fits = fits
 passed_fits c keys (HandClass session number line) node link fits = fits
 passed_fits c keys Nowhere node link fits = fits
 
-pub handed_fits : (c : Connection) (is : Bool) (node : ℕ) (line : Parts) (link : Link) → is_session_of link.stage node ≡ is → Fits c link → Fits c (record link { waiting = if is then with_line line link.waiting else link.waiting })
-handed_fits c true node line link is fits = open_fits c link (record link { waiting = with_line line link.waiting }) (session_open link.stage node is) fits.stands
-handed_fits c false node line link is fits = fits
+pub handed_fits : (c : Connection) (is : Bool) (node : ℕ) (waiting : Waiting) (link : Link) → is_session_of link.stage node ≡ is → Fits c link → Fits c (record link { waiting = if is then waiting else link.waiting })
+handed_fits c true node waiting link is fits = open_fits c link (record link { waiting = waiting }) (session_open link.stage node is) fits.stands
+handed_fits c false node waiting link is fits = fits
 
 learnt_link : (nick : Option (List ℕ)) (old new : Driver) → LearnsIf nick old new → new.link ≡ old.link
 learnt_link None old new same = ap (λ (driver : Driver). driver.link) same

@@ -1,5 +1,6 @@
 -- What leaves a node as it stands, up or down: the end of a session, claims, and the turns of all nodes.
 use Rattle.std.proofs.Common.{◌≡◌, ◌∙◌, ◌++◌, ℕ, zero, suc, ◌+◌, ◌-◌, ◌≤◌, Bool, true, false, List, [], ◌∷◌, Option, Some, None, refl, sym, ap, subst, slice_get}
+use Rattle.std.specs.BTreeMap.{keys}
 use Rattle.std.specs.Prelude.{◌&&◌, if◌then◌else◌, is_some, nat_eq}
 use Rattle.std.proofs.lemmas.Bool.{eqb-true}
 use Rattle.node_notes.specs.declared.note.Note.TheVariants as note
@@ -13,6 +14,7 @@ use Rattle.driver.specs.declared.node_monitor.NodeMonitor.{NodeMonitor}
 use Rattle.driver.specs.declared.driver.Driver.{Driver}
 use Rattle.driver.specs.declared.link.Stage.{Stage}
 use Rattle.driver.specs.declared.link.Stage.TheVariants.{Closing, Connecting, Idle, Open}
+use Rattle.driver.specs.Dropping.{TellsDroppedIf, drop_end}
 use Rattle.driver.specs.declared.news.Ending.{Ending}
 use Rattle.driver.specs.declared.news.Ending.TheVariants.{LedNoMore}
 use Rattle.driver.specs.declared.order.Order.TheVariants as order
@@ -25,7 +27,7 @@ use Rattle.driver.specs.Servers.{AsksForWord, is_quiet}
 use Rattle.driver.specs.Telling.{Ordered, ordered}
 use Rattle.driver.specs.declared.driver.writing.TheConstants.{MOST_AT_ONCE}
 use Rattle.driver.specs.Writing.{WriteLines, may_claim}
-use Rattle.driver.proofs.Adding.{Adds, nothing_adds, one_adds}
+use Rattle.driver.proofs.Adding.{Adds, all_written_add, nothing_adds, one_adds}
 use Rattle.driver.proofs.Claiming.{claim_change, claim_orders, claimed_id}
 use Rattle.driver.proofs.Monitors.{Ids, ids_changed}
 use Rattle.driver.proofs.Growing.{AllAre, AllGood, all_append}
@@ -237,6 +239,13 @@ claims_stay n now node down old new low steady leads c =
       };
     }
 
+-- a drop ends
+drop_stays : (n : ℕ) (down : Bool) (ended : Option ℕ) (old new : Driver) → Steady n down old → TellsDroppedIf ended old new → Stays n down old new
+drop_stays n down None old new steady same = same_stays n down old new steady same
+drop_stays n down (Some count) old new steady t =
+    orders_stay n down old new steady (ap (λ (driver : Driver). driver.monitors) t.rest) (ap (λ (driver : Driver). driver.clients) t.rest)
+    (all_written_add (Plain n down) (keys old.clients.all) old.clients _ old.orders new.orders steady.good t.written)
+
 serves_stay : (n : ℕ) (serves : Bool) (now node : ℕ) (down : Bool) (leader : Option ℕ) (old new : Driver) → 1 ≤ n → Steady n down old → IsLeader old.monitors leader → is_that leader node ≡ serves → ServesIf serves now node old new → Stays n down old new
 serves_stay n false now node down leader old new low steady leads is same = same_stays n down old new steady same
 serves_stay n true now node down leader old new low steady leads is s =
@@ -245,7 +254,8 @@ serves_stay n true now node down leader old new low steady leads is s =
     let same = ap (λ (driver : Driver). driver.monitors) (lines_rest MOST_AT_ONCE now node old s.written s.writes) in
     let own_still = subst (λ (monitors : List NodeMonitor). IsLeader monitors (Some node)) (sym same) own in
     let second = claims_stay n now node down s.written s.claimed low first.steady own_still s.claims in
-    let last = connects_stay n now node down s.claimed new second.steady s.connects in
+    let connects = connects_stay n now node down s.claimed s.connected second.steady s.connects in
+    let last = stays_both n down s.claimed s.connected new connects (drop_stays n down (drop_end s.connected node) s.connected new connects.steady s.ends) in
     stays_both n down old s.written new first (stays_both n down s.written s.claimed new second last)
 
 -- A node ticks.

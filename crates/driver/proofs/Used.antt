@@ -1,5 +1,6 @@
 -- What goes to the server, what a node is told, and when the server is connected to, for the connection to the server.
 use Rattle.std.proofs.Common.{◌≡◌, ◌∙◌, ℕ, zero, suc, ◌+◌, ◌-◌, Bool, true, false, List, [], ◌∷◌, Option, Some, None, refl, sym, ap, subst, slice_get}
+use Rattle.std.specs.BTreeMap.{keys}
 use Rattle.std.specs.Prelude.{if◌then◌else◌}
 use Rattle.std.specs.Global.{Vec}
 use Rattle.irc_line.specs.Names.{same_bytes}
@@ -10,6 +11,7 @@ use Rattle.driver.specs.declared.driver.Driver.{Driver}
 use Rattle.driver.specs.declared.driver.writing.TheConstants.{MOST_AT_ONCE}
 use Rattle.driver.specs.declared.link.Stage.{Stage}
 use Rattle.driver.specs.declared.link.Stage.TheVariants.{Closing, Connecting, Idle, Open}
+use Rattle.driver.specs.Dropping.{TellsDroppedIf, drop_end}
 use Rattle.driver.specs.declared.node_monitor.NodeMonitor.{NodeMonitor}
 use Rattle.driver.specs.declared.order.Order.{Order}
 use Rattle.driver.specs.declared.order.Order.TheVariants as order
@@ -23,6 +25,7 @@ use Rattle.driver.specs.Quitting.{Connection, Gone, Over, Told, Used, asked_behi
 use Rattle.driver.specs.Retiring.{restart_at}
 use Rattle.driver.specs.Telling.{ordered}
 use Rattle.driver.specs.Writing.{GoesOutIf, WriteLines, WritesLine, are_due, may_claim, may_write, piece_at, piece_of}
+use Rattle.driver.proofs.Adding.{all_written_add}
 use Rattle.driver.proofs.Growing.{AllAre, AllGood, all_append}
 use Rattle.driver.proofs.Parted.{older_goes, open_used, used_open}
 use Rattle.driver.proofs.Quitting.{Fits, Goes, Inner, IsUsed, StandsAs, adds_goes, goes_both, one_goes, same_goes}
@@ -154,14 +157,24 @@ connects_by now node c false old new is fits good orders stage rest =
     (ap (λ (driver : Driver). driver.clients) rest)
     (record { told = []; orders = orders; all = tt })
 
+-- a drop ends
+drop_goes : (now : ℕ) (c : Connection) (ended : Option ℕ) (old new : Driver) → Fits c old.link → AllGood Inner old.clients → TellsDroppedIf ended old new → Goes now c old new
+drop_goes now c None old new fits good same = same_goes now c old new fits good same
+drop_goes now c (Some count) old new fits good t =
+    adds_goes now c old new fits good (ap (λ (driver : Driver). driver.link) t.rest) (ap (λ (driver : Driver). driver.clients) t.rest)
+    (all_written_add Inner (keys old.clients.all) old.clients _ old.orders new.orders good t.written)
+
 serves_go : (now node : ℕ) (c : Connection) (serves : Bool) (old new : Driver) → Fits c old.link → AllGood Inner old.clients → ServesIf serves now node old new → Goes now c old new
 serves_go now node c false old new fits good same = same_goes now c old new fits good same
 serves_go now node c true old new fits good s =
     let written = lines_go MOST_AT_ONCE now node c old s.written fits good s.writes in
     let claimed = claims_go now node written.last s.written s.claimed written.fits written.good s.claims in
     let both = goes_both now c old s.written s.claimed written claimed in
-    goes_both now c old s.claimed new both
-    (connects_by now node both.last (may_connect s.claimed.link.stage now) s.claimed new refl both.fits both.good s.connects.orders s.connects.stage s.connects.rest)
+    let connected =
+    connects_by now node both.last (may_connect s.claimed.link.stage now) s.claimed s.connected refl both.fits both.good s.connects.orders s.connects.stage s.connects.rest
+    in
+    let all = goes_both now c old s.claimed s.connected both connected in
+    goes_both now c old s.connected new all (drop_goes now all.last (drop_end s.connected node) s.connected new all.fits all.good s.ends)
 
 -- A node ticks.
 pub node_goes : (now node : ℕ) (c : Connection) (old new : Driver) → Fits c old.link → AllGood Inner old.clients → TicksNode now node old new → Goes now c old new

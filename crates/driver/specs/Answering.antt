@@ -1,7 +1,7 @@
 -- What a client is answered to words to the bouncer that ask for nothing of the buffers.
 use Rattle.std.specs.Prelude.{◌≡◌, ℕ, Bool, true, false, codes, List, [], ◌∷◌, Option, Some, None}
 use Rattle.std.specs.BTreeMap.{keys}
-use Rattle.std.specs.Global.{Vec}
+use Rattle.std.specs.List.{list_any}
 use Rattle.client_gate.specs.declared.status_word.StatusWord.{StatusWord}
 use Rattle.client_gate.specs.declared.status_word.StatusWord.TheVariants as word
 use Rattle.driver.specs.declared.client.Client.{Client}
@@ -9,6 +9,7 @@ use Rattle.driver.specs.declared.clients.Clients.{Clients}
 use Rattle.driver.specs.declared.driver.Driver.{Driver}
 use Rattle.driver.specs.declared.order.Order.{Order}
 use Rattle.driver.specs.declared.order.Order.TheVariants.{Write}
+use Rattle.driver.specs.Dropping.{DropsSaid, drop_words}
 use Rattle.driver.specs.Leading.{IsLeader}
 use Rattle.driver.specs.Nicks.{IsWritten, is_reached, nick_in, notice}
 use Rattle.driver.specs.Rosters.{client_at}
@@ -25,6 +26,7 @@ help_texts =
     ∷ codes "CLEARBUFFER name - forget what is kept of one"
     ∷ codes "CLEARALLCHANNELBUFFERS, CLEARALLQUERYBUFFERS, CLEARALLBUFFERS - forget what is kept of all"
     ∷ codes "SETBUFFER name lines - keep so many lines of one, at most 500"
+    ∷ codes "DROP WAITING - forget what waits to go to the server"
     ∷ codes "STATUS - how the bouncer stands; CLIENTS - who is attached; HELP - this list" ∷ []
 
 -- the client that was found is told these texts by `*status`, in this order
@@ -60,17 +62,27 @@ pub record TellsStanding (now number : ℕ) (driver : Driver) (after : Ordered) 
   pub stands : AreTold (standing_texts leader now driver) (client_at driver.clients number) (nick_in driver) driver.orders stood
   pub lists : AllAreListed number driver.clients (nick_in driver) stood after
 
--- what is answered to a word
-abbrev pub AnswersBy : StatusWord → ℕ → ℕ → Driver → Ordered → Type 0
-AnswersBy word.Help now number driver after = AreTold help_texts (client_at driver.clients number) (nick_in driver) driver.orders after
-AnswersBy word.Unknown now number driver after = AreTold help_texts (client_at driver.clients number) (nick_in driver) driver.orders after
-AnswersBy word.Status now number driver after = TellsStanding now number driver after
-AnswersBy word.Clients now number driver after = AllAreListed number driver.clients (nick_in driver) driver.orders after
-
--- A word of a client is answered, and nothing else changes.
-pub record Answers (word : StatusWord) (now number : ℕ) (old new : Driver) : Type 0 where
-  pub answers : AnswersBy word now number old new.orders
+-- A word is answered by this, and nothing else changes.
+pub record Tells (gives : Ordered → Type 0) (old new : Driver) : Type 0 where
+  pub told : gives new.orders
   pub rest : new ≡ record old { orders = new.orders }
+
+-- What waits to go to the server is dropped, and who asked is told whether something did.
+pub record Drops (number : ℕ) (old new : Driver) : Type 0 where
+  pub drops : DropsSaid old new
+  pub told : AreTold (drop_words drops.waits ∷ []) (client_at old.clients number) (nick_in old) old.orders new.orders
+
+-- A word of a client is answered. By DROP WAITING what waits is dropped; by any other nothing else changes.
+abbrev pub Answers : StatusWord → ℕ → ℕ → Driver → Driver → Type 0
+Answers word.Help now number old new = Tells (AreTold help_texts (client_at old.clients number) (nick_in old) old.orders) old new
+Answers word.Unknown now number old new = Tells (AreTold help_texts (client_at old.clients number) (nick_in old) old.orders) old new
+Answers word.Status now number old new = Tells (TellsStanding now number old) old new
+Answers word.Clients now number old new = Tells (AllAreListed number old.clients (nick_in old) old.orders) old new
+Answers word.DropWaiting now number old new = Drops number old new
+
+-- a driver with what words to the bouncer may change of another: orders, and what waits to go to the server where it is dropped
+abbrev pub answered_as : Driver → Driver → Driver
+answered_as new old = record old { orders = new.orders; dropping = new.dropping; link = record old.link { waiting = new.link.waiting } }
 
 -- words are answered in turn
 unfoldable pub AnswersAll : List StatusWord → ℕ → ℕ → Driver → Driver → Type 0
@@ -93,15 +105,28 @@ unfoldable pub AreWrites : ℕ → List Order → Type 0
 AreWrites client [] = Unit {0}
 AreWrites client (order ∷ more) = IsWrite client order × AreWrites client more
 
+-- a word asks that nothing waits any more to go to the server
+abbrev pub is_drop : StatusWord → Bool
+is_drop word.DropWaiting = true
+is_drop word.Help = false
+is_drop word.Unknown = false
+is_drop word.Status = false
+is_drop word.Clients = false
+
+-- what words change besides orders, of which one is DROP WAITING or none is: what waits is dropped, or nothing changes
+abbrev pub ChangesJust : Bool → Driver → Driver → Type 0
+ChangesJust false old new = new ≡ record old { orders = new.orders }
+ChangesJust true old new = DropsSaid old new
+
 -- Whatever a client says to the bouncer that asks for nothing of the buffers: all that is ordered is written to that client, and nothing else
--- changes.
-pub record IsForWhoAsks (client : ℕ) (old new : Driver) : Type 0 where
+-- changes, but that by DROP WAITING what waits is dropped.
+pub record IsForWhoAsks (client : ℕ) (drops : Bool) (old new : Driver) : Type 0 where
   pub told : List Order
   pub orders : new.orders ≡ ordered old.orders told
   pub own : AreWrites client told
-  pub rest : new ≡ record old { orders = new.orders }
+  pub rest : ChangesJust drops old new
 
 abbrev pub AnswersGoToWhoAsks : Type 0
 AnswersGoToWhoAsks =
     (words : List StatusWord) (now number : ℕ) (c : Client) (old new : Driver)
-    → client_at old.clients number ≡ Some c → AnswersAll words now number old new → IsForWhoAsks c.origin.2 old new
+    → client_at old.clients number ≡ Some c → AnswersAll words now number old new → IsForWhoAsks c.origin.2 (list_any is_drop words) old new

@@ -55,6 +55,7 @@ pub record IsNewDriver (settings : Settings) (now : ℕ) (new : Driver) : Type 0
   pub level : new.level ≡ Roomy
   pub pace : new.pace ≡ record { burst = settings.flood_burst; line_ms = settings.flood_ms; free_at = 0 }
   pub unheard : new.unheard ≡ 0
+  pub dropping : new.dropping ≡ None
   pub is_not_short : new.is_short ≡ false
   pub going_on : new.going_on ≡ at now
   pub ran : new.ran ≡ at now

@@ -59,7 +59,14 @@ pub record Speaks (bytes : List ℕ) (now : ℕ) (at : Moment) (number : ℕ) (o
   pub others : AreOthersSame number old.clients new.clients
   pub nobody : client_at old.clients number ≡ None → (new.clients ≡ old.clients) × (new.orders ≡ old.orders)
   pub comes : Comes bytes now at number old new
-  pub rest : new ≡ record old { clients = new.clients; orders = new.orders; guard = new.guard }
+  pub rest :
+      new ≡ record old {
+        clients = new.clients;
+        orders = new.orders;
+        guard = new.guard;
+        dropping = new.dropping;
+        link = record old.link { waiting = new.link.waiting };
+      }
 
 -- A client's connection is gone.
 pub record Goes (now : ℕ) (at : Moment) (number : ℕ) (old new : Driver) : Type 0 where

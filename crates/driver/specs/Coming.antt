@@ -25,7 +25,8 @@ pub record Comes (bytes : List ℕ) (now : ℕ) (at : Moment) (number : ℕ) (ol
   pub greets : IsGreeted (is_attached_in (client_at old.clients number)) (warned old now) (client_at new.clients number) (nick_in old) told greeted
   pub answered : Ordered
   pub answers :
-      AnswersIf (is_attached_in (client_at new.clients number)) words now number (record old { clients = new.clients; orders = greeted }) (record old { clients = new.clients; orders = answered })
+      AnswersIf (is_attached_in (client_at new.clients number)) words now number (record old { clients = new.clients; orders = greeted })
+      (record old { clients = new.clients; orders = answered; dropping = new.dropping; link = new.link })
   pub notes :
       NotesIf (is_some (refused_in (client_at old.clients number))) (refused_in (client_at new.clients number)) now
       old.guard answered new.guard new.orders

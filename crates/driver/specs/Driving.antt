@@ -14,6 +14,7 @@ use Rattle.driver.specs.declared.order.Order.{Order}
 use Rattle.driver.specs.declared.order.Order.TheVariants.{Connect, Disconnect, Send, Submit}
 use Rattle.driver.specs.declared.settings.Settings.{Settings}
 use Rattle.driver.specs.declared.link.Stage.TheVariants.{Connecting}
+use Rattle.driver.specs.Dropping.{EndsDrop}
 use Rattle.driver.specs.Crowds.{DismissEach, TickEach, Told, told as crowd}
 use Rattle.driver.specs.Monitors.{claim_at, claim_due, monitor_behind, monitor_claimed, note_at, told}
 use Rattle.driver.specs.Retiring.{restart_at, restart_behind}
@@ -156,13 +157,16 @@ pub record Connects (now node : ℕ) (old new : Driver) : Type 0 where
   pub stage : new.link.stage ≡ (if may_connect old.link.stage now then Connecting node else old.link.stage)
   pub rest : new ≡ record old { orders = new.orders; link = record old.link { stage = new.link.stage } }
 
--- For the node that leads in the greatest term what waits goes out; then it claims, and the server is connected to for it.
+-- For the node that leads in the greatest term what waits goes out; then it claims, and the server is connected to for it; a drop ends where no
+-- line is left to claim.
 pub record Serves (now node : ℕ) (old new : Driver) : Type 0 where
   pub written : Driver
   pub writes : WriteLines MOST_AT_ONCE now node old written
   pub claimed : Driver
   pub claims : Claims now node written claimed
-  pub connects : Connects now node claimed new
+  pub connected : Driver
+  pub connects : Connects now node claimed connected
+  pub ends : EndsDrop node connected new
 
 -- For any other node nothing is done.
 abbrev pub ServesIf : Bool → ℕ → ℕ → Driver → Driver → Type 0

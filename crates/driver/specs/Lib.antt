@@ -16,6 +16,7 @@ pub mod Downtime
 pub mod Evicting
 pub mod Deeds
 pub mod Driving
+pub mod Dropping
 pub mod Farewells
 pub mod Filling
 pub mod Guarding

@@ -1,6 +1,6 @@
 -- What waits to go to the server in a session: what each session sends first, JOINs of its channels, then what people say, and behind it questions who is in a
 -- channel, which are asked of each channel as a client attaches.
-use Rattle.std.specs.Prelude.{ℕ, ◌+◌, Bool, false, ◌&&◌, ◌||◌, not, nat_eq, nat_le, nat_lt, if◌then◌else◌, codes, List, [], ◌∷◌, ◌++◌, drop, length, Option, Some, None}
+use Rattle.std.specs.Prelude.{ℕ, Bool, false, ◌&&◌, ◌||◌, not, nat_eq, nat_le, nat_lt, if◌then◌else◌, codes, List, [], ◌∷◌, ◌++◌, drop, length, Option, Some, None}
 use Rattle.std.specs.List.{list_any}
 use Rattle.irc_line.specs.Lines.{Parts, cut_spelling, parameter}
 use Rattle.irc_line.specs.Names.{same_name}
@@ -66,6 +66,10 @@ with_question line waiting = if is_dropped line waiting then waiting else record
 -- a line that was handed out waits in its place
 abbrev pub with_line : Parts → Waiting → Waiting
 with_line line waiting = if asks_names line then with_question line waiting else record waiting { said = waiting.said ++ line ∷ [] }
+
+-- what waits but for what is said
+abbrev pub without_said : Waiting → Waiting
+without_said waiting = record waiting { said = [] }
 
 -- the first of these questions, if there is one
 abbrev pub first_of : List Parts → Option Piece

@@ -1,5 +1,5 @@
 -- Lines that nodes hand out, and how they go to the server.
-use Rattle.std.specs.Prelude.{◌≡◌, List, ◌∷◌, [], ◌&&◌, ◌-◌, ℕ, zero, suc, Bool, not, if◌then◌else◌, Option, Some, None, slice_get}
+use Rattle.std.specs.Prelude.{◌≡◌, List, ◌∷◌, [], ◌&&◌, ◌||◌, ◌-◌, ℕ, zero, suc, Bool, not, if◌then◌else◌, Option, Some, None, slice_get}
 use Rattle.std.specs.Global.{Vec}
 use Rattle.std.specs.Option.{is_some}
 use Rattle.irc_line.specs.Lines.{Parts, parameter}
@@ -13,20 +13,26 @@ use Rattle.driver.specs.declared.outgoing.Piece.{Piece}
 use Rattle.driver.specs.declared.outgoing.Piece.TheVariants.{Joins, Opens, Says}
 use Rattle.driver.specs.declared.pace.Pace.{Pace}
 use Rattle.driver.specs.Absent.{asked}
+use Rattle.driver.specs.Dropping.{dropping_handed, with_handed}
 use Rattle.driver.specs.Keys.{KeyOf, Keys, key_for, tried_by}
 use Rattle.driver.specs.Links.{is_session_of, status_in}
 use Rattle.driver.specs.Monitors.{line_to_claim}
-use Rattle.driver.specs.Outgoing.{Waiting, has_said, is_said, next_piece, piece_bytes, with_join, with_line, without_next}
+use Rattle.driver.specs.Outgoing.{Waiting, has_said, is_said, next_piece, piece_bytes, with_join, without_next}
 use Rattle.driver.specs.Pacing.{free_after, may_go}
 use Rattle.driver.specs.Telling.{Ordered, one_more, ordered}
 
--- a node hands out a line: in its session it waits to go out
-abbrev pub handed : ℕ → Parts → Link → Link
-handed node line link = record link { waiting = if is_session_of link.stage node then with_line line link.waiting else link.waiting }
+-- a node hands out a line: in its session it waits to go out, unless it is said and a drop goes on
+abbrev pub handed : Option ℕ → ℕ → Parts → Link → Link
+handed dropping node line link =
+    record link { waiting = if is_session_of link.stage node then with_handed dropping line link.waiting else link.waiting }
 
--- A line that a node hands out waits to go out.
+-- A line that a node hands out waits to go out in its session; where a drop goes on, and it is said, it is dropped and counted.
 abbrev pub Hands : ℕ → Parts → Driver → Driver → Type 0
-Hands node line old new = new ≡ record old { link = handed node line old.link }
+Hands node line old new =
+    new ≡ record old {
+      link = handed old.dropping node line old.link;
+      dropping = if is_session_of old.link.stage node then dropping_handed old.dropping line else old.dropping;
+    }
 
 -- a channel waits to be joined again, by the key by which it was joined last, or else by its key of these; the server is to answer that
 abbrev pub joined : List KeyOf → List ℕ → Link → Link
@@ -46,9 +52,9 @@ link_passed keys Nowhere node link = link
 abbrev pub may_write : Driver → ℕ → Bool
 may_write driver now = may_go driver.pace.burst driver.pace.line_ms driver.pace.free_at now
 
--- a line may be claimed: it could go out at once, and none that is said waits
+-- a line may be claimed: none that is said waits, and it could go out at once, or would be dropped
 abbrev pub may_claim : Driver → ℕ → Bool
-may_claim driver now = not (has_said driver.link.waiting) && may_write driver now
+may_claim driver now = not (has_said driver.link.waiting) && (is_some driver.dropping || may_write driver now)
 
 -- the pace behind a line that goes
 abbrev pub gone_at : ℕ → Pace → Pace

@@ -15,6 +15,7 @@ ghost use Rattle.driver.specs.Telling.{emptied, ordered};
 
 mod admitting;
 mod answering;
+mod dropping;
 mod filling;
 mod hearing;
 pub(crate) mod nick;
@@ -67,6 +68,8 @@ pub struct Driver {
     pace: Pace,
     /// How many lines that are said went to the server since it was last heard.
     unheard: u64,
+    /// How many lines were dropped so far, where what waits to go to the server is dropped until no line is left to claim.
+    dropping: Option<u64>,
     /// Fewer nodes than a majority serve clients, as people were told last.
     is_short: bool,
     /// Since when a majority of the nodes goes on, as far as is known.
@@ -96,6 +99,7 @@ impl Driver {
             level: Level::Roomy,
             pace,
             unheard: 0,
+            dropping: None,
             is_short: false,
             going_on: Timer::from(now.ms),
             ran: Timer::from(now.ms),
@@ -258,10 +262,18 @@ impl Driver {
         self.unheard
     }
 
-    /// A line was handed out by a node, for its session, in which it waits to go out.
+    /// A line was handed out by a node, for its session, in which it waits to go out. Where a drop goes on, and the
+    /// line is said, it is dropped.
     pub fn hand(&mut self, node: NodeId, line: &Line) -> Result<(), AllocError>
         ensures { OnOk result (Hands node line.now self.old self.new) }
     {
+        if !self.link.is_session_of(node) {
+            return Ok(());
+        }
+        if self.drops(line) {
+            self.count_dropped(1);
+            return Ok(());
+        }
         self.link.queue(node, line)
     }
 }

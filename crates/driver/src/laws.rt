@@ -11,7 +11,7 @@ ghost use Rattle.driver.specs.Keys.{KeysAreLearnt};
 ghost use Rattle.driver.specs.Led.{IsOfLeaderHeard, IsOfLeaderTicked};
 ghost use Rattle.driver.specs.Once.{AsksOnce, AsksOwn};
 ghost use Rattle.driver.specs.Pacing.{IsPaced};
-ghost use Rattle.driver.specs.Queueing.{OpeningGoesFirst, QuestionsWait, SaidAreCounted, SaidGoInOrder};
+ghost use Rattle.driver.specs.Queueing.{DropsWhatWaits, OpeningGoesFirst, QuestionsWait, SaidAreCounted, SaidGoInOrder};
 ghost use Rattle.driver.specs.Quitting.{SessionsEndFirst};
 ghost use Rattle.driver.specs.Reaching.{EffectsReach};
 ghost use Rattle.driver.specs.Rewording.{RewordsEndings};
@@ -68,7 +68,8 @@ pub fn endings_are_reworded()
 {}
 
 /// Whatever a client says to the bouncer that asks for nothing of the buffers: what it is answered is written to that
-/// client and to no other, and nothing else comes of it.
+/// client and to no other, and nothing else comes of it, but that by DROP WAITING what is said and waits to go to the
+/// server is dropped.
 pub fn answers_go_to_who_asks()
     ensures { AnswersGoToWhoAsks }
 {}
@@ -98,9 +99,9 @@ pub fn lines_are_paced()
 {}
 
 /// In a session, whatever nodes hand out, channels are joined and lines go: the lines that each session sends first go
-/// out in order, each once, before anything else that waits; the lines that are said go out in the
-/// order in which they were handed out, each at most once; a question who is in a channel goes only where nothing
-/// that is said waits, and of those that wait no two ask of one channel.
+/// out in order, each once, before anything else that waits; the lines that are said go out in the order in which they
+/// were handed out, each at most once, and all do where nobody says DROP WAITING; a question who is in a channel goes
+/// only where nothing that is said waits, and of those that wait no two ask of one channel.
 pub fn what_is_said_goes_first()
     ensures first { OpeningGoesFirst }
     ensures order { SaidGoInOrder }
@@ -111,6 +112,12 @@ pub fn what_is_said_goes_first()
 /// is.
 pub fn what_is_said_is_counted()
     ensures { SaidAreCounted }
+{}
+
+/// In a session, from where DROP WAITING is said until that drop ends no line that is said goes to the server, whatever
+/// nodes hand out, and all of them are counted; what is handed out once it ended goes out as ever.
+pub fn what_waits_is_dropped()
+    ensures { DropsWhatWaits }
 {}
 
 /// Where the server gives a session again, the lines that each session sends first don't wait once more.

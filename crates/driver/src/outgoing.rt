@@ -1,7 +1,7 @@
 //! What waits to go to the server in a session.
 ghost use Rattle.std.specs.Prelude.{◌≡◌, ◌++◌, IfOk, OnOk, length};
 ghost use Rattle.driver.specs.Outgoing.{asks_names, has_said, is_asked, is_dropped, is_said, next_piece, nothing_waits};
-ghost use Rattle.driver.specs.Outgoing.{piece_bytes, with_join, with_line, with_opening, without_next};
+ghost use Rattle.driver.specs.Outgoing.{piece_bytes, with_join, with_line, with_opening, without_next, without_said};
 
 use crate::join_line::JoinLine;
 use buffer_machine::has_command;
@@ -155,6 +155,13 @@ impl Outgoing {
         Ok(())
     }
 
+    /// What is said waits no longer.
+    pub fn drop_said(&mut self)
+        ensures { self.new ≡ without_said self.old }
+    {
+        self.said.clear();
+    }
+
     /// Whether a question is dropped: one of its channel waits, or as many wait as may.
     fn is_dropped(&self, line: &Line) -> bool
         ensures { result ≡ is_dropped line.now self.now }
@@ -208,7 +215,7 @@ fn push_all(out: &mut VecDeque<Line>, lines: &[Line]) -> Result<(), AllocError>
 }
 
 /// Whether a line asks who is in a channel: a NAMES with the channel alone.
-fn asks_names(line: &Line) -> bool
+pub fn asks_names(line: &Line) -> bool
     ensures { result ≡ asks_names line.now }
 {
     has_command(line, b"NAMES") && line.parameter_count() == 1

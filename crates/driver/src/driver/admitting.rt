@@ -14,7 +14,8 @@ use wire_bytes::Origin;
 impl Driver {
     /// Bytes came from a client, however they are cut. Where it registered by them, its welcome goes on: it is told
     /// of the nick in force where it was greeted by another, that there is no message of the day, and where there is no
-    /// server why, and when it is tried next. What it asks of the bouncer itself it is told. Where its password was wrong it is told so two seconds later, or in its
+    /// server why, and when it is tried next. What it asks of the bouncer itself it is told; by DROP WAITING
+    /// what waits to go to the server is dropped. Where its password was wrong it is told so two seconds later, or in its
     /// turn, by `tick`, and then closed.
     pub fn receive(&mut self, now: &Now, number: u64, bytes: &[u8]) -> Result<(), AllocError>
         ensures others { AreOthersSame number self.old.clients self.new.clients }
@@ -23,8 +24,13 @@ impl Driver {
             × (self.new.orders ≡ self.old.orders) }
         ensures served { OnOk result
             (Comes bytes.now now.now.ms now.now.at number self.old self.new) }
-        ensures rest { self.new ≡ record self.old
-            { clients = self.new.clients; orders = self.new.orders; guard = self.new.guard } }
+        ensures rest { self.new ≡ record self.old {
+          clients = self.new.clients;
+          orders = self.new.orders;
+          guard = self.new.guard;
+          dropping = self.new.dropping;
+          link = record self.old.link { waiting = self.new.link.waiting };
+        } }
     {
         let was_attached = self.clients.is_attached(number);
         let was_refused = self.clients.refused(number).is_some();

@@ -1,6 +1,7 @@
 //! What a client is answered that asks something of the bouncer itself.
-ghost use Rattle.std.specs.Prelude.{◌≡◌, None, OnOk, map};
-ghost use Rattle.driver.specs.Answering.{AllAreListed, Answers, AnswersAll, AnswersIf, AreTold, TellsStanding, help_texts};
+ghost use Rattle.std.specs.Prelude.{◌≡◌, None, OnErr, OnOk, map};
+ghost use Rattle.driver.specs.Answering.{AllAreListed, Answers, AnswersAll, AnswersIf, AreTold, TellsStanding};
+ghost use Rattle.driver.specs.Answering.{answered_as, help_texts};
 ghost use Rattle.driver.specs.Filling.{entries_of};
 ghost use Rattle.driver.specs.Nicks.{nick_in};
 ghost use Rattle.driver.specs.Rosters.{client_at, is_attached_in};
@@ -16,7 +17,8 @@ use raft_log::NodeId;
 use std::alloc::AllocError;
 
 impl Driver {
-    /// What a client that registered said to the bouncer that asked for nothing of the buffers is answered.
+    /// What a client that registered said to the bouncer that asked for nothing of the buffers is answered; by DROP
+    /// WAITING what waits to go to the server is dropped.
     pub(crate) fn answer_all(
         &mut self,
         now: &Now,
@@ -26,7 +28,7 @@ impl Driver {
         ensures answered { OnOk result (AnswersIf (is_attached_in (client_at self.old.clients number))
             words.items now.now.ms number self.old self.new) }
         ensures nobody { client_at self.old.clients number ≡ None → self.new ≡ self.old }
-        ensures rest { self.new ≡ record self.old { orders = self.new.orders } }
+        ensures rest { self.new ≡ answered_as self.new self.old }
     {
         if !self.clients.is_attached(number) {
             return Ok(());
@@ -43,7 +45,7 @@ impl Driver {
     ) -> Result<(), AllocError>
         ensures answered { OnOk result
             (AnswersAll words.items now.now.ms number self.old self.new) }
-        ensures rest { self.new ≡ record self.old { orders = self.new.orders } }
+        ensures rest { self.new ≡ answered_as self.new self.old }
     {
         for word in words {
             self.answer(now, number, word)?;
@@ -54,12 +56,13 @@ impl Driver {
     /// A word of a client is answered.
     fn answer(&mut self, now: &Now, number: u64, word: StatusWord) -> Result<(), AllocError>
         ensures answered { OnOk result (Answers word now.now.ms number self.old self.new) }
-        ensures rest { self.new ≡ record self.old { orders = self.new.orders } }
+        ensures failed { OnErr result (self.new ≡ record self.old { orders = self.new.orders }) }
     {
         match word {
             StatusWord::Help | StatusWord::Unknown => self.list_words(number),
             StatusWord::Status => self.tell_standing(now, number),
             StatusWord::Clients => self.list_clients(number),
+            StatusWord::DropWaiting => self.drop_waiting(number),
         }
     }
 
@@ -79,13 +82,14 @@ impl Driver {
                 b"CLEARBUFFER name - forget what is kept of one",
                 b"CLEARALLCHANNELBUFFERS, CLEARALLQUERYBUFFERS, CLEARALLBUFFERS - forget what is kept of all",
                 b"SETBUFFER name lines - keep so many lines of one, at most 500",
+                b"DROP WAITING - forget what waits to go to the server",
                 b"STATUS - how the bouncer stands; CLIENTS - who is attached; HELP - this list",
             ],
         )
     }
 
     /// A client is told these texts by `*status`.
-    fn tell_lines(&mut self, number: u64, texts: &[&[u8]]) -> Result<(), AllocError>
+    pub(crate) fn tell_lines(&mut self, number: u64, texts: &[&[u8]]) -> Result<(), AllocError>
         ensures told { OnOk result (AreTold (map (λ text. text.now) texts.now)
             (client_at self.old.clients number) (nick_in self.old) self.old.orders self.new.orders) }
         ensures rest { self.new ≡ record self.old { orders = self.new.orders } }

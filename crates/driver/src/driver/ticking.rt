@@ -101,17 +101,19 @@ impl Driver {
         self.serve(now, node)
     }
 
-    /// What waits goes out for the node that leads in the greatest term; it claims, and the server is connected to.
+    /// What waits goes out for the node that leads in the greatest term; it claims, and the server is connected to; a drop
+    /// ends where no line is left to claim.
     fn serve(&mut self, now: &Now, node: NodeId) -> Result<(), AllocError>
         ensures { OnOk result (Serves now.now.ms node self.old self.new) }
     {
         self.write_lines(now, node)?;
         self.claim(now, node)?;
         self.connect_for(now, node)?;
+        self.end_drop(node)?;
         Ok(())
     }
 
-    /// The next line of this node's session is claimed, where it could go out at once.
+    /// The next line of this node's session is claimed, where it could go out at once, or would be dropped.
     fn claim(&mut self, now: &Now, node: NodeId) -> Result<(), AllocError>
         ensures { OnOk result (Claims now.now.ms node self.old self.new) }
     {

@@ -14,11 +14,11 @@ use std::alloc::AllocError;
 const MOST_AT_ONCE: usize = 100;
 
 impl Driver {
-    /// Whether a line may be claimed: it could go out at once, and none that is said waits.
+    /// Whether a line may be claimed: none that is said waits, and it could go out at once, or would be dropped.
     pub(crate) fn may_claim(&self, now: &Now) -> bool
         ensures { result ≡ may_claim self.now now.now.ms }
     {
-        !self.link.has_said() && self.pace.may_go(now.ms)
+        !self.link.has_said() && (self.dropping.is_some() || self.pace.may_go(now.ms))
     }
 
     /// What waits in this node's session goes out, as far as the pace allows it.

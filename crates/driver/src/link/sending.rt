@@ -1,7 +1,7 @@
 //! What waits to go to the server in a session, and goes.
-ghost use Rattle.std.specs.Prelude.{◌≡◌, OnOk, if◌then◌else◌};
+ghost use Rattle.std.specs.Prelude.{◌≡◌, OnOk, if◌then◌else◌, length};
 ghost use Rattle.driver.specs.Links.{is_session_of};
-ghost use Rattle.driver.specs.Outgoing.{has_said, next_piece, with_line, without_next};
+ghost use Rattle.driver.specs.Outgoing.{has_said, next_piece, with_line, without_next, without_said};
 ghost use Rattle.driver.specs.Writing.{IsSent, joined, keys_behind};
 
 use crate::channel_key::ChannelKey;
@@ -47,6 +47,17 @@ impl Link {
         ensures { result ≡ has_said self.now.waiting }
     {
         self.waiting.has_said()
+    }
+
+    /// What is said waits no longer. How many lines that were.
+    pub fn drop_said(&mut self) -> u64
+        ensures count { result ≡ length self.old.waiting.said }
+        ensures rest { self.new
+            ≡ record self.old { waiting = without_said self.old.waiting } }
+    {
+        let count = self.waiting.said_count() as u64;
+        self.waiting.drop_said();
+        count
     }
 
     /// What goes next, where something does: questions go where they are due. It waits no longer.

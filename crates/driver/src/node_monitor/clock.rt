@@ -1,6 +1,7 @@
 //! What the clock tells a node, and when.
 ghost use Rattle.std.specs.Prelude.{◌≡◌, OnOk, Some, None, if◌then◌else◌, is_some};
 ghost use Rattle.node_notes.specs.declared.note.Note.TheVariants.{Beat};
+ghost use Rattle.driver.specs.Dropping.{has_waiting};
 ghost use Rattle.driver.specs.Monitors.{beaten_at, claim_at, claim_due, monitor_behind, monitor_claimed};
 ghost use Rattle.driver.specs.Monitors.{is_claimed, is_to_beat, line_to_claim, note_at, told};
 ghost use Rattle.driver.specs.Telling.{ordered};
@@ -137,6 +138,16 @@ impl NodeMonitor {
         ensures { result ≡ is_some (line_to_claim self.now.status) }
     {
         self.line_to_claim().is_some()
+    }
+
+    /// Whether a line waits in the log, in whatever session it may be claimed, as far as is known.
+    pub fn has_waiting(&self) -> bool
+        ensures { result ≡ has_waiting self.now.status }
+    {
+        match self.status {
+            Some(status) => status.next_claim.is_some(),
+            None => false,
+        }
     }
 
     /// The session that the node holds, and the number of the line that is to be claimed next.

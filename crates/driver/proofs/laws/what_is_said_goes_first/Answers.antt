@@ -1,4 +1,6 @@
-use Rattle.driver.proofs.Queueing.{opening_first, questions_wait, said_in_order}
+use Rattle.driver.proofs.Foremost.{opening_first}
+use Rattle.driver.proofs.Questions.{questions_wait}
+use Rattle.driver.proofs.Queueing.{said_in_order}
 use Rattle.driver.proofs.laws.what_is_said_goes_first.Goals as goal
 
 pub returns-clause-first : goal.returns-clause-first

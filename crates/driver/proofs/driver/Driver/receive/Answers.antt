@@ -1,10 +1,10 @@
-use Rattle.std.proofs.Common.{rules, ◌≡◌, ◌∙◌, Bool, ℕ, None, Some, ap, subst, sym}
-use Rattle.std.specs.Prelude.{is_some}
+use Rattle.std.proofs.Common.{rules, ◌≡◌, ◌∙◌, Bool, ℕ, Option, None, Some, ap, subst, sym}
 use Rattle.std.proofs.lemmas.Result.{on_ok_weaker}
 use Rattle.driver.specs.declared.clients.Clients.{Clients}
 use Rattle.driver.specs.declared.driver.Driver.{Driver}
 use Rattle.driver.specs.declared.guard.Guard.{Guard}
-use Rattle.driver.specs.Answering.{AnswersIf}
+use Rattle.driver.specs.declared.link.Link.{Link}
+use Rattle.driver.specs.Answering.{AnswersIf, answered_as}
 use Rattle.driver.specs.Guarding.{NotesIf, due_at}
 use Rattle.driver.specs.Nicks.{IsGreeted, nick_in, warned}
 use Rattle.driver.specs.Rosters.{Serves, client_at, is_attached_in, refused_in}
@@ -43,8 +43,18 @@ returns-clause-served c =
     let is_middle : middle ≡ record old { clients = new.clients; orders = middle.orders } =
     c.greet.ensures.rest ∙ ap (λ (clients : Clients). record old { clients = clients; orders = middle.orders }) clients
     in
-    let is_behind : behind ≡ record old { clients = new.clients; orders = behind.orders } =
-    c.answer_all.ensures.rest ∙ ap (λ (driver : Driver). record driver { orders = behind.orders }) is_middle
+    let middle_link = ap (λ (driver : Driver). driver.link) c.greet.ensures.rest in
+    let link : record old.link { waiting = behind.link.waiting } ≡ new.link =
+    ap (λ (link : Link). record link { waiting = behind.link.waiting }) (sym middle_link)
+    ∙ sym (ap (λ (driver : Driver). driver.link) c.answer_all.ensures.rest)
+    ∙ sym (ap (λ (driver : Driver). driver.link) c.note_refusal.ensures.rest)
+    in
+    let dropping : behind.dropping ≡ new.dropping = sym (ap (λ (driver : Driver). driver.dropping) c.note_refusal.ensures.rest) in
+    let is_behind : behind ≡ record old { clients = new.clients; orders = behind.orders; dropping = new.dropping; link = new.link } =
+    c.answer_all.ensures.rest
+    ∙ ap (answered_as behind) is_middle
+    ∙ ap (λ (dropping : Option ℕ). record old { clients = new.clients; orders = behind.orders; dropping = dropping; link = record old.link { waiting = behind.link.waiting } }) dropping
+    ∙ ap (λ (link : Link). record old { clients = new.clients; orders = behind.orders; dropping = new.dropping; link = link }) link
     in
     on_ok_weaker c.note_refusal.result (λ noted.
     record {
@@ -65,7 +75,7 @@ returns-clause-served c =
           (subst (λ (clients : Clients). IsGreeted c.is_attached-was_attached.result (warned old now.ms) (client_at clients number) (nick_in old) told middle.orders) clients c.in_ok-greet.ensures.told);
       answered = behind.orders;
       answers =
-          subst (λ (driver : Driver). AnswersIf (is_attached_in (client_at driver.clients number)) words now.ms number driver (record old { clients = new.clients; orders = behind.orders })) is_middle
+          subst (λ (driver : Driver). AnswersIf (is_attached_in (client_at driver.clients number)) words now.ms number driver (record old { clients = new.clients; orders = behind.orders; dropping = new.dropping; link = new.link })) is_middle
           (subst (λ (driver : Driver). AnswersIf (is_attached_in (client_at middle.clients number)) words now.ms number middle driver) is_behind c.in_ok-answer_all.ensures.answered);
       notes =
           subst
