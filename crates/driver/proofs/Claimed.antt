@@ -13,6 +13,7 @@ use Rattle.driver.specs.declared.order.Order.TheVariants.{Submit}
 use Rattle.driver.specs.declared.outgoing.Piece.{Piece}
 use Rattle.driver.specs.declared.settings.Settings.{Settings}
 use Rattle.driver.specs.Claiming.{claims}
+use Rattle.driver.specs.Dropping.{drop_end}
 use Rattle.driver.specs.Driving.{Claims, ServesIf, orders_of}
 use Rattle.driver.specs.Leading.{is_that}
 use Rattle.driver.specs.Links.{is_session_of, status_in}
@@ -24,7 +25,7 @@ use Rattle.driver.specs.Writing.{GoesOutIf, WriteLines, are_due, may_claim, may_
 use Rattle.driver.proofs.Claiming.{claims_sound, same_eq}
 use Rattle.driver.proofs.Clocks.{More, kept_more, more_both}
 use Rattle.driver.proofs.Events.{any_last}
-use Rattle.driver.proofs.Keeping.{Keeps, Line, connects_keep}
+use Rattle.driver.proofs.Keeping.{Keeps, Line, connects_keep, drop_keeps, keeps_both}
 use Rattle.driver.proofs.Monitors.{Look, look, look_in}
 use Rattle.driver.proofs.Served.{Turn}
 use Rattle.driver.proofs.Waiting.{items_same, status_of}
@@ -80,9 +81,14 @@ not_due : (driver : Driver) (n : ℕ) (d : NodeMonitor) (line : Line) → slice_
 not_due driver n d line is is_line =
     ap are_due is ∙ ap (λ (found : Option Line). not (is_some found)) is_line
 
+or_true : (first last : Bool) → last ≡ true → (first || last) ≡ true
+or_true true last is = refl
+or_true false last is = is
+
 may_now : (now : ℕ) (driver : Driver) → IsFree now driver → may_claim driver now ≡ true
 may_now now driver f =
-    ap (λ (w : Waiting). not (has_said w) && may_write driver now) f.waiting ∙ f.may
+    ap (λ (w : Waiting). not (has_said w) && (is_some driver.dropping || may_write driver now)) f.waiting
+    ∙ or_true (is_some driver.dropping) (may_write driver now) f.may
 
 claim_told : (may : Bool) (due : Option Line) (id : ℕ) (line : Line) → may ≡ true → due ≡ Some line → told id (claim_if may due) ≡ Submit id note.Claim ∷ []
 claim_told may due id line may_is due_is =
@@ -115,7 +121,8 @@ served_claim n now line true old here behind new given low is k ready s last ord
     in
     let id : ready.at.id ≡ n - 1 + 1 = k.sound.ids (n - 1) (look ready.at) (ap look_in ready.is) in
     let id_is : ready.at.id ≡ n = omega (arith, id, low) in
-    let connects = connects_keep n now n s.claimed behind (claims_sound n now n here s.claimed k.sound c) s.connects in
+    let connected = connects_keep n now n s.claimed s.connected (claims_sound n now n here s.claimed k.sound c) s.connects in
+    let connects = keeps_both n s.claimed s.connected behind connected (drop_keeps n (drop_end s.connected n) s.connected behind connected.sound s.ends) in
     among (claims n) old.orders here.orders s.claimed.orders new.orders (Submit ready.at.id note.Claim) given
     (kept_more n old here k) told_is
     (more_both s.claimed.orders behind.orders new.orders (kept_more n s.claimed behind connects) (kept_more n behind new last))

@@ -1,5 +1,5 @@
 -- What time tells a node, as the clock finds its monitor.
-use Rattle.std.proofs.Common.{◌≡◌, ◌∙◌, ◌++◌, ℕ, zero, suc, ◌+◌, ◌-◌, ◌<◌, ◌≤◌, Bool, true, false, List, [], Option, Some, refl, sym, ap, subst, slice_get, ⊎_elim, arith}
+use Rattle.std.proofs.Common.{◌≡◌, ◌∙◌, ◌++◌, ℕ, zero, suc, ◌+◌, ◌-◌, ◌<◌, ◌≤◌, Bool, true, false, List, [], Option, Some, None, refl, sym, ap, subst, slice_get, ⊎_elim, arith}
 use Rattle.std.specs.Prelude.{option_map}
 use Rattle.std.specs.BTreeMap.{keys}
 use Rattle.std.proofs.lemmas.List.{append_assoc, append-nil}
@@ -12,6 +12,7 @@ use Rattle.driver.specs.declared.news.Ending.TheVariants.{Silent}
 use Rattle.driver.specs.declared.node_monitor.NodeMonitor.{NodeMonitor}
 use Rattle.driver.specs.declared.order.Order.{Order}
 use Rattle.driver.specs.declared.settings.Settings.{Settings}
+use Rattle.driver.specs.Dropping.{TellsDroppedIf, drop_end}
 use Rattle.driver.specs.Driving.{LeavesIf, LeavesOlder, QuitsIf, ServesIf, TickNodes, Ticks, TicksNode, clock_told, clocked, orders_of, round_of, tick_orders, ticked, told_of}
 use Rattle.driver.specs.Leading.{is_older, is_that}
 use Rattle.driver.specs.Links.{is_open, node_of}
@@ -110,6 +111,10 @@ leaves_rest : (n : ℕ) (leaves : Bool) (now : ℕ) (why : Ending) (old new : Dr
 leaves_rest n false now why old new same = rests_by n old new same
 leaves_rest n true now why old new l = rests_same n old new (ap monitors_of l.ends.rest ∙ ap monitors_of l.rest) (ap base l.ends.rest ∙ ap base l.rest)
 
+drop_rests : (n : ℕ) (ended : Option ℕ) (old new : Driver) → TellsDroppedIf ended old new → Rests n old new
+drop_rests n None old new same = rests_by n old new same
+drop_rests n (Some count) old new t = rests_same n old new (ap monitors_of t.rest) (ap base t.rest)
+
 serves_rest : (n : ℕ) (serves : Bool) (now node : ℕ) (old new : Driver) → ServesIf serves now node old new → Rests n old new
 serves_rest n false now node old new same = rests_by n old new same
 serves_rest n true now node old new s =
@@ -120,7 +125,8 @@ serves_rest n true now node old new s =
     changed_rests n node (λ d. monitor_claimed s.written.orders d now may (claim_due d s.written.settings now))
     (λ d. claimed_core s.written.orders now may (claim_due d s.written.settings now) d) s.written s.claimed s.claims.monitors (ap base s.claims.rest)
     in
-    let last = rests_same n s.claimed new (ap monitors_of s.connects.rest) (ap base s.connects.rest) in
+    let third = rests_same n s.claimed s.connected (ap monitors_of s.connects.rest) (ap base s.connects.rest) in
+    let last = rests_both n s.claimed s.connected new third (drop_rests n (drop_end s.connected node) s.connected new s.ends) in
     rests_both n old s.claimed new (rests_both n old s.written s.claimed first next) last
 
 -- A node ticks.

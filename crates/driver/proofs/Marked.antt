@@ -11,6 +11,7 @@ use Rattle.driver.specs.declared.driver.writing.TheConstants.{MOST_AT_ONCE}
 use Rattle.driver.specs.declared.node_monitor.NodeMonitor.{NodeMonitor}
 use Rattle.driver.specs.declared.node_monitor.standing.Claimed.{Claimed}
 use Rattle.driver.specs.declared.order.Order.TheVariants.{Submit}
+use Rattle.driver.specs.Dropping.{drop_end}
 use Rattle.driver.specs.Driving.{Claims, ServesIf, orders_of, told_of}
 use Rattle.driver.specs.Hearing.{heard_behind, progressed, settled}
 use Rattle.driver.specs.Leading.{is_that}
@@ -22,7 +23,7 @@ use Rattle.driver.specs.Writing.{may_claim}
 use Rattle.driver.proofs.Adding.{passes_grow}
 use Rattle.driver.proofs.Claiming.{claim_change, claims_sound}
 use Rattle.driver.proofs.Clocks.{More, kept_more, more_both, more_none, woken, woken_is}
-use Rattle.driver.proofs.Keeping.{Keeps, Line, Sound, connects_keep, keeps_both, writes_keep}
+use Rattle.driver.proofs.Keeping.{Keeps, Line, Sound, connects_keep, drop_keeps, keeps_both, writes_keep}
 use Rattle.driver.proofs.Monitors.{Look, changed_own, look, look_at, look_in}
 use Rattle.driver.proofs.Moves.{changed_here, monitors_of}
 use Rattle.driver.proofs.Quiet.{NoClaim}
@@ -82,7 +83,8 @@ serves_trace n now false old new low sound same = Same (ap (λ (driver : Driver)
 serves_trace n now true old new low sound s =
     let first = writes_keep n MOST_AT_ONCE now n old s.written sound s.writes in
     let claims = claims_trace n now s.written s.claimed low first.sound s.claims in
-    let last = connects_keep n now n s.claimed new (claims_sound n now n s.written s.claimed first.sound s.claims) s.connects in
+    let connects = connects_keep n now n s.claimed s.connected (claims_sound n now n s.written s.claimed first.sound s.claims) s.connects in
+    let last = keeps_both n s.claimed s.connected new connects (drop_keeps n (drop_end s.connected n) s.connected new connects.sound s.ends) in
     keeps_trace n now old s.written new first (trace_keeps n now (seen n s.written) s.written.orders s.claimed new claims last)
 
 pub turn_trace : (n now : ℕ) (old new : Driver) → 1 ≤ n → Turn n now old new → Trace n now (seen n old) old.orders new

@@ -1,5 +1,5 @@
 -- What a claim goes by, and a session that stands behind a step, stayed until then.
-use Rattle.std.proofs.Common.{◌≡◌, ◌∙◌, ℕ, zero, suc, ◌+◌, Bool, true, false, List, [], Option, refl, sym, ap, subst}
+use Rattle.std.proofs.Common.{◌≡◌, ◌∙◌, ℕ, zero, suc, ◌+◌, Bool, true, false, List, [], Option, Some, None, refl, sym, ap, subst}
 use Rattle.std.specs.Prelude.{if◌then◌else◌, not}
 use Rattle.std.proofs.lemmas.Bool.{eqb-true}
 use Rattle.irc_line.specs.Lines.{Parts}
@@ -12,6 +12,7 @@ use Rattle.driver.specs.declared.news.Ending.{Ending}
 use Rattle.driver.specs.declared.node_monitor.NodeMonitor.{NodeMonitor}
 use Rattle.driver.specs.declared.pace.Pace.{Pace}
 use Rattle.driver.specs.declared.settings.Settings.{Settings}
+use Rattle.driver.specs.Dropping.{TellsDroppedIf, drop_end}
 use Rattle.driver.specs.Driving.{Ends, LeavesIf, LeavesOlder, QuitsIf, ServesIf, TickNodes, TicksMonitor, TicksNode, ticked}
 use Rattle.driver.specs.Leading.{is_older, is_that}
 use Rattle.driver.specs.Links.{idle_behind, is_open, is_session_of, lingering, may_connect, node_of, waiting_behind}
@@ -164,10 +165,16 @@ connected_session : (may : Bool) (stage new : Stage) (node n : ℕ) → new ≡ 
 connected_session true stage new node n is stands = absurd (cc (sym (ap (λ (stage : Stage). is_session_of stage n) is) ∙ stands))
 connected_session false stage new node n is stands = sym (ap (λ (stage : Stage). is_session_of stage n) is) ∙ stands
 
+-- a drop ends, and the session stands as before
+drop_session : (ended : Option ℕ) (n : ℕ) (old new : Driver) → TellsDroppedIf ended old new → is_session_of new.link.stage n ≡ is_session_of old.link.stage n
+drop_session None n old new same = ap (λ (driver : Driver). is_session_of driver.link.stage n) same
+drop_session (Some count) n old new t = ap (λ (driver : Driver). is_session_of driver.link.stage n) t.rest
+
 served_session : (serves : Bool) (now node n : ℕ) (old new : Driver) → ServesIf serves now node old new → is_session_of new.link.stage n ≡ true → is_session_of old.link.stage n ≡ true
 served_session false now node n old new same stands = sym (ap (λ (driver : Driver). is_session_of driver.link.stage n) same) ∙ stands
 served_session true now node n old new s stands =
-    let claimed = connected_session (may_connect s.claimed.link.stage now) s.claimed.link.stage new.link.stage node n s.connects.stage stands in
+    let ended = sym (drop_session (drop_end s.connected node) n s.connected new s.ends) ∙ stands in
+    let claimed = connected_session (may_connect s.claimed.link.stage now) s.claimed.link.stage s.connected.link.stage node n s.connects.stage ended in
     let written = sym (ap (λ (driver : Driver). is_session_of driver.link.stage n) s.claims.rest) ∙ claimed in
     sym (ap (λ (driver : Driver). is_session_of driver.link.stage n) (lines_rest MOST_AT_ONCE now node old s.written s.writes)) ∙ written
 
