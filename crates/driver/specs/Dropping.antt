@@ -84,7 +84,7 @@ drop_words false = codes "Nothing waits."
 
 -- what all are told where a drop ends
 abbrev pub dropped_text : ℕ → List ℕ
-dropped_text count = decimal count ++ codes " lines that waited were dropped."
+dropped_text count = codes "Lines that were dropped: " ++ decimal count ++ codes "."
 
 -- how many lines were dropped, where a drop ends: one goes on, and no line waits in the log
 abbrev pub ended_by : Option ℕ → Bool → Option ℕ

@@ -22,7 +22,7 @@ orders write@1 :*status!bouncer@local PRIVMSG me :Unknown command.\r\n:*status!b
 orders claim@1
 9 node 1 hands PRIVMSG #x :four
 10 node 1 leads log=9
-orders write@1 :*status!bouncer@local NOTICE me :2 lines that waited were dropped.\r\n
+orders write@1 :*status!bouncer@local NOTICE me :Lines that were dropped: 2.\r\n
 # what is said from then on goes, and so does the question, each at its time
 11 node 1 hands PRIVMSG #x :five
 2005 node 1 leads log=9
@@ -61,4 +61,4 @@ forget
 14 client 1 sends PRIVMSG *status :drop waiting\r\n
 forget
 15 node 1 leads log=3
-orders write@1 :*status!bouncer@local NOTICE me :1 lines that waited were dropped.\r\n
+orders write@1 :*status!bouncer@local NOTICE me :Lines that were dropped: 1.\r\n

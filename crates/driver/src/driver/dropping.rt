@@ -111,9 +111,9 @@ impl Driver {
 fn dropped_text(alloc: Global, count: u64) -> Result<Vec<u8>, AllocError>
     ensures { IfOk result (λ text. text.items ≡ dropped_text count) }
 {
-    let mut text = Vec::new(alloc);
+    let mut text = Vec::from_slice(alloc, b"Lines that were dropped: ")?;
     push_number(&mut text, count)?;
-    text.extend_from_slice(b" lines that waited were dropped.")?;
+    text.push(b'.')?;
     Ok(text)
 }
 
