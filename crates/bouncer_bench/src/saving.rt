@@ -1,5 +1,6 @@
 //! Saves in a journal, and the opening of one.
-ghost use Rattle.std.specs.Prelude.{◌≤◌, ◌<◌, ◌^◌};
+ghost use Rattle.std.specs.Prelude.{◌≤◌, ◌<◌};
+ghost use Rattle.wire_bytes.specs.Limits.{number_limit};
 
 use file_disk::{FileJournal, OpenFault, open_journal};
 use raft_log::{Entry, Log, LoggedBody};
@@ -9,7 +10,7 @@ use wire_bytes::Number;
 
 /// One entry behind so many.
 fn change(alloc: Global, place: u64) -> Result<Change<u8>, AllocError>
-    requires { place < 2 ^ 60 }
+    requires { place < number_limit }
 {
     let term = Number::new(1);
     let body = LoggedBody::new(alloc, 7)?;

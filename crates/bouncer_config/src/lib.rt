@@ -17,6 +17,7 @@ mod input_end;
 mod judging;
 mod key;
 mod key_fault;
+pub mod limits;
 mod lines;
 mod lists;
 mod log_level;

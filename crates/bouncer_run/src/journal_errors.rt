@@ -7,9 +7,7 @@ use raft_log::NodeId;
 use raft_node::Cause;
 use std::alloc::{AllocError, Global};
 use std::{fmt, io};
-
-/// How many nodes there may be.
-const MOST_NODES: u8 = 7;
+use wire_bytes::MOST_NODES;
 
 /// Why each node's journal failed last, node 1's first, also while the nodes have them.
 #[derive(Drop)]

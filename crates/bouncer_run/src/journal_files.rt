@@ -20,9 +20,7 @@ use raft_log::{GroupSize, NodeId};
 use std::alloc::{AllocError, Global};
 use std::fs::File;
 use std::rt::Runtime;
-
-/// The most nodes that there may be.
-const MOST_NODES: u8 = 7;
+use wire_bytes::MOST_NODES;
 
 /// The journals of all nodes, node 1's first.
 #[derive(Drop)]

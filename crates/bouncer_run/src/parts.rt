@@ -1,6 +1,7 @@
 //! What the nodes of a bouncer run with.
 ghost use Rattle.std.specs.Prelude.{◌≡◌, ◌+◌, ◌≤◌, EachIndex, IfOk, length, map, option_map, slice_index};
 ghost use Rattle.bouncer_run.specs.Opened.{AreOver, IsOver, run_of_group};
+ghost use Rattle.wire_bytes.specs.Limits.{node_limit};
 
 use crate::inlet::Inlet;
 use crate::inlets::Inlets;
@@ -33,9 +34,9 @@ pub fn stores<R: System>(
     setup: &[u8],
     errors: &JournalErrors,
 ) -> Result<Vec<NodeStore<R>>, AllocError>
-    requires { length opened.items ≤ 7 }
+    requires { length opened.items ≤ node_limit }
     ensures count { IfOk result (λ stores. length stores.items ≡ length opened.items) }
-    ensures few { IfOk result (λ stores. length stores.items ≤ 7) }
+    ensures few { IfOk result (λ stores. length stores.items ≤ node_limit) }
     ensures over { IfOk result (λ stores. AreOver (λ late. late.run)
         (run_of_group (map (option_map (λ j. j.saved)) opened.items)) 1 opened.items
         stores.items) }
@@ -56,7 +57,7 @@ fn runs_told(
     alloc: Global,
     opened: &[Option<FileJournal<TowerBody>>],
 ) -> Result<Vec<Number>, AllocError>
-    requires { length opened.now ≤ 7 }
+    requires { length opened.now ≤ node_limit }
     ensures count { IfOk result (λ runs. length runs.items ≡ length opened.now) }
     ensures runs { IfOk result (λ runs. EachIndex runs.items (λ k. slice_index runs.items k
         ≡ run_of_group (map (option_map (λ j. j.saved)) opened.now) (k + 1))) }
@@ -99,7 +100,7 @@ pub fn parts<R: System, U: Upstream, F: Fn(R, Global, NodeId, Inlet) -> U>(
     stores: Vec<NodeStore<R>>,
     hands: &F,
 ) -> Result<Vec<BouncerPart<R, U>>, AllocError>
-    requires stores { length stores.items ≤ 7 }
+    requires stores { length stores.items ≤ node_limit }
     requires hands { F.IsAlwaysCallable hands.now }
     ensures { IfOk result (λ parts. map (λ p. p.store) parts.items ≡ stores.items) }
 {

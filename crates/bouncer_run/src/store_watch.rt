@@ -15,14 +15,12 @@ use run_plan::journal_path;
 use std::alloc::Global;
 use std::fs::Files;
 use std::io::{self, ErrorKind};
+use wire_bytes::MOST_NODES;
 
 /// How long after one look at the paths the next is due, in milliseconds: two looks in a row decide, so that a folder
 /// that was moved by mistake may be moved back at once, and a second program that made it anew has its session soon
 /// after.
 const LOOK_EVERY: u64 = 500;
-
-/// How many nodes there may be.
-const MOST_NODES: u8 = 7;
 
 /// A journal that is open, and its path.
 #[derive(Drop)]

@@ -15,13 +15,7 @@ use request_once::{Answer, Body};
 use session_fence::{FenceCommand, FenceEffect};
 use std::alloc::AllocError;
 use upstream_claim::{ClaimsCommand, ClaimsEffect};
-use wire_bytes::{Mark, Moment, Number, Origin, SessionId};
-
-/// The largest number that a claim may have.
-const MOST_NUMBER: u64 = 1 << 60;
-
-/// The nodes are numbered from 1 to this.
-const MOST_NODE: u8 = 7;
+use wire_bytes::{LAST_NUMBER, MOST_NODES, Mark, Moment, Number, Origin, SessionId};
 
 impl Hosted for Tower {
     ghost use Rattle.buffer_commands.specs.declared.command.Command.TheVariants.{NodeGone};
@@ -140,7 +134,7 @@ fn within_limit(number: Option<u64>) -> Option<Number>
     ensures { result ≡ within_limit number }
 {
     match number {
-        Some(number) if number <= MOST_NUMBER => Some(Number::new(number)),
+        Some(number) if number <= LAST_NUMBER => Some(Number::new(number)),
         _ => None,
     }
 }
@@ -149,7 +143,7 @@ fn within_limit(number: Option<u64>) -> Option<Number>
 fn mark_class(mark: &Mark) -> Class<&Line>
     ensures { class_map (λ l. l.now) result ≡ mark_class mark.now }
 {
-    if 1 <= mark.node && mark.node <= MOST_NODE {
+    if 1 <= mark.node && mark.node <= MOST_NODES {
         Class::To(Origin::new(mark.node, mark.boot.value(), 0))
     } else {
         Class::Nowhere

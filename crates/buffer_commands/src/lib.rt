@@ -22,6 +22,6 @@ pub use channel_name::ChannelName;
 pub use command::{Action, Command, Verb};
 pub use effect::Effect;
 pub use options::Options;
-pub use setup::{MOST_CHANNELS, MOST_LINES, MOST_QUERIES, Setup};
+pub use setup::{MOST_CHANNELS, MOST_LINES, MOST_QUERIES, Setup, limits_of_setups};
 pub use setup_fault::SetupFault;
 pub use wire_line::WireLine;

@@ -25,6 +25,13 @@ pub const MOST_LINES: u16 = 500;
 // anybody on the network can begin one, and each is held in memory
 pub const MOST_QUERIES: u8 = 50;
 
+/// These limits by number, as the contract of a function that does nothing.
+pub fn limits_of_setups()
+    ensures channels { channel_limit ≡ 100 }
+    ensures lines { size_limit ≡ 500 }
+    ensures queries { query_limit ≡ 50 }
+{}
+
 /// What a bouncer is set up with.
 #[derive(Drop)]
 pub struct Setup {

@@ -6,6 +6,7 @@
 mod channel;
 mod channels;
 mod index;
+pub mod limits;
 mod queries;
 mod seen;
 mod target;

@@ -11,7 +11,6 @@ use Rattle.client_gate.specs.declared.client_command.ClientCommand.TheVariants.{
 use Rattle.client_gate.specs.Commands.{lacks}
 use Rattle.client_gate.specs.Replies.{capabilities, incorrect, not_enough, not_registered, pong, welcome}
 use Rattle.client_gate.specs.Turns.{Deed, Ask, Write, Move, Close}
-use Rattle.irc_line.specs.Limits.{name_limit}
 
 -- A PASS is the password, or something, `@`, the name of the client, `:` and the password
 
@@ -32,7 +31,7 @@ cut_behind (Some cut) = first_cut 58 cut.1
 
 -- what stands between the first `@` of a PASS and the first `:` behind that, and what stands behind this
 abbrev pub named_in : List ℕ → Option (List ℕ × List ℕ)
-named_in pass = cut_behind (first_cut name_limit pass)
+named_in pass = cut_behind (first_cut 64 pass)
 
 -- a client by its name, where that is one, and the password is right
 abbrev pub by_name : List ℕ → Option (List ℕ × List ℕ) → Option (Option (List ℕ))

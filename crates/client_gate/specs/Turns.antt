@@ -1,5 +1,5 @@
 -- What a call does, one deed behind the other.
-use Rattle.std.specs.Prelude.{◌≡◌, ◌<◌, ◌≤◌, ℕ, ◌+◌, ◌^◌, Bool, true, false, ◌&&◌, if◌then◌else◌, nat_lt, List, [], ◌∷◌, ◌++◌, codes}
+use Rattle.std.specs.Prelude.{◌≡◌, ◌<◌, ◌≤◌, ℕ, ◌+◌, Bool, true, false, ◌&&◌, if◌then◌else◌, nat_lt, List, [], ◌∷◌, ◌++◌, codes}
 use Rattle.buffer_commands.specs.declared.command.Action.{Action}
 use Rattle.buffer_commands.specs.declared.command.Action.TheVariants as action
 use Rattle.client_gate.specs.declared.request.Request.{Request}
@@ -8,6 +8,7 @@ use Rattle.client_gate.specs.declared.phase.Phase.{Phase}
 use Rattle.client_gate.specs.declared.phase.Phase.TheVariants.{Left}
 use Rattle.client_gate.specs.Replies.{status}
 use Rattle.client_gate.specs.declared.turn.TheConstants.{MOST_WAITING}
+use Rattle.wire_bytes.specs.Limits.{number_limit}
 
 -- where a call has come: the client's phase, how many requests wait, the number of the last one, and what the call
 -- answers: the requests that it numbered, the bytes that it writes, the words to the bouncer that ask for nothing, and
@@ -36,7 +37,7 @@ request number a = record { number = number; action = a }
 
 -- fewer than MOST_WAITING requests wait, and there is a number besides the last one, which is kept for Leave
 abbrev pub has_room : Progress → Bool
-has_room p = nat_lt p.waiting MOST_WAITING && nat_lt (p.numbered + 1) (2 ^ 60)
+has_room p = nat_lt p.waiting MOST_WAITING && nat_lt (p.numbered + 1) number_limit
 
 -- the next request, which waits from now on
 abbrev pub numbered_next : Action → Progress → Progress
@@ -92,5 +93,5 @@ waiting_room = MOST_WAITING + 1
 
 -- the limits that a gate keeps: MOST_WAITING requests may wait, and Leave besides, with numbers up to 2^60
 pub record IsWithin (phase : Phase) (waiting numbered : ℕ) : Type 0 where
-  pub all : (waiting ≤ waiting_room) × (numbered ≤ 2 ^ 60)
-  pub but_leave : has_left phase ≡ false → (waiting ≤ MOST_WAITING) × (numbered < 2 ^ 60)
+  pub all : (waiting ≤ waiting_room) × (numbered ≤ number_limit)
+  pub but_leave : has_left phase ≡ false → (waiting ≤ MOST_WAITING) × (numbered < number_limit)

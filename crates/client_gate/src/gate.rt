@@ -1,5 +1,6 @@
-ghost use Rattle.std.specs.Prelude.{◌≡◌, ◌≤◌, ◌^◌, ◌∷◌, [], List, length, IfOk, IsOk, MatchResult, OnErr, OnOk, false, true};
+ghost use Rattle.std.specs.Prelude.{◌≡◌, ◌≤◌, ◌∷◌, [], List, length, IfOk, IsOk, MatchResult, OnErr, OnOk, false, true};
 ghost use Rattle.client_gate.specs.Turns.{IsWithin, request, waiting_room};
+ghost use Rattle.wire_bytes.specs.Limits.{number_limit};
 
 mod hearing;
 
@@ -289,7 +290,7 @@ impl ClientGate {
 
 /// The request of a client that leaves.
 fn leave(number: u64) -> Request
-    requires { number ≤ 2 ^ 60 }
+    requires { number ≤ number_limit }
     ensures { result ≡ request number Action.Leave }
 {
     Request {

@@ -10,6 +10,7 @@ mod client_command;
 mod fed;
 mod gate;
 pub mod laws;
+pub mod limits;
 mod messages;
 mod passing;
 mod password;

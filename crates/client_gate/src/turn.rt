@@ -13,14 +13,11 @@ use buffer_commands::Action;
 use irc_line::Name;
 use std::alloc::{AllocError, Global};
 use std::marker::Model;
-use wire_bytes::Number;
+use wire_bytes::{LAST_NUMBER, Number};
 
 /// The most requests but Leave that may wait.
 // each is held in memory until it is done, and a person who pastes sends fewer at once
 pub const MOST_WAITING: usize = 100;
-
-/// The number that no request but Leave may have.
-const LAST_NUMBER: u64 = 1 << 60;
 
 const TOO_MANY: &[u8] = b"Too many requests waiting.";
 

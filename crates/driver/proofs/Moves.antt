@@ -10,7 +10,6 @@ use Rattle.node_notes.specs.declared.progress.Progress.{Progress}
 use Rattle.node_notes.specs.declared.status.Status.{Status}
 use Rattle.driver.specs.declared.backoff.Backoff.{Backoff}
 use Rattle.driver.specs.declared.driver.Driver.{Driver}
-use Rattle.driver.specs.declared.driver.TheConstants.{MOST_NUMBER}
 use Rattle.driver.specs.declared.level.Level.{Level}
 use Rattle.driver.specs.declared.node_monitor.NodeMonitor.{NodeMonitor}
 use Rattle.driver.specs.declared.node_monitor.standing.Following.{Following}
@@ -35,6 +34,7 @@ use Rattle.driver.proofs.Growing.{by_number}
 use Rattle.driver.proofs.Keeping.{Line}
 use Rattle.driver.proofs.Staying.{other_changed, own_changed}
 use Rattle.std.proofs.lemmas.Option.{slice_get-map}
+use Rattle.wire_bytes.specs.Limits.{number_limit}
 
 -- What the clock goes by.
 pub record Core : Type 0 where
@@ -163,7 +163,7 @@ visited_rests n (Some boot) false node old new is based = rests_same n old new i
 
 pub connect_rests : (n now node : ℕ) (old new : Driver) → ConnectsTo now node old new → Rests n old new
 connect_rests n now node old new c =
-    visited_rests n (boot_at old.monitors node) (nat_lt old.numbered MOST_NUMBER) node old new c.monitors (ap base c.rest)
+    visited_rests n (boot_at old.monitors node) (nat_lt old.numbered number_limit) node old new c.monitors (ap base c.rest)
 
 -- The server says something.
 

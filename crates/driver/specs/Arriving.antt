@@ -23,7 +23,7 @@ use Rattle.driver.specs.Links.{first_backoff}
 use Rattle.driver.specs.Rosters.{IsNew, client_at}
 use Rattle.driver.specs.Outgoing.{nothing_waits}
 use Rattle.driver.specs.Telling.{none_told}
-use Rattle.driver.specs.declared.driver.TheConstants.{MOST_NUMBER}
+use Rattle.wire_bytes.specs.Limits.{number_limit}
 
 -- a new monitor for each of the seven nodes, in order
 abbrev pub new_monitors : Settings → ℕ → List NodeMonitor
@@ -73,7 +73,7 @@ boot_at monitors node = boot_in (slice_get monitors (node - 1))
 -- the number of a client that connects to a node with this run: one more than the last, where numbers are left
 abbrev pub number_if : Option ℕ → ℕ → Option ℕ
 number_if None last = None
-number_if (Some boot) last = if nat_lt last MOST_NUMBER then Some (last + 1) else None
+number_if (Some boot) last = if nat_lt last number_limit then Some (last + 1) else None
 
 -- the number of a client that connects to this node: none where the node takes none, or where no number is left
 abbrev pub next_number : List NodeMonitor → ℕ → ℕ → Option ℕ
@@ -110,7 +110,7 @@ visited (Some boot) taken monitors node = if taken then changed_at (with_seen bo
 
 -- the monitors where a client connected to this node, and so many clients had been numbered before it
 abbrev pub monitors_behind : List NodeMonitor → ℕ → ℕ → List NodeMonitor
-monitors_behind monitors node numbered = visited (boot_at monitors node) (nat_lt numbered MOST_NUMBER) monitors node
+monitors_behind monitors node numbered = visited (boot_at monitors node) (nat_lt numbered number_limit) monitors node
 
 -- an operator is told of the first client that was turned away since the node was up
 abbrev pub turned_away_by : Option ℕ → List NodeMonitor → ℕ → List Order

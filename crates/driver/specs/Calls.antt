@@ -24,6 +24,7 @@ use Rattle.driver.specs.Serving.{IsLost}
 use Rattle.driver.specs.Sessions.{TakesIf}
 use Rattle.driver.specs.Telling.{Ordered, emptied, ordered}
 use Rattle.driver.specs.Writing.{Hands}
+use Rattle.wire_bytes.specs.Limits.{node_limit}
 
 -- A call: a client connects to a node, sends bytes or is gone; a node hands out a line for the server; a node's worker reports; time
 -- passes; the server is connected to, sends bytes or is gone; all clients are told something, or are to leave; the log is looked at, or the
@@ -93,7 +94,7 @@ pub record Stands (now : ℕ) (old new : Driver) : Type 0 where
 -- A worker's report is of one of the seven nodes.
 pub record Reports (now : ℕ) (at : Moment) (node : ℕ) (status : Status) (effects : List GateEffect) (progress : Progress) (refused : Bool) (old new : Driver) : Type 0 where
   pub low : 1 ≤ node
-  pub high : node ≤ 7
+  pub high : node ≤ node_limit
   pub hears : Hears now at node status effects progress refused old new
 
 -- This comes of a call: what its contract says.

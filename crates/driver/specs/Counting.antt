@@ -5,6 +5,7 @@ use Rattle.driver.specs.declared.order.Order.{Order}
 use Rattle.driver.specs.declared.order.Order.TheVariants.{Submit}
 use Rattle.driver.specs.Calls.{Led, Step}
 use Rattle.driver.specs.Telling.{told_to}
+use Rattle.wire_bytes.specs.Limits.{node_limit}
 
 -- an order tells this node a note, or none; nodes count from 1
 abbrev pub notes_in : ℕ → Order → ℕ
@@ -25,5 +26,5 @@ all_told (step ∷ more) = step.told ++ all_told more
 -- them, is how many notes its orders told the node, as far as 64 bits count.
 abbrev pub NotesAreCounted : Type 0
 NotesAreCounted =
-    (node : ℕ) (steps : List Step) (driver : Driver) → 1 ≤ node → node ≤ 7 → Led steps driver
+    (node : ℕ) (steps : List Step) (driver : Driver) → 1 ≤ node → node ≤ node_limit → Led steps driver
     → told_to driver.orders node ≡ min (notes_told node (all_told steps)) (2 ^ 64 - 1)

@@ -4,6 +4,7 @@ use Rattle.node_notes.specs.declared.status.Status.{Status}
 use Rattle.node_notes.specs.Notes.{leads}
 use Rattle.driver.specs.declared.node_monitor.NodeMonitor.{NodeMonitor}
 use Rattle.driver.specs.declared.leader.Leader.{Leader}
+use Rattle.wire_bytes.specs.Limits.{node_limit}
 
 -- the term in which a node leads that stands so, if it is up and leads
 abbrev pub term_of : Option Status → Option ℕ
@@ -36,7 +37,7 @@ better (Some best) node (Some term) = if nat_lt best.term term then Some (record
 
 -- This node leads in the greatest term; none of the seven leads where there is none.
 abbrev pub IsLeader : List NodeMonitor → Option ℕ → Type 0
-IsLeader monitors None = (other : ℕ) → 1 ≤ other → other ≤ 7 → term_at monitors other ≡ None
+IsLeader monitors None = (other : ℕ) → 1 ≤ other → other ≤ node_limit → term_at monitors other ≡ None
 IsLeader monitors (Some node) = (term : ℕ) × (term_at monitors node ≡ Some term) × NoneLeadsAbove monitors 8 term
 
 -- this is that node

@@ -1,12 +1,11 @@
 -- The limits of the driver, by number. Times are in milliseconds.
-use Rattle.std.specs.Prelude.{◌≡◌, ◌+◌, ◌≤◌, ◌<◌, ◌^◌}
+use Rattle.std.specs.Prelude.{◌≡◌, ◌+◌, ◌≤◌, ◌<◌}
 use Rattle.raft_log.specs.Logs.{entry_limit}
 use Rattle.client_gate.specs.declared.turn.TheConstants as gate
 use Rattle.driver.specs.declared.absent_channels.TheConstants.{MOST_CHANNELS, MOST_REASON}
 use Rattle.driver.specs.declared.client.TheConstants as client
 use Rattle.driver.specs.declared.client.farewell.TheConstants.{LEAVES_WITHIN}
 use Rattle.driver.specs.declared.client.silence.TheConstants.{REGISTERS_WITHIN, SILENCE}
-use Rattle.driver.specs.declared.driver.TheConstants.{MOST_NUMBER}
 use Rattle.driver.specs.declared.driver.writing.TheConstants.{MOST_AT_ONCE}
 use Rattle.driver.specs.declared.guard.TheConstants.{ANSWERED_BEHIND, FIRST, FURTHEST, MINUTE, TURNS_APART}
 use Rattle.driver.specs.declared.join_line.TheConstants.{MOST_BYTES}
@@ -20,6 +19,7 @@ use Rattle.driver.specs.declared.node_monitor.clock.TheConstants.{APART}
 use Rattle.driver.specs.declared.node_monitor.hanging.TheConstants.{HANGS_AFTER, QUIET_AFTER, SHORT_WAIT, TIMEOUTS}
 use Rattle.driver.specs.declared.node_monitor.hearing.TheConstants.{GOOD_RUN}
 use Rattle.driver.specs.declared.outgoing.TheConstants.{MOST_QUESTIONS}
+use Rattle.wire_bytes.specs.Limits.{node_limit}
 
 -- What a client is given.
 pub record LimitsOfClients : Type 0 where
@@ -30,7 +30,6 @@ pub record LimitsOfClients : Type 0 where
   -- more is read of it while fewer requests wait; its gate takes 42 more, as many as a piece of 512 bytes may have
   pub waiting : client.MOST_WAITING ≡ 48
   pub room : client.MOST_WAITING + 42 ≤ gate.MOST_WAITING
-  pub numbers : MOST_NUMBER ≡ 2 ^ 60
 
 -- What whoever guesses the password is given.
 pub record LimitsOfGuesses : Type 0 where
@@ -45,8 +44,7 @@ pub record LimitsOfGuesses : Type 0 where
 
 -- What a node is given.
 pub record LimitsOfNodes : Type 0 where
-  pub nodes : node.MOST_NODES ≡ 7
-  pub boots : node.MOST_BOOT ≡ 2 ^ 60
+  pub nodes : node.MOST_NODES ≡ node_limit
   -- notes that are not done
   pub waiting : node.MOST_WAITING ≡ 256
   -- how much longer each next node waits for a leader

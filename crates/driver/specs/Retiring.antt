@@ -18,7 +18,8 @@ use Rattle.driver.specs.declared.retirement.Progress.TheVariants.{Told, Appended
 use Rattle.driver.specs.Monitors.{at, is_over}
 use Rattle.driver.specs.Hearing.{is_none}
 use Rattle.driver.specs.Telling.{Ordered, next_note}
-use Rattle.driver.specs.declared.node_monitor.TheConstants.{DEAD, MOST_BOOT}
+use Rattle.driver.specs.declared.node_monitor.TheConstants.{DEAD}
+use Rattle.wire_bytes.specs.Limits.{number_limit}
 
 -- that the runs of a node with a smaller boot are gone
 abbrev pub gone_body : ℕ → ℕ → TowerBody
@@ -102,7 +103,7 @@ with_seen boot monitor = record monitor { visitors = record monitor.visitors { g
 -- the runs up to this boot are gone
 abbrev pub gone_below : Option ℕ → Option ℕ
 gone_below None = None
-gone_below (Some boot) = if nat_lt boot MOST_BOOT then Some (boot + 1) else None
+gone_below (Some boot) = if nat_lt boot number_limit then Some (boot + 1) else None
 
 -- the last run of a node that is over: where it is down, that in which it was last heard of; where it answered nothing for too
 -- long, the last one of which a boot was seen

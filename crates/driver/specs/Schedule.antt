@@ -24,6 +24,7 @@ use Rattle.driver.specs.Reports.{done_at}
 use Rattle.driver.specs.Telling.{told_to}
 use Rattle.driver.specs.declared.node_monitor.TheConstants.{LONGEST}
 use Rattle.driver.specs.declared.node_monitor.clock.TheConstants.{APART}
+use Rattle.wire_bytes.specs.Limits.{node_limit}
 
 -- when the driver ran last, behind a call: it runs where time passes, and where a worker reports
 abbrev pub ran_by : ℕ → Call → ℕ
@@ -50,7 +51,7 @@ tells_only fits node call = true
 -- A running driver is called so as time goes on, and all that this node reports fits.
 pub record Runs (fits : Status → Progress → Bool) (node : ℕ) (steps : List Step) (old new : Driver) : Type 0 where
   pub low : 1 ≤ node
-  pub high : node ≤ 7
+  pub high : node ≤ node_limit
   pub is_running : IsRunning old
   pub does : DoesAll steps old new
   pub goes_on : GoesOn old.ran.since steps
@@ -221,7 +222,7 @@ is_claimed_last (Some monitor) line = is_claim_of line monitor.claimed
 abbrev pub NewClaimsInTime : Type 0
 NewClaimsInTime =
     (node now : ℕ) (at : Moment) (line : (ℕ × ℕ) × ℕ) (told : List Order) (next new : Driver)
-    → 1 ≤ node → node ≤ 7 → IsRunning next
+    → 1 ≤ node → node ≤ node_limit → IsRunning next
     → is_claimed_last (slice_get next.monitors (node - 1)) line ≡ false
     → DoesStep (record { call = Tick now at; told = told }) next new
     → is_session_of new.link.stage node ≡ true → line_to_claim (status_at next.monitors node) ≡ Some line → IsFree now next

@@ -42,10 +42,7 @@ use client_gate::ClientGate;
 use irc_line::{Line, Name};
 use raft_log::NodeId;
 use std::alloc::{AllocError, Global};
-use wire_bytes::{Number, Origin};
-
-/// The largest number that a client may have.
-const MOST_NUMBER: u64 = 1 << 60;
+use wire_bytes::{LAST_NUMBER, Number, Origin};
 
 /// What drives the nodes of a bouncer, their clients and the server.
 #[derive(Drop)]
@@ -146,7 +143,7 @@ impl Driver {
             self.turn_away(node)?;
             return Ok(None);
         };
-        if self.numbered >= MOST_NUMBER {
+        if self.numbered >= LAST_NUMBER {
             return Ok(None);
         }
         let number = self.numbered + 1;

@@ -27,10 +27,10 @@ use raft_log::{BATCH_LIMIT, NodeId};
 pub use reading::reads_for;
 use standing::{Claimed, Following, LastBeat, Outage, Presence, Visitors};
 use std::alloc::AllocError;
-use wire_bytes::Number;
+use wire_bytes::{LAST_NUMBER, Number};
 
 /// The most nodes that there may be.
-pub const MOST_NODES: usize = 7;
+pub const MOST_NODES: usize = wire_bytes::MOST_NODES as usize;
 
 /// The longest wait before a node that is down is started again, in milliseconds.
 // A disk that is full is not pressed, and a node that can start again is up within a minute.
@@ -43,9 +43,6 @@ const DEAD: u64 = 10;
 /// behind all that was read, and the other nodes would choose another leader. A leader saves as many
 /// by one save, which may take some milliseconds, where a disk is slow.
 const MOST_WAITING: u64 = BATCH_LIMIT as u64;
-
-/// The largest boot.
-const MOST_BOOT: u64 = 1 << 60;
 
 /// What the driver knows of one node, and what the node is told by the clock.
 #[derive(Drop)]
@@ -178,7 +175,7 @@ impl NodeMonitor {
         ensures { result ≡ dead_below self.now settings.now.timeout_ms now.now.ms }
     {
         let boot = self.dead_boot(now, settings)?;
-        if boot.value() >= MOST_BOOT {
+        if boot.value() >= LAST_NUMBER {
             return None;
         }
         Some(Number::new(boot.value() + 1))

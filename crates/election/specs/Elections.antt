@@ -1,5 +1,5 @@
 -- The steps of an election, each for one node of a group of this size.
-use Rattle.std.specs.Prelude.{ℕ, suc, ◌==◌, ◌^◌, Bool, true, false, ◌&&◌, ◌||◌, List, [], ◌∷◌, length, map, replicate, Option, None, Some, nat_le, if◌then◌else◌}
+use Rattle.std.specs.Prelude.{ℕ, suc, ◌==◌, Bool, true, false, ◌&&◌, ◌||◌, List, [], ◌∷◌, length, map, replicate, Option, None, Some, nat_le, if◌then◌else◌}
 use Rattle.raft_log.specs.declared.message.Message.{Message}
 use Rattle.raft_log.specs.declared.message.Kind.TheVariants.{RequestVote, Vote}
 use Rattle.raft_log.specs.declared.role.Role.TheVariants.{Candidate, Leader}
@@ -7,6 +7,7 @@ use Rattle.raft_log.specs.Lists.{with_item, others}
 use Rattle.raft_log.specs.Logs.{last_term, up_to_date}
 use Rattle.raft_log.specs.Votes.{majority}
 use Rattle.raft_log.specs.Node.{Node, is_leader, is_candidate, message, sending}
+use Rattle.wire_bytes.specs.Limits.{number_limit}
 
 -- no vote was given in this term, or this node has it
 abbrev pub is_free_for : Option ℕ → ℕ → Bool
@@ -29,7 +30,7 @@ module _ {B : Type 0} where
 
   -- a node that waited too long for a leader begins an election, unless it leads or its terms are spent
   abbrev pub timed_out : ℕ → ℕ → Node B → Node B
-  timed_out size i s = if is_leader s.role || nat_le (2 ^ 60) s.term then s else asking size i s
+  timed_out size i s = if is_leader s.role || nat_le number_limit s.term then s else asking size i s
 
   -- the term is the own, the vote is free, and a log that ends at this place in this term is at least as up to date
   abbrev pub grants : Node B → ℕ → ℕ → ℕ → ℕ → Bool

@@ -4,7 +4,7 @@ ghost use Rattle.election.specs.Elections.{timed_out, vote_requests};
 
 use raft_log::{Kind, Log, Message, NodeId, Peers, Position, Standing, Step};
 use std::alloc::{AllocError, Global};
-use wire_bytes::{Number, Wire};
+use wire_bytes::{LAST_NUMBER, Number, Wire};
 
 /// Begins an election, as a candidate does by section 5.2 of the Raft paper: the next term, the own vote,
 /// and a request for the vote of each other node, by rising number.
@@ -24,7 +24,7 @@ pub fn begin<B: Wire>(
         return Ok(Step::still(alloc, standing, log));
     }
     let term = standing.term.value();
-    if 1 << 60 <= term {
+    if LAST_NUMBER <= term {
         return Ok(Step::still(alloc, standing, log));
     }
     let next = Number::new(term + 1);

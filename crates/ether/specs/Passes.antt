@@ -1,5 +1,5 @@
 -- What a clause says of an ether and its passes.
-use Rattle.std.specs.Prelude.{◌≡◌, ◌<◌, ◌≤◌, ◌^◌, ℕ, suc, Bool, true, List, [], ◌∷◌, length, map, Some, None}
+use Rattle.std.specs.Prelude.{◌≡◌, ◌<◌, ◌≤◌, ℕ, suc, Bool, true, List, [], ◌∷◌, length, map, Some, None}
 use Rattle.atomic_table.specs.Seated.{TableId}
 use Rattle.raft_log.specs.Lists.{item}
 use Rattle.raft_node.specs.Machine.{Machine}
@@ -12,6 +12,7 @@ use Rattle.world_views.specs.Views.{IsAt, View, IsOpened, brings}
 use Rattle.ether.specs.declared.pass.Pass.{Pass}
 use Rattle.ether.specs.Plays.{holding}
 use Rattle.ether.specs.Rule.{Look, blank, full}
+use Rattle.wire_bytes.specs.Limits.{number_limit}
 
 -- an ether: its table, how many nodes it is for, and the setup of the machine that each hosts
 pub record EtherParts (Setup : Type 0) : Type 0 where
@@ -43,7 +44,7 @@ module _ {B L T : Type 0} where
     pub slot : p.spare < full
     pub many : (view_of p).size ≡ size
     pub ticks : p.ticks ≡ length (view_of p).turns
-    pub few : p.ticks ≤ 2 ^ 60
+    pub few : p.ticks ≤ number_limit
 
   -- the pass was opened, and its spare slot is out
   abbrev pub IsOpen : Pass B L T → Type 0

@@ -1,5 +1,5 @@
 //! The calls of nodes: opening, tick, post, take. None waits, and none takes memory.
-ghost use Rattle.std.specs.Prelude.{◌≡◌, ◌<◌, ◌≤◌, ◌^◌, ◌++◌, ◌∷◌, [], suc, length, IfOk, IfErr, MatchResult};
+ghost use Rattle.std.specs.Prelude.{◌≡◌, ◌<◌, ◌≤◌, ◌++◌, ◌∷◌, [], suc, length, IfOk, IfErr, MatchResult};
 ghost use Rattle.ether.specs.declared.fault.EtherFault.TheVariants.{Spent};
 ghost use Rattle.ether.specs.Passes.{IsHeard, IsOpenPass, IsPass, IsSent, IsUnopened, StaysOpen};
 ghost use Rattle.ether.specs.Passes.{WasStarted, IsOpen, looks_of, view_of};
@@ -9,6 +9,7 @@ ghost use Rattle.ether.specs.Plays.{opened, ticked};
 ghost use Rattle.raft_log.specs.Seen.{seen};
 ghost use Rattle.raft_node.specs.Parts.{keeper};
 ghost use Rattle.world_views.specs.Views.{addressee};
+ghost use Rattle.wire_bytes.specs.Limits.{number_limit};
 
 use crate::ether::Ether;
 use crate::fault::EtherFault;
@@ -73,7 +74,7 @@ impl<M: Hosted> Ether<M> {
             ≡ after_event (⟦<M as Described>⟧.machine self.now.setup) (view_of pass.old) t
             event.value) }
         ensures spent { IfErr result (λ e. (e ≡ Spent) × (pass.new ≡ pass.old)
-            × (length (view_of pass.old).turns ≡ 2 ^ 60)) }
+            × (length (view_of pass.old).turns ≡ number_limit)) }
         ensures looks { looks_of pass.new ≡ looks_of pass.old }
     {
         if pass.ticks >= MOST_TICKS {
@@ -87,7 +88,7 @@ impl<M: Hosted> Ether<M> {
         pass: &mut Pass<M::Command, M::Line, M::Target>,
         event: Snapshot<NodeEvent<M::Command, M::Line, M::Target>>,
     ) -> u64
-        requires pass { IsOpenPass self.now pass.old × (pass.old.ticks < 2 ^ 60) }
+        requires pass { IsOpenPass self.now pass.old × (pass.old.ticks < number_limit) }
         requires heard { IsHeard (view_of pass.old) event.value }
         requires step { W.becomes ≡ ticked (⟦<M as Described>⟧.machine self.now.setup) event.value }
         ensures open { StaysOpen self.now pass.old pass.new }

@@ -1,13 +1,14 @@
 //! Passes, by which nodes step.
-ghost use Rattle.std.specs.Prelude.{◌≡◌, ◌+◌, ◌≤◌, ◌^◌, ◌↔◌, IsTrue};
+ghost use Rattle.std.specs.Prelude.{◌≡◌, ◌+◌, ◌≤◌, ◌↔◌, IsTrue};
+ghost use Rattle.wire_bytes.specs.Limits.{number_limit};
 
 use crate::known::Known;
 use atomic_table::Seat;
-use wire_bytes::Wire;
+use wire_bytes::{LAST_NUMBER, Wire};
 use world_views::Envelope;
 
 /// At most so many ticks a pass.
-pub(crate) const MOST_TICKS: u64 = 1 << 60;
+pub(crate) const MOST_TICKS: u64 = LAST_NUMBER;
 
 /// A mailbox's word is over its slot's number by this, where a message is in the slot. There are fewer
 /// slots.
@@ -32,7 +33,7 @@ impl<B: Wire, L, T> Pass<B, L, T> {
 
     /// Whether it may tick so many times, and once more.
     pub fn has_room(&self, count: u64) -> bool
-        ensures { IsTrue result ↔ self.now.ticks + count + 1 ≤ 2 ^ 60 }
+        ensures { IsTrue result ↔ self.now.ticks + count + 1 ≤ number_limit }
     {
         self.ticks < MOST_TICKS && count < MOST_TICKS - self.ticks
     }

@@ -25,7 +25,7 @@ pub use bytes::is_same;
 pub use fault::LineFault;
 pub use fold::{compare_names, fold_name, is_name_below, is_same_name};
 pub use item::Item;
-pub use limits::{CONTENT_LIMIT, LINE_LIMIT, NAME_LIMIT, PARAMETER_LIMIT};
+pub use limits::{CONTENT_LIMIT, LINE_LIMIT, NAME_LIMIT, PARAMETER_LIMIT, limits_of_lines};
 pub use line::Line;
 pub use name::{Name, is_a_name, is_channel_name};
 pub use shared::SharedBytes;

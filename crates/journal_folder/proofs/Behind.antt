@@ -3,7 +3,8 @@ use Rattle.std.proofs.Common.{◌≡◌, ℕ, ◌+◌, ◌<◌, max, zero, suc, 
 use Rattle.bouncer_tower.specs.Bodies.{TowerBody}
 use Rattle.raft_log.specs.declared.entry.Entry.{Entry}
 use Rattle.stable_store.specs.declared.saved.Saved.{Saved}
-use Rattle.journal_folder.specs.Counting.{all_boots, boot_told, greatest_boots, greatest_term, node_limit, own_boot}
+use Rattle.journal_folder.specs.Counting.{all_boots, boot_told, greatest_boots, greatest_term, own_boot}
+use Rattle.wire_bytes.specs.declared.limits.TheConstants.{MOST_NODES}
 use Rattle.journal_folder.specs.Planning.{AreBehind, are_next}
 use Rattle.journal_folder.specs.Saving.{all_begun_anew}
 
@@ -34,4 +35,4 @@ pub of_a_plan : (nodes : ℕ) (group : List (Saved TowerBody)) (log : List (Entr
 of_a_plan nodes group log boots term runs next =
     subst (λ (ns : List ℕ). AreBehind 1 group group (all_begun_anew ns term log)) (sym runs)
     (subst (λ (n : ℕ). AreBehind 1 group group (all_begun_anew (are_next (take nodes (all_boots group))) n log)) (sym next)
-    (all_behind 1 node_limit nodes group group log))
+    (all_behind 1 MOST_NODES nodes group group log))

@@ -4,7 +4,7 @@ use Rattle.bouncer_tower.specs.Bodies.{TowerBody}
 use Rattle.raft_log.specs.Logs.{last_term, up_to_date}
 use Rattle.stable_store.specs.declared.saved.Saved.{Saved}
 use Rattle.journal_folder.specs.Runs.{greatest_boot}
-use Rattle.journal_folder.specs.declared.counting.TheConstants.{MOST_NODES}
+use Rattle.wire_bytes.specs.declared.limits.TheConstants.{MOST_NODES}
 
 module _ {B : Type 0} where
   -- the log of the first is at least as up to date as that of the second, as a voter compares them
@@ -47,10 +47,6 @@ abbrev pub greatest_boots : ℕ → ℕ → List (Saved TowerBody) → List (Sav
 greatest_boots node zero owns group = []
 greatest_boots node (suc nodes) owns group = max (own_boot owns) (boot_told node group) ∷ greatest_boots (suc node) nodes (drop 1 owns) group
 
--- how many nodes a group has at most
-abbrev pub node_limit : ℕ
-node_limit = MOST_NODES
-
 -- for each node that a group may have, the greatest boot that its own store or a log of this group tells of
 abbrev pub all_boots : List (Saved TowerBody) → List ℕ
-all_boots group = greatest_boots 1 node_limit group group
+all_boots group = greatest_boots 1 MOST_NODES group group

@@ -1,5 +1,5 @@
 -- Which journals of a group are lost, and what stands for them.
-use Rattle.std.specs.Prelude.{◌≡◌, ℕ, ◌+◌, ◌*◌, ◌^◌, ◌<◌, ◌⊎◌, ◌==◌, ◌&&◌, ◌||◌, not, Bool, true, false, if◌then◌else◌, List, [], ◌∷◌, length, Option, None, Some, is_none}
+use Rattle.std.specs.Prelude.{◌≡◌, ℕ, ◌+◌, ◌*◌, ◌<◌, ◌⊎◌, ◌==◌, ◌&&◌, ◌||◌, not, Bool, true, false, if◌then◌else◌, List, [], ◌∷◌, length, Option, None, Some, is_none}
 use Rattle.bouncer_tower.specs.Bodies.{TowerBody}
 use Rattle.stable_store.specs.declared.saved.Saved.{Saved}
 use Rattle.stable_store.specs.Stores.{nothing_saved}
@@ -12,6 +12,7 @@ use Rattle.journal_folder.specs.declared.standing.Journal.{Journal}
 use Rattle.journal_folder.specs.declared.standing.Journal.TheVariants.{Lost, Whole}
 use Rattle.journal_folder.specs.declared.standing.NodeJournal.{NodeJournal}
 use Rattle.journal_folder.specs.declared.standing.Standing.{Standing}
+use Rattle.wire_bytes.specs.Limits.{number_limit}
 
 -- whether nothing is saved: no run, no term, no vote, no entry
 abbrev pub is_nothing : {B : Type 0} → Saved B → Bool
@@ -103,4 +104,4 @@ pub record Stands (group : List NodeJournal) (standing : Standing) : Type 0 wher
 -- the run that would stand for the journal of one of these is past the greatest number
 abbrev pub IsPastLast : List NodeJournal → List NodeJournal → Type 0
 IsPastLast group [] = ⊥
-IsPastLast group (first ∷ journals) = (2 ^ 60 < boot_told first.node (all_held group) + runs_apart) ⊎ IsPastLast group journals
+IsPastLast group (first ∷ journals) = (number_limit < boot_told first.node (all_held group) + runs_apart) ⊎ IsPastLast group journals

@@ -1,5 +1,5 @@
 -- What a group is begun anew with.
-use Rattle.std.specs.Prelude.{◌≡◌, ◌⊎◌, ℕ, suc, ◌+◌, ◌<◌, ◌^◌, List, [], ◌∷◌, drop, length, take}
+use Rattle.std.specs.Prelude.{◌≡◌, ◌⊎◌, ℕ, suc, ◌+◌, ◌<◌, List, [], ◌∷◌, drop, length, take}
 use Rattle.bouncer_tower.specs.Bodies.{TowerBody}
 use Rattle.buffer_commands.specs.Settings.{Settings}
 use Rattle.stable_store.specs.declared.saved.Saved.{Saved}
@@ -8,6 +8,7 @@ use Rattle.renewal.specs.Lists.{IsRenewal}
 use Rattle.journal_folder.specs.Counting.{IsMostUpToDate, IsOneOf, all_boots, boot_told, greatest_term, own_boot}
 use Rattle.journal_folder.specs.declared.planning.Plan.{Plan}
 use Rattle.journal_folder.specs.declared.renewed.Renewed.{Renewed}
+use Rattle.wire_bytes.specs.Limits.{number_limit}
 
 -- the number behind each of these
 abbrev pub are_next : List ℕ → List ℕ
@@ -36,11 +37,11 @@ AreBehind node owns group (new ∷ news) =
 -- one of these is the greatest number
 abbrev pub IsAnySpent : List ℕ → Type 0
 IsAnySpent [] = ⊥
-IsAnySpent (n ∷ ns) = (n ≡ 2 ^ 60) ⊎ IsAnySpent ns
+IsAnySpent (n ∷ ns) = (n ≡ number_limit) ⊎ IsAnySpent ns
 
 -- the term of a group or the run of one of so many nodes is the greatest number
 abbrev pub IsSpent : ℕ → List (Saved TowerBody) → Type 0
-IsSpent nodes group = (greatest_term group ≡ 2 ^ 60) ⊎ IsAnySpent (take nodes (all_boots group))
+IsSpent nodes group = (greatest_term group ≡ number_limit) ⊎ IsAnySpent (take nodes (all_boots group))
 
 -- what is told of a renewal is that of its plan: how many entries the log had and has, and how much is kept in it
 pub record Tells (plan : Plan) (told : Renewed) : Type 0 where

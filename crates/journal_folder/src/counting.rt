@@ -1,18 +1,15 @@
 //! What the journals of a group tell: which log counts, and the greatest numbers that there were.
 ghost use Rattle.std.specs.Prelude.{◌≡◌, ◌⊎◌, ◌∷◌, ◌++◌, ◌≤◌, ◌+◌, IfOk, OnOk, drop, length, max};
 ghost use Rattle.journal_folder.specs.Counting.{IsAsUpToDate, IsMostUpToDate, IsOneOf};
-ghost use Rattle.journal_folder.specs.Counting.{all_boots, boot_told, greatest_boots, greatest_term, most_entries, node_limit, own_boot};
+ghost use Rattle.journal_folder.specs.Counting.{all_boots, boot_told, greatest_boots, greatest_term, most_entries, own_boot};
+ghost use Rattle.wire_bytes.specs.Limits.{node_limit};
 
 use crate::earlier_runs::greatest_boot;
 use bouncer_tower::TowerBody;
 use raft_log::NodeId;
 use stable_store::Saved;
 use std::alloc::{AllocError, Global};
-use wire_bytes::{Number, Wire};
-
-/// How many nodes a group has at most.
-// an origin has no greater node
-const MOST_NODES: u8 = 7;
+use wire_bytes::{MOST_NODES, Number, Wire};
 
 /// The greatest numbers that the journals of a group tell of.
 #[derive(Drop)]

@@ -1,9 +1,10 @@
 //! What a list tells of a node's runs.
-ghost use Rattle.std.specs.Prelude.{◌≡◌, ◌≤◌, ◌^◌};
+ghost use Rattle.std.specs.Prelude.{◌≡◌, ◌≤◌};
 ghost use Rattle.std.specs.List.{All};
 ghost use Rattle.journal_folder.specs.Runs.{boot_in, boot_in_claims, boot_in_command, boot_in_session, boot_of};
 ghost use Rattle.journal_folder.specs.Runs.{greatest_boot, last_run, run_in};
 ghost use Rattle.journal_folder.specs.Runs.{is_floor, is_floor_claims, is_floor_command, is_floor_session};
+ghost use Rattle.wire_bytes.specs.Limits.{number_limit};
 
 use bouncer_tower::TowerBody;
 use buffer_commands::{Command, WireLine};
@@ -18,7 +19,7 @@ use wire_bytes::{Number, Origin};
 pub fn greatest_boot(node: NodeId, log: &Log<TowerBody>) -> u64
     ensures greatest { result ≡ greatest_boot node log.now }
     ensures none_is_later { All (λ e. boot_in node e.body ≤ result) log.now }
-    ensures limit { result ≤ 2 ^ 60 }
+    ensures limit { result ≤ number_limit }
 {
     let mut greatest = 0u64;
     for before in 0..log.len().value() {
@@ -32,7 +33,7 @@ pub fn greatest_boot(node: NodeId, log: &Log<TowerBody>) -> u64
 #[tactic(auto, using(crate::proofs::Last::one_more))]
 pub fn last_run(node: NodeId, log: &Log<TowerBody>) -> u64
     ensures last { result ≡ last_run node log.now }
-    ensures limit { result ≤ 2 ^ 60 }
+    ensures limit { result ≤ number_limit }
 {
     let mut last = 0u64;
     for before in 0..log.len().value() {
@@ -45,7 +46,7 @@ pub fn last_run(node: NodeId, log: &Log<TowerBody>) -> u64
 /// The run of a node that a body tells to have begun, 0 where it tells of none.
 fn run_in(node: NodeId, body: &TowerBody) -> u64
     ensures run { result ≡ run_in node body.now }
-    ensures limit { result ≤ 2 ^ 60 }
+    ensures limit { result ≤ number_limit }
 {
     let boot = boot_in(node, body);
     if is_floor(body) {
@@ -96,7 +97,7 @@ fn is_floor_command(command: &Command) -> bool
 /// The boot of a node that a body tells of, 0 where it tells of none.
 pub fn boot_in(node: NodeId, body: &TowerBody) -> u64
     ensures boot { result ≡ boot_in node body.now }
-    ensures limit { result ≤ 2 ^ 60 }
+    ensures limit { result ≤ number_limit }
 {
     match body {
         Body::Inner(command) => boot_in_claims(node, command),
@@ -113,7 +114,7 @@ pub fn boot_in(node: NodeId, body: &TowerBody) -> u64
 /// The boot of a client, where it is of this node.
 fn boot_of(node: NodeId, origin: Origin) -> u64
     ensures boot { result ≡ boot_of node origin }
-    ensures limit { result ≤ 2 ^ 60 }
+    ensures limit { result ≤ number_limit }
 {
     if origin.node() == node.value() {
         origin.boot()
@@ -124,7 +125,7 @@ fn boot_of(node: NodeId, origin: Origin) -> u64
 
 fn boot_in_claims(node: NodeId, command: &ClaimsCommand<FenceCommand<Command, WireLine>>) -> u64
     ensures boot { result ≡ boot_in_claims node command.now }
-    ensures limit { result ≤ 2 ^ 60 }
+    ensures limit { result ≤ number_limit }
 {
     match command {
         ClaimsCommand::Inner(command) => boot_in_session(node, command),
@@ -134,7 +135,7 @@ fn boot_in_claims(node: NodeId, command: &ClaimsCommand<FenceCommand<Command, Wi
 
 fn boot_in_session(node: NodeId, command: &FenceCommand<Command, WireLine>) -> u64
     ensures boot { result ≡ boot_in_session node command.now }
-    ensures limit { result ≤ 2 ^ 60 }
+    ensures limit { result ≤ number_limit }
 {
     match command {
         FenceCommand::Inner(command) => boot_in_command(node, command),
@@ -145,7 +146,7 @@ fn boot_in_session(node: NodeId, command: &FenceCommand<Command, WireLine>) -> u
 /// The floor below which runs of the node are gone is a boot that it may have had.
 fn boot_in_command(node: NodeId, command: &Command) -> u64
     ensures boot { result ≡ boot_in_command node command.now }
-    ensures limit { result ≤ 2 ^ 60 }
+    ensures limit { result ≤ number_limit }
 {
     match command {
         Command::Client(origin, _, _) => boot_of(node, *origin),

@@ -4,6 +4,7 @@ ghost use Rattle.raft_log.specs.Peers.{IsGroupSize};
 ghost use Rattle.store_setup.specs.Changes.{IsOf};
 ghost use Rattle.journal_folder.specs.Holding.{StandsForSome};
 ghost use Rattle.journal_folder.specs.Settling.{IsComing};
+ghost use Rattle.wire_bytes.specs.Limits.{node_limit};
 
 use crate::adopting::first_log;
 use crate::changed_keys::ChangedKeys;
@@ -70,7 +71,7 @@ fn coming_of(
         → IsOf store.now config.now.setup (length config.now.listen.items) → ⊥ }
     requires stands { StandsForSome store.now.nodes standing.now }
     requires first { 1 ≤ length standing.now.saved.items }
-    requires few { length standing.now.saved.items ≤ 7 }
+    requires few { length standing.now.saved.items ≤ node_limit }
     ensures { IfOk result
         (IsComing config.now.setup (length config.now.listen.items) renew_at) }
 {
@@ -103,7 +104,7 @@ fn coming_length(
 ) -> Result<Coming, RenewFault>
     requires nodes { IsGroupSize (length config.now.listen.items) }
     requires first { 1 ≤ length group.now }
-    requires few { length group.now ≤ 7 }
+    requires few { length group.now ≤ node_limit }
     ensures { IfOk result
         (IsComing config.now.setup (length config.now.listen.items) renew_at) }
 {

@@ -2,6 +2,7 @@
 ghost use Rattle.std.specs.Prelude.{◌≡◌, ◌≤◌, IfErr, IfOk, length};
 ghost use Rattle.journal_folder.specs.Faults.{IsOfFiles, IsOfHolding};
 ghost use Rattle.journal_folder.specs.Holding.{StandsForSome};
+ghost use Rattle.wire_bytes.specs.Limits.{node_limit};
 
 use crate::adopting::Group;
 use crate::fault::RenewFault;
@@ -33,7 +34,7 @@ pub fn hold<R: Files<File = File> + AllocGlobal>(
     ensures count { IfOk result
         (λ held. length held.group.standing.saved.items ≡ held.store.nodes) }
     ensures some { IfOk result (λ held. 1 ≤ length held.group.standing.saved.items) }
-    ensures few { IfOk result (λ held. length held.group.standing.saved.items ≤ 7) }
+    ensures few { IfOk result (λ held. length held.group.standing.saved.items ≤ node_limit) }
     ensures fault { IfErr result IsOfHolding }
 {
     let nodes = store_in(rt, folders, config)?.nodes;

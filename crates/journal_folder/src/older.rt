@@ -1,6 +1,7 @@
 //! Journals that are older copies, which their group tells.
 ghost use Rattle.std.specs.Prelude.{◌≡◌, ◌≤◌, ◌+◌, length, map, option_map};
 ghost use Rattle.journal_folder.specs.Runs.{first_of_group, first_older, run_told, those_there};
+ghost use Rattle.wire_bytes.specs.Limits.{node_limit};
 
 use crate::earlier_runs::last_run;
 use bouncer_tower::TowerBody;
@@ -11,7 +12,7 @@ use wire_bytes::Number;
 /// The first node whose journal, of these of a group, is older than their logs tell, if one is. They are in the order
 /// of their nodes, node 1's first; those that are not open are not there.
 pub fn first_older(journals: &[Option<FileJournal<TowerBody>>]) -> Option<NodeId>
-    requires { length journals.now ≤ 7 }
+    requires { length journals.now ≤ node_limit }
     ensures { result ≡ first_of_group (map (option_map (λ j. j.saved)) journals.now) }
 {
     first_older_of(1, journals, journals)

@@ -1,8 +1,9 @@
 //! What a group is begun anew with.
-ghost use Rattle.std.specs.Prelude.{◌≡◌, ◌⊎◌, ◌≤◌, ◌+◌, ◌++◌, ◌^◌, IfErr, IfOk, OnOk, length, take};
+ghost use Rattle.std.specs.Prelude.{◌≡◌, ◌⊎◌, ◌≤◌, ◌+◌, ◌++◌, IfErr, IfOk, OnOk, length, take};
 ghost use Rattle.journal_folder.specs.Faults.{IsOfLists};
 ghost use Rattle.journal_folder.specs.Planning.{AreBehind, IsAnySpent, IsPlan, IsSpent, are_next};
 ghost use Rattle.journal_folder.specs.Saving.{all_begun_anew};
+ghost use Rattle.wire_bytes.specs.Limits.{node_limit, number_limit};
 
 use crate::counting::{greatest_of, most_up_to_date_of};
 use crate::fault::RenewFault;
@@ -13,10 +14,7 @@ use raft_log::GroupSize;
 use renewal::{Renewal, renewed};
 use stable_store::Saved;
 use std::alloc::Global;
-use wire_bytes::Number;
-
-/// A number is at most this one.
-pub const GREATEST: u64 = 1 << 60;
+use wire_bytes::{LAST_NUMBER, Number};
 
 /// What is to stand in the new journals of a group, and what stood in the old ones.
 #[derive(Drop)]
@@ -58,7 +56,7 @@ pub fn planned(
     group: &[Saved<TowerBody>],
 ) -> Result<Plan, RenewFault>
     requires some { 1 ≤ length group.now }
-    requires few { length group.now ≤ 7 }
+    requires few { length group.now ≤ node_limit }
     ensures plan { IfOk result (IsPlan from.now to.now nodes forgotten.now group.now) }
     ensures count { IfOk result (λ plan. length plan.boots.items ≡ nodes) }
     ensures behind { IfOk result (λ plan. AreBehind 1 group.now group.now
@@ -92,7 +90,7 @@ fn next_boots(
     greatest: &[Number],
     nodes: GroupSize,
 ) -> Result<Vec<Number>, RenewFault>
-    requires { 7 ≤ length greatest.now }
+    requires { node_limit ≤ length greatest.now }
     ensures next { IfOk result (λ v. v.items ≡ are_next (take nodes greatest.now)) }
     ensures count { IfOk result (λ v. length v.items ≡ nodes) }
     ensures fault { IfErr result (λ e. (e ≡ RenewFault.Memory)
@@ -126,9 +124,9 @@ fn push_next(next: &mut Vec<Number>, numbers: &[Number]) -> Result<(), RenewFaul
 /// The number behind this one, where there is one.
 pub fn behind(number: Number) -> Result<Number, RenewFault>
     ensures next { IfOk result (λ n. n ≡ number + 1) }
-    ensures spent { IfErr result (λ e. (e ≡ RenewFault.Spent) × (number ≡ 2 ^ 60)) }
+    ensures spent { IfErr result (λ e. (e ≡ RenewFault.Spent) × (number ≡ number_limit)) }
 {
-    if number.value() >= GREATEST {
+    if number.value() >= LAST_NUMBER {
         return Err(RenewFault::Spent);
     }
     Ok(Number::new(number.value() + 1))

@@ -4,6 +4,7 @@ ghost use Rattle.raft_log.specs.Peers.{IsGroupSize};
 ghost use Rattle.journal_folder.specs.Beside.{AreOldFolders};
 ghost use Rattle.journal_folder.specs.Faults.{IsOfFiles, IsOfLists, IsUnnamedIn};
 ghost use Rattle.journal_folder.specs.Planning.{IsPlan, IsToldOfSome, Tells};
+ghost use Rattle.wire_bytes.specs.Limits.{node_limit};
 
 use crate::fault::RenewFault;
 use crate::held::{Held, hold};
@@ -81,7 +82,7 @@ pub fn plan_for(
 ) -> Result<Plan, RenewFault>
     requires nodes { IsGroupSize (length config.now.listen.items) }
     requires some { 1 ≤ length group.now }
-    requires few { length group.now ≤ 7 }
+    requires few { length group.now ≤ node_limit }
     ensures plan { IfOk result (IsPlan store.now.setup config.now.setup
         (length config.now.listen.items) forgotten.now group.now) }
     ensures boots { IfOk result
@@ -105,7 +106,7 @@ pub fn short_plan(
 ) -> Result<Plan, RenewFault>
     requires nodes { IsGroupSize (length config.now.listen.items) }
     requires some { 1 ≤ length group.now }
-    requires few { length group.now ≤ 7 }
+    requires few { length group.now ≤ node_limit }
     ensures plan { IfOk result (IsPlan store.now.setup config.now.setup
         (length config.now.listen.items) [] group.now) }
     ensures boots { IfOk result

@@ -6,6 +6,7 @@ ghost use Rattle.journal_folder.specs.Counting.{most_entries};
 ghost use Rattle.journal_folder.specs.Settling.{IsChanged, IsSettled, IsWithout};
 ghost use Rattle.store_setup.specs.Changes.{IsOf, changed_keys};
 ghost use Rattle.journal_folder.specs.Holding.{StandsForSome};
+ghost use Rattle.wire_bytes.specs.Limits.{node_limit};
 
 use crate::changed_keys::ChangedKeys;
 use crate::counting::most_entries;
@@ -175,7 +176,7 @@ fn begin_without<R: Files<File = File> + Clock + AllocGlobal>(
         ≡ changed_keys held.now.store config.now.setup (length config.now.listen.items) }
     requires stands { StandsForSome held.now.store.nodes held.now.group.standing }
     requires first { 1 ≤ length held.now.group.standing.saved.items }
-    requires few { length held.now.group.standing.saved.items ≤ 7 }
+    requires few { length held.now.group.standing.saved.items ≤ node_limit }
     requires lost { held.now.group.standing.lost.journals.items ≢ [] }
     ensures without { IfOk result
         (IsWithout config.now.setup (length config.now.listen.items) keys.now) }
@@ -206,7 +207,7 @@ fn begin_changed<R: Files<File = File> + Clock + AllocGlobal>(
     requires some { keys.keys.items ≢ [] }
     requires count { length held.now.group.standing.saved.items ≡ held.now.store.nodes }
     requires first { 1 ≤ length held.now.group.standing.saved.items }
-    requires few { length held.now.group.standing.saved.items ≤ 7 }
+    requires few { length held.now.group.standing.saved.items ≤ node_limit }
     ensures changed { IfOk result
         (λ begun. IsChanged config.now.setup (length config.now.listen.items) begun.0 begun.1) }
     ensures unnamed { IfErr result (IsUnnamedIn (map string_bytes folders.now)) }
@@ -232,7 +233,7 @@ fn settle_long<R: Files<File = File> + Clock + AllocGlobal>(
     requires nodes { IsGroupSize (length config.now.listen.items) }
     requires count { length held.now.group.standing.saved.items ≡ held.now.store.nodes }
     requires first { 1 ≤ length held.now.group.standing.saved.items }
-    requires few { length held.now.group.standing.saved.items ≤ 7 }
+    requires few { length held.now.group.standing.saved.items ≤ node_limit }
     requires same { IsOf held.now.store config.now.setup (length config.now.listen.items) }
     requires some { 0 < renew_at }
     requires long { renew_at < most_entries held.now.group.standing.saved.items }

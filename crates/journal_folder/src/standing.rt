@@ -1,20 +1,20 @@
 //! What stands for the journals of a group, some of which may be lost.
-ghost use Rattle.std.specs.Prelude.{◌≡◌, ◌⊎◌, ◌<◌, ◌≤◌, ◌++◌, ◌+◌, ◌^◌, [], None, IfErr, IfOk, OnOk, length};
+ghost use Rattle.std.specs.Prelude.{◌≡◌, ◌⊎◌, ◌<◌, ◌≤◌, ◌++◌, ◌+◌, [], None, IfErr, IfOk, OnOk, length};
 ghost use Rattle.journal_folder.specs.Counting.{boot_told};
 ghost use Rattle.journal_folder.specs.Runs.{greatest_boot, last_run, run_told};
 ghost use Rattle.journal_folder.specs.Faults.{IsOfStanding};
 ghost use Rattle.journal_folder.specs.Losses.{IsPastLast, Stands, all_held, has_entries, held, holds_entries, is_new, loss_in, losses_among, may_be_new, runs_apart, saved_for, stand_in, standing_among};
+ghost use Rattle.wire_bytes.specs.Limits.{node_limit, number_limit};
 
 use crate::earlier_runs::{greatest_boot, last_run};
 use crate::fault::RenewFault;
 use crate::loss::{Loss, LostJournal, LostJournals, TooFew};
-use crate::planning::GREATEST;
 use crate::saving::is_nothing;
 use bouncer_tower::TowerBody;
 use raft_log::{Log, NodeId};
 use stable_store::Saved;
 use std::alloc::{AllocError, Global};
-use wire_bytes::{Copied, Number};
+use wire_bytes::{Copied, LAST_NUMBER, Number};
 
 /// How far a node whose journal is lost begins behind the greatest run of it that the other logs tell of.
 // runs of which nothing was agreed are known to no other node, and no run may come again. With no majority a node begins
@@ -50,7 +50,7 @@ pub fn stand_for(
     folders: &[String],
     journals: &[NodeJournal],
 ) -> Result<Standing, RenewFault>
-    requires few { length journals.now ≤ 7 }
+    requires few { length journals.now ≤ node_limit }
     ensures stands { IfOk result (Stands journals.now) }
     ensures count { IfOk result (λ s. length s.saved.items ≡ length journals.now) }
     ensures fault { IfErr result (IsOfStanding journals.now) }
@@ -193,7 +193,7 @@ fn saved_for(
     ensures saved { IfOk result (λ saved. saved ≡ saved_for group.now journal.now
         (loss_in group.now journal.now)) }
     ensures fault { IfErr result (λ e. (e ≡ RenewFault.Memory) ⊎ ((e ≡ RenewFault.Spent)
-        × (2 ^ 60 < boot_told journal.now.node (all_held group.now) + runs_apart))) }
+        × (number_limit < boot_told journal.now.node (all_held group.now) + runs_apart))) }
 {
     if loss_in(journal, group).is_some() {
         return stand_in(alloc, journal.node, group);
@@ -212,10 +212,10 @@ fn stand_in(
 ) -> Result<Saved<TowerBody>, RenewFault>
     ensures saved { IfOk result (λ saved. saved ≡ stand_in node group.now) }
     ensures spent { IfErr result (λ e. (e ≡ RenewFault.Spent)
-        × (2 ^ 60 < boot_told node (all_held group.now) + runs_apart)) }
+        × (number_limit < boot_told node (all_held group.now) + runs_apart)) }
 {
     let boot = boot_told(node, group).value() + RUNS_APART;
-    if boot > GREATEST {
+    if boot > LAST_NUMBER {
         return Err(RenewFault::Spent);
     }
     Ok(with_run(alloc, Number::new(boot)))
@@ -249,7 +249,7 @@ fn run_told(node: NodeId, group: &[NodeJournal]) -> Number
 /// The last run of a node that the log in a journal tells to have begun.
 fn run_held(node: NodeId, journal: &Journal) -> u64
     ensures run { result ≡ last_run node (held journal.now).log }
-    ensures limit { result ≤ 2 ^ 60 }
+    ensures limit { result ≤ number_limit }
 {
     match journal {
         Journal::Whole(saved) => last_run(node, &saved.log),
@@ -273,7 +273,7 @@ fn boot_told(node: NodeId, group: &[NodeJournal]) -> Number
 /// The greatest run of a node that the log in a journal tells of.
 fn boot_held(node: NodeId, journal: &Journal) -> u64
     ensures boot { result ≡ greatest_boot node (held journal.now).log }
-    ensures limit { result ≤ 2 ^ 60 }
+    ensures limit { result ≤ number_limit }
 {
     match journal {
         Journal::Whole(saved) => greatest_boot(node, &saved.log),

@@ -3,6 +3,7 @@ ghost use Rattle.std.specs.Prelude.{◌≡◌, ◌≤◌, IfErr, IfOk, length};
 ghost use Rattle.raft_log.specs.Peers.{IsGroupSize};
 ghost use Rattle.journal_folder.specs.Faults.{IsOfFiles};
 ghost use Rattle.journal_folder.specs.Stores.{IsNext, holding, next_of_before, store_of};
+ghost use Rattle.wire_bytes.specs.Limits.{node_limit};
 
 use crate::fault::RenewFault;
 use crate::folders::folder_of;
@@ -55,7 +56,7 @@ pub fn size_of(config: &Config) -> GroupSize
 /// What lies in the folders of a store. `Mixed` where they are not those of one.
 pub fn find<R: Files + AllocGlobal>(rt: &R, folders: &[String]) -> Result<Found, RenewFault>
     requires { 1 ≤ length folders.now }
-    ensures limit { IfOk result (λ found. found.journals ≤ 7) }
+    ensures limit { IfOk result (λ found. found.journals ≤ node_limit) }
     ensures fault { IfErr result IsOfFiles }
 {
     let mut journals = 0u8;
@@ -173,7 +174,7 @@ pub fn next_of(
     setup: &Setup,
     nodes: GroupSize,
 ) -> Result<Next, AllocError>
-    requires { found.now.journals ≤ 7 }
+    requires { found.now.journals ≤ node_limit }
     ensures { IfOk result (IsNext found.now setup.now nodes) }
 {
     if found.journals == 0 {
@@ -193,7 +194,7 @@ pub fn next_of(
 
 /// The same of a store that says nothing of itself.
 fn next_of_before(journals: u8, nodes: GroupSize) -> Next
-    requires { journals ≤ 7 }
+    requires { journals ≤ node_limit }
     ensures { result ≡ next_of_before journals nodes }
 {
     if holding(journals) == nodes {
@@ -206,7 +207,7 @@ fn next_of_before(journals: u8, nodes: GroupSize) -> Next
 /// What the store is taken to be that was found: what it says of itself; or of today's setup and of as many nodes as
 /// its journals ask for.
 pub fn store_of(alloc: Global, found: Found, setup: &Setup) -> Result<StoreSetup, AllocError>
-    requires { found.journals ≤ 7 }
+    requires { found.journals ≤ node_limit }
     ensures { IfOk result (λ store. store ≡ store_of found setup.now) }
 {
     match found.store {
@@ -217,7 +218,7 @@ pub fn store_of(alloc: Global, found: Found, setup: &Setup) -> Result<StoreSetup
 
 /// The smallest group that has a node of this number.
 fn holding(number: u8) -> GroupSize
-    requires { number ≤ 7 }
+    requires { number ≤ node_limit }
     ensures { result ≡ holding number }
 {
     let size = match number {

@@ -4,10 +4,7 @@ ghost use Rattle.std.specs.Prelude.{◌≡◌, ℕ, Some};
 use std::rt::Clock;
 use std::time::{Duration, SystemTime, UNIX_EPOCH};
 use store_setup::StoreSetup;
-use wire_bytes::Number;
-
-/// The last number that there is.
-const LAST: u64 = 1 << 60;
+use wire_bytes::{LAST_NUMBER, Number};
 
 /// A name for a store that has none yet: the moment now, in microseconds since 1970. Two stores of one user are not made
 /// in the same microsecond.
@@ -37,5 +34,5 @@ fn name_at(since: Duration) -> Number {
         .as_secs()
         .saturating_mul(1_000_000)
         .saturating_add(since.subsec_micros() as u64);
-    Number::new(micros.min(LAST))
+    Number::new(micros.min(LAST_NUMBER))
 }

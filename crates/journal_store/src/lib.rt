@@ -14,6 +14,7 @@ mod find;
 mod journal_store;
 mod known;
 mod laws;
+pub mod limits;
 mod memory_disk;
 mod mend;
 mod put;

@@ -1,5 +1,5 @@
 -- Lists of bodies that one leader brings. A history has each body with its place, the newest first.
-use Rattle.std.specs.Prelude.{◌≡◌, ℕ, suc, ◌+◌, ◌^◌, ◌==◌, Bool, true, false, ◌&&◌, nat_lt, if◌then◌else◌, List, [], ◌∷◌, Option, Some, None}
+use Rattle.std.specs.Prelude.{◌≡◌, ℕ, suc, ◌+◌, ◌==◌, Bool, true, false, ◌&&◌, nat_lt, if◌then◌else◌, List, [], ◌∷◌, Option, Some, None}
 use Rattle.wire_bytes.specs.declared.origin.Origin.{Origin}
 use Rattle.wire_bytes.specs.declared.session_id.SessionId.{SessionId}
 use Rattle.machine_laws.specs.Origins.{same_origin}
@@ -14,6 +14,7 @@ use Rattle.upstream_claim.specs.declared.command.ClaimsCommand.TheVariants as cl
 use Rattle.request_once.specs.declared.body.Body.TheVariants as body
 use Rattle.bouncer_tower.specs.Bodies.{Claimed, Sessioned, TowerBody, next_claim}
 use Rattle.led_lists.specs.declared.leading.Leading.{Leading}
+use Rattle.wire_bytes.specs.Limits.{number_limit}
 
 -- a new leader has no session, and opened none
 abbrev pub new_leader : Leading
@@ -47,9 +48,9 @@ may_bring_command c = false
 -- It opens the next session of its term where none is live. It shuts its live one, and hears the next line in that. Numbers stay
 -- within 2^60.
 abbrev pub may_bring_session : ℕ → Leading → Sessioned → Bool
-may_bring_session term k (fence.Opened id) = is_idle k.live && (nat_lt k.attempts (2 ^ 60) && same_session (term, suc k.attempts) id)
+may_bring_session term k (fence.Opened id) = is_idle k.live && (nat_lt k.attempts number_limit && same_session (term, suc k.attempts) id)
 may_bring_session term k (fence.Shut id) = is_live k.live id
-may_bring_session term k (fence.Heard id n at line) = is_next_line k.live id n && nat_lt n (2 ^ 60)
+may_bring_session term k (fence.Heard id n at line) = is_next_line k.live id n && nat_lt n number_limit
 may_bring_session term k (fence.Inner c) = may_bring_command c
 
 -- its live session claims the line that is to be claimed next, if there is one

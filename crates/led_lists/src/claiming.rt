@@ -5,9 +5,7 @@ ghost use Rattle.bouncer_tower.specs.Bodies.{within_limit};
 
 use bouncer_tower::Layers;
 use machine_laws::Machine;
-
-/// The largest number that a claim may have.
-const MOST_NUMBER: u64 = 1 << 60;
+use wire_bytes::LAST_NUMBER;
 
 /// A machine that tells which line is to be claimed next.
 pub trait Claiming: Machine {
@@ -34,7 +32,7 @@ fn within_limit(number: Option<u64>) -> Option<u64>
     ensures { result ≡ within_limit number }
 {
     match number {
-        Some(number) if number <= MOST_NUMBER => Some(number),
+        Some(number) if number <= LAST_NUMBER => Some(number),
         _ => None,
     }
 }

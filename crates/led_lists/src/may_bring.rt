@@ -1,8 +1,9 @@
 //! What a leader may bring next, and what it keeps then.
-ghost use Rattle.std.specs.Prelude.{◌≡◌, ◌&&◌, ◌^◌, suc, nat_lt, if◌then◌else◌, Some, None};
+ghost use Rattle.std.specs.Prelude.{◌≡◌, ◌&&◌, suc, nat_lt, if◌then◌else◌, Some, None};
 ghost use Rattle.session_fence.specs.declared.command.FenceCommand.TheVariants.{Opened};
 ghost use Rattle.led_lists.specs.Led.{behind_claim, behind_session, brought, is_blank, is_live};
 ghost use Rattle.led_lists.specs.Led.{is_next_line, may_bring_claim, may_bring_session};
+ghost use Rattle.wire_bytes.specs.Limits.{number_limit};
 
 use crate::leading::Leading;
 use bouncer_tower::TowerBody;
@@ -11,10 +12,7 @@ use raft_log::Live;
 use request_once::Body;
 use session_fence::FenceCommand;
 use upstream_claim::ClaimsCommand;
-use wire_bytes::{Number, Origin, SessionId};
-
-/// The largest number that a session or a line of it may have.
-const MOST_NUMBER: u64 = 1 << 60;
+use wire_bytes::{LAST_NUMBER, Number, Origin, SessionId};
 
 /// Whose list it is: the term of the leader, and the client whose requests it brings.
 #[derive(Clone, Copy)]
@@ -93,7 +91,7 @@ fn opened(term: Number, leading: Leading, id: SessionId) -> Option<Leading>
         then Some (behind_session leading (Opened id)) else None }
 {
     let made = leading.attempts.value();
-    if leading.live.is_some() || made >= MOST_NUMBER {
+    if leading.live.is_some() || made >= LAST_NUMBER {
         return None;
     }
     if id.term() != term.value() || id.attempt() != made + 1 {
@@ -123,13 +121,13 @@ fn shut(leading: Leading, id: SessionId) -> Option<Leading>
 
 /// The live session with one line more, where the line is its next one.
 fn heard(leading: Leading, id: SessionId, number: Number) -> Option<Leading>
-    ensures { result ≡ if is_next_line leading.live id number && nat_lt number (2 ^ 60)
+    ensures { result ≡ if is_next_line leading.live id number && nat_lt number number_limit
         then Some (record {
           live = Some (record { id = id; next = suc number });
           attempts = leading.attempts;
         }) else None }
 {
-    if !is_next_line(leading.live, id, number) || number.value() >= MOST_NUMBER {
+    if !is_next_line(leading.live, id, number) || number.value() >= LAST_NUMBER {
         return None;
     }
     let next = Number::new(number.value() + 1);

@@ -1,5 +1,5 @@
 -- What a cell keeps beside its node: its pass at the ether, and the record of its turns.
-use Rattle.std.specs.Prelude.{◌≡◌, ◌*◌, ◌+◌, ◌^◌, ◌<◌, ◌≤◌, ℕ, Bool, true, List, [], ◌∷◌, ◌++◌, length, map, Option}
+use Rattle.std.specs.Prelude.{◌≡◌, ◌*◌, ◌+◌, ◌<◌, ◌≤◌, ℕ, Bool, true, List, [], ◌∷◌, ◌++◌, length, map, Option}
 use Rattle.raft_node.specs.Machine.{Machine}
 use Rattle.world_run.specs.declared.outcome.Outcome.{Outcome}
 use Rattle.world_run.specs.Told.{out_of}
@@ -20,6 +20,7 @@ use Rattle.node_cells.specs.declared.record.Recording.{Recording}
 use Rattle.node_cells.specs.declared.record.Recording.TheVariants.{On, Off}
 use Rattle.node_cells.specs.Copies.{IsCopy}
 use Rattle.node_cells.specs.Posts.{posts_from}
+use Rattle.wire_bytes.specs.Limits.{number_limit}
 
 -- what is recorded of these turns, or of what came out of them
 abbrev pub recorded_by : {A : Type 0} → Recording → List A → List A
@@ -131,13 +132,13 @@ module _ {Setup B L T E P : Type 0} where
   pub record HasRoom (old : BookParts Setup B L T E P) (count : ℕ) (new : BookParts Setup B L T E P) : Type 0 where
     pub room : room_for old.recording count ≤ new.room
     pub none_made : old.recording ≡ Off → new.room ≡ old.room
-    pub tickets : length (view_of old.pass).turns + count ≤ 2 ^ 60
+    pub tickets : length (view_of old.pass).turns + count ≤ number_limit
     pub same : IsSameBut old new
 
   -- There is none; and there is memory enough where nothing is recorded.
   abbrev pub HasNoRoom : BookParts Setup B L T E P → ℕ → CellFault → BookParts Setup B L T E P → Type 0
   HasNoRoom old count Memory new = IsSameBut old new × (old.recording ≡ On)
-  HasNoRoom old count Spent new = IsSameBut old new × (2 ^ 60 < length (view_of old.pass).turns + count)
+  HasNoRoom old count Spent new = IsSameBut old new × (number_limit < length (view_of old.pass).turns + count)
   HasNoRoom old count (OfNode fault) new = ⊥
 
   -- what lay in the mailbox was heard, and the look is kept

@@ -1,5 +1,5 @@
 -- A node with its book, and what holds of it.
-use Rattle.std.specs.Prelude.{◌≡◌, ◌⊎◌, ◌+◌, ◌^◌, ◌<◌, ◌≤◌, ℕ, suc, true, false, List, [], ◌∷◌, length, Option, Some, None, Result, Ok, Err}
+use Rattle.std.specs.Prelude.{◌≡◌, ◌⊎◌, ◌+◌, ◌<◌, ◌≤◌, ℕ, suc, true, false, List, [], ◌∷◌, length, Option, Some, None, Result, Ok, Err}
 use Rattle.raft_log.specs.declared.node_state.NodeState.{NodeState}
 use Rattle.raft_log.specs.Node.{Node, is_leader}
 use Rattle.raft_log.specs.Seen.{seen}
@@ -26,6 +26,7 @@ use Rattle.node_cells.specs.Books.{AreOfBook, BookParts, room_for}
 use Rattle.node_cells.specs.Copies.{AreCopies, IsCopy}
 use Rattle.node_cells.specs.Inputs.{Answer, OnlyAppend}
 use Rattle.node_cells.specs.Sending.{KnowsOneOf}
+use Rattle.wire_bytes.specs.Limits.{number_limit}
 
 -- its book, its node and where its lines go; whether the node is up, how many restarts were refused since it was, and the line of
 -- the state that the cell shows
@@ -69,9 +70,9 @@ module _ {Setup Hosted Store B L T E P U : Type 0} where
 
   -- Room in the record and tickets are there for so many turns, or are not; the cell is as it was.
   abbrev pub HasMadeRoom : ℕ → CellRoom Setup Hosted Store B L T E P U → Result (Unit {0}) CellFault → CellRoom Setup Hosted Store B L T E P U → Type 0
-  HasMadeRoom count c (Ok done) d = (d.parts ≡ c.parts) × (room_for c.parts.recording count ≤ d.room) × (length (view_of c.parts.pass).turns + count ≤ 2 ^ 60)
+  HasMadeRoom count c (Ok done) d = (d.parts ≡ c.parts) × (room_for c.parts.recording count ≤ d.room) × (length (view_of c.parts.pass).turns + count ≤ number_limit)
   HasMadeRoom count c (Err Memory) d = d.parts ≡ c.parts
-  HasMadeRoom count c (Err Spent) d = (d.parts ≡ c.parts) × (2 ^ 60 < length (view_of c.parts.pass).turns + count)
+  HasMadeRoom count c (Err Spent) d = (d.parts ≡ c.parts) × (number_limit < length (view_of c.parts.pass).turns + count)
   HasMadeRoom count c (Err (OfNode fault)) d = ⊥
 
 module _ {B : Type 0} where

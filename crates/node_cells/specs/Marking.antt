@@ -1,5 +1,5 @@
 -- What it comes to that a cell's node marks a place, and that a look waits for a mark.
-use Rattle.std.specs.Prelude.{◌≡◌, ◌⊎◌, ◌≤◌, ◌^◌, ℕ, suc, length, Bool, true, false, Option, Result, Ok, Err}
+use Rattle.std.specs.Prelude.{◌≡◌, ◌⊎◌, ◌≤◌, ℕ, suc, length, Bool, true, false, Option, Result, Ok, Err}
 use Rattle.wire_bytes.specs.declared.mark.Mark.{Mark}
 use Rattle.node_steps.specs.declared.refusal.Refusal.TheVariants.{Behind}
 use Rattle.raft_node.specs.declared.node_fault.NodeFault.TheVariants.{Refused as Declined}
@@ -14,6 +14,7 @@ use Rattle.node_cells.specs.Turns.{CellOf, HasLooked, IsNoTurn, IsTurn}
 use Rattle.node_cells.specs.Upstreams.{Tally}
 use Rattle.node_cells.specs.declared.mark_turn.MarkTurn.{MarkTurn}
 use Rattle.node_cells.specs.Marks.{asked_in, has_applied}
+use Rattle.wire_bytes.specs.Limits.{number_limit}
 
 module _ (M : Machine) {Setup Hosted Store U : Type 0} where
   -- the mark of this number, of the run in which the cell's node is
@@ -44,14 +45,14 @@ module _ (M : Machine) {Setup Hosted Store U : Type 0} where
         -- The node asked for a mark. Its number is one more than the greatest that its run asked, and its run is the view's.
         pub record IsMarked (c : CellOf M Setup Hosted Store U) (number : ℕ) (output : TurnOutput M.Body M.Effect) (d : CellOf M Setup Hosted Store U) : Type 0 where
           pub next : number ≡ suc (asked_in marked (view_in c))
-          pub few : number ≤ 2 ^ 60
+          pub few : number ≤ number_limit
           pub own : (view_in c).honest ≡ true → c.node.state.standing.boot ≡ (view_in c).state.boot
           pub turn : IsTurn M tally c (Ask (mark (own_mark c number))) output d
 
         -- There is no further number, or there are no more turns, and nothing changes; else the turn that asks for the next mark gives nothing.
         abbrev pub IsNotMarked : CellOf M Setup Hosted Store U → CellFault → CellOf M Setup Hosted Store U → Type 0
         IsNotMarked c Memory d = d ≡ c
-        IsNotMarked c Spent d = (d ≡ c) × ((2 ^ 60 ≤ asked_in marked (view_in c)) ⊎ (2 ^ 60 ≤ length (view_in c).turns))
+        IsNotMarked c Spent d = (d ≡ c) × ((number_limit ≤ asked_in marked (view_in c)) ⊎ (number_limit ≤ length (view_in c).turns))
         IsNotMarked c (OfNode fault) d = IsNoTurn M tally c (Ask (mark (own_mark c (suc (asked_in marked (view_in c)))))) (OfNode fault) d
 
         -- by what an asking for a mark answers

@@ -1,5 +1,5 @@
 -- What a restart of a cell publishes, and what stands after it.
-use Rattle.std.specs.Prelude.{◌≡◌, ◌≤◌, ◌||◌, not, ◌+◌, ◌<◌, ◌^◌, ℕ, suc, true, false, Bool, List, [], ◌∷◌, ◌++◌, length, map, Result, Ok, Err}
+use Rattle.std.specs.Prelude.{◌≡◌, ◌≤◌, ◌||◌, not, ◌+◌, ◌<◌, ℕ, suc, true, false, Bool, List, [], ◌∷◌, ◌++◌, length, map, Result, Ok, Err}
 use Rattle.stable_store.specs.declared.saved.Saved.{Saved}
 use Rattle.raft_log.specs.Node.{Node}
 use Rattle.raft_node.specs.Machine.{Machine}
@@ -21,6 +21,7 @@ use Rattle.node_cells.specs.Cells.{AreAnswered, AreTogether, CellParts, view_in}
 use Rattle.node_cells.specs.Inputs.{Answer}
 use Rattle.node_cells.specs.Sending.{terms_of}
 use Rattle.node_cells.specs.Turns.{IsDownAs}
+use Rattle.wire_bytes.specs.Limits.{number_limit}
 
 module _ {B : Type 0} where
   -- the one state has the term, the vote and the terms of entries of the other
@@ -139,7 +140,7 @@ module _ (M : Machine) where
     abbrev pub IsNoRestart : CellParts Setup Hosted Store M.Body M.Line M.Target M.Effect M.Played U → CellFault
         → CellParts Setup Hosted Store M.Body M.Line M.Target M.Effect M.Played U → Type 0
     IsNoRestart c Memory d = d ≡ c
-    IsNoRestart c Spent d = (d ≡ c) × (2 ^ 60 < length (view_in c).turns + (firsts_at_most c.phase + c.refused))
+    IsNoRestart c Spent d = (d ≡ c) × (number_limit < length (view_in c).turns + (firsts_at_most c.phase + c.refused))
     IsNoRestart c (OfNode fault) d = IsRefusedRestart c d
 
     -- by what a restart answers

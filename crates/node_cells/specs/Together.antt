@@ -1,5 +1,5 @@
 -- What comes of several inputs of a cell's node that leads, done one after the other and saved at once.
-use Rattle.std.specs.Prelude.{◌≡◌, ◌⊎◌, ◌^◌, ◌<◌, ◌+◌, suc, true, false, List, [], ◌∷◌, ◌++◌, length, map, Option}
+use Rattle.std.specs.Prelude.{◌≡◌, ◌⊎◌, ◌<◌, ◌+◌, suc, true, false, List, [], ◌∷◌, ◌++◌, length, map, Option}
 use Rattle.raft_node.specs.declared.node_fault.NodeFault.TheVariants.{Down, Refused as Declined}
 use Rattle.raft_node.specs.Machine.{Machine}
 use Rattle.world_views.specs.declared.node_event.NodeEvent.{NodeEvent}
@@ -15,6 +15,7 @@ use Rattle.node_cells.specs.Inputs.{Answer}
 use Rattle.node_cells.specs.Restarts.{AreNoted, after_turns, outcome_by}
 use Rattle.node_cells.specs.Turns.{CellOf, IsDownAs, IsEvent, WasDown}
 use Rattle.node_cells.specs.Upstreams.{Tally}
+use Rattle.wire_bytes.specs.Limits.{number_limit}
 
 module _ {B L T : Type 0} where
   -- the node went down in the first of these inputs, before that was saved
@@ -64,7 +65,7 @@ module _ (M : Machine) where
     -- Where there is no memory, no room or no more tickets, nothing changes; inputs together are not refused; else the node is down.
     abbrev pub AreNoTurns : CellOf M Setup Hosted Store U → List (NodeInput M.Body M.Line) → CellFault → CellOf M Setup Hosted Store U → Type 0
     AreNoTurns c inputs Memory d = d ≡ c
-    AreNoTurns c inputs Spent d = (d ≡ c) × (2 ^ 60 < length (view_in c).turns + length inputs)
+    AreNoTurns c inputs Spent d = (d ≡ c) × (number_limit < length (view_in c).turns + length inputs)
     AreNoTurns c inputs (OfNode (Declined refusal)) d = ⊥
     AreNoTurns c inputs (OfNode (Down cause)) d = FallsInTurns c inputs d ⊎ WasDown M c d
 

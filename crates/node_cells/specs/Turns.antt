@@ -1,5 +1,5 @@
 -- What a turn of a cell, a look and the other calls answer, and what stands after them.
-use Rattle.std.specs.Prelude.{Option, None, Some, ◌≡◌, ◌⊎◌, ◌+◌, ◌<◌, ◌≤◌, ◌^◌, ℕ, suc, Bool, true, List, [], ◌∷◌, ◌++◌, drop, length, map, Result, Ok, Err}
+use Rattle.std.specs.Prelude.{Option, None, Some, ◌≡◌, ◌⊎◌, ◌+◌, ◌<◌, ◌≤◌, ℕ, suc, Bool, true, List, [], ◌∷◌, ◌++◌, drop, length, map, Result, Ok, Err}
 use Rattle.raft_node.specs.declared.node_fault.Cause.TheVariants.{Memory as NoMemory}
 use Rattle.raft_node.specs.declared.node_fault.NodeFault.TheVariants.{Down, Refused as Declined}
 use Rattle.raft_node.specs.Machine.{Machine}
@@ -27,6 +27,7 @@ use Rattle.node_cells.specs.Cells.{CellParts, view_in}
 use Rattle.node_cells.specs.Posts.{GaveBack, posts_from}
 use Rattle.node_cells.specs.Sending.{to_of}
 use Rattle.node_cells.specs.Upstreams.{HandsOut, Tally}
+use Rattle.wire_bytes.specs.Limits.{number_limit}
 
 module _ {E P : Type 0} where
   -- where a place was applied, it and the effects that leave come out, else nothing
@@ -101,7 +102,7 @@ module _ (M : Machine) {Setup Hosted Store U : Type 0} where
     -- A turn that gives nothing. Where there is no room, or no more tickets, nothing changes; a refusal is an event; else the node is down.
     abbrev pub IsNoTurn : CellOf M Setup Hosted Store U → NodeInput M.Body M.Line → CellFault → CellOf M Setup Hosted Store U → Type 0
     IsNoTurn c x Memory d = d ≡ c
-    IsNoTurn c x Spent d = (d ≡ c) × (2 ^ 60 ≤ length (view_in c).turns)
+    IsNoTurn c x Spent d = (d ≡ c) × (number_limit ≤ length (view_in c).turns)
     IsNoTurn c x (OfNode (Declined refusal)) d = IsEvent c (Does x) (Refused refusal) d
     IsNoTurn c x (OfNode (Down cause)) d = FallsInTurn c x d ⊎ WasDown c d
 
@@ -121,7 +122,7 @@ module _ (M : Machine) {Setup Hosted Store U : Type 0} where
     -- A look that gives nothing. Where nothing comes of it for want of room or memory nothing changes; Behind is an event.
     abbrev pub IsNoLook : CellOf M Setup Hosted Store U → ℕ → M.Target → CellFault → CellOf M Setup Hosted Store U → Type 0
     IsNoLook c from_place target Memory d = d ≡ c
-    IsNoLook c from_place target Spent d = (d ≡ c) × (2 ^ 60 ≤ length (view_in c).turns)
+    IsNoLook c from_place target Spent d = (d ≡ c) × (number_limit ≤ length (view_in c).turns)
     IsNoLook c from_place target (OfNode (Declined refusal)) d = IsEvent c (Look from_place target) (Refused refusal) d
     IsNoLook c from_place target (OfNode (Down cause)) d = (d ≡ c) × ((c.phase ≡ Up) → cause ≡ NoMemory)
 

@@ -1,5 +1,5 @@
 //! What a cell keeps beside its node.
-ghost use Rattle.std.specs.Prelude.{◌≡◌, ◌≤◌, ◌<◌, ◌+◌, ◌-◌, ◌*◌, ◌^◌, ◌↔◌, IsTrue, OnOk, OnErr, suc, true, [], ◌∷◌, length, map, MatchResult, vec_capacity, vec_len};
+ghost use Rattle.std.specs.Prelude.{◌≡◌, ◌≤◌, ◌<◌, ◌+◌, ◌-◌, ◌*◌, ◌↔◌, IsTrue, OnOk, OnErr, suc, true, [], ◌∷◌, length, map, MatchResult, vec_capacity, vec_len};
 ghost use Rattle.ether.specs.Passes.{IsHeard, view_of};
 ghost use Rattle.ether.specs.Plays.{IsFrom};
 ghost use Rattle.node_cells.specs.Books.{HasNoRoom, HasNoted, HasPosted, HasRoom, HasTaken, IsBook, IsSameBook, HasSeen, KeepsTurn, room_for};
@@ -10,6 +10,7 @@ ghost use Rattle.world_views.specs.Laws.{AreOfOneGroup};
 ghost use Rattle.node_cells.specs.Sending.{AreWithin, StandFrom, to_of};
 ghost use Rattle.world_run.specs.Told.{out_of};
 ghost use Rattle.world_views.specs.Own.{own_out};
+ghost use Rattle.wire_bytes.specs.Limits.{node_limit, number_limit};
 
 use crate::cell_fault::CellFault;
 use crate::for_record::ForRecord;
@@ -90,7 +91,7 @@ impl<M: Hosted> Book<M> {
         requires heard { IsHeard (view_of self.old.pass) event.told.value }
         requires kept { IsKept self.old.recording event × IsKept self.old.recording outcome }
         requires room { (room_for self.old.recording 1 ≤ self.old.room)
-            × (length (view_of self.old.pass).turns < 2 ^ 60) }
+            × (length (view_of self.old.pass).turns < number_limit) }
         requires out { (view_of self.old.pass).honest ≡ true →
             out_of (⟦<M as Described>⟧.machine self.old.ether.setup) outcome.told.value
             ≡ own_out (⟦<M as Described>⟧.machine self.old.ether.setup) (view_of self.old.pass).size
@@ -108,7 +109,7 @@ impl<M: Hosted> Book<M> {
     /// So many restarts, ticked, and recorded where turns are recorded.
     pub fn note_restarts(&mut self, count: u64)
         requires { (room_for self.old.recording count ≤ self.old.room)
-            × (length (view_of self.old.pass).turns + count ≤ 2 ^ 60) }
+            × (length (view_of self.old.pass).turns + count ≤ number_limit) }
         ensures { HasRestarts (⟦<M as Described>⟧.machine self.old.ether.setup) self.old count
             self.new }
     {
@@ -130,7 +131,7 @@ impl<M: Hosted> Book<M> {
         requires stand { (view_of self.old.pass).honest ≡ true
             → StandFrom (view_of self.old.pass).state.sent self.old.sent messages.items }
         requires few { self.old.sent + length messages.items
-            ≤ 7 * length (view_of self.old.pass).turns }
+            ≤ node_limit * length (view_of self.old.pass).turns }
         requires vacant { replaced.old.items ≡ [] }
         requires room { vec_len replaced.old + length messages.items ≤ vec_capacity replaced.old }
         ensures posted { HasPosted (⟦<M as Described>⟧.machine self.old.ether.setup) self.old
@@ -151,7 +152,7 @@ impl<M: Hosted> Book<M> {
         requires within { AreWithin (suc self.old.pass.node) self.old.ether.size (message ∷ []) }
         requires stand { (view_of self.old.pass).honest ≡ true
             → StandFrom (view_of self.old.pass).state.sent self.old.sent (message ∷ []) }
-        requires few { self.old.sent + 1 ≤ 7 * length (view_of self.old.pass).turns }
+        requires few { self.old.sent + 1 ≤ node_limit * length (view_of self.old.pass).turns }
         ensures posted { HasPosted (⟦<M as Described>⟧.machine self.old.ether.setup) self.old 1
             self.new }
         ensures older { MayGiveBack (view_of self.old.pass) message.to result }

@@ -1,5 +1,5 @@
 //! A node with its pass, its record, and where its lines go.
-ghost use Rattle.std.specs.Prelude.{◌≡◌, ◌<◌, ◌≤◌, ◌^◌, ◌+◌, suc, [], length, map, IfOk, vec_capacity, vec_len};
+ghost use Rattle.std.specs.Prelude.{◌≡◌, ◌<◌, ◌≤◌, ◌+◌, suc, [], length, map, IfOk, vec_capacity, vec_len};
 ghost use Rattle.ether.specs.Plays.{IsFrom};
 ghost use Rattle.world_views.specs.Laws.{AreOfOneGroup};
 ghost use Rattle.world_views.specs.Views.{carries};
@@ -12,6 +12,7 @@ ghost use Rattle.node_cells.specs.Copies.{IsCopy, IsKept};
 ghost use Rattle.node_cells.specs.Openings.{HasSeenTo, HasTakenIn, IsSameCell};
 ghost use Rattle.node_cells.specs.Sending.{to_of};
 ghost use Rattle.node_cells.specs.Turns.{HasDelivered, HasTurned, IsGiven};
+ghost use Rattle.wire_bytes.specs.Limits.{number_limit};
 
 use crate::book::Book;
 use crate::cell_fault::CellFault;
@@ -139,7 +140,7 @@ impl<M: Marking, S: Stable<M::Command>, U: Upstream> NodeCell<M, S, U> {
     ) -> Result<TurnOutput<M::Command, M::Effect>, CellFault>
         requires up { self.old.parts.phase ≡ Up }
         requires room { (room_for self.old.parts.recording 1 ≤ self.old.room)
-            × (length (view_in self.old.parts).turns < 2 ^ 60) }
+            × (length (view_in self.old.parts).turns < number_limit) }
         requires heard { HasHeard (view_in self.old.parts) (carries input) }
         requires recording { recording ≡ self.old.parts.recording }
         requires told { told ≡ input }

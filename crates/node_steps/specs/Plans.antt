@@ -1,5 +1,5 @@
 -- What a node is about to do, whatever machine it hosts: what it would become, or why it does nothing.
-use Rattle.std.specs.Prelude.{◌≡◌, ◌≤◌, ℕ, suc, ◌^◌, ◌&&◌, not, List, ◌++◌, Option, Some, None, Result, Ok, Err, nat_le, if◌then◌else◌}
+use Rattle.std.specs.Prelude.{◌≡◌, ◌≤◌, ℕ, suc, ◌&&◌, not, List, ◌++◌, Option, Some, None, Result, Ok, Err, nat_le, if◌then◌else◌}
 use Rattle.wire_bytes.specs.declared.session_id.SessionId.{SessionId}
 use Rattle.machine_laws.specs.declared.class.Source.{Source}
 use Rattle.raft_log.specs.declared.entry.Entry.{Entry}
@@ -17,6 +17,7 @@ use Rattle.node_steps.specs.declared.refusal.Refusal.TheVariants.{LogFull, Terms
 use Rattle.node_steps.specs.declared.unprepared.Unprepared.{Unprepared}
 use Rattle.node_steps.specs.declared.unprepared.Unprepared.TheVariants.{Memory, Refused}
 use Rattle.node_steps.specs.Asking.{may_ask, finds_leader, is_full, new_session}
+use Rattle.wire_bytes.specs.Limits.{number_limit}
 
 -- what a node would become, or why it does nothing
 pub data Plan (B : Type 0) : Type 0 where
@@ -27,7 +28,7 @@ module _ {B : Type 0} where
   -- an election, unless the terms are spent; a leader does nothing
   abbrev pub election_plan : ℕ → ℕ → Node B → Plan B
   election_plan size i s =
-      if not (is_leader s.role) && nat_le (2 ^ 60) s.term then Declines TermsSpent else Goes (timed_out size i s)
+      if not (is_leader s.role) && nat_le number_limit s.term then Declines TermsSpent else Goes (timed_out size i s)
 
   -- a body of a leader's own, with this session and so many attempts made
   abbrev pub own_plan : Option Live → ℕ → B → Node B → Plan B
@@ -50,7 +51,7 @@ module _ {B : Type 0} where
   -- a session is opened where none is live, by the body of its id
   abbrev pub opening : (SessionId → B) → Node B → Option Live → Plan B
   opening opened s None =
-      if nat_le (2 ^ 60) s.attempts
+      if nat_le number_limit s.attempts
       then Declines TermsSpent
       else own_plan (Some (new_session s)) (suc s.attempts) (opened (new_session s).id) s
   opening opened s (Some live) = Goes s

@@ -10,7 +10,7 @@ use crate::unprepared::Unprepared;
 use machine_laws::Hosted;
 use raft_log::{Live, Log, Standing, Step};
 use std::alloc::Global;
-use wire_bytes::{Moment, Number, SessionId};
+use wire_bytes::{LAST_NUMBER, Moment, Number, SessionId};
 
 /// A leader without a session opens its next one, by the body of its id: the term, and the next attempt of
 /// this run. One that has a session and a node that does not lead do nothing.
@@ -30,7 +30,7 @@ pub fn on_opened<M: Hosted>(
         return Ok(Step::still(alloc, standing, log));
     }
     let made = standing.attempts.value();
-    if made >= 1 << 60 {
+    if made >= LAST_NUMBER {
         return Err(Unprepared::Refused(Refusal::TermsSpent));
     }
     let attempts = Number::new(made + 1);

@@ -1,15 +1,16 @@
 //! What a node is about to do when it waited too long for a leader.
-ghost use Rattle.std.specs.Prelude.{◌≡◌, ◌^◌, ◌&&◌, nat_le, not};
+ghost use Rattle.std.specs.Prelude.{◌≡◌, ◌&&◌, nat_le, not};
 ghost use Rattle.raft_log.specs.Node.{is_leader};
 ghost use Rattle.raft_log.specs.Positions.{role_of};
 ghost use Rattle.node_steps.specs.Plans.{IsPrepared, election_plan};
+ghost use Rattle.wire_bytes.specs.Limits.{number_limit};
 
 use crate::own::leads;
 use crate::refusal::Refusal;
 use crate::unprepared::Unprepared;
 use raft_log::{Log, NodeId, Standing, Step};
 use std::alloc::Global;
-use wire_bytes::Wire;
+use wire_bytes::{LAST_NUMBER, Wire};
 
 /// Begins an election, as `election::begin` says; a leader does nothing.
 ///
@@ -31,7 +32,7 @@ pub fn on_timeout<B: Wire>(
 /// Whether it does not lead, and no term follows.
 fn is_spent(standing: &Standing) -> bool
     ensures { result ≡ (not (is_leader (role_of standing.now.position))
-        && nat_le (2 ^ 60) standing.now.term) }
+        && nat_le number_limit standing.now.term) }
 {
-    !leads(standing) && standing.term.value() >= 1 << 60
+    !leads(standing) && standing.term.value() >= LAST_NUMBER
 }

@@ -15,6 +15,7 @@ mod inlet;
 mod job;
 mod laws;
 mod leaver;
+pub mod limits;
 mod node_handle;
 mod opener;
 mod outlet;

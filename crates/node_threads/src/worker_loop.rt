@@ -23,7 +23,7 @@ use raft_node::Described;
 use stable_store::Stable;
 use std::alloc::Global;
 use std::sync::{Arc, Wait};
-use wire_bytes::Number;
+use wire_bytes::{MOST_NODES, Number};
 use world_views::NodeInput;
 
 mod asking;
@@ -38,9 +38,6 @@ pub mod requests;
 pub mod round;
 mod telling;
 mod turning;
-
-/// The most nodes that there may be.
-const MOST_NODES: u8 = 7;
 
 /// What a worker has beside its node's cell and its inbox.
 #[derive(Drop)]

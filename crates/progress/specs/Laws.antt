@@ -1,5 +1,5 @@
 -- What can always be had by further events of the nodes of a majority.
-use Rattle.std.specs.Prelude.{◌≡◌, ◌≤◌, ◌<◌, ◌^◌, ℕ, suc, Bool, true, List, [], ◌∷◌, ◌++◌, length, take, Option, None, Some}
+use Rattle.std.specs.Prelude.{◌≡◌, ◌≤◌, ◌<◌, ℕ, suc, Bool, true, List, [], ◌∷◌, ◌++◌, length, take, Option, None, Some}
 use Rattle.machine_laws.specs.declared.class.Source.TheVariants.{Client}
 use Rattle.raft_log.specs.declared.entry.Entry.{Entry}
 use Rattle.raft_log.specs.declared.node_state.Live.{Live}
@@ -14,6 +14,7 @@ use Rattle.agreement.specs.World.{start}
 use Rattle.agreement.specs.Laws.{IsIn, IsMajority, IsAsUpToDateAs}
 use Rattle.world_run.specs.World.{World, Input, Timeout, Beat, Deliver, Ask, Opened, Closed, Heard, Claim, Apply, Look, Event, Does, Restart, StopIn, stepper, happens, run, out_of}
 use Rattle.progress.specs.Plans.{greatest_term, log_of, candidate, peers, elect_events, lead_events, through_events, elect, lead, get_through}
+use Rattle.wire_bytes.specs.Limits.{number_limit}
 
 -- the run of a node
 abbrev pub boot_of : {B : Type 0} → Option (Node B) → ℕ
@@ -52,7 +53,7 @@ module _ (M : Machine) where
 
   -- The limits leave room: a term above all terms, and two entries more in each log of the set.
   pub record HasRoom (set : List Bool) (w : World M) : Type 0 where
-    pub terms : greatest_term w < 2 ^ 60
+    pub terms : greatest_term w < number_limit
     pub entries :
         (j : ℕ) (s : Node M.Body) →
         IsIn set j → item w j ≡ Some s → suc (length s.log) < entry_limit
@@ -142,7 +143,7 @@ module _ (M : Machine) where
       (set : List Bool) (c : ℕ) (s : Node M.Body) →
       2 ≤ size → IsMajority size set → IsIn set c → item (after size es) c ≡ Some s →
       IsAsUpToDateAs set (after size es) s.log → (s.role ≡ Leader → ⊥) →
-      greatest_term (after size es) < 2 ^ 60 → length s.log < entry_limit →
+      greatest_term (after size es) < number_limit → length s.log < entry_limit →
       IsElected set c (after size es) (elect M c (peers set c) (after size es))
 
   -- and there is such a node

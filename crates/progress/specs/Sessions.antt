@@ -1,5 +1,5 @@
 -- A session is opened, and a line that waits is claimed by it.
-use Rattle.std.specs.Prelude.{◌≡◌, ◌≤◌, ◌<◌, ◌^◌, ℕ, suc, Bool, List, [], ◌∷◌, ◌++◌, length, Option, None, Some}
+use Rattle.std.specs.Prelude.{◌≡◌, ◌≤◌, ◌<◌, ℕ, suc, Bool, List, [], ◌∷◌, ◌++◌, length, Option, None, Some}
 use Rattle.raft_log.specs.declared.entry.Entry.{Entry}
 use Rattle.raft_log.specs.declared.node_state.Live.{Live}
 use Rattle.raft_log.specs.declared.role.Role.TheVariants.{Leader}
@@ -12,6 +12,7 @@ use Rattle.agreement.specs.Laws.{IsIn, IsMajority}
 use Rattle.world_run.specs.World.{World, Event, run}
 use Rattle.progress.specs.Plans.{greatest_term, log_of, term_of, attempts_of, open_events, claim_events, candidate, get_ready, open_session, claim_line}
 use Rattle.progress.specs.Laws.{boot_of, HasRoom, IsBy, IsAnswered, after}
+use Rattle.wire_bytes.specs.Limits.{number_limit}
 
 -- the session of this attempt in this term, before its first line
 abbrev pub session_of : ℕ → ℕ → Live
@@ -75,7 +76,7 @@ module _ (M : Machine) where
 
   -- the node has attempts left in its run, of which there are 2^60
   abbrev pub HasAttempts : ℕ → World M → Type 0
-  HasAttempts c w = attempts_of (item w c) < 2 ^ 60
+  HasAttempts c w = attempts_of (item w c) < number_limit
 
   -- whatever happened, any majority has a node that comes to lead it and opens a new session
   abbrev pub SessionsCanOpen : ℕ → List (Event M) → Type 0

@@ -1,6 +1,7 @@
-ghost use Rattle.std.specs.Prelude.{◌≡◌, ◌<◌, ◌≤◌, ◌^◌, [], ◌∷◌, ◌++◌, Some, length, take};
+ghost use Rattle.std.specs.Prelude.{◌≡◌, ◌<◌, ◌≤◌, [], ◌∷◌, ◌++◌, Some, length, take};
 ghost use Rattle.std.specs.Prelude.{IfOk, OnOk, OnErr, slice_get};
 ghost use Rattle.raft_log.specs.Blocks.{block_size};
+ghost use Rattle.wire_bytes.specs.Limits.{number_limit};
 
 use crate::block::{BLOCK_SIZE, Block};
 use crate::body::LoggedBody;
@@ -39,7 +40,7 @@ impl<T: Copied> Blocks<T> {
     }
 
     pub fn len(&self) -> usize
-        requires { length self.now < 2 ^ 60 }
+        requires { length self.now < number_limit }
         ensures { result ≡ length self.now }
     {
         self.full.len() * BLOCK_SIZE + self.last.len()
@@ -72,7 +73,7 @@ impl<T: Copied> Blocks<T> {
     /// These items in the place of all that follow so many.
     pub fn replace_behind(&mut self, keep: usize, items: Vec<T>) -> Result<(), AllocError>
         requires within { keep ≤ length self.old }
-        requires limit { length self.old < 2 ^ 60 }
+        requires limit { length self.old < number_limit }
         ensures ok { OnOk result (self.new ≡ take keep self.old ++ items.items) }
         ensures err { OnErr result (self.new ≡ self.old) }
     {

@@ -10,6 +10,7 @@ mod body;
 mod entry;
 mod group_size;
 mod laws;
+pub mod limits;
 mod log;
 mod message;
 mod node_id;

@@ -1,6 +1,7 @@
-ghost use Rattle.std.specs.Prelude.{◌≡◌, ◌+◌, ◌≤◌, ◌^◌, ℕ, List, IfOk, length, map, take};
+ghost use Rattle.std.specs.Prelude.{◌≡◌, ◌+◌, ◌≤◌, ℕ, List, IfOk, length, map, take};
 ghost use Rattle.std.specs.Prelude.{◌∷◌, [], ◌++◌, ◌<◌, IsOk, OnErr, OnOk, suc, vec_capacity, vec_len};
 ghost use Rattle.raft_log.specs.Runs.{goes_on, last_run, runs_behind, term_runs};
+ghost use Rattle.wire_bytes.specs.Limits.{number_limit};
 
 use crate::entry::Entry;
 use std::alloc::{AllocError, Global};
@@ -69,7 +70,7 @@ pub fn begun_behind<B: Wire>(
     before: usize,
     entries: &[Entry<B>],
 ) -> Result<Vec<Run>, AllocError>
-    requires { before + length entries.now ≤ 2 ^ 60 }
+    requires { before + length entries.now ≤ number_limit }
     ensures { IfOk result (λ v. v.items
         ≡ runs_behind last before (map (λ e. e.term) entries.now)) }
 {

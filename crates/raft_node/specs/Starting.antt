@@ -1,5 +1,5 @@
 -- What comes of a start of a node from its store.
-use Rattle.std.specs.Prelude.{◌≡◌, ◌≤◌, ◌^◌, ◌⊎◌, ℕ, suc, IsTrue, List, [], None, Some, Result, Ok, Err, OnOk}
+use Rattle.std.specs.Prelude.{◌≡◌, ◌≤◌, ◌⊎◌, ℕ, suc, IsTrue, List, [], None, Some, Result, Ok, Err, OnOk}
 use Rattle.raft_log.specs.declared.message.Message.{Message}
 use Rattle.raft_log.specs.declared.node_state.NodeState.{NodeState}
 use Rattle.raft_log.specs.Node.{Node}
@@ -14,6 +14,7 @@ use Rattle.raft_node.specs.Faults.{cause_after}
 use Rattle.raft_node.specs.Parts.{Holds, Keeper, Parts, saved_by, size_of}
 use Rattle.raft_node.specs.Raft.{started}
 use Rattle.raft_node.specs.Stepping.{IsSameNode}
+use Rattle.wire_bytes.specs.Limits.{number_limit}
 
 module _ {B : Type 0} where
   -- the run that begins with what was saved by the one before
@@ -35,7 +36,7 @@ module _ {Store B : Type 0} (k : Keeper Store B) where
   MayFail old now (Down StoreFailed) =
       IsHonest (k.condition old) → HasRisen (k.condition old).failures now.failures ⊎ IsTrue (k.condition old).broken
   MayFail old now (Refused TermsSpent) =
-      IsHonest (k.condition old) → (v : Saved B) × k.may_stand old v × (2 ^ 60 ≤ v.boot)
+      IsHonest (k.condition old) → (v : Saved B) × k.may_stand old v × (number_limit ≤ v.boot)
   MayFail old now (Refused LogFull) = ⊥
   MayFail old now (Refused NoLeader) = ⊥
   MayFail old now (Refused (Behind applied)) = ⊥

@@ -1,5 +1,5 @@
 -- What an event does to one node with its machine, its session and its clients: what the node becomes, and what comes out.
-use Rattle.std.specs.Prelude.{ℕ, suc, ◌^◌, ◌==◌, Bool, false, ◌&&◌, not, if◌then◌else◌, List, [], take, filter, Option, Some, None, nat_lt, nat_le}
+use Rattle.std.specs.Prelude.{ℕ, suc, ◌==◌, Bool, false, ◌&&◌, not, if◌then◌else◌, List, [], take, filter, Option, Some, None, nat_lt, nat_le}
 use Rattle.wire_bytes.specs.declared.session_id.SessionId.{SessionId}
 use Rattle.machine_laws.specs.declared.class.Class.{Class}
 use Rattle.machine_laws.specs.declared.class.Class.TheVariants.{To, Hand, Rejoin, Nowhere}
@@ -18,6 +18,7 @@ use Rattle.node_steps.specs.Asking.{may_ask, finds_leader, is_full, new_session}
 use Rattle.node_steps.specs.Messages.{on_message}
 use Rattle.raft_node.specs.Raft.{restarted}
 use Rattle.raft_node.specs.Machine.{Machine, history}
+use Rattle.wire_bytes.specs.Limits.{number_limit}
 
 -- what comes out of an event
 pub data Out (M : Machine) : Type 0 where
@@ -97,7 +98,7 @@ module _ (M : Machine) where
   -- an election begins, unless the terms are spent; a leader does nothing
   abbrev pub expired : ℕ → ℕ → Node M.Body → Turn M
   expired size i s =
-      if not (is_leader s.role) && nat_le (2 ^ 60) s.term then refused s TermsSpent else quiet (timed_out size i s)
+      if not (is_leader s.role) && nat_le number_limit s.term then refused s TermsSpent else quiet (timed_out size i s)
 
   -- a leader appends; another node sends it to the leader that it knows
   abbrev pub asks : ℕ → Node M.Body → M.Body → Turn M
@@ -118,7 +119,7 @@ module _ (M : Machine) where
   -- a leader with no live session opens one
   abbrev pub opened : Node M.Body → Option Live → Turn M
   opened s None =
-      if nat_le (2 ^ 60) s.attempts
+      if nat_le number_limit s.attempts
       then refused s TermsSpent
       else adds s (Some (new_session s)) (suc s.attempts) (M.opened (new_session s).id)
   opened s (Some live) = quiet s

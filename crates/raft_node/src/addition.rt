@@ -12,7 +12,7 @@ use crate::input::Input;
 use machine_laws::Hosted;
 use node_steps::{Refusal, may_ask};
 use raft_log::{Live, Message, NodeId, Standing};
-use wire_bytes::{Moment, Number, SessionId};
+use wire_bytes::{LAST_NUMBER, Moment, Number, SessionId};
 
 /// A body that a leader is about to append, with its session and the attempts made once it stands.
 #[derive(Drop)]
@@ -75,7 +75,7 @@ fn opened<M: Hosted>(standing: &Standing) -> Result<Option<Addition<M::Command>>
         return Ok(None);
     }
     let made = standing.attempts.value();
-    if made >= 1 << 60 {
+    if made >= LAST_NUMBER {
         return Err(Refusal::TermsSpent);
     }
     let attempts = Number::new(made + 1);

@@ -1,7 +1,8 @@
 //! How a node begins a run over what its store holds.
-ghost use Rattle.std.specs.Prelude.{◌≡◌, ◌<◌, ◌^◌};
+ghost use Rattle.std.specs.Prelude.{◌≡◌, ◌<◌};
 ghost use Rattle.raft_node.specs.Parts.{keeper, size_of};
 ghost use Rattle.raft_node.specs.Starting.{BeganWith, IsBegun};
+ghost use Rattle.wire_bytes.specs.Limits.{number_limit};
 
 use crate::keep::save;
 use crate::node_fault::{Cause, NodeFault};
@@ -9,7 +10,7 @@ use node_steps::Refusal;
 use raft_log::{GroupSize, NodeState, Peers, Position, Standing};
 use stable_store::{Saved, Stable};
 use std::alloc::Global;
-use wire_bytes::{Number, Wire};
+use wire_bytes::{LAST_NUMBER, Number, Wire};
 
 /// Begins a run over what the store holds, which holds the new run's number then. `TermsSpent`
 /// where no number follows that of the last run.
@@ -24,7 +25,7 @@ pub fn begin<B: Wire, S: Stable<B>>(
         Ok(saved) => saved,
         Err(fault) => return Err(NodeFault::Down(Cause::of(fault))),
     };
-    if saved.boot.value() >= 1 << 60 {
+    if saved.boot.value() >= LAST_NUMBER {
         return Err(NodeFault::Refused(Refusal::TermsSpent));
     }
     let state = next_run(saved, size);
@@ -51,7 +52,7 @@ pub fn begin_again<B: Wire, S: Stable<B>>(
 
 /// The state of the run after the one that saved this.
 fn next_run<B: Wire>(saved: Saved<B>, size: GroupSize) -> NodeState<B>
-    requires { saved.boot < 2 ^ 60 }
+    requires { saved.boot < number_limit }
     ensures begins { BeganWith size saved result }
     ensures size { size_of result ≡ size }
 {

@@ -1,5 +1,5 @@
 //! What a leader is about to do by several inputs that only append.
-ghost use Rattle.std.specs.Prelude.{◌≡◌, ◌≤◌, ◌+◌, IfOk, OnOk, [], length, true};
+ghost use Rattle.std.specs.Prelude.{◌≡◌, ◌≤◌, ◌<◌, ◌+◌, IfErr, IfOk, OnOk, [], length, true};
 ghost use Rattle.std.specs.List.{AllByRecursion};
 ghost use Rattle.raft_log.specs.Batches.{batch_limit};
 ghost use Rattle.raft_log.specs.Logs.{entry_limit};
@@ -103,16 +103,18 @@ fn take_in<M: Hosted>(
     Ok(together.answers.push(answer)?)
 }
 
-/// Appends a body where the log has room for it. Refused with `LogFull`.
+/// Appends a body where the log has room for it. Refused with `LogFull`, whatever memory there is.
 fn append<M: Hosted>(
     state: &NodeState<M::Command>,
     together: &mut Together<M::Command>,
     addition: Addition<M::Command>,
 ) -> Result<Result<(), Refusal>, AllocError>
     requires room { length state.now.log + length together.old.entries.items ≤ entry_limit }
-    ensures { IfOk result (λ answer. IsAdded
+    ensures added { IfOk result (λ answer. IsAdded
         (own_plan addition.live addition.attempts addition.body) state.now together.old together.new
         answer) }
+    ensures memory { IfErr result (λ _.
+        length state.now.log + length together.old.entries.items < entry_limit) }
 {
     let Addition {
         live,

@@ -9,10 +9,7 @@ use request_once::Body;
 use session_fence::FenceCommand;
 use std::alloc::Global;
 use upstream_claim::ClaimsCommand;
-use wire_bytes::{Moment, Number, Origin, SessionId};
-
-/// The greatest number that a value may have.
-const MOST: u64 = 1 << 60;
+use wire_bytes::{LAST_NUMBER, Moment, Number, Origin, SessionId};
 
 /// Whose bodies a new list has: those of a leader of a term, and of one client of a run. No older list has any of
 /// this term, or of this run.
@@ -42,7 +39,7 @@ pub struct Draft {
 fn number(value: u64) -> Result<Number, ProposalFault>
     ensures { IfOk result (λ n. n ≡ value) }
 {
-    if value > MOST {
+    if value > LAST_NUMBER {
         return Err(ProposalFault::Spent);
     }
     Ok(Number::new(value))

@@ -18,7 +18,7 @@ use irc_line::Name;
 use machine_laws::{Hosted, Machine};
 use raft_log::{Entry, Log, LoggedBody};
 use std::alloc::{AllocError, Global};
-use wire_bytes::{Copied, Number, Origin, Wire};
+use wire_bytes::{Copied, LAST_NUMBER, MOST_NODES, Number, Origin, Wire};
 
 /// A log begun anew, and how much the old one kept.
 #[derive(Drop)]
@@ -87,7 +87,7 @@ fn behind(number: Number, by: u64) -> Result<Number, RenewalFault>
     ensures next { IfOk result (λ n. n ≡ number + by) }
     ensures fault { IfErr result (λ e. e ≡ RenewalFault.Spent) }
 {
-    if number.value() + by > 1 << 60 {
+    if number.value() + by > LAST_NUMBER {
         return Err(RenewalFault::Spent);
     }
     Ok(Number::new(number.value() + by))
@@ -114,7 +114,7 @@ fn floors_of(alloc: Global, boots: &[Number]) -> Result<Vec<(u8, Number)>, Renew
     ensures floors { IfOk result (λ v. v.items ≡ floors_of boots.now) }
     ensures fault { IfErr result (λ e. e ≢ RenewalFault.UnknownName) }
 {
-    if boots.len() > 7 {
+    if boots.len() > MOST_NODES as usize {
         return Err(RenewalFault::Spent);
     }
     let mut floors = Vec::new(alloc);

@@ -1,5 +1,5 @@
 -- What a renewal writes, as stores that were begun anew.
-use Rattle.std.specs.Prelude.{◌≡◌, ℕ, ◌+◌, ◌≤◌, ◌^◌, List, length, map, take}
+use Rattle.std.specs.Prelude.{◌≡◌, ℕ, ◌+◌, ◌≤◌, List, length, map, take}
 use Rattle.buffer_commands.specs.Settings.{Settings}
 use Rattle.bouncer_tower.specs.Bodies.{TowerBody}
 use Rattle.raft_log.specs.declared.entry.Entry.{Entry}
@@ -8,6 +8,7 @@ use Rattle.raft_log.specs.Peers.{IsGroupSize}
 use Rattle.renewal.specs.Lists.{IsRenewal, bodies_of}
 use Rattle.store_life.specs.Renewed.{IsAnew, entries}
 use Rattle.store_life.specs.Periods.{Follows, Period}
+use Rattle.wire_bytes.specs.Limits.{number_limit}
 
 -- the run of each of so many nodes in their new stores: one above its greatest
 abbrev pub runs_behind : ℕ → List ℕ → List ℕ
@@ -19,7 +20,7 @@ abbrev pub RenewedIsAnew : Type 0
 RenewedIsAnew =
     (s t : Settings) (forgotten : List (List ℕ)) (greatest : List ℕ) (term nodes : ℕ) (old new : List (Entry TowerBody)) →
     IsRenewal s t forgotten greatest term old new → IsGroupSize nodes → nodes ≤ length greatest →
-    term + 1 ≤ 2 ^ 60 → length new ≤ entry_limit →
+    term + 1 ≤ number_limit → length new ≤ entry_limit →
     IsAnew t (runs_behind nodes greatest) (term + 1) (bodies_of new) × (new ≡ entries (term + 1) (bodies_of new))
 
 -- A period that begins with what a renewal made of the log that was chosen at the end of another follows that one.

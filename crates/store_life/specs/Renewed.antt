@@ -1,5 +1,5 @@
 -- Stores that were begun anew, and the events that leave them so.
-use Rattle.std.specs.Prelude.{◌≡◌, ◌≤◌, ℕ, ◌^◌, List, [], ◌∷◌, length, map, take, Some}
+use Rattle.std.specs.Prelude.{◌≡◌, ◌≤◌, ℕ, List, [], ◌∷◌, length, map, take, Some}
 use Rattle.wire_bytes.specs.declared.origin.Origin.{Origin}
 use Rattle.buffer_commands.specs.Settings.{Settings}
 use Rattle.bouncer_tower.specs.Bodies.{TowerBody}
@@ -15,6 +15,7 @@ use Rattle.agreement.specs.World.{start}
 use Rattle.world_run.specs.World.{Event, run}
 use Rattle.headline.specs.Tower.{tower}
 use Rattle.led_lists.specs.Led.{IsLed}
+use Rattle.wire_bytes.specs.Limits.{number_limit}
 
 module _ {B : Type 0} where
   -- the entries of these bodies, all of one term
@@ -39,7 +40,7 @@ pub record IsAnew (s : Settings) (boots : List ℕ) (term : ℕ) (bodies : List 
   pub group : IsGroupSize (length boots)
   pub runs : (i boot : ℕ) → item boots i ≡ Some boot → 1 ≤ boot
   pub above : 1 ≤ term
-  pub within : term ≤ 2 ^ 60
+  pub within : term ≤ number_limit
   pub few : length bodies ≤ entry_limit
   pub led : IsLed s term (client_of boots) bodies
 

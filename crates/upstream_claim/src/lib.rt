@@ -8,6 +8,7 @@ mod claims;
 mod command;
 mod effect;
 mod laws;
+pub mod limits;
 mod step;
 mod unclaimed;
 

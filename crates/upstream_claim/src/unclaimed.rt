@@ -1,6 +1,7 @@
 //! The lines that wait to be claimed.
-ghost use Rattle.std.specs.Prelude.{◌≡◌, ◌+◌, ◌==◌, ◌≤◌, ◌^◌, ◌++◌, ◌∷◌, [], length, drop, slice_get, nat_lt, nat_le, is_some, if◌then◌else◌, OnOk, Some, None};
+ghost use Rattle.std.specs.Prelude.{◌≡◌, ◌+◌, ◌==◌, ◌≤◌, ◌++◌, ◌∷◌, [], length, drop, slice_get, nat_lt, nat_le, is_some, if◌then◌else◌, OnOk, Some, None};
 ghost use Rattle.upstream_claim.specs.Numbered.{waiting_limit};
+ghost use Rattle.wire_bytes.specs.Limits.{number_limit};
 
 use irc_line::Line;
 use std::alloc::{AllocError, Global};
@@ -16,7 +17,7 @@ const MOST_LINES: usize = 1_000;
 pub struct Unclaimed {
     pub count: u64,
     pub lines: VecDeque<Line>,
-    ghost limit: { count ≤ 2 ^ 60 },
+    ghost limit: { count ≤ number_limit },
 }
 
 impl Unclaimed {

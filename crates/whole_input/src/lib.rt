@@ -5,6 +5,7 @@
 #![tactic(auto)]
 
 mod input;
+pub mod limits;
 mod read_fault;
 
 pub use input::{

@@ -2,14 +2,14 @@
 use Rattle.std.proofs.Common.{ℕ, ◌^◌, ◌≤◌, ◌∷◌, [], ◌++◌, refl, arith}
 use Rattle.std.specs.Int.{w64}
 use Rattle.wire_bytes.specs.Fields.{byte_within, both}
-use Rattle.wire_bytes.specs.Limits.{second_limit}
+use Rattle.wire_bytes.specs.Limits.{number_limit, second_limit}
 use Rattle.wire_bytes.specs.Values.{FitsNumber, number, FitsMoment, moment, spelled_number, FitsOrigin, spelled_origin, origin, mark_of, FitsMark, spelled_mark, mark_taken, FitsSession, spelled_session, session}
 use Rattle.wire_bytes.specs.Codecs.{IsCodec, through-codec, both-codec}
 use Rattle.wire_bytes.specs.FieldCodecs.{byte-codec, number-codec, wide64}
 
 pub number_is_codec : IsCodec spelled_number FitsNumber number
 unfolding number spelled_number
-number_is_codec = number-codec w64 (2 ^ 64) (2 ^ 60) wide64 (omega arith)
+number_is_codec = number-codec w64 (2 ^ 64) number_limit wide64 (omega arith)
 
 pub moment_is_codec : IsCodec spelled_number FitsMoment moment
 unfolding moment spelled_number

@@ -1,17 +1,17 @@
 -- The spelling, the limits and the reading of the small values.
-use Rattle.std.specs.Prelude.{ℕ, ◌^◌, ◌≤◌, List, ◌∷◌, ◌++◌}
+use Rattle.std.specs.Prelude.{ℕ, ◌≤◌, List, ◌∷◌, ◌++◌}
 use Rattle.std.specs.Int.{w64, to_be_bytes}
 use Rattle.wire_bytes.specs.declared.mark.Mark.{Mark}
-use Rattle.wire_bytes.specs.Limits.{second_limit}
+use Rattle.wire_bytes.specs.Limits.{node_limit, number_limit, second_limit}
 use Rattle.wire_bytes.specs.Fields.{Reading, byte_within, number_to, both, through}
 
 -- at most 2^60
 abbrev pub FitsNumber : ℕ → Type 0
-FitsNumber n = n ≤ 2 ^ 60
+FitsNumber n = n ≤ number_limit
 
 -- eight bytes, at most 2^60
 unfoldable pub number : Reading ℕ
-number = number_to w64 (2 ^ 60)
+number = number_to w64 number_limit
 
 -- no later than the last second
 abbrev pub FitsMoment : ℕ → Type 0
@@ -27,7 +27,7 @@ spelled_number n = to_be_bytes w64 n
 
 -- a node from 1 to 7, its run and the client
 abbrev pub FitsOrigin : ℕ × ℕ × ℕ → Type 0
-FitsOrigin o = (1 ≤ o.0) × (o.0 ≤ 7) × FitsNumber o.1 × FitsNumber o.2
+FitsOrigin o = (1 ≤ o.0) × (o.0 ≤ node_limit) × FitsNumber o.1 × FitsNumber o.2
 
 -- the node, its run and the client
 unfoldable pub spelled_origin : ℕ × ℕ × ℕ → List ℕ

@@ -29,7 +29,7 @@ pub use fields::{
     put_sized, take_behind, take_byte, take_sized, take_u16, take_u32, take_u64, undo,
 };
 pub use laws::{none_begins_another, the_front_is_read};
-pub use limits::{BODY_LIMIT, LAST_SECOND};
+pub use limits::{BODY_LIMIT, LAST_NUMBER, LAST_SECOND, MOST_NODES, limits_of_values};
 pub use mark::Mark;
 pub use moment::Moment;
 pub use number::Number;

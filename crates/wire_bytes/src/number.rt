@@ -1,8 +1,10 @@
-ghost use Rattle.std.specs.Prelude.{IfOk, IfErr, Ok, Err, ◌≡◌, ℕ, ◌≤◌, ◌^◌, Some};
+ghost use Rattle.std.specs.Prelude.{IfOk, IfErr, Ok, Err, ◌≡◌, ℕ, ◌≤◌, Some};
 ghost use Rattle.wire_bytes.specs.Values.{number};
+ghost use Rattle.wire_bytes.specs.Limits.{number_limit};
 
 use crate::copied::Copied;
 use crate::fields::take_u64;
+use crate::limits::LAST_NUMBER;
 use crate::wire::Wire;
 use crate::wire_fault::WireFault;
 use std::alloc::{AllocError, Global};
@@ -18,20 +20,21 @@ pub struct Number {
 }
 
 impl Model for Number {
-    ghost use Rattle.std.specs.Prelude.{ℕ, ◌≤◌, ◌^◌};
+    ghost use Rattle.std.specs.Prelude.{ℕ, ◌≤◌};
+    ghost use Rattle.wire_bytes.specs.Limits.{number_limit};
 
     ghost Value = { ℕ };
 
     ghost view = { λ n. n.value };
 
-    ghost invariant = { λ n. n.value ≤ 2 ^ 60 };
+    ghost invariant = { λ n. n.value ≤ number_limit };
 
     ghost inverse = { λ v. record { value = v } };
 }
 
 impl Number {
     pub fn new(value: u64) -> Number
-        requires { value ≤ 2 ^ 60 }
+        requires { value ≤ number_limit }
         ensures { result ≡ value }
     {
         Number { value }
@@ -39,7 +42,7 @@ impl Number {
 
     pub fn value(self) -> u64
         ensures value { result ≡ self }
-        ensures limit { self ≤ 2 ^ 60 }
+        ensures limit { self ≤ number_limit }
     {
         self.value
     }
@@ -73,7 +76,7 @@ impl Wire for Number {
 
     #[tactic(auto, unfolding(crate::specs::Values::number))]
     fn take(_alloc: Global, input: &[u8]) -> Result<(Self, usize), WireFault> {
-        let (value, len) = take_u64(input, 1 << 60)?;
+        let (value, len) = take_u64(input, LAST_NUMBER)?;
         Ok((Number { value }, len))
     }
 

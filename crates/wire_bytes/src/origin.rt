@@ -1,4 +1,5 @@
-ghost use Rattle.std.specs.Prelude.{◌≡◌, ℕ, ◌≤◌, ◌^◌, Some, Ok};
+ghost use Rattle.std.specs.Prelude.{◌≡◌, ℕ, ◌≤◌, Some, Ok};
+ghost use Rattle.wire_bytes.specs.Limits.{node_limit, number_limit};
 
 use crate::copied::Copied;
 use crate::fields::{take_behind, take_byte, undo};
@@ -20,21 +21,22 @@ pub struct Origin {
 }
 
 impl Model for Origin {
-    ghost use Rattle.std.specs.Prelude.{ℕ, ◌≤◌, ◌^◌};
+    ghost use Rattle.std.specs.Prelude.{ℕ, ◌≤◌};
+    ghost use Rattle.wire_bytes.specs.Limits.{node_limit, number_limit};
 
     ghost Value = { ℕ × ℕ × ℕ };
 
     ghost view = { λ o. (o.node, o.boot, o.client) };
 
-    ghost invariant = { λ o. (1 ≤ o.node) × (o.node ≤ 7) × (o.boot ≤ 2 ^ 60)
-        × (o.client ≤ 2 ^ 60) };
+    ghost invariant = { λ o. (1 ≤ o.node) × (o.node ≤ node_limit) × (o.boot ≤ number_limit)
+        × (o.client ≤ number_limit) };
 
     ghost inverse = { λ v. record { node = v.0; boot = v.1; client = v.2 } };
 }
 
 impl Origin {
     pub fn new(node: u8, boot: u64, client: u64) -> Origin
-        requires { (1 ≤ node) × (node ≤ 7) × (boot ≤ 2 ^ 60) × (client ≤ 2 ^ 60) }
+        requires { (1 ≤ node) × (node ≤ node_limit) × (boot ≤ number_limit) × (client ≤ number_limit) }
         ensures { result ≡ (node, boot, client) }
     {
         Origin { node, boot, client }
@@ -42,7 +44,7 @@ impl Origin {
 
     pub fn node(self) -> u8
         ensures value { result ≡ self.0 }
-        ensures limits { (1 ≤ self.0) × (self.0 ≤ 7) }
+        ensures limits { (1 ≤ self.0) × (self.0 ≤ node_limit) }
     {
         self.node
     }
@@ -50,7 +52,7 @@ impl Origin {
     /// Which run of its node it came in.
     pub fn boot(self) -> u64
         ensures value { result ≡ self.1 }
-        ensures limit { self.1 ≤ 2 ^ 60 }
+        ensures limit { self.1 ≤ number_limit }
     {
         self.boot
     }
@@ -58,7 +60,7 @@ impl Origin {
     /// Its number among the clients of that run.
     pub fn client(self) -> u64
         ensures value { result ≡ self.2 }
-        ensures limit { self.2 ≤ 2 ^ 60 }
+        ensures limit { self.2 ≤ number_limit }
     {
         self.client
     }

@@ -1,4 +1,5 @@
-ghost use Rattle.std.specs.Prelude.{◌≡◌, ℕ, ◌≤◌, ◌^◌, Some, Ok};
+ghost use Rattle.std.specs.Prelude.{◌≡◌, ℕ, ◌≤◌, Some, Ok};
+ghost use Rattle.wire_bytes.specs.Limits.{number_limit};
 
 use crate::copied::Copied;
 use crate::number::Number;
@@ -18,20 +19,21 @@ pub struct SessionId {
 }
 
 impl Model for SessionId {
-    ghost use Rattle.std.specs.Prelude.{ℕ, ◌≤◌, ◌^◌};
+    ghost use Rattle.std.specs.Prelude.{ℕ, ◌≤◌};
+    ghost use Rattle.wire_bytes.specs.Limits.{number_limit};
 
     ghost Value = { ℕ × ℕ };
 
     ghost view = { λ s. (s.term, s.attempt) };
 
-    ghost invariant = { λ s. (s.term ≤ 2 ^ 60) × (s.attempt ≤ 2 ^ 60) };
+    ghost invariant = { λ s. (s.term ≤ number_limit) × (s.attempt ≤ number_limit) };
 
     ghost inverse = { λ v. record { term = v.0; attempt = v.1 } };
 }
 
 impl SessionId {
     pub fn new(term: u64, attempt: u64) -> SessionId
-        requires { (term ≤ 2 ^ 60) × (attempt ≤ 2 ^ 60) }
+        requires { (term ≤ number_limit) × (attempt ≤ number_limit) }
         ensures { result ≡ (term, attempt) }
     {
         SessionId { term, attempt }
@@ -39,14 +41,14 @@ impl SessionId {
 
     pub fn term(self) -> u64
         ensures value { result ≡ self.0 }
-        ensures limit { self.0 ≤ 2 ^ 60 }
+        ensures limit { self.0 ≤ number_limit }
     {
         self.term
     }
 
     pub fn attempt(self) -> u64
         ensures value { result ≡ self.1 }
-        ensures limit { self.1 ≤ 2 ^ 60 }
+        ensures limit { self.1 ≤ number_limit }
     {
         self.attempt
     }

@@ -7,6 +7,7 @@ ghost use Rattle.world_run.specs.Groups.{IsNodeOf, IsWorld};
 ghost use Rattle.world_run.specs.Laws.{IsAgreed, IsFaithful, IsRaft, RunsAreApart};
 ghost use Rattle.world_run.specs.Told.{events_of};
 ghost use Rattle.world_run.specs.declared.outcome.WorldFault.TheVariants.{Refused};
+ghost use Rattle.wire_bytes.specs.Limits.{node_limit};
 
 use crate::group::Group;
 use crate::outcome::{Outcome, WorldFault};
@@ -27,6 +28,7 @@ pub struct World<M: Hosted> {
 impl<M: Hosted> Model for World<M> {
     ghost use Rattle.std.specs.Prelude.{◌≤◌, length};
     ghost use Rattle.world_run.specs.Groups.{WorldParts, nodes_in};
+    ghost use Rattle.wire_bytes.specs.Limits.{node_limit};
 
     ghost Value = { WorldParts M.Setup M.Command M.Effect M.Played };
 
@@ -36,7 +38,7 @@ impl<M: Hosted> Model for World<M> {
       outs = w.outs.items;
     } };
 
-    ghost invariant = { λ w. length w.group.cells.items ≤ 7 };
+    ghost invariant = { λ w. length w.group.cells.items ≤ node_limit };
 }
 
 impl<M: Hosted> World<M> {
@@ -84,7 +86,7 @@ impl<M: Hosted> World<M> {
     /// How many nodes there are: 7 at most.
     pub fn size(&self) -> usize
         ensures size { result ≡ length self.now.nodes }
-        ensures limit { length self.now.nodes ≤ 7 }
+        ensures limit { length self.now.nodes ≤ node_limit }
     {
         self.group.cells.len()
     }

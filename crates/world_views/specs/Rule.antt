@@ -1,10 +1,11 @@
 -- The rule that the views of all nodes keep, between any two steps of any of them: three clauses over plain data.
-use Rattle.std.specs.Prelude.{◌≡◌, ◌<◌, ◌≤◌, ◌^◌, ℕ, suc, true, List, [], length, Some, None}
+use Rattle.std.specs.Prelude.{◌≡◌, ◌<◌, ◌≤◌, ℕ, suc, true, List, [], length, Some, None}
 use Rattle.raft_log.specs.Lists.{item}
 use Rattle.raft_node.specs.Machine.{Machine}
 use Rattle.world_views.specs.declared.envelope.Envelope.{Envelope}
 use Rattle.world_views.specs.Views.{IsAt, View, sender, brings, RisesFrom, start, Drew, total}
 use Rattle.world_views.specs.Own.{EventOf, ViewOf, runs, state_at}
+use Rattle.wire_bytes.specs.Limits.{number_limit}
 
 -- The first clause, on tickets: those that were drawn are the numbers below the next ticket, each once, and they rise in each record.
 pub record TicketsAreOnce {B L T : Type 0} (next : ℕ) (views : List (View B L T)) : Type 0 where
@@ -13,7 +14,7 @@ pub record TicketsAreOnce {B L T : Type 0} (next : ℕ) (views : List (View B L 
   pub once : (i t : ℕ) (v : View B L T) → IsAt views i v → Drew v t → (t < next) × (who t ≡ i)
   pub rises : (i : ℕ) (v : View B L T) → IsAt views i v → RisesFrom v.opened v.turns
   pub counted : total views ≡ next
-  pub few : (i : ℕ) (v : View B L T) → IsAt views i v → length v.turns ≤ 2 ^ 60
+  pub few : (i : ℕ) (v : View B L T) → IsAt views i v → length v.turns ≤ number_limit
 
 module _ (M : Machine) where
   -- The second clause, on one view alone: its state is what its own turns lead to from the node as it was opened, which had sent nothing.

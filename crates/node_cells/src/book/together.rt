@@ -1,5 +1,5 @@
 //! How a book takes in several events, one after the other.
-ghost use Rattle.std.specs.Prelude.{◌≡◌, ◌≤◌, ◌+◌, ◌^◌, length, suc, true};
+ghost use Rattle.std.specs.Prelude.{◌≡◌, ◌≤◌, ◌+◌, length, suc, true};
 ghost use Rattle.ether.specs.Passes.{view_of};
 ghost use Rattle.node_cells.specs.Books.{room_for};
 ghost use Rattle.node_cells.specs.Cells.{AreAnswered, AreTogether, HasCopies, HasHeard, brought};
@@ -7,6 +7,7 @@ ghost use Rattle.node_cells.specs.Copies.{AreCopies};
 ghost use Rattle.node_cells.specs.Inputs.{OnlyAppend};
 ghost use Rattle.node_cells.specs.Restarts.{HasNotedAll, TellsAnswers, firsts_at_most, firsts_of, stops_in};
 ghost use Rattle.node_cells.specs.Together.{all_done};
+ghost use Rattle.wire_bytes.specs.Limits.{number_limit};
 
 use crate::book::Book;
 use crate::copying::{first_of, outcome_by};
@@ -31,7 +32,7 @@ impl<M: Hosted> Book<M> {
         requires copied { AreCopies self.old.recording inputs.items copies.items }
         requires enough { length inputs.items ≤ length answers.now }
         requires room { (room_for self.old.recording (length inputs.items) ≤ self.old.room)
-            × (length (view_of self.old.pass).turns + length inputs.items ≤ 2 ^ 60) }
+            × (length (view_of self.old.pass).turns + length inputs.items ≤ number_limit) }
         requires answered { (view_of self.old.pass).honest ≡ true →
             AreAnswered (⟦<M as Described>⟧.machine self.old.ether.setup)
             (view_of self.old.pass).size (suc (view_of self.old.pass).node)
@@ -57,7 +58,7 @@ impl<M: Hosted> Book<M> {
         requires together { AreTogether phase }
         requires copied { HasCopies self.old.recording phase }
         requires room { (room_for self.old.recording (firsts_at_most phase) ≤ self.old.room)
-            × (length (view_of self.old.pass).turns + firsts_at_most phase ≤ 2 ^ 60) }
+            × (length (view_of self.old.pass).turns + firsts_at_most phase ≤ number_limit) }
         requires answered { (view_of self.old.pass).honest ≡ true →
             TellsAnswers (⟦<M as Described>⟧.machine self.old.ether.setup)
             (view_of self.old.pass).size (suc (view_of self.old.pass).node)
@@ -90,7 +91,7 @@ impl<M: Hosted> Book<M> {
         requires some { 1 ≤ length inputs.items }
         requires many { length answers.now ≡ length inputs.items }
         requires room { (room_for self.old.recording (length inputs.items) ≤ self.old.room)
-            × (length (view_of self.old.pass).turns + length inputs.items ≤ 2 ^ 60) }
+            × (length (view_of self.old.pass).turns + length inputs.items ≤ number_limit) }
         requires answered { (view_of self.old.pass).honest ≡ true →
             AreAnswered (⟦<M as Described>⟧.machine self.old.ether.setup)
             (view_of self.old.pass).size (suc (view_of self.old.pass).node)

@@ -12,11 +12,8 @@ use machine_laws::{Hosted, Machine, Marking};
 use node_steps::Refusal;
 use raft_node::{Described, Looked, NodeFault};
 use stable_store::Stable;
-use wire_bytes::{Mark, Number};
+use wire_bytes::{LAST_NUMBER, Mark, Number};
 use world_views::NodeInput;
-
-/// The largest number that a mark may have.
-const MOST_NUMBER: u64 = 1 << 60;
 
 impl<M: Marking, S: Stable<M::Command>, U: Upstream> NodeCell<M, S, U> {
     /// Asks for the next mark of this run, one more than the greatest that it asked, and answers its number
@@ -30,7 +27,7 @@ impl<M: Marking, S: Stable<M::Command>, U: Upstream> NodeCell<M, S, U> {
             self.new.parts }
     {
         let asked = self.asked.value();
-        if asked >= MOST_NUMBER {
+        if asked >= LAST_NUMBER {
             return Err(CellFault::Spent);
         }
         let number = asked + 1;

@@ -1,10 +1,11 @@
 //! What a cell plays.
-ghost use Rattle.std.specs.Prelude.{◌≡◌, ◌<◌, ◌≤◌, ◌^◌, length};
+ghost use Rattle.std.specs.Prelude.{◌≡◌, ◌<◌, ◌≤◌, length};
 ghost use Rattle.node_cells.specs.declared.phase.Phase.TheVariants.{Up};
 ghost use Rattle.node_cells.specs.Books.{room_for};
 ghost use Rattle.node_cells.specs.Causes.{TellsCause};
 ghost use Rattle.node_cells.specs.Cells.{view_in};
 ghost use Rattle.node_cells.specs.Turns.{HasLooked};
+ghost use Rattle.wire_bytes.specs.Limits.{number_limit};
 
 use crate::cell::NodeCell;
 use crate::cell_fault::CellFault;
@@ -47,7 +48,7 @@ impl<M: Marking, S: Stable<M::Command>, U: Upstream> NodeCell<M, S, U> {
         requires recording { recording ≡ self.old.parts.recording }
         requires up { self.old.parts.phase ≡ Up }
         requires room { (room_for self.old.parts.recording 1 ≤ self.old.room)
-            × (length (view_in self.old.parts).turns < 2 ^ 60) }
+            × (length (view_in self.old.parts).turns < number_limit) }
         ensures look { HasLooked (⟦<M as Described>⟧.machine self.old.parts.ether.setup) U.tally
             self.old.parts from_place target result self.new.parts }
         ensures cause { TellsCause result self.new.parts }

@@ -1,11 +1,12 @@
 //! How a cell's node is started again.
-ghost use Rattle.std.specs.Prelude.{◌+◌, ◌≤◌, ◌^◌, length};
+ghost use Rattle.std.specs.Prelude.{◌+◌, ◌≤◌, length};
 ghost use Rattle.node_cells.specs.Books.{room_for};
 ghost use Rattle.raft_node.specs.Parts.{keeper};
 ghost use Rattle.node_cells.specs.Causes.{MayNotRestart};
 ghost use Rattle.node_cells.specs.Cells.{view_in};
 ghost use Rattle.node_cells.specs.Remembering.{Remembers};
 ghost use Rattle.node_cells.specs.Restarts.{HasRestarted, firsts_at_most};
+ghost use Rattle.wire_bytes.specs.Limits.{number_limit};
 
 use crate::cell::NodeCell;
 use crate::cell_fault::CellFault;
@@ -44,7 +45,7 @@ impl<M: Marking, S: Stable<M::Command>, U: Upstream> NodeCell<M, S, U> {
         requires room { (room_for self.old.parts.recording
             (firsts_at_most self.old.parts.phase + self.old.parts.refused) ≤ self.old.room)
             × (length (view_in self.old.parts).turns
-            + (firsts_at_most self.old.parts.phase + self.old.parts.refused) ≤ 2 ^ 60) }
+            + (firsts_at_most self.old.parts.phase + self.old.parts.refused) ≤ number_limit) }
         ensures restart { HasRestarted (⟦<M as Described>⟧.machine self.old.parts.ether.setup)
             self.old.parts result self.new.parts }
         ensures cause { MayNotRestart (keeper S.saved S.may_stand S.condition) self.old.parts result

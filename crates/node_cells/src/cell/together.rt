@@ -1,5 +1,5 @@
 //! How a cell's node that leads does several inputs by one save.
-ghost use Rattle.std.specs.Prelude.{◌≡◌, ◌≤◌, ◌+◌, ◌^◌, IfErr, IfOk, length, map, true};
+ghost use Rattle.std.specs.Prelude.{◌≡◌, ◌≤◌, ◌+◌, IfErr, IfOk, length, map, true};
 ghost use Rattle.raft_log.specs.Batches.{batch_limit};
 ghost use Rattle.raft_log.specs.Node.{is_leader};
 ghost use Rattle.raft_log.specs.Positions.{role_of};
@@ -12,6 +12,7 @@ ghost use Rattle.node_cells.specs.Copies.{AreCopies};
 ghost use Rattle.node_cells.specs.Inputs.{OnlyAppend, input_of};
 ghost use Rattle.node_cells.specs.Marks.{asked_by_all, asked_in};
 ghost use Rattle.node_cells.specs.Together.{AreNoTurns, AreTurned};
+ghost use Rattle.wire_bytes.specs.Limits.{number_limit};
 
 use crate::cell::NodeCell;
 use crate::cell_fault::CellFault;
@@ -82,7 +83,7 @@ impl<M: Marking, S: Stable<M::Command>, U: Upstream> NodeCell<M, S, U> {
         requires some { 1 ≤ length told.items }
         requires few { length told.items ≤ batch_limit }
         requires room { (room_for self.old.parts.recording (length told.items) ≤ self.old.room)
-            × (length (view_in self.old.parts).turns + length told.items ≤ 2 ^ 60) }
+            × (length (view_in self.old.parts).turns + length told.items ≤ number_limit) }
         requires taken { taken.items ≡ map input_of told.items }
         requires copied { AreCopies self.old.parts.recording told.items copies.items }
         requires asked { asked

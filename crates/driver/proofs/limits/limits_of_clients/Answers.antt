@@ -8,5 +8,4 @@ returns c = record {
   leaves = refl;
   waiting = refl;
   room = omega arith;
-  numbers = refl;
 }

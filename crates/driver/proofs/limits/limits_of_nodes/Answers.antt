@@ -4,7 +4,6 @@ use Rattle.driver.proofs.limits.limits_of_nodes.Goals as goal
 pub returns : goal.returns
 returns c = record {
   nodes = refl;
-  boots = refl;
   waiting = refl;
   apart = refl;
   hangs = refl;

@@ -19,13 +19,13 @@ returns-in-Leader g c =
       places = sent-within c.args.standing c.args.log.now _ c.still.result c.still.ensures c.args.standing (λ w. w);
     }
 
-pub returns-then-term : goal.returns-then-term
-returns-then-term g c =
+pub returns-then-term-ge-LAST_NUMBER : goal.returns-then-term-ge-LAST_NUMBER
+returns-then-term-ge-LAST_NUMBER g c =
     let few : nat_le (2 ^ 60) c.args.standing.term ≡ true = grind arith in
     record {
-      step = spent c.args.standing.peers.size c.args.id c.args.standing c.args.log.now c.still-then-term.result c.still-then-term.ensures few;
-      savable = sent-savable c.args.standing c.args.log.now _ c.still-then-term.result c.still-then-term.ensures c.args.standing refl (omega arith);
-      places = sent-within c.args.standing c.args.log.now _ c.still-then-term.result c.still-then-term.ensures c.args.standing (λ w. w);
+      step = spent c.args.standing.peers.size c.args.id c.args.standing c.args.log.now c.still-then-term-ge-LAST_NUMBER.result c.still-then-term-ge-LAST_NUMBER.ensures few;
+      savable = sent-savable c.args.standing c.args.log.now _ c.still-then-term-ge-LAST_NUMBER.result c.still-then-term-ge-LAST_NUMBER.ensures c.args.standing refl (omega arith);
+      places = sent-within c.args.standing c.args.log.now _ c.still-then-term-ge-LAST_NUMBER.result c.still-then-term-ge-LAST_NUMBER.ensures c.args.standing (λ w. w);
     }
 
 pub returns : goal.returns
