@@ -15,8 +15,8 @@ use Rattle.driver.specs.declared.settings.Settings.{Settings}
 use Rattle.driver.specs.Claiming.{claims}
 use Rattle.driver.specs.Dropping.{drop_end}
 use Rattle.driver.specs.Driving.{Claims, ServesIf, orders_of}
-use Rattle.driver.specs.Leading.{is_that}
-use Rattle.driver.specs.Links.{is_session_of, status_in}
+use Rattle.driver.specs.Leading.{IsLeader, is_that}
+use Rattle.driver.specs.Links.{status_in}
 use Rattle.driver.specs.Monitors.{claim_at, claim_due, claim_if, is_claimed, line_to_claim, told, unless_claimed}
 use Rattle.driver.specs.Outgoing.{Waiting, has_said}
 use Rattle.driver.specs.Schedule.{IsFree, only_questions}
@@ -142,9 +142,9 @@ monitor_of : (found : Option NodeMonitor) (x : Look) → look_in found ≡ Some 
 monitor_of None x is = absurd (cc is)
 monitor_of (Some d) x is = record { own = d; is = refl; same = ap (or_look x) is }
 
-pub turn_claims : (n now : ℕ) (line : Line) (next new : Driver) (d : NodeMonitor) (given : List Order) → 1 ≤ n → Turn n now next new → is_session_of new.link.stage n ≡ true → slice_get next.monitors (n - 1) ≡ Some d → line_to_claim d.status ≡ Some line → is_claimed d.claimed next.settings.timeout_ms now line.0 line.1 ≡ false → IsFree now next → new.orders ≡ ordered next.orders given → list_any (claims n) given ≡ true
-turn_claims n now line next new d given low t stands is is_line is_due free orders =
-    let goes = t.goes stands in
+pub turn_claims : (n now : ℕ) (line : Line) (next new : Driver) (d : NodeMonitor) (given : List Order) → 1 ≤ n → Turn n now next new → IsLeader next.monitors (Some n) → slice_get next.monitors (n - 1) ≡ Some d → line_to_claim d.status ≡ Some line → is_claimed d.claimed next.settings.timeout_ms now line.0 line.1 ≡ false → IsFree now next → new.orders ≡ ordered next.orders given → list_any (claims n) given ≡ true
+turn_claims n now line next new d given low t leads is is_line is_due free orders =
+    let goes = t.goes leads in
     let m = monitor_of (slice_get t.here.monitors (n - 1)) (look d) (goes.looks (n - 1) ∙ ap look_in is) in
     let ready : IsReady n now line t.here = record {
       at = m.own;
@@ -156,4 +156,4 @@ turn_claims n now line next new d given low t stands is is_line is_due free orde
           ∙ is_due;
       free = goes.free free;
     } in
-    served_claim n now line (is_that t.leader n) next t.here t.behind new given low (t.leads stands) t.keeps ready t.serves t.last orders
+    served_claim n now line (is_that t.leader n) next t.here t.behind new given low (t.leads leads) t.keeps ready t.serves t.last orders

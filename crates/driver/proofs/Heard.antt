@@ -237,9 +237,9 @@ ask_fits n down (Some retirement) monitor apart = ((told_apart down (nat_eq moni
 
 -- the node that leads is up
 leader_apart : (n leader : ℕ) (down : Bool) (monitors : List NodeMonitor) (via : NodeMonitor) → 1 ≤ n → Ids monitors → StandsAs down (slice_get monitors (n - 1)) → IsLeader monitors (Some leader) → slice_get monitors (leader - 1) ≡ Some via → (down && nat_eq via.id n) ≡ false
-leader_apart n leader down monitors via low ids at (term, leads, above) is =
+leader_apart n leader down monitors via low ids at (term, so) is =
     both_false down (nat_eq via.id n)
-    (λ own. lead_by down (Some via) term (own_stands n leader down monitors via low ids at is own) (subst (λ (found : Option NodeMonitor). term_in found ≡ Some term) is leads))
+    (λ own. lead_by down (Some via) term (own_stands n leader down monitors via low ids at is own) (subst (λ (found : Option NodeMonitor). term_in found ≡ Some term) is so.leads))
 
 spreads_fit : (n : ℕ) (down : Bool) (count : ℕ) (settings : Settings) (now leader node : ℕ) (monitors : List NodeMonitor) (old new : Round) → 1 ≤ n → Ids monitors → StandsAs down (slice_get monitors (n - 1)) → IsLeader monitors (Some leader) → SpreadsAll count settings now leader node monitors old new → Adds (Plain n down) old.orders new.orders
 unfolding SpreadsAll

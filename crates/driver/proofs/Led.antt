@@ -18,6 +18,7 @@ use Rattle.driver.specs.Links.{idle_behind, is_open, lingering, may_connect, nod
 use Rattle.driver.specs.Telling.{Ordered}
 use Rattle.driver.specs.declared.driver.writing.TheConstants.{MOST_AT_ONCE}
 use Rattle.driver.specs.Writing.{may_claim}
+use Rattle.driver.proofs.Leading.{leader_kept}
 use Rattle.driver.proofs.Writing.{lines_rest}
 
 -- one of two monitors at the same place leads in the term in which the other leads, where they stand alike
@@ -61,11 +62,6 @@ term_kept monitors i j d v is same =
 terms_kept : (change : NodeMonitor → NodeMonitor) → ((monitor : NodeMonitor) → (change monitor).status ≡ monitor.status) → (monitors : List NodeMonitor) (node other : ℕ) (at : Option NodeMonitor) → slice_get monitors (node - 1) ≡ at → term_in (slice_get (changed_if change monitors (node - 1) at) (other - 1)) ≡ term_at monitors other
 terms_kept change same monitors node other None is = refl
 terms_kept change same monitors node other (Some monitor) is = term_kept monitors (node - 1) (other - 1) monitor (change monitor) is (same monitor)
-
-leader_kept : (monitors changed : List NodeMonitor) (leader : Option ℕ) → ((other : ℕ) → term_at changed other ≡ term_at monitors other) → IsLeader monitors leader → IsLeader changed leader
-leader_kept monitors changed None same none = λ other low high. same other ∙ none other low high
-leader_kept monitors changed (Some node) same (term, is, above) =
-    (term, same node ∙ is, λ other t low high leads. above other t low high (sym (same other) ∙ leads))
 
 -- a claim keeps how its node stands
 claimed_stands : (orders : Ordered) (now : ℕ) (may : Bool) (due : Option ((ℕ × ℕ) × ℕ)) (monitor : NodeMonitor) → (monitor_claimed orders monitor now may due).status ≡ monitor.status

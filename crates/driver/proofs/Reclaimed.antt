@@ -46,12 +46,12 @@ not_claimed (Some claim) wait now line is =
     not_of (same_session claim.session line.0) (nat_eq claim.number line.1) (not (claim.is_settled && is_over claim.at wait now)) is
 
 pub new_claims_in_time : NewClaimsInTime
-new_claims_in_time node now moment line told next new low high r not_last does stands is_line free =
-    let i = running node next low high r in
-    let turn = tick_turn node now moment next new low high i.sound does.does in
+new_claims_in_time node now moment line told next new r not_last does (term, leads) is_line free =
+    let i = running node next leads.low leads.high r in
+    let turn = tick_turn node now moment next new leads.low leads.high i.sound does.does in
     let here : line_to_claim i.own.status ≡ Some line = ap line_to_claim (ap status_in (sym i.is)) ∙ is_line in
     let other : is_claim_of line i.own.claimed ≡ false = ap (λ (found : Option NodeMonitor). is_claimed_last found line) (sym i.is) ∙ not_last in
-    turn_claims node now line next new i.own told low turn stands i.is here (not_claimed i.own.claimed next.settings.timeout_ms now line other) free does.told
+    turn_claims node now line next new i.own told leads.low turn (term, leads) i.is here (not_claimed i.own.claimed next.settings.timeout_ms now line other) free does.told
 
 -- A claim that is not in the log.
 
@@ -177,7 +177,7 @@ stale_free (Some claim) limit ran wait now line late (number, since, is) =
     (le-leb wait (now - claim.at.since) (over_by wait claim.at.since ran now since late))
 
 pub claims_in_time : ClaimsInTime
-claims_in_time node now moment line steps told old next new r none said late does stands is_line free =
+claims_in_time node now moment line steps told old next new r none said late does leads is_line free =
     let m = running_marked node old r.low r.high r.is_running in
     let first : Waits node (told_to old.orders node) old.ran.since false old = record {
       in_time = m.noted.in_time;
@@ -196,4 +196,4 @@ claims_in_time node now moment line steps told old next new r none said late doe
     let stale = subst (λ (x : Option Look). Stale (told_to old.orders node) old.ran.since true (claim_in x)) (ap look_in i.is) w.stale in
     let wait : old.ran.since + next.settings.timeout_ms ≤ now = subst (λ (s : Settings). old.ran.since + s.timeout_ms ≤ now) (sym same) late in
     let claim_free = stale_free i.own.claimed (told_to old.orders node) old.ran.since next.settings.timeout_ms now line wait stale in
-    turn_claims node now line next new i.own told r.low turn stands i.is here claim_free free does.told
+    turn_claims node now line next new i.own told r.low turn leads i.is here claim_free free does.told

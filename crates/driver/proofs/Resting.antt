@@ -76,8 +76,8 @@ lead_by down None term at is = at
 lead_by down (Some d) term (here, so) is = sym so ∙ lead_so d.status term is
 
 pub lead_own : (n m : ℕ) (down : Bool) (monitors : List NodeMonitor) → StandsAs down (slice_get monitors (n - 1)) → IsLeader monitors (Some m) → m ≡ n → down ≡ false
-lead_own n m down monitors at (term, is, above) same =
-    lead_by down (slice_get monitors (n - 1)) term at (subst (λ (k : ℕ). term_at monitors k ≡ Some term) same is)
+lead_own n m down monitors at (term, own) same =
+    lead_by down (slice_get monitors (n - 1)) term at (subst (λ (k : ℕ). term_at monitors k ≡ Some term) same own.leads)
 
 -- The end of a session.
 
@@ -212,10 +212,10 @@ claim_plain n down id false (Some line) up = tt
 
 claims_plain : (n now node : ℕ) (down may : Bool) (old : Driver) (found : Option NodeMonitor) → 1 ≤ n → Steady n down old → IsLeader old.monitors (Some node) → slice_get old.monitors (node - 1) ≡ found → AllAre (Plain n down) (orders_of (claim_orders old now may) found)
 unfolding AllAre
-claims_plain n now node down may old None low steady leads is = tt
-claims_plain n now node down may old (Some d) low steady (term, leads, above) is =
+claims_plain n now node down may old None low steady leader is = tt
+claims_plain n now node down may old (Some d) low steady (term, leader) is =
     claim_plain n down d.id may (claim_due d old.settings now)
-    (λ own. lead_by down (Some d) term (own_stands n node down old.monitors d low steady.ids steady.at is own) (subst (λ (found : Option NodeMonitor). term_in found ≡ Some term) is leads))
+    (λ own. lead_by down (Some d) term (own_stands n node down old.monitors d low steady.ids steady.at is own) (subst (λ (found : Option NodeMonitor). term_in found ≡ Some term) is leader.leads))
 
 claims_stay : (n now node : ℕ) (down : Bool) (old new : Driver) → 1 ≤ n → Steady n down old → IsLeader old.monitors (Some node) → Claims now node old new → Stays n down old new
 claims_stay n now node down old new low steady leads c =

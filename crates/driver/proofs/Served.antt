@@ -1,12 +1,12 @@
 -- How a node comes to its turn as nodes tick.
-use Rattle.std.proofs.Common.{◌≡◌, ◌∙◌, ℕ, zero, suc, ◌+◌, ◌<◌, ◌≤◌, true, Option, refl, sym, ap, subst, arith}
+use Rattle.std.proofs.Common.{◌≡◌, ℕ, zero, suc, ◌+◌, ◌<◌, ◌≤◌, true, Option, Some, refl, ap, subst, arith}
 use Rattle.std.specs.BTreeMap.{keys}
 use Rattle.wire_bytes.specs.declared.moment.Moment.{Moment}
 use Rattle.driver.specs.declared.driver.Driver.{Driver}
 use Rattle.driver.specs.declared.news.Ending.TheVariants.{Silent}
 use Rattle.driver.specs.Driving.{ServesIf, TickNodes, Ticks, TicksNode, round_of, told_of}
-use Rattle.driver.specs.Leading.{is_older, is_that}
-use Rattle.driver.specs.Links.{is_session_of, node_of}
+use Rattle.driver.specs.Leading.{IsLeader, is_older, is_that}
+use Rattle.driver.specs.Links.{node_of}
 use Rattle.driver.specs.Servers.{is_silent}
 use Rattle.driver.specs.Waking.{awake}
 use Rattle.driver.proofs.Claiming.{node_apart, node_result, nodes_behind, serves_own, sound_behind}
@@ -15,9 +15,9 @@ use Rattle.driver.proofs.Keeping.{Keeps, Sound, asks_keep, keeps_both, leaves_ke
 use Rattle.driver.proofs.Moves.{monitors_of}
 use Rattle.driver.proofs.Quiet.{NoClaim}
 use Rattle.driver.proofs.Reporting.{awake_keeps, grows_keep, spreads_by}
-use Rattle.driver.proofs.Stood.{Goes, awake_goes, goes_both, goes_by, goes_of, leaves_goes, monitor_goes, node_goes, node_stood, nodes_stood, pace_of, settings_of, waiting_of}
+use Rattle.driver.proofs.Stood.{Goes, awake_goes, goes_both, goes_leader, goes_of, leaves_goes, left_goes, node_goes, node_leads, pace_of, settings_of, waiting_of}
 
--- A node's turn to be served.
+-- A node's turn to be served, and what is so of it where this node leads in the greatest term.
 pub record Turn (n now : ℕ) (old new : Driver) : Type 0 where
   pub here : Driver
   pub keeps : Keeps n old here
@@ -25,8 +25,8 @@ pub record Turn (n now : ℕ) (old new : Driver) : Type 0 where
   pub behind : Driver
   pub serves : ServesIf (is_that leader n) now n here behind
   pub last : Keeps n behind new
-  pub leads : is_session_of new.link.stage n ≡ true → is_that leader n ≡ true
-  pub goes : is_session_of new.link.stage n ≡ true → Goes now old here
+  pub leads : IsLeader old.monitors (Some n) → is_that leader n ≡ true
+  pub goes : IsLeader old.monitors (Some n) → Goes now old here
 
 pub node_turn : (n now : ℕ) (old new : Driver) → 1 ≤ n → Sound n old → TicksNode now n old new → Turn n now old new
 node_turn n now old new low sound t =
@@ -40,23 +40,23 @@ node_turn n now old new low sound t =
       behind = new;
       serves = t.serves;
       last = same_keeps n new new (sound_behind n t.left new served) refl;
-      leads = λ stands. (node_stood n now n old new t stands).leads;
-      goes = λ stands. goes_both now old t.told t.left (monitor_goes now n old t.told t.ticks) (goes_by now t.told t.left (node_stood n now n old new t stands).same);
+      leads = λ leads. node_leads n now old new t leads;
+      goes = λ leads. left_goes now n old new t;
     }
 
-turn_last : (n now : ℕ) (old mid new : Driver) → (t : Turn n now old mid) → Keeps n mid new → (is_session_of new.link.stage n ≡ true → is_session_of mid.link.stage n ≡ true) → Turn n now old new
-turn_last n now old mid new t k stood = record {
+turn_last : (n now : ℕ) (old mid new : Driver) → Turn n now old mid → Keeps n mid new → Turn n now old new
+turn_last n now old mid new t k = record {
   here = t.here;
   keeps = t.keeps;
   leader = t.leader;
   behind = t.behind;
   serves = t.serves;
   last = keeps_both n t.behind mid new t.last k;
-  leads = λ stands. t.leads (stood stands);
-  goes = λ stands. t.goes (stood stands);
+  leads = t.leads;
+  goes = t.goes;
 }
 
-turn_first : (n now : ℕ) (old mid new : Driver) → Keeps n old mid → (is_session_of new.link.stage n ≡ true → Goes now old mid) → Turn n now mid new → Turn n now old new
+turn_first : (n now : ℕ) (old mid new : Driver) → Keeps n old mid → (IsLeader old.monitors (Some n) → Goes now old mid) → Turn n now mid new → Turn n now old new
 turn_first n now old mid new k goes t = record {
   here = t.here;
   keeps = keeps_both n old mid t.here k t.keeps;
@@ -64,8 +64,8 @@ turn_first n now old mid new k goes t = record {
   behind = t.behind;
   serves = t.serves;
   last = t.last;
-  leads = t.leads;
-  goes = λ stands. goes_both now old mid t.here (goes stands) (t.goes stands);
+  leads = λ leads. t.leads (goes_leader n now old mid (goes leads) leads);
+  goes = λ leads. goes_both now old mid t.here (goes leads) (t.goes (goes_leader n now old mid (goes leads) leads));
 }
 
 nodes_turn : (n count now node : ℕ) (old new : Driver) → 1 ≤ n → 1 ≤ node → node ≤ n → n < node + count → Sound n old → TickNodes count now node old new → Turn n now old new
@@ -77,12 +77,11 @@ nodes_turn n (suc count) now node old new low low_node before within sound (mid,
     let own = subst (λ (k : ℕ). TicksNode now k old mid) same t in
     let sound_mid = sound_behind n old mid (node_result n now n old mid low low sound own) in
     turn_last n now old mid new (node_turn n now old mid low sound own)
-    (nodes_behind n count now (node + 1) mid new low (omega (arith, same)) sound_mid more)
-    (λ stands. nodes_stood n count now (node + 1) mid new more stands))
+    (nodes_behind n count now (node + 1) mid new low (omega (arith, same)) sound_mid more))
     (λ apart.
     let k = node_apart n now node old mid low low_node apart sound t in
     turn_first n now old mid new k
-    (λ stands. node_goes n now node old mid apart t (nodes_stood n count now (node + 1) mid new more stands))
+    (λ leads. node_goes n now node old mid apart t leads)
     (nodes_turn n count now (node + 1) mid new low (omega (arith)) (omega (arith, before, apart)) (omega (arith, within)) k.sound more))
 
 -- as time passes
@@ -112,5 +111,4 @@ tick_turn n now at old new low high sound t =
     orders_keep n t.asked new sound_asked (ap monitors_of t.rest) (ap (λ (driver : Driver). driver.clients) t.rest)
     (spreads_by n t.retired.leader t.asked.settings now t.asked.monitors (round_of t.asked) (round_of new) t.retired.spreads)
     in
-    turn_last n now old t.asked new (turn_first n now old t.served t.asked keeps (λ stands. goes) nodes) word
-    (λ stands. sym (ap (λ (driver : Driver). is_session_of driver.link.stage n) t.rest) ∙ stands)
+    turn_last n now old t.asked new (turn_first n now old t.served t.asked keeps (λ leads. goes) nodes) word

@@ -1,30 +1,25 @@
--- What a claim goes by, and a session that stands behind a step, stayed until then.
-use Rattle.std.proofs.Common.{◌≡◌, ◌∙◌, ℕ, zero, suc, ◌+◌, Bool, true, false, List, [], Option, Some, None, refl, sym, ap, subst}
-use Rattle.std.specs.Prelude.{if◌then◌else◌, not}
-use Rattle.std.proofs.lemmas.Bool.{eqb-true}
+-- What a claim goes by stays until the turn of the node that leads in the greatest term, and so does that this node leads.
+use Rattle.std.proofs.Common.{◌≡◌, ◌∙◌, ℕ, ◌-◌, Bool, true, false, List, [], Option, Some, None, refl, sym, ap, subst, slice_get}
 use Rattle.irc_line.specs.Lines.{Parts}
-use Rattle.driver.specs.declared.backoff.Backoff.{Backoff}
 use Rattle.driver.specs.declared.driver.Driver.{Driver}
-use Rattle.driver.specs.declared.driver.writing.TheConstants.{MOST_AT_ONCE}
 use Rattle.driver.specs.declared.link.Stage.{Stage}
 use Rattle.driver.specs.declared.link.Stage.TheVariants.{Closing, Connecting, Idle, Open}
 use Rattle.driver.specs.declared.news.Ending.{Ending}
+use Rattle.driver.specs.declared.news.Ending.TheVariants.{LedNoMore}
 use Rattle.driver.specs.declared.node_monitor.NodeMonitor.{NodeMonitor}
 use Rattle.driver.specs.declared.pace.Pace.{Pace}
 use Rattle.driver.specs.declared.settings.Settings.{Settings}
-use Rattle.driver.specs.Dropping.{TellsDroppedIf, drop_end}
-use Rattle.driver.specs.Driving.{Ends, LeavesIf, LeavesOlder, QuitsIf, ServesIf, TickNodes, TicksMonitor, TicksNode, ticked}
-use Rattle.driver.specs.Leading.{is_older, is_that}
-use Rattle.driver.specs.Links.{idle_behind, is_open, is_session_of, lingering, may_connect, node_of, waiting_behind}
+use Rattle.driver.specs.Driving.{Ends, LeavesIf, LeavesOlder, QuitsIf, ServesIf, TicksMonitor, TicksNode, ticked}
+use Rattle.driver.specs.Leading.{IsLeader, is_older, is_that, term_at, term_in, term_of}
+use Rattle.driver.specs.Links.{is_open, node_of, waiting_behind}
 use Rattle.driver.specs.Outgoing.{Waiting}
 use Rattle.driver.specs.Pacing.{may_go}
 use Rattle.driver.specs.Schedule.{IsFree, only_questions}
 use Rattle.driver.specs.Waking.{awake, slept, waited_longer}
-use Rattle.driver.proofs.Claiming.{apart_eq}
-use Rattle.driver.proofs.Led.{that_is}
-use Rattle.driver.proofs.Monitors.{changed_same, look_at, mapped_same, ticked_look}
+use Rattle.driver.proofs.Claiming.{apart_eq, same_eq}
+use Rattle.driver.proofs.Leading.{leader_kept, only_leader}
+use Rattle.driver.proofs.Monitors.{Look, changed_same, look_at, look_in, mapped_same, ticked_look}
 use Rattle.driver.proofs.Moves.{monitors_of}
-use Rattle.driver.proofs.Writing.{lines_rest}
 
 -- What a claim goes by stays.
 pub record Goes (now : ℕ) (old new : Driver) : Type 0 where
@@ -110,105 +105,61 @@ leaves_goes true now why old new l = record {
   settings = ap settings_of l.ends.rest ∙ ap settings_of l.rest;
 }
 
--- A session that stands behind a step stood before it.
+-- Where it is of an older leader it is left.
 
-idle_session : (stage : Stage) (backoff : Backoff) (now n : ℕ) → is_session_of (idle_behind stage backoff now) n ≡ false
-idle_session (Idle since wait) backoff now n = refl
-idle_session (Closing since wait) backoff now n = refl
-idle_session (Connecting node) backoff now n = refl
-idle_session (Open session) backoff now n = refl
+quits_goes : (quits : Bool) (now : ℕ) (old new : Driver) → QuitsIf quits now old new → Goes now old new
+quits_goes false now old new l = leaves_goes true now LedNoMore old new l
+quits_goes true now old new q = record {
+  looks = λ j. ap (λ (monitors : List NodeMonitor). look_at monitors j) (ap monitors_of q.rest ∙ ap monitors_of q.ends.rest ∙ ap monitors_of q.says.rest);
+  free = λ f.
+      free_same now q.ended new (ap waiting_of q.rest) (ap pace_of q.rest)
+      (ends_free now now LedNoMore q.said q.ended q.ends (free_same now old q.said (ap waiting_of q.says.rest) (ap pace_of q.says.rest) f));
+  settings = ap settings_of q.rest ∙ ap settings_of q.ends.rest ∙ ap settings_of q.says.rest;
+}
 
-lingering_session : (stage : Stage) (backoff : Backoff) (now n : ℕ) → is_session_of (lingering (idle_behind stage backoff now)) n ≡ false
-lingering_session (Idle since wait) backoff now n = refl
-lingering_session (Closing since wait) backoff now n = refl
-lingering_session (Connecting node) backoff now n = refl
-lingering_session (Open session) backoff now n = refl
+older_goes : (older : Bool) (now : ℕ) (old new : Driver) → LeavesOlder older now old new → Goes now old new
+older_goes false now old new same = goes_by now old new same
+older_goes true now old new q = quits_goes (is_open old.link.stage) now old new q
 
-left_session : (quits : Bool) (now n : ℕ) (old new : Driver) → QuitsIf quits now old new → is_session_of new.link.stage n ≡ false
-left_session false now n old new l =
-    ap (λ (stage : Stage). is_session_of stage n) l.ends.stage ∙ idle_session l.closed.link.stage l.closed.link.backoff now n
-left_session true now n old new q =
-    ap (λ (driver : Driver). is_session_of driver.link.stage n) q.rest
-    ∙ ap (λ (stage : Stage). is_session_of (lingering stage) n) q.ends.stage
-    ∙ lingering_session q.said.link.stage q.said.link.backoff now n
+pub left_goes : (now node : ℕ) (old new : Driver) (t : TicksNode now node old new) → Goes now old t.left
+left_goes now node old new t =
+    goes_both now old t.told t.left (monitor_goes now node old t.told t.ticks)
+    (older_goes (is_older (node_of t.told.link.stage) t.leader) now t.told t.left t.leaves)
 
-no_false : (b : Bool) (P : Type 0) → b ≡ true → b ≡ false → P
-no_false b P here not_so = absurd (cc (here, not_so))
+-- The node that leads in the greatest term is served in its turn, and no other node is.
 
--- it is of the leader, and is not left
-not_older : (older : Bool) (now n : ℕ) (old new : Driver) → LeavesOlder older now old new → is_session_of new.link.stage n ≡ true → older ≡ false
-not_older false now n old new same stands = refl
-not_older true now n old new q stands = no_false (is_session_of new.link.stage n) (true ≡ false) stands (left_session (is_open old.link.stage) now n old new q)
+abbrev look_term : Option Look → Option ℕ
+look_term None = None
+look_term (Some x) = term_of x.status
 
-same_left : (older : Bool) (now : ℕ) (old new : Driver) → older ≡ false → LeavesOlder older now old new → new ≡ old
-same_left false now old new is same = same
-same_left true now old new is q = absurd (cc is)
+term_looked : (found : Option NodeMonitor) → term_in found ≡ look_term (look_in found)
+term_looked None = refl
+term_looked (Some d) = refl
 
-shown : (b : Bool) → not b ≡ false → b ≡ true
-shown true is = refl
-shown false is = sym is
+goes_terms : (now : ℕ) (old new : Driver) → Goes now old new → (other : ℕ) → term_at new.monitors other ≡ term_at old.monitors other
+goes_terms now old new g other =
+    term_looked (slice_get new.monitors (other - 1)) ∙ ap look_term (g.looks (other - 1)) ∙ sym (term_looked (slice_get old.monitors (other - 1)))
 
-session_leader : (stage : Stage) (leader : Option ℕ) (n : ℕ) → is_session_of stage n ≡ true → is_older (node_of stage) leader ≡ false → is_that leader n ≡ true
-session_leader (Idle since wait) leader n stands is = absurd (cc stands)
-session_leader (Closing since wait) leader n stands is = absurd (cc stands)
-session_leader (Connecting node) leader n stands is = absurd (cc stands)
-session_leader (Open session) leader n stands is =
-    subst (λ (k : ℕ). is_that leader k ≡ true) (eqb-true session.node n stands) (shown (is_that leader session.node) is)
+pub goes_leader : (n now : ℕ) (old new : Driver) → Goes now old new → IsLeader old.monitors (Some n) → IsLeader new.monitors (Some n)
+goes_leader n now old new g leads = leader_kept old.monitors new.monitors (Some n) (goes_terms now old new g) leads
 
--- What is so of a node's tick behind which a session of this node stands.
-pub record Stood (n now node : ℕ) (old new : Driver) (t : TicksNode now node old new) : Type 0 where
-  pub same : t.left ≡ t.told
-  pub leads : is_that t.leader n ≡ true
-  pub stands : is_session_of old.link.stage n ≡ true
+leader_here : (n now node : ℕ) (old new : Driver) (t : TicksNode now node old new) → IsLeader old.monitors (Some n) → t.leader ≡ Some n
+leader_here n now node old new t leads =
+    only_leader t.told.monitors t.leader n (goes_leader n now old t.told (monitor_goes now node old t.told t.ticks) leads) t.is_leader
 
-connected_session : (may : Bool) (stage new : Stage) (node n : ℕ) → new ≡ (if may then Connecting node else stage) → is_session_of new n ≡ true → is_session_of stage n ≡ true
-connected_session true stage new node n is stands = absurd (cc (sym (ap (λ (stage : Stage). is_session_of stage n) is) ∙ stands))
-connected_session false stage new node n is stands = sym (ap (λ (stage : Stage). is_session_of stage n) is) ∙ stands
-
--- a drop ends, and the session stands as before
-drop_session : (ended : Option ℕ) (n : ℕ) (old new : Driver) → TellsDroppedIf ended old new → is_session_of new.link.stage n ≡ is_session_of old.link.stage n
-drop_session None n old new same = ap (λ (driver : Driver). is_session_of driver.link.stage n) same
-drop_session (Some count) n old new t = ap (λ (driver : Driver). is_session_of driver.link.stage n) t.rest
-
-served_session : (serves : Bool) (now node n : ℕ) (old new : Driver) → ServesIf serves now node old new → is_session_of new.link.stage n ≡ true → is_session_of old.link.stage n ≡ true
-served_session false now node n old new same stands = sym (ap (λ (driver : Driver). is_session_of driver.link.stage n) same) ∙ stands
-served_session true now node n old new s stands =
-    let ended = sym (drop_session (drop_end s.connected node) n s.connected new s.ends) ∙ stands in
-    let claimed = connected_session (may_connect s.claimed.link.stage now) s.claimed.link.stage s.connected.link.stage node n s.connects.stage ended in
-    let written = sym (ap (λ (driver : Driver). is_session_of driver.link.stage n) s.claims.rest) ∙ claimed in
-    sym (ap (λ (driver : Driver). is_session_of driver.link.stage n) (lines_rest MOST_AT_ONCE now node old s.written s.writes)) ∙ written
-
-pub node_stood : (n now node : ℕ) (old new : Driver) (t : TicksNode now node old new) → is_session_of new.link.stage n ≡ true → Stood n now node old new t
-node_stood n now node old new t stands =
-    let older = is_older (node_of t.told.link.stage) t.leader in
-    let left = served_session (is_that t.leader node) now node n t.left new t.serves stands in
-    let none = not_older older now n t.told t.left t.leaves left in
-    let same = same_left older now t.told t.left none t.leaves in
-    let told = sym (ap (λ (driver : Driver). is_session_of driver.link.stage n) same) ∙ left in
-    record {
-      same = same;
-      leads = session_leader t.told.link.stage t.leader n told none;
-      stands = sym (ap (λ (driver : Driver). is_session_of driver.link.stage n) t.ticks.rest) ∙ told;
-    }
-
-pub nodes_stood : (n count now node : ℕ) (old new : Driver) → TickNodes count now node old new → is_session_of new.link.stage n ≡ true → is_session_of old.link.stage n ≡ true
-unfolding TickNodes
-nodes_stood n zero now node old new same stands = sym (ap (λ (driver : Driver). is_session_of driver.link.stage n) same) ∙ stands
-nodes_stood n (suc count) now node old new (mid, t, more) stands =
-    (node_stood n now node old mid t (nodes_stood n count now (node + 1) mid new more stands)).stands
+pub node_leads : (n now : ℕ) (old new : Driver) (t : TicksNode now n old new) → IsLeader old.monitors (Some n) → is_that t.leader n ≡ true
+node_leads n now old new t leads = ap (λ (leader : Option ℕ). is_that leader n) (leader_here n now n old new t leads) ∙ same_eq n
 
 same_unserved : (serves : Bool) (now node : ℕ) (old new : Driver) → serves ≡ false → ServesIf serves now node old new → new ≡ old
 same_unserved false now node old new is same = same
 same_unserved true now node old new is s = absurd (cc is)
 
--- another node's tick, behind which the session stands, leaves all of it
-not_served : (leader : Option ℕ) (n now node : ℕ) (old new : Driver) → is_that leader n ≡ true → (node ≡ n → ⊥) → ServesIf (is_that leader node) now node old new → new ≡ old
-not_served leader n now node old new leads apart s =
+not_served : (leader : Option ℕ) (n now node : ℕ) (old new : Driver) → leader ≡ Some n → (node ≡ n → ⊥) → ServesIf (is_that leader node) now node old new → new ≡ old
+not_served leader n now node old new is apart s =
     same_unserved (is_that leader node) now node old new
-    (ap (λ (leader : Option ℕ). is_that leader node) (that_is leader n leads) ∙ apart_eq n node (λ e. apart (sym e))) s
+    (ap (λ (leader : Option ℕ). is_that leader node) is ∙ apart_eq n node (λ e. apart (sym e))) s
 
-pub node_goes : (n now node : ℕ) (old new : Driver) → (node ≡ n → ⊥) → TicksNode now node old new → is_session_of new.link.stage n ≡ true → Goes now old new
-node_goes n now node old new apart t stands =
-    let s = node_stood n now node old new t stands in
-    goes_both now old t.told new (monitor_goes now node old t.told t.ticks)
-    (goes_by now t.told new (not_served t.leader n now node t.left new s.leads apart t.serves ∙ s.same))
+pub node_goes : (n now node : ℕ) (old new : Driver) → (node ≡ n → ⊥) → TicksNode now node old new → IsLeader old.monitors (Some n) → Goes now old new
+node_goes n now node old new apart t leads =
+    goes_both now old t.left new (left_goes now node old new t)
+    (goes_by now t.left new (not_served t.leader n now node t.left new (leader_here n now node old new t leads) apart t.serves))

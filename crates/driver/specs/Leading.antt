@@ -20,14 +20,31 @@ term_in (Some monitor) = term_of monitor.status
 abbrev pub term_at : List NodeMonitor → ℕ → Option ℕ
 term_at monitors node = term_in (slice_get monitors (node - 1))
 
--- Of the nodes below this one, those that lead do so in this term or before it.
-abbrev pub NoneLeadsAbove : List NodeMonitor → ℕ → ℕ → Type 0
-NoneLeadsAbove monitors below term = (other t : ℕ) → 1 ≤ other → other < below → term_at monitors other ≡ Some t → t ≤ term
+-- None of the nodes from node 1 up to this one leads.
+abbrev pub NoneLeads : List NodeMonitor → ℕ → Type 0
+NoneLeads monitors last = (other : ℕ) → 1 ≤ other → other ≤ last → term_at monitors other ≡ None
 
--- Of the nodes below this one, this is the one that leads in the greatest term, and that is the term; none leads where there is none.
+-- Of the nodes up to this one, those that lead do so in this term or before it.
+abbrev pub NoneLeadsAbove : List NodeMonitor → ℕ → ℕ → Type 0
+NoneLeadsAbove monitors last term = (other t : ℕ) → 1 ≤ other → other ≤ last → term_at monitors other ≡ Some t → t ≤ term
+
+-- Of the nodes that come before this one, those that lead do so before this term.
+abbrev pub AllLeadBefore : List NodeMonitor → ℕ → ℕ → Type 0
+AllLeadBefore monitors node term = (other t : ℕ) → 1 ≤ other → other < node → term_at monitors other ≡ Some t → t < term
+
+-- Of the nodes from node 1 up to this last one, this node leads in the greatest term, which is this one; where more than one does, it is the
+-- first of them.
+pub record LeadsMost (monitors : List NodeMonitor) (last node term : ℕ) : Type 0 where
+  pub low : 1 ≤ node
+  pub high : node ≤ last
+  pub leads : term_at monitors node ≡ Some term
+  pub none_above : NoneLeadsAbove monitors last term
+  pub is_first : AllLeadBefore monitors node term
+
+-- Of the nodes up to this one, this is the one that leads in the greatest term, and that is the term; none leads where there is none.
 abbrev pub IsBest : List NodeMonitor → ℕ → Option Leader → Type 0
-IsBest monitors below None = (other : ℕ) → 1 ≤ other → other < below → term_at monitors other ≡ None
-IsBest monitors below (Some best) = (term_at monitors best.node ≡ Some best.term) × NoneLeadsAbove monitors below best.term
+IsBest monitors last None = NoneLeads monitors last
+IsBest monitors last (Some best) = LeadsMost monitors last best.node best.term
 
 -- a node that leads in a greater term than the best so far, or the first one that leads, is the best
 abbrev pub better : Option Leader → ℕ → Option ℕ → Option Leader
@@ -35,10 +52,10 @@ better best node None = best
 better None node (Some term) = Some (record { node = node; term = term })
 better (Some best) node (Some term) = if nat_lt best.term term then Some (record { node = node; term = term }) else Some best
 
--- This node leads in the greatest term; none of the seven leads where there is none.
+-- This node, one of the seven, leads in the greatest term, the first of those that do; none of the seven leads where there is none.
 abbrev pub IsLeader : List NodeMonitor → Option ℕ → Type 0
-IsLeader monitors None = (other : ℕ) → 1 ≤ other → other ≤ node_limit → term_at monitors other ≡ None
-IsLeader monitors (Some node) = (term : ℕ) × (term_at monitors node ≡ Some term) × NoneLeadsAbove monitors 8 term
+IsLeader monitors None = NoneLeads monitors node_limit
+IsLeader monitors (Some node) = (term : ℕ) × LeadsMost monitors node_limit node term
 
 -- this is that node
 abbrev pub is_that : Option ℕ → ℕ → Bool

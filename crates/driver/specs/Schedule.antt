@@ -16,7 +16,8 @@ use Rattle.driver.specs.declared.order.Order.TheVariants.{Submit}
 use Rattle.driver.specs.Calls.{Call, DoesAll, DoesStep, Hear, Led, Step, Tick}
 use Rattle.driver.specs.Claiming.{claims}
 use Rattle.driver.specs.Counting.{all_told}
-use Rattle.driver.specs.Links.{is_session_of, status_at}
+use Rattle.driver.specs.Leading.{IsLeader}
+use Rattle.driver.specs.Links.{status_at}
 use Rattle.driver.specs.Monitors.{line_to_claim}
 use Rattle.driver.specs.Outgoing.{Waiting}
 use Rattle.driver.specs.Writing.{may_write}
@@ -195,8 +196,8 @@ settles node note (Hear now at other status effects progress refused) =
 settles node note call = false
 
 -- A claim is told again in time. Of a node no claim was told meanwhile, and it told that it did all that it was told before, and has applied all
--- of its log, so that its last claim is not in there: where time passes a timeout later, its session to the server stands on, the node has a line
--- to claim, and the line could go out at once, it is told to claim it.
+-- of its log, so that its last claim is not in there: where time passes a timeout later, it leads in the greatest term, as far as is known, it has
+-- a line to claim, and the line could go out at once, it is told to claim it.
 abbrev pub ClaimsInTime : Type 0
 ClaimsInTime =
     (node now : ℕ) (at : Moment) (line : (ℕ × ℕ) × ℕ) (steps : List Step) (told : List Order) (old next new : Driver)
@@ -205,7 +206,7 @@ ClaimsInTime =
     → list_any (λ step. settles node (told_to old.orders node) step.call) steps ≡ true
     → old.ran.since + old.settings.timeout_ms ≤ now
     → DoesStep (record { call = Tick now at; told = told }) next new
-    → is_session_of new.link.stage node ≡ true → line_to_claim (status_at next.monitors node) ≡ Some line → IsFree now next
+    → IsLeader next.monitors (Some node) → line_to_claim (status_at next.monitors node) ≡ Some line → IsFree now next
     → list_any (claims node) told ≡ true
 
 -- the last claim that a monitor's node was told was of this line
@@ -218,12 +219,12 @@ is_claimed_last None line = false
 is_claimed_last (Some monitor) line = is_claim_of line monitor.claimed
 
 -- A line is claimed in time that was not claimed before: the last claim that the node was told, if there is one, was of another line. Where time
--- passes, its session to the server stands on, and the line could go out at once, the node is told to claim it.
+-- passes, the node leads in the greatest term, as far as is known, and the line could go out at once, the node is told to claim it.
 abbrev pub NewClaimsInTime : Type 0
 NewClaimsInTime =
     (node now : ℕ) (at : Moment) (line : (ℕ × ℕ) × ℕ) (told : List Order) (next new : Driver)
-    → 1 ≤ node → node ≤ node_limit → IsRunning next
+    → IsRunning next
     → is_claimed_last (slice_get next.monitors (node - 1)) line ≡ false
     → DoesStep (record { call = Tick now at; told = told }) next new
-    → is_session_of new.link.stage node ≡ true → line_to_claim (status_at next.monitors node) ≡ Some line → IsFree now next
+    → IsLeader next.monitors (Some node) → line_to_claim (status_at next.monitors node) ≡ Some line → IsFree now next
     → list_any (claims node) told ≡ true

@@ -13,7 +13,7 @@ struct Leader {
     term: Number,
 }
 
-/// The node that leads in the greatest term, where one leads.
+/// The node that leads in the greatest term, the first where more than one does; none where none leads.
 pub fn leader_of(monitors: &[NodeMonitor; MOST_NODES]) -> Option<NodeId>
     ensures { IsLeader monitors.now result }
 {

@@ -25,9 +25,10 @@ pub fn votes_are_asked_for_in_time()
     ensures ticks { VotesInTicks }
 {}
 
-/// In a session of a node that stands on, as time passes: a line that was not claimed, and could go out at once, is claimed
-/// at once. A claim is told again a timeout later, where the node told meanwhile that it did all that it was told before, and
-/// has applied all of its log.
+/// As time passes, of the node that leads in the greatest term, as far as is known, wherever the
+/// connection to the server stands: a line that was not claimed, and could go out at once, is claimed
+/// at once. A claim is told again a timeout later, where the node told meanwhile that it did all that
+/// it was told before, and has applied all of its log.
 pub fn lines_are_claimed_in_time()
     ensures first { NewClaimsInTime }
     ensures again { ClaimsInTime }
