@@ -23,7 +23,7 @@ use Rattle.driver.specs.Clients.{parting_unless}
 use Rattle.driver.specs.Lost.{AreAmong, is_among}
 use Rattle.driver.specs.Once.{numbers_of, numbers_told}
 use Rattle.driver.specs.Serving.{ended, ended_if}
-use Rattle.driver.proofs.Asking.{told_last}
+use Rattle.driver.proofs.AskedOnce.{told_last}
 
 -- Numbers among numbers.
 

@@ -25,7 +25,7 @@ use Rattle.driver.specs.Cycling.{AreToldAs, CyclesGoAsLines, IsToldAs, OnlyJoins
 use Rattle.driver.specs.Once.{numbers_of}
 use Rattle.driver.specs.Opening.{has_open, opened}
 use Rattle.driver.specs.Telling.{Ordered, ordered}
-use Rattle.driver.proofs.Keys.{same_self}
+use Rattle.driver.proofs.NewestKeys.{same_self}
 
 -- The line by which a channel is joined.
 

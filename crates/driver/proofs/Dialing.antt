@@ -39,7 +39,8 @@ use Rattle.driver.specs.Rosters.{AreOthersSame, client_at, is_attached_in}
 use Rattle.driver.specs.Sessions.{TakesIf, TellsAllOf, TellsIf, opened_of}
 use Rattle.driver.specs.Telling.{Ordered, ordered}
 use Rattle.driver.proofs.Adding.{Adds, adds_both, all_written_add, nothing_adds, one_adds}
-use Rattle.driver.proofs.Calling.{greeted_adds, or_client, renames_by, visited_look, comes_add}
+use Rattle.driver.proofs.Calling.{renames_by}
+use Rattle.driver.proofs.ClientCalls.{greeted_adds, or_client, visited_look, comes_add}
 use Rattle.driver.proofs.Monitors.{ids_kept, look_at}
 use Rattle.driver.proofs.Growing.{AllAre, AllGood, Good, by_number, one_grows}
 use Rattle.driver.proofs.Owning.{lost_own, reads_own}

@@ -31,7 +31,8 @@ use Rattle.driver.specs.Rosters.{client_at}
 use Rattle.driver.specs.Sessions.{TakesIf, TellsAllOf, TellsIf, link_behind}
 use Rattle.driver.specs.Telling.{Ordered, ordered}
 use Rattle.driver.proofs.Adding.{all_written_add, nothing_adds, written_adds}
-use Rattle.driver.proofs.Calling.{stands_add, more_adds}
+use Rattle.driver.proofs.Calling.{stands_add}
+use Rattle.driver.proofs.ClientCalls.{more_adds}
 use Rattle.driver.proofs.Monitors.{Ids}
 use Rattle.driver.proofs.Dialing.{connect_stays, given_stay, goes_stay, speaks_stay, takes_stay, watch_stays}
 use Rattle.driver.proofs.Falling.{Turns}

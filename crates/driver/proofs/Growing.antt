@@ -22,7 +22,8 @@ use Rattle.driver.specs.Outages.{IsToldIf}
 use Rattle.driver.specs.Rosters.{AreOthersSame, Serves, client_at, kept}
 use Rattle.driver.specs.Silence.{is_to_go, waited}
 use Rattle.driver.specs.Telling.{Ordered, ordered}
-use Rattle.driver.proofs.Owning.{Owns, dismissed_own, only_left, only_parting, ticks_own, words_own}
+use Rattle.driver.proofs.Owning.{dismissed_own, ticks_own, words_own}
+use Rattle.driver.proofs.OwnOrders.{Owns, only_left, only_parting}
 
 -- all orders are so
 unfoldable pub AllAre : (Order → Type 0) → List Order → Type 0

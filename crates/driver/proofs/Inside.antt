@@ -32,7 +32,7 @@ use Rattle.driver.specs.Rosters.{client_at, is_attached_in}
 use Rattle.driver.specs.Telling.{Ordered, ordered}
 use Rattle.driver.proofs.Answered.{answers_empty_if}
 use Rattle.driver.proofs.Adding.{Adds, adds_both, adds_grow, all_written_add, nothing_adds, one_adds}
-use Rattle.driver.proofs.Calling.{arrive_good, comes_add}
+use Rattle.driver.proofs.ClientCalls.{arrive_good, comes_add}
 use Rattle.driver.proofs.Growing.{AllAre, AllGood, cuts_grow, one_grows}
 use Rattle.driver.proofs.Owning.{lost_own, reads_own}
 use Rattle.driver.proofs.Quiet.{NoClaim, quiet_client}

@@ -85,3 +85,11 @@ mod Stood
 mod Beating
 mod Unlost
 mod Unasked
+mod NewestKeys
+mod BeatsDue
+mod Retelling
+mod AskedOnce
+mod ClientCalls
+mod GoneClients
+mod Lapsing
+mod OwnOrders

@@ -25,7 +25,8 @@ use Rattle.driver.specs.Schedule.{GoesOn, IsRunning, ran_by, settles}
 use Rattle.driver.specs.Telling.{Ordered, next_note, ordered, told_to}
 use Rattle.driver.specs.Waking.{awake}
 use Rattle.driver.proofs.Adding.{passes_grow}
-use Rattle.driver.proofs.Calling.{connect_keeps, takes_keep, watch_keeps}
+use Rattle.driver.proofs.Calling.{takes_keep, watch_keeps}
+use Rattle.driver.proofs.ClientCalls.{connect_keeps}
 use Rattle.driver.proofs.Claiming.{apart_eq, node_apart}
 use Rattle.driver.proofs.Counting.{in_all}
 use Rattle.driver.proofs.Growing.{by_number}

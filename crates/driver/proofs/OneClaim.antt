@@ -23,7 +23,8 @@ use Rattle.driver.proofs.Quiet.{NoClaim}
 use Rattle.driver.proofs.Reporting.{report_outcome, tick_outcome}
 use Rattle.driver.proofs.Watching.{dismissed_keep, nodes_keep}
 use Rattle.driver.proofs.Waiting.{Fresh, Outcome, Waits, or_status, outcome_keeps, true_false, waits_kept}
-use Rattle.driver.proofs.Calling.{connect_keeps, goes_by, orders_of_call, speaks_by, stands_add, takes_keep, watch_keeps, more_adds}
+use Rattle.driver.proofs.Calling.{stands_add, takes_keep, watch_keeps}
+use Rattle.driver.proofs.ClientCalls.{connect_keeps, goes_by, orders_of_call, speaks_by, more_adds}
 
 -- What comes of a call.
 pub outcome : (n : ℕ) (call : Call) (told : List Order) (old new : Driver) → 1 ≤ n → Sound n old → Does call old new → IsTold call told old.orders new.orders → Outcome n (applies_all n call) old new told

@@ -37,9 +37,10 @@ use Rattle.driver.specs.Waking.{awake}
 use Rattle.driver.proofs.Adding.{learnt_good, passes_one}
 use Rattle.driver.proofs.Growing.{AllGood, Good, by_number}
 use Rattle.driver.proofs.OneClaim.{led_sound, new_sound}
-use Rattle.driver.proofs.Calling.{or_client}
+use Rattle.driver.proofs.ClientCalls.{or_client}
 use Rattle.driver.proofs.Heard.{then_orders}
-use Rattle.driver.proofs.Owning.{hears_own, only_append}
+use Rattle.driver.proofs.Owning.{hears_own}
+use Rattle.driver.proofs.OwnOrders.{only_append}
 use Rattle.driver.proofs.Quiet.{NoClaim}
 
 -- where nothing happens

@@ -23,8 +23,8 @@ use Rattle.driver.specs.Serving.{Hears, IsLost, Receives, is_done}
 use Rattle.driver.specs.Silence.{IsKept, IsSentOff, held_back, is_to_go, waited}
 use Rattle.driver.specs.Telling.{Ordered, next_note, ordered}
 use Rattle.driver.proofs.Among.{among_all, among_as, among_either, among_left, among_right, among_then, waiting_of}
-use Rattle.driver.proofs.Asking.{told_append, told_asks}
-use Rattle.driver.proofs.Retold.{Retells, dismissed_retells, effect_retells, hears_retell, lost_retells, reads_retell}
+use Rattle.driver.proofs.AskedOnce.{told_append, told_asks}
+use Rattle.driver.proofs.Retelling.{Retells, dismissed_retells, effect_retells, hears_retell, lost_retells, reads_retell}
 use Rattle.driver.proofs.Unasked.{IsOf, effect_of, first_of, of_both, of_rest, of_same, parts_of, reads_of}
 
 -- What comes of an event for what waits: nothing; it is as it was, or begins behind what was ordered first; or all is told again behind that.
