@@ -1,8 +1,7 @@
 //! Channels that are not joined though they are to be, and why.
-ghost use Rattle.std.specs.Prelude.{◌≡◌, IfOk, OnErr, OnOk, is_some, option_map};
-ghost use Rattle.std.specs.List.{list_any};
+ghost use Rattle.std.specs.Prelude.{◌≡◌, IfOk, OnOk, option_map};
 ghost use Rattle.driver.specs.Absent.{absent_text, asked, barred, cleared, has_number, is_waited_for, none_absent};
-ghost use Rattle.driver.specs.Absent.{settled, text_numbered, why_text, with_channel, with_room, without};
+ghost use Rattle.driver.specs.Absent.{settled, text_numbered, with_channel, with_room};
 
 use irc_line::is_same_name;
 use std::alloc::{AllocError, Global};

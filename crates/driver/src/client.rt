@@ -1,5 +1,5 @@
 //! One client's connection.
-ghost use Rattle.std.specs.Prelude.{◌≡◌, ◌∷◌, ◌&&◌, ◌||◌, length, nat_le, true, false, IfOk, List, OnOk};
+ghost use Rattle.std.specs.Prelude.{◌≡◌, ◌&&◌, length, nat_le, true, false, IfOk, List, OnOk};
 ghost use Rattle.client_gate.specs.Calls.{Call, Stands, gate};
 ghost use Rattle.client_gate.specs.Gates.{last_request};
 ghost use Rattle.client_gate.specs.declared.settings.Settings.{Settings};
@@ -26,7 +26,6 @@ mod word;
 use crate::client::asking::asks;
 use crate::client::channels::Channels;
 use crate::client::refusal::Refusal;
-use crate::news::News;
 use crate::order::Now;
 use crate::orders::Orders;
 use crate::timer::Timer;

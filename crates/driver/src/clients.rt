@@ -1,8 +1,6 @@
 //! All clients.
-ghost use Rattle.std.specs.Prelude.{◌≡◌, ℕ, List, true, false, Option, None, Some, IfOk, OnOk, OnErr};
+ghost use Rattle.std.specs.Prelude.{◌≡◌, ℕ, true, false, Option, None, Some, IfOk, OnOk, OnErr};
 ghost use Rattle.std.specs.BTreeMap.{keys};
-ghost use Rattle.client_gate.specs.Calls.{Call, Stands};
-ghost use Rattle.client_gate.specs.declared.settings.Settings.{Settings};
 ghost use Rattle.driver.specs.declared.client.Client.{Client};
 ghost use Rattle.machine_laws.specs.Origins.{same_origin};
 ghost use Rattle.driver.specs.Crowds.{TickEach, TicksRead, told};

@@ -1,13 +1,10 @@
 //! The connection to the server.
-ghost use Rattle.std.specs.Prelude.{◌≡◌, ◌++◌, ◌∷◌, [], if◌then◌else◌, IfOk, OnOk, Option};
-ghost use Rattle.std.specs.Option.{is_some, option_to_list};
-ghost use Rattle.uplink.specs.declared.input.UplinkInput.{UplinkInput};
-ghost use Rattle.uplink.specs.Calls.{Ended, GoesOn};
+ghost use Rattle.std.specs.Prelude.{◌≡◌, ◌∷◌, [], if◌then◌else◌, IfOk, OnOk, Option};
 ghost use Rattle.driver.specs.declared.order.Order.TheVariants.{Connect};
 ghost use Rattle.driver.specs.Absent.{none_absent};
 ghost use Rattle.driver.specs.Keys.{no_keys};
-ghost use Rattle.driver.specs.Links.{Connects, HasBegun, HasReceived, IsLost, Receives};
-ghost use Rattle.driver.specs.Links.{backoff_behind, ending, idle_behind, is_open, is_session_of, lingering, may_connect, node_of, opened, waiting_behind};
+ghost use Rattle.driver.specs.Links.{Connects, HasBegun, HasReceived, Receives};
+ghost use Rattle.driver.specs.Links.{is_open, is_session_of, may_connect, node_of};
 ghost use Rattle.driver.specs.Links.{first_backoff, notes_of, send_some};
 ghost use Rattle.driver.specs.Monitors.{at};
 ghost use Rattle.driver.specs.Outgoing.{nothing_waits};

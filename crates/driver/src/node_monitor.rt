@@ -1,5 +1,5 @@
 //! What the driver knows of one node.
-ghost use Rattle.std.specs.Prelude.{◌≡◌, ◌++◌, OnOk, Some, None};
+ghost use Rattle.std.specs.Prelude.{◌≡◌, OnOk, Some, None};
 ghost use Rattle.driver.specs.Monitors.{is_full, new_monitor, told};
 ghost use Rattle.driver.specs.Retiring.{dead_below, dead_boot, greatest, is_to_restart, restart_behind, restart_if, with_seen};
 ghost use Rattle.driver.specs.Leading.{term_of};
@@ -17,7 +17,6 @@ use crate::backoff::Backoff;
 use crate::news::News;
 use crate::order::Now;
 use crate::orders::Orders;
-use crate::pace::Pace;
 use crate::settings::Settings;
 use crate::timer::Timer;
 pub use hanging::{hang_limit, quiet_limit};

@@ -1,5 +1,5 @@
 //! What is ordered, and how many notes each node was told.
-ghost use Rattle.std.specs.Prelude.{◌≡◌, ◌++◌, ◌∷◌, [], true, IfOk, None, OnErr, OnOk, zero};
+ghost use Rattle.std.specs.Prelude.{◌≡◌, ◌++◌, ◌∷◌, [], true, IfOk, None, OnOk};
 ghost use Rattle.std.specs.Global.{Vec};
 ghost use Rattle.driver.specs.declared.order.Order.TheVariants.{Close, Connect, Disconnect, Send, Submit, Log, Write};
 ghost use Rattle.driver.specs.Deeds.{are_merged, deeds, said_in, written_by};

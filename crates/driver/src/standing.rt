@@ -1,6 +1,5 @@
 //! How the nodes stand, in words.
 ghost use Rattle.std.specs.Prelude.{◌≡◌, ◌++◌, IfOk, OnOk, is_some};
-ghost use Rattle.driver.specs.Hearing.{boot_up};
 ghost use Rattle.driver.specs.Leading.{is_that};
 ghost use Rattle.driver.specs.Standing.{client_text, log_text, name_text, node_text, node_texts, nodes_text, state_words};
 

@@ -1,5 +1,5 @@
 //! What a client's node tells of itself is to the client.
-ghost use Rattle.std.specs.Prelude.{◌≡◌, List, OnOk};
+ghost use Rattle.std.specs.Prelude.{List, OnOk};
 ghost use Rattle.client_gate.specs.Calls.{Call, Stands};
 ghost use Rattle.client_gate.specs.declared.settings.Settings.{Settings};
 ghost use Rattle.driver.specs.Asking.{HearsNode};

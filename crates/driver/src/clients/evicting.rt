@@ -1,5 +1,5 @@
 //! A client that the buffers close is told why.
-ghost use Rattle.std.specs.Prelude.{◌≡◌, OnOk};
+ghost use Rattle.std.specs.Prelude.{OnOk};
 ghost use Rattle.driver.specs.Evicting.{IsEvicted};
 ghost use Rattle.driver.specs.Rosters.{client_at};
 

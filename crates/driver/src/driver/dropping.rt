@@ -1,5 +1,5 @@
 //! What waits to go to the server is dropped, where a client asks for that.
-ghost use Rattle.std.specs.Prelude.{◌≡◌, ◌++◌, IfOk, OnErr, OnOk};
+ghost use Rattle.std.specs.Prelude.{◌≡◌, IfOk, OnErr, OnOk};
 ghost use Rattle.driver.specs.Answering.{Drops};
 ghost use Rattle.driver.specs.Dropping.{EndsDrop, MayWait, TellsDropped, drop_words, dropped_text, dropping_begun};
 ghost use Rattle.driver.specs.Dropping.{drops, has_waiting, may_have_waiting, more_dropped, waiting_left};

@@ -2,13 +2,12 @@
 ghost use Rattle.std.specs.Prelude.{◌≡◌, ◌-◌, is_some, slice_get, IfOk, OnOk};
 ghost use Rattle.bouncer_tower.specs.Hosting.{class_of};
 ghost use Rattle.driver.specs.Passing.{PassEach, Passes, PassesBy, ReachesClient};
-ghost use Rattle.driver.specs.Driving.{changed_at, orders_at, told_of};
+ghost use Rattle.driver.specs.Driving.{orders_at, told_of};
 ghost use Rattle.driver.specs.Retiring.{fresh};
 ghost use Rattle.driver.specs.Rounds.{retirement_begun, retirement_told};
 ghost use Rattle.driver.specs.Nicks.{nick_in};
-ghost use Rattle.driver.specs.Hearing.{heard_behind, heard_news, heard_of};
 ghost use Rattle.driver.specs.Reports.{Begins, BeginsIf, Hears, Stands, WordsBy, heard_at};
-ghost use Rattle.driver.specs.Telling.{ordered, told_to};
+ghost use Rattle.driver.specs.Telling.{ordered};
 ghost use Rattle.driver.specs.Writing.{link_passed};
 
 use crate::absence::Absence;
