@@ -37,7 +37,7 @@ bodies_append [] e = refl
 bodies_append (x ∷ xs) e = ap (λ z. x.body ∷ z) (bodies_append xs e)
 
 -- the history with one entry more
-history_more : (xs : List (Entry TowerBody)) (e : Entry TowerBody) → history (xs ++ e ∷ []) ≡ (1 + length (map (λ z. z.body) xs), e.body) ∷ history xs
+pub history_more : (xs : List (Entry TowerBody)) (e : Entry TowerBody) → history (xs ++ e ∷ []) ≡ (1 + length (map (λ z. z.body) xs), e.body) ∷ history xs
 history_more xs e = ap (λ z. came 1 z []) (bodies_append xs e) ∙ came_one_more 1 (map (λ z. z.body) xs) e.body []
 
 module _ (s : Settings) where
@@ -79,10 +79,10 @@ module _ (s : Settings) where
     named : Named names l
     named = (named_run bouncer names tells (get_ready bouncer set w) w (named_run bouncer names tells es (start size) (named_start bouncer names tells size))).each c l at_l
 
-    under : AllUnder id (history l.log)
+    pub under : AllUnder id (history l.log)
     under = subst (λ z. AllUnder z.id (history l.log)) same (came_under (new_session l).id 1 l.log [] (next_above bouncer names tells l named leads) tt)
 
-    log_is : L2 ≡ l.log ++ record { term = o.leader.term; body = of_sessions (Opened id) } ∷ []
+    pub log_is : L2 ≡ l.log ++ record { term = o.leader.term; body = of_sessions (Opened id) } ∷ []
     log_is = ap log_of o.at ∙ (o.log_is ∙ ap (λ z. z ++ record { term = o.leader.term; body = of_sessions (Opened id) } ∷ []) (ap log_of at_l))
 
     force : session (history L2) ≡ Some id

@@ -117,7 +117,7 @@ opened_now u p id new =
     ap (λ z. unless_shut ((p, fence.Opened id) ∷ u) z) (cond-true (is_new (greatest u) id) (Some id) (greatest u) new)
     ∙ cond-false (was_shut u id) None (Some id) (not_opened-not_shut u id (new-not_opened u id new))
 
-unclaimed_opened : (h : History TowerBody) (p : ℕ) (id : SessionId) → unclaimed ((p, of_sessions (fence.Opened id)) ∷ h) ≡ (p, fence.Opened id) ∷ unclaimed h
+pub unclaimed_opened : (h : History TowerBody) (p : ℕ) (id : SessionId) → unclaimed ((p, of_sessions (fence.Opened id)) ∷ h) ≡ (p, fence.Opened id) ∷ unclaimed h
 unfolding unclaimed accepted requests.plain fresh lines.plain
 unclaimed_opened h p id = refl
 

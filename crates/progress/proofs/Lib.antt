@@ -35,3 +35,5 @@ pub mod Naming
 pub mod Ids
 pub mod Handing
 pub mod Handed
+pub mod Joining
+pub mod Joined

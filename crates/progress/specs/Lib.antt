@@ -3,3 +3,4 @@ pub mod Laws
 pub mod Looks
 pub mod Sessions
 pub mod Handing
+pub mod Joining

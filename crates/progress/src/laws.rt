@@ -7,6 +7,7 @@ ghost use Rattle.world_run.specs.World.{Event};
 ghost use Rattle.progress.specs.Laws.{CanBeElected, CanSettle, ClientsMayAsk, HasCandidate};
 ghost use Rattle.progress.specs.Laws.{NewHasRoom, NothingWedges};
 ghost use Rattle.progress.specs.Handing.{NewIsInForce, WaitingIsHanded};
+ghost use Rattle.progress.specs.Joining.{SessionsJoin, channels_held};
 ghost use Rattle.progress.specs.Looks.{LooksArePlayed};
 ghost use Rattle.progress.specs.Sessions.{SessionsCanOpen, WaitingIsClaimed};
 
@@ -67,14 +68,25 @@ pub fn a_line_that_waits_is_handed()
         WaitingIsHanded (⟦<Tower as Described>⟧.machine s) (λ h number. slice_get (outgoing s h) (number - 1)) size es }
 {}
 
+/// With the machine of the bouncer the session that is opened joins each channel again that the buffers hold then, by the line
+/// JOIN that leaves at the leader for that session: the channels of the setup and those that were joined since, but those that
+/// were left. Nothing else leaves by the word of it, and the buffers go on to hold the same channels.
+pub fn a_session_joins_its_channels_again()
+    ensures { (s : Settings) (size : ℕ) (es : List (Event (⟦<Tower as Described>⟧.machine s))) →
+        SessionsJoin (⟦<Tower as Described>⟧.machine s) (channels_held s) size es }
+{}
+
 /// The same of the machine of the bouncer, whatever its setup.
 pub fn no_bouncer_wedges()
     ensures through { (s : Settings) → OverAll (⟦<Tower as Described>⟧.machine s) NothingWedges }
     ensures clients { (s : Settings) → ClientsMayAsk (⟦<Tower as Described>⟧.machine s) }
     ensures looks { (s : Settings) → OverAll (⟦<Tower as Described>⟧.machine s) LooksArePlayed }
     ensures sessions { (s : Settings) → OverAll (⟦<Tower as Described>⟧.machine s) SessionsCanOpen }
+    ensures channels { (s : Settings) (size : ℕ) (es : List (Event (⟦<Tower as Described>⟧.machine s))) →
+        SessionsJoin (⟦<Tower as Described>⟧.machine s) (channels_held s) size es }
 {
     nothing_wedges::<Tower>();
     a_look_is_played::<Tower>();
     a_session_can_be_opened::<Tower>();
+    a_session_joins_its_channels_again();
 }
