@@ -26,10 +26,10 @@ abbrev pub channels_held : Settings → History TowerBody → List (List ℕ)
 channels_held s h = channels s (commands (plain h))
 
 module _ (M : Machine) where
-  -- By these events the leader's new session is opened. Where its word is applied, by the last of
-  -- them, there leaves for each channel that was held, in turn, the line that joins it, by that
-  -- session, and nothing else; and the same channels are held then. `held` is which are, by what
-  -- was applied.
+  -- By these events the leader's new session is opened. The last of them applies its word there,
+  -- and what leaves by that is the line that joins each channel that was held before it, in order,
+  -- for that session, and nothing else. The same channels are held behind it. `held` gives the
+  -- channels that are held by what was applied.
   pub record IsJoined
       (held : History M.Body → List (List ℕ)) (set : List Bool) (w : World M) (es : List (Event M))
       : Type 0 where
