@@ -52,16 +52,17 @@ server_text_by None ms = codes "The server: connected for " ++ time_text ms
 abbrev pub server_text : Link → ℕ → List ℕ
 server_text link now = server_text_by (missing link.stage link.ended now) (stands_for link.stage now)
 
--- lines that are said may wait in the log besides
-abbrev pub more_text : Bool → List ℕ
-more_text true = codes " More lines wait in the log."
-more_text false = []
+-- lines that are said may wait in the log besides, and may be being dropped there
+abbrev pub more_text : Bool → Bool → List ℕ
+more_text more true = codes " What waits in the log is being dropped."
+more_text true false = codes " More lines wait in the log."
+more_text false false = []
 
 -- what waits to go out
-abbrev pub waiting_text : Waiting → Bool → List ℕ
-waiting_text waiting more =
+abbrev pub waiting_text : Waiting → Bool → Bool → List ℕ
+waiting_text waiting more drops =
     codes "To go out: " ++ decimal (length waiting.said) ++ codes " lines, " ++ decimal (length waiting.questions)
-    ++ codes " questions who is in a channel." ++ more_text more
+    ++ codes " questions who is in a channel." ++ more_text more drops
 
 -- a line waits to be claimed by the node that leads, if one leads
 abbrev pub waits_in_log : Option ℕ → List NodeMonitor → Bool
@@ -77,7 +78,8 @@ log_text (Some entries) = codes "The log: " ++ decimal entries ++ codes " of 100
 abbrev pub standing_texts : Option ℕ → ℕ → Driver → List (List ℕ)
 standing_texts leader now driver =
     nodes_text leader (take driver.settings.size driver.monitors) ∷ server_text driver.link now
-    ∷ waiting_text driver.link.waiting (waits_in_log leader driver.monitors) ∷ log_text (entries_of driver.monitors leader) ∷ []
+    ∷ waiting_text driver.link.waiting (waits_in_log leader driver.monitors) (is_some driver.dropping)
+    ∷ log_text (entries_of driver.monitors leader) ∷ []
 
 -- the name of a client
 abbrev pub name_text : Option (List ℕ) → List ℕ

@@ -133,7 +133,8 @@ impl Driver {
         let size = self.settings.size.value() as usize;
         let nodes = nodes_text(self.alloc, leader, &self.monitors[..size])?;
         let server = self.link.standing(now)?;
-        let waiting = self.link.waiting(self.waits_in_log(leader))?;
+        let drops = self.dropping.is_some();
+        let waiting = self.link.waiting(self.waits_in_log(leader), drops)?;
         let log = log_text(self.alloc, self.entries_of(leader))?;
         self.tell_lines(
             number,

@@ -35,25 +35,28 @@ impl Link {
         }
     }
 
-    /// What waits to go out, where more waits in the log, or does not.
-    pub fn waiting(&self, waits_in_log: bool) -> Result<Vec<u8>, AllocError>
-        ensures { IfOk result (λ text. text.items ≡ waiting_text self.now.waiting waits_in_log) }
+    /// What waits to go out, where more waits in the log, or does not, and is being dropped, or is not.
+    pub fn waiting(&self, waits_in_log: bool, drops: bool) -> Result<Vec<u8>, AllocError>
+        ensures { IfOk result (λ text.
+            text.items ≡ waiting_text self.now.waiting waits_in_log drops) }
     {
         let mut text = Vec::from_slice(self.alloc, b"To go out: ")?;
         push_number(&mut text, self.waiting.said_count() as u64)?;
         text.extend_from_slice(b" lines, ")?;
         push_number(&mut text, self.waiting.question_count() as u64)?;
         text.extend_from_slice(b" questions who is in a channel.")?;
-        text.extend_from_slice(more_text(waits_in_log))?;
+        text.extend_from_slice(more_text(waits_in_log, drops))?;
         Ok(text)
     }
 }
 
-/// Whether more waits in the log, in words.
-fn more_text(waits_in_log: bool) -> &'static [u8]
-    ensures { result.now ≡ more_text waits_in_log }
+/// Whether more waits in the log, or is being dropped there, in words.
+fn more_text(waits_in_log: bool, drops: bool) -> &'static [u8]
+    ensures { result.now ≡ more_text waits_in_log drops }
 {
-    if waits_in_log {
+    if drops {
+        b" What waits in the log is being dropped."
+    } else if waits_in_log {
         b" More lines wait in the log."
     } else {
         b""

@@ -1,4 +1,4 @@
-use Rattle.std.proofs.Common.{rules, ◌≡◌, ◌∙◌, ℕ, List, [], ◌∷◌, refl, take, subst}
+use Rattle.std.proofs.Common.{rules, ◌≡◌, ◌∙◌, ℕ, List, [], ◌∷◌, is_some, refl, take, subst}
 use Rattle.std.proofs.lemmas.Result.{on_ok_weaker}
 use Rattle.driver.specs.Answering.{AreTold}
 use Rattle.driver.specs.Filling.{entries_of}
@@ -12,7 +12,7 @@ returns-clause-told c =
     let old = c.args.self.now in
     let nodes : c.as_slice.result.now ≡ nodes_text c.args.leader.now (take old.settings.size old.monitors) = search rules in
     let server : c.as_slice-2.result.now ≡ server_text old.link c.args.now.now.ms = search rules in
-    let waiting : c.as_slice-3.result.now ≡ waiting_text old.link.waiting (waits_in_log c.args.leader.now old.monitors) = search rules in
+    let waiting : c.as_slice-3.result.now ≡ waiting_text old.link.waiting (waits_in_log c.args.leader.now old.monitors) (is_some old.dropping) = search rules in
     let log : c.as_slice-4.result.now ≡ log_text (entries_of old.monitors c.args.leader.now) = search rules in
     let same : (c.as_slice.result.now ∷ c.as_slice-2.result.now ∷ c.as_slice-3.result.now ∷ c.as_slice-4.result.now ∷ []) ≡ standing_texts c.args.leader.now c.args.now.now.ms old =
     rw (nodes, server, waiting, log) refl
