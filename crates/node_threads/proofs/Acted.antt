@@ -1,5 +1,5 @@
 -- What a worker does with its node in a round, behind its jobs, as a list of acts.
-use Rattle.std.proofs.Common.{◌≡◌, inl, inr, ⊎_elim, ℕ, zero, suc, Bool, true, false, List, [], ◌∷◌, ◌++◌, take, Option, refl, sym, ap, ◌∙◌, subst, append_assoc, append-nil}
+use Rattle.std.proofs.Common.{◌≡◌, ◌↔◌, inl, inr, ⊎_elim, ℕ, zero, suc, Bool, true, false, List, [], ◌∷◌, ◌++◌, take, Option, refl, sym, ap, ◌∙◌, subst, append_assoc, append-nil}
 use Rattle.std.specs.List.{AllByRecursion}
 use Rattle.wire_bytes.specs.declared.mark.Mark.{Mark}
 use Rattle.raft_log.specs.Batches.{batch_limit}
@@ -17,7 +17,7 @@ use Rattle.node_threads.specs.Served.{Act, ActOf, HasActed, HasLookedOn, asked_i
 use Rattle.node_threads.specs.Served.Act.{Asks, Goes, Looks, Works}
 use Rattle.node_threads.specs.Taking.{HasDoneAll, Piece, PieceOf}
 use Rattle.node_threads.specs.Waiting.{Account, AsksFirst, HaveComeBack}
-use Rattle.node_threads.specs.Work.{AsksBefore, AsksWhere, Deed, Does, HasAskedEach, HasAskedFirstOf, HasAskedOn, HasAskedSome, HasAskedTogether, HasGoneRound, HasHadTurn, applies, beats_on, takes_but, takes_unless}
+use Rattle.node_threads.specs.Work.{AsksBefore, AsksWhere, Deed, Does, HasAskedEach, HasAskedFirstOf, HasAskedOn, HasAskedOne, HasAskedTogether, HasAskedUpTo, HasGoneRound, HasHadTurn, applies, beats_on, takes_but, takes_unless}
 use Rattle.node_threads.proofs.Fated.{all_both, fate_back, fate_first, fate_none, fate_together, fates_both}
 
 module _ {J B L : Type 0} where
@@ -163,10 +163,13 @@ module _ (M : Machine) {Setup Hosted Store U : Type 0} (tally : U → Tally) (ma
   gone_one (r ∷ w) false a c b d is cell requests =
       gone_both a c a cell.seen b d (gone_looks a c cell.seen (inl (cell.may, cell.looked))) (gone_none a cell.seen b d requests (may_not M tally r.body cell.may cell.seen d cell.asks))
 
-  gone_some : (n : ℕ) (a : Account M.Body) (c : CellOf M Setup Hosted Store U) (b : Account M.Body) (d : CellOf M Setup Hosted Store U) → HasAskedSome M tally n a c b d → HasGone a c b d
-  gone_some zero a c b d h = gone_none a c b d h.0 h.1
-  gone_some (suc n) a c b d h =
-      gone_both a c h.1 h.2 b d (gone_one a.requests.waiting h.0 a c h.1 h.2 refl h.3.cell h.3.requests) (gone_some n h.1 h.2 b d h.4)
+  gone_up_to : (n : ℕ) (a : Account M.Body) (c : CellOf M Setup Hosted Store U) (over : Bool) (b : Account M.Body) (d : CellOf M Setup Hosted Store U) → HasAskedUpTo M tally n a c over b d
+      → HasGone a c b d
+  gone_up_to zero a c over b d h = gone_none a c b d h.1 h.2
+  gone_up_to (suc n) a c over b d h =
+      ⊎_elim (λ (s : HasAskedOne M tally a false c b d × (over ≡ true)). gone_one a.requests.waiting false a c b d refl s.0.cell s.0.requests)
+      (λ (s : (m : Account M.Body) × (e : CellOf M Setup Hosted Store U) × HasAskedOne M tally a true c m e × HasAskedUpTo M tally n m e over b d).
+      gone_both a c s.0 s.1 b d (gone_one a.requests.waiting true a c s.0 s.1 refl s.2.cell s.2.requests) (gone_up_to n s.0 s.1 over b d s.3)) h
 
   gone_together : (a : Account M.Body) (c : CellOf M Setup Hosted Store U) (b : Account M.Body) (d : CellOf M Setup Hosted Store U) → HasAskedTogether M tally a c b d → HasGone a c b d
   gone_together a c b d h =
@@ -175,22 +178,23 @@ module _ (M : Machine) {Setup Hosted Store U : Type 0} (tally : U → Tally) (ma
         acts = Asks front ∷ [];
         acted = (d, inr h.turned, refl);
         none = refl;
-        fates = subst (λ (l : List (Request M.Body)). EachHasOneFate [] l false a.requests b.requests) (sym (append-nil front)) (fate_together a b h.requests);
+        fates = subst (λ (l : List (Request M.Body)). EachHasOneFate [] l false a.requests b.requests) (sym (append-nil front)) (fate_together (term_in c) a b h.requests);
         done_is = h.requests.done_is;
       }
 
-  gone_asks : (a : Account M.Body) (c : CellOf M Setup Hosted Store U) (b : Account M.Body) (d : CellOf M Setup Hosted Store U) → HasAskedOn M tally a c b d → HasGone a c b d
-  gone_asks a c b d h =
-      ⊎_elim (λ (s : HasAskedTogether M tally a c b d). gone_together a c b d s) (λ (s : HasAskedEach M tally a c b d). gone_some s.0 a c b d s.1) h
+  gone_asks : (a : Account M.Body) (c : CellOf M Setup Hosted Store U) (over : Bool) (b : Account M.Body) (d : CellOf M Setup Hosted Store U) → HasAskedOn M tally a c over b d → HasGone a c b d
+  gone_asks a c over b d h =
+      ⊎_elim (λ (s : HasAskedTogether M tally a c b d × ((over ≡ true) ↔ (b.requests.waiting ≡ []))). gone_together a c b d s.0)
+      (λ (s : HasAskedEach M tally a c over b d). gone_up_to s.0 a c over b d s.2) h
 
   gone_before : (first : Bool) (a : Account M.Body) (c : CellOf M Setup Hosted Store U) (b : Account M.Body) (d : CellOf M Setup Hosted Store U) → AsksBefore M tally first a c b d → HasGone a c b d
   gone_before true a c b d h = gone_one a.requests.waiting h.0 a c b d refl h.1.cell h.1.requests
   gone_before false a c b d h = gone_none a c b d h.0 h.1
 
   -- what a round does behind its jobs
-  pub gone_round : (forwarded : Option ℕ) (a : Account M.Body) (c : CellOf M Setup Hosted Store U) (b : Account M.Body) (d : CellOf M Setup Hosted Store U)
-      → HasGoneRound M tally forwarded a c b d → HasGone a c b d
-  gone_round forwarded a c b d h =
+  pub gone_round : (forwarded : Option ℕ) (a : Account M.Body) (c : CellOf M Setup Hosted Store U) (leaves : Bool) (b : Account M.Body) (d : CellOf M Setup Hosted Store U)
+      → HasGoneRound M tally forwarded a c leaves b d → HasGone a c b d
+  gone_round forwarded a c leaves b d h =
       let first = h.account_first in
       let heard = h.account_heard in
       let asked = h.account_asked in
@@ -198,6 +202,6 @@ module _ (M : Machine) {Setup Hosted Store U : Type 0} (tally : U → Tally) (ma
       (gone_both first h.first first h.seen b d (gone_looks first h.first h.seen (inr (_, h.left, h.leaves)))
       (gone_both first h.seen first h.heard b d (gone_does (takes_but h.left h.seen.ether.size) first h.seen h.heard (takes_nothing M.Body M.Line h.left h.seen.ether.size) h.takes)
       (gone_both first h.heard heard h.heard b d (gone_back first heard h.heard h.taken_back)
-      (gone_both heard h.heard asked h.asked b d (gone_asks heard h.heard asked h.asked h.asks)
+      (gone_both heard h.heard asked h.asked b d (gone_asks heard h.heard h.all_asked asked h.asked h.asks)
       (gone_both asked h.asked asked h.applied b d (gone_does (applies h.applies_on.0) asked h.asked h.applied (applies_nothing M.Body M.Line h.applies_on.0) h.applies_on.1)
       (gone_both asked h.applied asked d b d (gone_does (beats_on h.has_news) asked h.applied d (beats_nothing M.Body M.Line h.has_news) h.beats) (gone_back asked b d h.come_back)))))))

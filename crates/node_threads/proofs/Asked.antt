@@ -1,11 +1,12 @@
 -- The requests that a leader is asked together are the first of those that wait.
-use Rattle.std.proofs.Common.{◌≡◌, ◌≤◌, inl, ⊎_elim, true, ℕ, zero, suc, List, [], ◌∷◌, ◌++◌, length, take, drop, min, refl, sym, ap, ◌∙◌, subst, append_assoc, append-nil, arith}
+use Rattle.std.proofs.Common.{◌≡◌, ◌≤◌, inl, ⊎_elim, true, ℕ, Option, Some, zero, suc, List, [], ◌∷◌, ◌++◌, length, take, drop, min, refl, sym, ap, ◌∙◌, subst, append_assoc, append-nil, arith}
 use Rattle.std.proofs.lemmas.List.{drop_min, take_min}
 use Rattle.raft_log.specs.Batches.{batch_limit}
 use Rattle.world_views.specs.Inputs.{NodeInput}
 use Rattle.raft_node.specs.declared.input.Input.TheVariants.{Ask}
+use Rattle.node_threads.specs.declared.worker_loop.requests.Asked.{Asked}
 use Rattle.node_threads.specs.declared.worker_loop.requests.Request.{Request}
-use Rattle.node_threads.specs.Requests.{request}
+use Rattle.node_threads.specs.Requests.{last_asked, request}
 use Rattle.node_threads.specs.Reports.{leads_in}
 use Rattle.node_threads.specs.Together.{AreReady, TakesFront, asks_of}
 use Rattle.node_threads.proofs.Taken.{none_ready}
@@ -15,6 +16,30 @@ use Rattle.node_cells.specs.Inputs.{OnlyAppend}
 module _ {B : Type 0} where
   pub next_left : (old new rest : List (Request B)) (note : ℕ) (body : B) (n m : ℕ) → n ≡ suc m → old ≡ request note body ∷ new → drop n old ≡ rest → drop m new ≡ rest
   next_left old new rest note body n m next is h = sym (λ i. drop (next i) (is i)) ∙ h
+
+  -- one more is asked
+  pub next_last : (term : ℕ) (old new : List (Request B)) (note : ℕ) (body : B) (before now all : Option Asked) (n m : ℕ) → n ≡ suc m → old ≡ request note body ∷ new
+      → now ≡ Some (record { note = note; term = term; may_return = true }) → last_asked term (take n old) before ≡ all → last_asked term (take m new) now ≡ all
+  next_last term old new note body before now all n m next is last h =
+      ap (last_asked term (take m new)) last ∙ sym (λ i. last_asked term (take (next i) (is i)) before) ∙ h
+
+  none_left : (n : ℕ) (w : List (Request B)) → w ≡ [] → take n w ≡ []
+  none_left zero w is = refl
+  none_left (suc n) w is = ap (take (suc n)) is
+
+  all_last : (term : ℕ) (old left : List (Request B)) (before now : Option Asked) (m : ℕ) → m ≡ min batch_limit (length old) → left ≡ [] → last_asked term left now ≡ last_asked term (take m old) before
+      → now ≡ last_asked term (take batch_limit old) before
+  all_last term old left before now m many none h =
+      sym (ap (λ (l : List (Request B)). last_asked term l now) none) ∙ h ∙ (λ i. last_asked term (take (many i) old) before) ∙ ap (λ (l : List (Request B)). last_asked term l before) (take_min batch_limit old)
+
+  -- the last of those that were asked was asked last, since so many were or none waits any more
+  pub last_of_many : (term : ℕ) (old new : List (Request B)) (before now : Option Asked) (n m : ℕ) → m ≡ min batch_limit (length old) → n ≡ 0
+      → last_asked term (take n new) now ≡ last_asked term (take m old) before → now ≡ last_asked term (take batch_limit old) before
+  last_of_many term old new before now n m many end h = all_last term old (take n new) before now m many (ap (λ k. take k new) end) h
+
+  pub last_of_all : (term : ℕ) (old new : List (Request B)) (before now : Option Asked) (n m : ℕ) → m ≡ min batch_limit (length old) → new ≡ []
+      → last_asked term (take n new) now ≡ last_asked term (take m old) before → now ≡ last_asked term (take batch_limit old) before
+  last_of_all term old new before now n m many none h = all_last term old (take n new) before now m many (none_left n new none) h
 
   few_taken : (n : ℕ) (w : List (Request B)) → length (take n w) ≤ n
   few_taken zero w = omega arith

@@ -1,5 +1,5 @@
 -- What becomes of the requests that a worker is told, over several steps.
-use Rattle.std.proofs.Common.{◌≡◌, ◌≤◌, ◌||◌, ⊎_elim, ℕ, Bool, true, false, List, [], ◌∷◌, ◌++◌, take, take-append-drop, Some, refl, sym, ap, ◌∙◌, subst, append_assoc, append-nil, if◌then◌else◌, nat_eq, arith}
+use Rattle.std.proofs.Common.{◌≡◌, ◌≤◌, ◌+◌, ◌||◌, ⊎_elim, ℕ, Bool, true, false, List, [], ◌∷◌, ◌++◌, take, take-append-drop, Some, refl, sym, ap, ◌∙◌, subst, append_assoc, append-nil, if◌then◌else◌, nat_eq, arith}
 use Rattle.std.proofs.lemmas.List.Sorted.{IsPermutation-append_comm, IsPermutation-append_left, IsPermutation-append_right, IsPermutation-refl, IsPermutation-to_front, IsPermutation-trans, sum_by-IsPermutation}
 use Rattle.std.proofs.lemmas.List.Sums.{sum_by-append}
 use Rattle.std.specs.Prelude.{IsPermutation}
@@ -9,10 +9,11 @@ use Rattle.node_notes.specs.declared.note.Note.TheVariants as note
 use Rattle.node_threads.specs.declared.job.Job.{Job}
 use Rattle.node_threads.specs.declared.job.Job.TheVariants as job
 use Rattle.node_threads.specs.declared.worker_loop.requests.Request.{Request}
-use Rattle.node_threads.specs.Fates.{EachHasOneFate, IsCounted, counted_by, counted_by_all, is_restart, request_by, requests_by}
+use Rattle.node_threads.specs.Fates.{EachHasOneFate, IsCounted, counted_by, counted_by_all, is_restart, may_come, request_by, requests_by}
 use Rattle.node_threads.specs.Reports.{is_end}
-use Rattle.node_threads.specs.Requests.{HasAsked, Queue, WaitsOrIsLost, behind, ended, lose, request}
+use Rattle.node_threads.specs.Requests.{HasAsked, Queue, WaitsOrIsLost, behind, ended, last_asked, lose, request}
 use Rattle.node_threads.specs.Waiting.{Account, AsksFront, HaveComeBack, Heeds, HeedsUnless, counted}
+use Rattle.node_threads.proofs.Counted.{came_once, last_once, times_both}
 use Rattle.node_threads.proofs.Waiting.{lost_by_asking}
 
 -- ---- lists in another order
@@ -86,6 +87,12 @@ module _ {B : Type 0} where
         ended_by_restart = λ is. let no = neither r1 r2 is in (λ i. one.ended_by_restart no.0 i ++ two.ended_by_restart no.1 i);
         lost_is_told = all_both (λ (r : Request B). r.note ≤ n.lost) one.lost two.lost (lost_still m.lost n.lost one.lost more one.lost_is_told) two.lost_is_told;
         lost_grows = omega (arith, least, more);
+        back_once = λ number.
+            let first = one.back_once number in
+            let more = two.back_once number in
+            let backs = times_both number one.back two.back in
+            let asks = times_both number s1 s2 in
+            omega (arith, first, more, backs, asks);
         in_order = λ back ends lost.
             let b = none_both one.back two.back back in
             let e = none_both one.ended two.ended ends in
@@ -105,6 +112,7 @@ module _ {B : Type 0} where
         ended_by_restart = λ no. refl;
         lost_is_told = tt;
         lost_grows = omega arith;
+        back_once = λ number. omega arith;
         in_order = λ back ends lost. append-nil q.waiting;
       })
 
@@ -119,6 +127,7 @@ module _ {B : Type 0} where
         ended_by_restart = λ no. refl;
         lost_is_told = tt;
         lost_grows = h.lost_grows;
+        back_once = λ number. let once = came_once a.requests.asked b.requests.asked h.back number h.came in omega (arith, once);
         in_order = λ back ends lost. append-nil w ∙ sym (h.waiting_is ∙ ap (λ l. l ++ w) back);
       }
 
@@ -136,6 +145,7 @@ module _ {B : Type 0} where
         ended_by_restart = λ no. refl;
         lost_is_told = tt;
         lost_grows = omega arith;
+        back_once = λ number. omega arith;
         in_order = λ back ends lost. refl;
       }))
       (λ (lost : n ≡ lose number q).
@@ -148,6 +158,7 @@ module _ {B : Type 0} where
         ended_by_restart = λ no. refl;
         lost_is_told = (omega arith, tt);
         lost_grows = omega arith;
+        back_once = λ number. omega arith;
         in_order = λ back ends none. absurd (cc none);
       })) is
 
@@ -163,12 +174,14 @@ module _ {B : Type 0} where
         ended_by_restart = λ no. absurd (cc no);
         lost_is_told = tt;
         lost_grows = omega arith;
+        back_once = λ number. omega arith;
         in_order = λ back ends lost. append-nil q.waiting ∙ ends;
       })
 
   -- so many of the first that wait were asked
-  fate_front : (asked : List (Request B)) (q n : Queue B) → q.waiting ≡ asked ++ n.waiting → q.lost ≤ n.lost → EachHasOneFate [] asked false q n
-  fate_front asked q n is grows =
+  fate_front : (asked : List (Request B)) (term : ℕ) (q n : Queue B) → q.waiting ≡ asked ++ n.waiting → n.asked ≡ last_asked term asked q.asked → q.lost ≤ n.lost
+      → EachHasOneFate [] asked false q n
+  fate_front asked term q n is last grows =
       record {
         back = [];
         ended = [];
@@ -178,20 +191,24 @@ module _ {B : Type 0} where
         ended_by_restart = λ no. refl;
         lost_is_told = tt;
         lost_grows = grows;
+        back_once = λ number.
+            let now = ap (may_come number) last in
+            let once = last_once term asked q.asked number in
+            omega (arith, now, once);
         in_order = λ back ends lost. append-nil q.waiting ∙ is;
       }
 
-  pub fate_together : (a b : Account B) → AsksFront a b → EachHasOneFate [] (take batch_limit a.requests.waiting) false a.requests b.requests
-  fate_together a b h =
+  pub fate_together : (term : ℕ) (a b : Account B) → AsksFront term a b → EachHasOneFate [] (take batch_limit a.requests.waiting) false a.requests b.requests
+  fate_together term a b h =
       let w = a.requests.waiting in
-      fate_front (take batch_limit w) a.requests b.requests (sym (take-append-drop batch_limit w) ∙ ap (λ l. take batch_limit w ++ l) (sym h.waiting_is)) h.lost_grows
+      fate_front (take batch_limit w) term a.requests b.requests (sym (take-append-drop batch_limit w) ∙ ap (λ l. take batch_limit w ++ l) (sym h.waiting_is)) h.asked_is h.lost_grows
 
   -- the first was asked, and then some came back
   pub fate_first : (term : ℕ) (a b : Account B) (body : B) (left : Queue B) → (h : HasAsked term a.requests (Some body) left) → HaveComeBack (record a { requests = left }) b
       → EachHasOneFate [] (request h.0 body ∷ []) false a.requests b.requests
   fate_first term a b body left h back =
       let r = request h.0 body in
-      let one = fate_front (r ∷ []) a.requests left h.1 (lost_by_asking term a.requests body left h) in
+      let one = fate_front (r ∷ []) term a.requests left h.1 (ap (λ (z : Queue B). z.asked) h.2) (lost_by_asking term a.requests body left h) in
       fates_both [] (r ∷ []) [] [] false false a.requests left b.requests one (fate_back (record a { requests = left }) b back)
 
   -- by its number
@@ -205,7 +222,7 @@ module _ {B : Type 0} where
       let three = sum_by-append f (asked ++ (h.ended ++ h.lost)) n.waiting in
       let four = sum_by-append f asked (h.ended ++ h.lost) in
       let five = sum_by-append f h.ended h.lost in
-      omega (arith, all, one, two, three, four, five)
+      (omega (arith, all, one, two, three, four, five), h.back_once number)
 
 module _ {M A L T P S C E : Type 0} where
   abbrev IsFated : Job M A L T P S C E → Account C → Account C → Type 0

@@ -85,13 +85,13 @@ module _ (M : Machine) {Setup Hosted Store U : Type 0} (tally : U → Tally) whe
   home_after_note note.Restart c d h = home_after_restart M c h.0 d h.1
   home_after_note note.End c d h = same_home c d h
 
-  pub home_after_round : (forwarded : Option ℕ) (a : Account M.Body) (c : CellOf M Setup Hosted Store U) (b : Account M.Body) (d : CellOf M Setup Hosted Store U)
-      → HasGoneRound M tally forwarded a c b d → IsSameHome c d
-  home_after_round forwarded a c b d h =
+  pub home_after_round : (forwarded : Option ℕ) (a : Account M.Body) (c : CellOf M Setup Hosted Store U) (leaves : Bool) (b : Account M.Body) (d : CellOf M Setup Hosted Store U)
+      → HasGoneRound M tally forwarded a c leaves b d → IsSameHome c d
+  home_after_round forwarded a c leaves b d h =
       same_home_still c h.first d (home_before M tally _ a c h.account_first h.first h.asks_before)
       (same_home_still h.first h.seen d (home_left _ h.first h.left h.seen h.leaves)
       (same_home_still h.seen h.heard d (home_after_taking h.left h.seen h.heard h.takes)
-      (same_home_still h.heard h.asked d (home_asked M tally h.account_heard h.heard h.account_asked h.asked h.asks)
+      (same_home_still h.heard h.asked d (home_asked M tally h.account_heard h.heard h.all_asked h.account_asked h.asked h.asks)
       (same_home_still h.asked h.applied d (home_after _ h.asked h.applied h.applies_on.1) (home_after _ h.applied d h.beats)))))
 
   -- a note that is this one was done

@@ -7,6 +7,7 @@ mod Going
 mod Inflows
 mod Waited
 mod Waiting
+mod Counted
 mod Covered
 mod Taken
 mod GivenDone

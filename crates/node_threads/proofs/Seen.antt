@@ -1,5 +1,5 @@
 -- That looks whether a message was taken, and requests that are asked, leave a cell its node's.
-use Rattle.std.proofs.Common.{◌≡◌, inl, inr, ⊎_elim, ℕ, zero, suc, Bool, true, false, List, [], ◌∷◌, take, Option, None, Some, refl, sym, ap, subst}
+use Rattle.std.proofs.Common.{◌≡◌, ◌↔◌, inl, inr, ⊎_elim, ℕ, zero, suc, Bool, true, false, not, List, [], ◌∷◌, take, Option, None, Some, refl, sym, ap, subst}
 use Rattle.raft_log.specs.Batches.{batch_limit}
 use Rattle.raft_node.specs.Machine.{Machine}
 use Rattle.raft_log.specs.declared.position.Position.{Position}
@@ -16,9 +16,14 @@ use Rattle.node_threads.specs.Asking.{HasLeft, HasSeenIf, MayAsk, MayIn, MayUp, 
 use Rattle.node_threads.specs.Homes.{IsSameHome}
 use Rattle.node_threads.specs.Requests.{request}
 use Rattle.node_threads.specs.Waiting.{Account}
-use Rattle.node_threads.specs.Work.{AsksBefore, AsksWhere, HasAskedEach, HasAskedFirstOf, HasAskedOn, HasAskedOne, HasAskedSome, HasAskedTogether, HasHadTurn, HasTriedTogether}
+use Rattle.node_threads.specs.Work.{AsksBefore, AsksWhere, HasAskedEach, HasAskedFirstOf, HasAskedOn, HasAskedOne, HasAskedTogether, HasAskedUpTo, HasHadTurn, HasTriedTogether}
 use Rattle.node_threads.specs.Together.{asks_of}
 use Rattle.node_threads.proofs.Home.{home_after_all, home_after_input, home_after_seen, same_home, same_home_still}
+
+-- that none waits, by what says whether one does
+pub none_left : {A : Type 0} (some : Bool) (waiting : List A) → (some ≡ false → waiting ≡ []) → (waiting ≡ [] → some ≡ false) → (not some ≡ true) ↔ (waiting ≡ [])
+none_left true waiting none waits = (λ is. absurd (cc is), λ is. absurd (let clash : true ≡ false = waits is in cc clash))
+none_left false waiting none waits = (λ is. none refl, λ is. refl)
 
 module _ {Setup Hosted Store B L T E P U : Type 0} where
   pub home_seen_if : (node : ℕ) (c : CellParts Setup Hosted Store B L T E P U) (taken : Bool) (d : CellParts Setup Hosted Store B L T E P U) → HasSeenIf node c taken d → IsSameHome c d
@@ -81,14 +86,19 @@ module _ (M : Machine) {Setup Hosted Store U : Type 0} (tally : U → Tally) whe
       → IsSameHome c d
   home_asked_one a asked c b d h = home_first_of a.requests.waiting asked c d h.cell
 
-  home_some : (n : ℕ) (a : Account M.Body) (c : CellOf M Setup Hosted Store U) (b : Account M.Body) (d : CellOf M Setup Hosted Store U) → HasAskedSome M tally n a c b d → IsSameHome c d
-  home_some zero a c b d h = same_home c d h.1
-  home_some (suc n) a c b d h = same_home_still c h.2 d (home_asked_one a h.0 c h.1 h.2 h.3) (home_some n h.1 h.2 b d h.4)
+  home_up_to : (n : ℕ) (a : Account M.Body) (c : CellOf M Setup Hosted Store U) (over : Bool) (b : Account M.Body) (d : CellOf M Setup Hosted Store U) → HasAskedUpTo M tally n a c over b d
+      → IsSameHome c d
+  home_up_to zero a c over b d h = same_home c d h.2
+  home_up_to (suc n) a c over b d h =
+      ⊎_elim (λ (s : HasAskedOne M tally a false c b d × (over ≡ true)). home_asked_one a false c b d s.0)
+      (λ (s : (m : Account M.Body) × (e : CellOf M Setup Hosted Store U) × HasAskedOne M tally a true c m e × HasAskedUpTo M tally n m e over b d).
+      same_home_still c s.1 d (home_asked_one a true c s.0 s.1 s.2) (home_up_to n s.0 s.1 over b d s.3)) h
 
-  pub home_asked : (a : Account M.Body) (c : CellOf M Setup Hosted Store U) (b : Account M.Body) (d : CellOf M Setup Hosted Store U) → HasAskedOn M tally a c b d → IsSameHome c d
-  home_asked a c b d h =
-      ⊎_elim (λ (t : HasAskedTogether M tally a c b d). home_after_all M (asks_of (take batch_limit a.requests.waiting)) c d t.turned)
-      (λ (e : HasAskedEach M tally a c b d). home_some e.0 a c b d e.1) h
+  pub home_asked : (a : Account M.Body) (c : CellOf M Setup Hosted Store U) (over : Bool) (b : Account M.Body) (d : CellOf M Setup Hosted Store U) → HasAskedOn M tally a c over b d → IsSameHome c d
+  home_asked a c over b d h =
+      ⊎_elim
+      (λ (t : HasAskedTogether M tally a c b d × ((over ≡ true) ↔ (b.requests.waiting ≡ []))). home_after_all M (asks_of (take batch_limit a.requests.waiting)) c d t.0.turned)
+      (λ (e : HasAskedEach M tally a c over b d). home_up_to e.0 a c over b d e.2) h
 
   pub home_before : (asks : Bool) (a : Account M.Body) (c : CellOf M Setup Hosted Store U) (b : Account M.Body) (d : CellOf M Setup Hosted Store U) → AsksBefore M tally asks a c b d → IsSameHome c d
   home_before true a c b d h = home_asked_one a h.0 c b d h.1
@@ -98,15 +108,20 @@ module _ (M : Machine) {Setup Hosted Store U : Type 0} (tally : U → Tally) whe
   pub asked_none : (a : Account M.Body) (c d : CellOf M Setup Hosted Store U) → HasAskedFirstOf M tally a.requests.waiting false c d → HasAskedOne M tally a false c a d
   asked_none a c d h = record { cell = h; requests = refl }
 
-  -- one request more is asked, or the node may not
-  pub asks_next : (a : Account M.Body) (asked : Bool) (c : CellOf M Setup Hosted Store U) (m : Account M.Body) (e : CellOf M Setup Hosted Store U) (b : Account M.Body) (d : CellOf M Setup Hosted Store U)
-      → HasAskedOne M tally a asked c m e → HasAskedEach M tally m e b d → HasAskedEach M tally a c b d
-  asks_next a asked c m e b d one rest = (suc rest.0, (asked, m, e, one, rest.1))
+  -- one request more is asked
+  pub asks_next : (n : ℕ) (a : Account M.Body) (asked : Bool) (c : CellOf M Setup Hosted Store U) (m : Account M.Body) (e : CellOf M Setup Hosted Store U) (over : Bool) (b : Account M.Body)
+      (d : CellOf M Setup Hosted Store U) → asked ≡ true → HasAskedOne M tally a asked c m e → HasAskedUpTo M tally n m e over b d → HasAskedUpTo M tally (suc n) a c over b d
+  asks_next n a asked c m e over b d is one rest = inr (m, e, subst (λ (z : Bool). HasAskedOne M tally a z c m e) is one, rest)
 
-  pub asks_together : (a : Account M.Body) (asked : Bool) (c : CellOf M Setup Hosted Store U) (b : Account M.Body) (d : CellOf M Setup Hosted Store U) → asked ≡ true
-      → HasTriedTogether M tally a asked c b d → HasAskedOn M tally a c b d
-  asks_together a true c b d is h = inl h
-  asks_together a false c b d is h = absurd (cc is)
+  -- none is
+  pub asks_last : (n : ℕ) (a : Account M.Body) (asked : Bool) (c : CellOf M Setup Hosted Store U) (b : Account M.Body) (d : CellOf M Setup Hosted Store U) → asked ≡ false
+      → HasAskedOne M tally a asked c b d → HasAskedUpTo M tally (suc n) a c true b d
+  asks_last n a asked c b d is one = inl (subst (λ (z : Bool). HasAskedOne M tally a z c b d) is one, refl)
+
+  pub asks_together : (a : Account M.Body) (asked : Bool) (c : CellOf M Setup Hosted Store U) (over : Bool) (b : Account M.Body) (d : CellOf M Setup Hosted Store U) → asked ≡ true
+      → (over ≡ true) ↔ (b.requests.waiting ≡ []) → HasTriedTogether M tally a asked c b d → HasAskedOn M tally a c over b d
+  asks_together a true c over b d is none h = inl (h, none)
+  asks_together a false c over b d is none h = absurd (cc is)
 
   pub not_together : (a : Account M.Body) (asked : Bool) (c : CellOf M Setup Hosted Store U) (b : Account M.Body) (d : CellOf M Setup Hosted Store U) → asked ≡ false
       → HasTriedTogether M tally a asked c b d → (b ≡ a) × (d ≡ c)
@@ -114,13 +129,13 @@ module _ (M : Machine) {Setup Hosted Store U : Type 0} (tally : U → Tally) whe
   not_together a false c b d is h = h
 
   -- those that were not asked together are asked one by one
-  pub asks_behind : (a : Account M.Body) (c : CellOf M Setup Hosted Store U) (m : Account M.Body) (e : CellOf M Setup Hosted Store U) (b : Account M.Body) (d : CellOf M Setup Hosted Store U)
-      → m ≡ a → e ≡ c → HasAskedEach M tally m e b d → HasAskedOn M tally a c b d
-  asks_behind a c m e b d is same h =
-      inr (subst (λ (z : Account M.Body × CellOf M Setup Hosted Store U). HasAskedEach M tally z.0 z.1 b d) (λ i. (is i, same i)) h)
+  pub asks_behind : (a : Account M.Body) (c : CellOf M Setup Hosted Store U) (m : Account M.Body) (e : CellOf M Setup Hosted Store U) (over : Bool) (b : Account M.Body)
+      (d : CellOf M Setup Hosted Store U) → m ≡ a → e ≡ c → HasAskedEach M tally m e over b d → HasAskedOn M tally a c over b d
+  asks_behind a c m e over b d is same h =
+      inr (subst (λ (z : Account M.Body × CellOf M Setup Hosted Store U). HasAskedEach M tally z.0 z.1 over b d) (λ i. (is i, same i)) h)
 
-  pub asks_none : (a : Account M.Body) (c : CellOf M Setup Hosted Store U) → HasAskedEach M tally a c a c
-  asks_none a c = (zero, (refl, refl))
+  pub asks_none : (a : Account M.Body) (c : CellOf M Setup Hosted Store U) → HasAskedUpTo M tally zero a c false a c
+  asks_none a c = (refl, refl, refl)
 
   -- where none waits
   pub none_waits : (waiting : List (Request M.Body)) (c : CellOf M Setup Hosted Store U) → waiting ≡ [] → HasAskedFirstOf M tally waiting false c c

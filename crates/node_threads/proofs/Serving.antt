@@ -18,12 +18,13 @@ use Rattle.node_threads.specs.Served.{ActOf, HasDoneRounds, HasServed, HasServed
 use Rattle.node_threads.specs.Taking.{Covers, HasDoneRound, JobOf, Piece, PieceOf, is_for_node, is_over}
 use Rattle.node_threads.specs.Waiting.{Account}
 use Rattle.node_threads.proofs.Acted.{HasGone, acted_both, asked_both, gone_round, pieces_both, works_ask, works_done, works_of, works_pieces}
+use Rattle.node_threads.proofs.Inflows.{given_any}
 use Rattle.node_threads.proofs.Fated.{counted_both, counted_fate, counted_heeding, fate_none, fates_both, fates_by, or_false, requests_both}
 
-module _ {I J : Type 0} (gives : I → Next J → I → Type 0) where
+module _ {I J : Type 0} (gives : I → Bool → Next J → I → Type 0) where
   given_both : (xs ys : List (Next J)) (i j k : I) → Given gives i xs j → Given gives j ys k → Given gives i (xs ++ ys) k
   given_both [] ys i j k h more = subst (λ (z : I). Given gives z ys k) h more
-  given_both (x ∷ xs) ys i j k h more = (h.0, h.1, given_both xs ys h.0 j k h.2 more)
+  given_both (x ∷ xs) ys i j k h more = (h.0, h.1, h.2, given_both xs ys h.1 j k h.3 more)
 
   -- the jobs that stand in an inbox come first
   stand_first : (jobs : List J) (came : List (Next J)) (i k : I) → StandIn gives jobs i → Given gives i came k → length jobs ≤ length came
@@ -31,8 +32,8 @@ module _ {I J : Type 0} (gives : I → Next J → I → Type 0) where
   stand_first [] came i k h given few = (jobs_in came, refl)
   stand_first (y ∷ jobs) [] i k h given few = absurd (omega (arith, few))
   stand_first (y ∷ jobs) (x ∷ came) i k h given few =
-      let one = h x given.0 given.1 in
-      let rest = stand_first jobs came given.0 k one.1 given.2 (omega (arith, few)) in
+      let one = h given.0 x given.1 given.2 in
+      let rest = stand_first jobs came given.1 k one.1 given.3 (omega (arith, few)) in
       (rest.0, ap (λ (z : Next J). jobs_in (z ∷ came)) one.0 ∙ ap (λ l. y ∷ l) rest.1)
 
 jobs_both : {J : Type 0} (xs ys : List (Next J)) → jobs_in (xs ++ ys) ≡ jobs_in xs ++ jobs_in ys
@@ -53,24 +54,24 @@ module _ {H A L T P S C E : Type 0} where
       (h.0, h.1 ++ more, ap (λ l. l ++ more) h.2 ∙ append_assoc h.0 h.1 more, h.3, covers_both ps qs h.1 more h.4 k)
 
 module _ (M : Machine) {Setup Hosted Store U : Type 0} (tally : U → Tally) (marked : M.Body → Option Mark) (mark : Mark → M.Body) {Action I : Type 0}
-    (gives : I → Next (JobOf M Setup Hosted Action) → I → Type 0) where
+    (gives : I → Bool → Next (JobOf M Setup Hosted Action) → I → Type 0) where
   served_none : (i : I) (a : Account M.Body) (c : CellOf M Setup Hosted Store U) → HasServed M tally marked mark gives [] i a c i a c
   served_none i a c = record { given = refl; acts = []; acted = refl; jobs = refl; requests = fate_none a.requests a.requests refl; done_is = refl }
 
   -- one round
-  served_round : (i : I) (a : Account M.Body) (c : CellOf M Setup Hosted Store U) (goes_on : Bool) (k : I) (b : Account M.Body) (d : CellOf M Setup Hosted Store U)
-      → (h : HasDoneRound M tally marked mark gives i a c goes_on k b d) → HasServed M tally marked mark gives h.jobs.came i a c k b d
-  served_round i a c goes_on k b d h =
+  served_round : (may : Bool) (i : I) (a : Account M.Body) (c : CellOf M Setup Hosted Store U) (goes_on leaves : Bool) (k : I) (b : Account M.Body) (d : CellOf M Setup Hosted Store U)
+      → (h : HasDoneRound M tally marked mark gives may i a c goes_on leaves k b d) → HasServed M tally marked mark gives h.jobs.came i a c k b d
+  served_round may i a c goes_on leaves k b d h =
       let came = h.jobs.came in
       let these = h.jobs.these in
       let js = jobs_in came in
       let works : List (ActOf M Setup Hosted Action) = works_of these.pieces in
-      let rest : HasGone M tally marked mark Action h.account h.between b d = gone_round M tally marked mark Action h.forwarded h.account h.between b d h.rest in
+      let rest : HasGone M tally marked mark Action h.account h.between b d = gone_round M tally marked mark Action h.forwarded h.account h.between leaves b d h.rest in
       let all : pieces_in (works ++ rest.acts) ≡ these.pieces ++ [] = pieces_both works rest.acts ∙ (λ t. works_pieces these.pieces t ++ rest.none t) in
       let asks : asked_in (works ++ rest.acts) ≡ asked_in rest.acts = asked_both works rest.acts ∙ ap (λ l. l ++ asked_in rest.acts) (works_ask these.pieces) in
       let both = fates_both (requests_by a.done js) [] [] (asked_in rest.acts) (list_any is_restart js) false a.requests h.account.requests b.requests (fates_by js a h.account h.jobs.heeds) rest.fates in
       record {
-        given = these.given;
+        given = given_any gives may came i k these.given;
         acts = works ++ rest.acts;
         acted = acted_both M tally marked mark works rest.acts c h.between d (works_done M tally marked mark these.pieces c h.between these.done) rest.acted;
         jobs = subst (λ (ps : List (PieceOf M Setup Hosted Action)). Covers ps (filter is_for_node js)) (sym all) these.covers;
@@ -105,20 +106,20 @@ module _ (M : Machine) {Setup Hosted Store U : Type 0} (tally : U → Tally) (ma
         done_is = g.done_is ∙ ap (counted_by_all ks) h.done_is ∙ sym (ap (λ l. counted_by_all l a.done) all ∙ counted_both js ks a.done);
       }
 
-  pub served_rounds : (n : ℕ) (i : I) (a : Account M.Body) (c : CellOf M Setup Hosted Store U) (goes_on : Bool) (k : I) (b : Account M.Body) (d : CellOf M Setup Hosted Store U)
-      → HasDoneRounds M tally marked mark gives n i a c goes_on k b d → HasServedRounds M tally marked mark gives n i a c goes_on k b d
-  served_rounds zero i a c goes_on k b d h =
+  pub served_rounds : (n : ℕ) (may : Bool) (i : I) (a : Account M.Body) (c : CellOf M Setup Hosted Store U) (goes_on leaves : Bool) (k : I) (b : Account M.Body)
+      (d : CellOf M Setup Hosted Store U) → HasDoneRounds M tally marked mark gives n may i a c goes_on leaves k b d → HasServedRounds M tally marked mark gives n i a c goes_on k b d
+  served_rounds zero may i a c goes_on leaves k b d h =
       record {
         came = [];
         some = omega arith;
         few = omega arith;
         goes_on_is = h.0;
-        served = subst (λ (z : I × Account M.Body × CellOf M Setup Hosted Store U). HasServed M tally marked mark gives [] i a c z.0 z.1 z.2) (λ t. (sym h.1 t, sym h.2 t, sym h.3 t))
+        served = subst (λ (z : I × Account M.Body × CellOf M Setup Hosted Store U). HasServed M tally marked mark gives [] i a c z.0 z.1 z.2) (λ t. (sym h.2 t, sym h.3 t, sym h.4 t))
             (served_none i a c);
       }
-  served_rounds (suc n) i a c goes_on k b d h =
-      let before = served_rounds n i a c true h.0 h.1 h.2 h.3 in
-      let last = h.4 in
+  served_rounds (suc n) may i a c goes_on leaves k b d h =
+      let before = served_rounds n may i a c true h.0 h.1 h.2 h.3 h.4 in
+      let last = h.5 in
       let came = last.jobs.came in
       let long : length (before.came ++ came) ≡ length before.came + length came = length-append before.came came in
       let some = before.some in
@@ -132,15 +133,15 @@ module _ (M : Machine) {Setup Hosted Store U : Type 0} (tally : U → Tally) (ma
         some = omega (arith, long, some, more);
         few = omega (arith, long, few, most);
         goes_on_is = last.goes_on_is ∙ ap not (sym over);
-        served = served_both before.came came i a c h.0 h.1 h.2 k b d before.served (served_round h.0 h.1 h.2 goes_on k b d last);
+        served = served_both before.came came i a c h.1 h.2 h.3 k b d before.served (served_round h.0 h.1 h.2 h.3 goes_on leaves k b d last);
       }
 
   -- as many things came at least as stood in the inbox
-  pub served_standing : (jobs : List (JobOf M Setup Hosted Action)) (n : ℕ) (i : I) (a : Account M.Body) (c : CellOf M Setup Hosted Store U) (goes_on : Bool) (k : I) (b : Account M.Body)
-      (d : CellOf M Setup Hosted Store U) → StandIn gives jobs i → length jobs ≤ n → HasDoneRounds M tally marked mark gives n i a c goes_on k b d
+  pub served_standing : (jobs : List (JobOf M Setup Hosted Action)) (n : ℕ) (may : Bool) (i : I) (a : Account M.Body) (c : CellOf M Setup Hosted Store U) (goes_on leaves : Bool) (k : I)
+      (b : Account M.Body) (d : CellOf M Setup Hosted Store U) → StandIn gives jobs i → length jobs ≤ n → HasDoneRounds M tally marked mark gives n may i a c goes_on leaves k b d
       → (came : List (Next (JobOf M Setup Hosted Action))) × (later : List (JobOf M Setup Hosted Action)) × (jobs_in came ≡ jobs ++ later) × HasServed M tally marked mark gives came i a c k b d
-  served_standing jobs n i a c goes_on k b d stand few h =
-      let all = served_rounds n i a c goes_on k b d h in
+  served_standing jobs n may i a c goes_on leaves k b d stand few h =
+      let all = served_rounds n may i a c goes_on leaves k b d h in
       let some = all.some in
       let first = stand_first gives jobs all.came i k stand all.served.given (omega (arith, few, some)) in
       (all.came, first.0, first.1, all.served)
@@ -148,14 +149,14 @@ module _ (M : Machine) {Setup Hosted Store U : Type 0} (tally : U → Tally) (ma
 -- ---- the laws
 
 pub what_comes : (M : Machine) (Setup Hosted Store : Type 0) {U : Type 0} (tally : U → Tally) (marked : M.Body → Option Mark) (mark : Mark → M.Body) {Action I : Type 0}
-    (gives : I → Next (JobOf M Setup Hosted Action) → I → Type 0) → WhatComesIsServed M Setup Hosted Store tally marked mark gives
+    (gives : I → Bool → Next (JobOf M Setup Hosted Action) → I → Type 0) → WhatComesIsServed M Setup Hosted Store tally marked mark gives
 what_comes M Setup Hosted Store tally marked mark gives = served_rounds M tally marked mark gives
 
 pub what_stands : (M : Machine) (Setup Hosted Store : Type 0) {U : Type 0} (tally : U → Tally) (marked : M.Body → Option Mark) (mark : Mark → M.Body) {Action I : Type 0}
-    (gives : I → Next (JobOf M Setup Hosted Action) → I → Type 0) → WhatStandsIsServed M Setup Hosted Store tally marked mark gives
+    (gives : I → Bool → Next (JobOf M Setup Hosted Action) → I → Type 0) → WhatStandsIsServed M Setup Hosted Store tally marked mark gives
 what_stands M Setup Hosted Store tally marked mark gives = served_standing M tally marked mark gives
 
 pub requests_counted : (M : Machine) (Setup Hosted Store : Type 0) {U : Type 0} (tally : U → Tally) (marked : M.Body → Option Mark) (mark : Mark → M.Body) {Action I : Type 0}
-    (gives : I → Next (JobOf M Setup Hosted Action) → I → Type 0) → RequestsAreCounted M Setup Hosted Store tally marked mark gives
+    (gives : I → Bool → Next (JobOf M Setup Hosted Action) → I → Type 0) → RequestsAreCounted M Setup Hosted Store tally marked mark gives
 requests_counted M Setup Hosted Store tally marked mark gives came i a c k b d s number =
     counted_fate (requests_by a.done (jobs_in came)) (asked_in s.acts) (list_any is_restart (jobs_in came)) a.requests b.requests s.requests number

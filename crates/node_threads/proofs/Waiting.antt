@@ -1,5 +1,6 @@
 -- How the requests that wait at a worker change, over several steps.
-use Rattle.std.proofs.Common.{◌≡◌, ◌≤◌, ◌++◌, ◌+◌, ⊎_elim, ℕ, Bool, true, false, List, [], ◌∷◌, nat_lt, Option, Some, None, refl, sym, ap, ◌∙◌, subst, if◌then◌else◌, arith, ◌<◌, length, drop, get_or}
+use Rattle.std.proofs.Common.{◌≡◌, ◌≤◌, ◌++◌, ◌+◌, ◌&&◌, ◌⊎◌, inl, inr, ⊎_elim, ℕ, Bool, nat_eq, true, false, List, [], ◌∷◌, nat_lt, Option, Some, None, refl, sym, ap, ◌∙◌, subst, if◌then◌else◌, arith, ◌<◌, length, drop, get_or}
+use Rattle.std.proofs.lemmas.Bool.{eqb-true}
 use Rattle.std.proofs.lemmas.List.{drop_more, append_assoc}
 use Rattle.world_views.specs.declared.envelope.Envelope.{Envelope}
 use Rattle.node_notes.specs.declared.note.Note.{Note}
@@ -9,21 +10,60 @@ use Rattle.node_threads.specs.declared.inflow.Next.{Next}
 use Rattle.node_threads.specs.declared.job.Job.{Job}
 use Rattle.node_threads.specs.declared.job.Job.TheVariants as job
 use Rattle.node_threads.specs.declared.worker_loop.requests.Asked.{Asked}
+use Rattle.node_threads.specs.declared.worker_loop.requests.Request.{Request}
 use Rattle.node_threads.specs.Inflows.{jobs_in}
 use Rattle.node_threads.specs.Reports.{is_end, is_told}
-use Rattle.node_threads.specs.Requests.{HasAsked, Queue, WaitsOrIsLost, in_front, in_term, lose, lose_before, request}
+use Rattle.node_threads.specs.Requests.{HasAsked, Queue, WaitsOrIsLost, at_rest, in_front, in_term, lose, lose_before, note_in, request, settled}
 use Rattle.node_threads.specs.Together.{appended, input_in}
-use Rattle.node_threads.specs.Waiting.{Account, AreBack, ComesBack, HaveComeBack, Heeds, HeedsJob, HeedsNote, HeedsUnless, brought_back, counted}
+use Rattle.node_threads.specs.Waiting.{Account, AreBack, CameBack, ComesBack, HaveComeBack, Heeds, HeedsJob, HeedsNote, HeedsUnless, brought_back, counted}
 use Rattle.node_threads.proofs.Inflows.{jobs_end}
 
 pub some_pushed : {A : Type 0} (xs : List A) (x : A) → xs ++ x ∷ [] ≡ [] → ⊥
 some_pushed [] x is = cc is
 some_pushed (y ∷ xs) x is = cc is
 
+-- ---- the last that was asked comes back once
+
+rest_twice : (asked : Option Asked) → at_rest (at_rest asked) ≡ at_rest asked
+rest_twice None = refl
+rest_twice (Some asked) = refl
+
+rests : (asked : Option Asked) (note term : ℕ) → at_rest asked ≡ Some (record { note = note; term = term; may_return = true }) → ⊥
+rests None note term is = cc is
+rests (Some asked) note term is = let back : Asked = record asked { may_return = false } in let same : back ≡ record { note = note; term = term; may_return = true } = cc is in
+    let clash : false ≡ true = ap (λ (a : Asked). a.may_return) same in cc clash
+
+rest_more : (asked mid now : Option Asked) → mid ≡ at_rest asked → (now ≡ mid) ⊎ (now ≡ at_rest mid) → now ≡ at_rest asked
+rest_more asked mid now one two =
+    ⊎_elim (λ (same : now ≡ mid). same ∙ one) (λ (rest : now ≡ at_rest mid). rest ∙ ap at_rest one ∙ rest_twice asked) two
+
+noted : (same may : Bool) (is : ℕ) (note : ℕ) → (if same && may then Some is else None) ≡ Some note → (same ≡ true) × (may ≡ true) × (is ≡ note)
+noted true true is note h = (refl, refl, cc h)
+noted true false is note h = absurd (cc h)
+noted false may is note h = absurd (cc h)
+
+-- what comes back was asked last, and in this term
+asked_last : (term : ℕ) (asked : Option Asked) (note : ℕ) → note_in term asked ≡ Some note → asked ≡ Some (record { note = note; term = term; may_return = true })
+asked_last term None note is = absurd (cc is)
+asked_last term (Some asked) note is =
+    let h = noted (nat_eq asked.term term) asked.may_return asked.note note is in
+    let terms = eqb-true asked.term term h.0 in
+    λ i. Some (record { note = h.2 i; term = terms i; may_return = h.1 i })
+
 module _ {B : Type 0} where
+  came_again : (asked mid now : Option Asked) (xs ys : List (Request B)) → CameBack asked xs mid → CameBack mid ys now → CameBack asked (ys ++ xs) now
+  came_again asked mid now [] [] one two =
+      ⊎_elim (λ (same : mid ≡ asked). subst (λ (z : Option Asked). CameBack {B = B} z [] now) same two) (λ (rest : mid ≡ at_rest asked). inr (rest_more asked mid now rest two)) one
+  came_again asked mid now (r ∷ []) [] one two = (one.0, one.1, rest_more asked mid now one.2 two)
+  came_again asked mid now [] (q ∷ []) one two =
+      ⊎_elim (λ (same : mid ≡ asked). subst (λ (z : Option Asked). CameBack z (q ∷ []) now) same two) (λ (rest : mid ≡ at_rest asked). absurd (rests asked q.note two.0 (sym rest ∙ two.1))) one
+  came_again asked mid now (r ∷ []) (q ∷ []) one two = absurd (rests asked q.note two.0 (sym one.2 ∙ two.1))
+  came_again asked mid now (r ∷ p ∷ xs) ys one two = absurd one
+  came_again asked mid now xs (q ∷ p ∷ ys) one two = absurd two
+
   -- none came back
   pub none_back : (a b : Account B) → b ≡ a → HaveComeBack a b
-  none_back a b is = subst (λ (z : Account B). HaveComeBack a z) (sym is) (record { back = []; waiting_is = refl; asked_is = refl; lost_grows = omega arith; done_is = refl })
+  none_back a b is = subst (λ (z : Account B). HaveComeBack a z) (sym is) (record { back = []; waiting_is = refl; came = inl refl; lost_grows = omega arith; done_is = refl })
 
   -- some came back, and then some more
   pub back_again : (a m b : Account B) → HaveComeBack a m → HaveComeBack m b → HaveComeBack a b
@@ -33,22 +73,32 @@ module _ {B : Type 0} where
       record {
         back = two.back ++ one.back;
         waiting_is = two.waiting_is ∙ ap (λ w. two.back ++ w) one.waiting_is ∙ sym (append_assoc two.back one.back a.requests.waiting);
-        asked_is = two.asked_is ∙ one.asked_is;
+        came = came_again a.requests.asked m.requests.asked b.requests.asked one.back two.back one.came two.came;
         lost_grows = omega (arith, least, more);
         done_is = two.done_is ∙ one.done_is;
       }
 
-  -- a request that came back, or for which there was no memory
-  pub one_or_lost : (note : ℕ) (body : B) (done : ℕ) (old new : Queue B) → WaitsOrIsLost note (in_front (request note body) old) old new
-      → HaveComeBack (record { done = done; requests = old }) (record { done = done; requests = new })
-  one_or_lost note body done old new is =
-      ⊎_elim
-      (λ (waits : new ≡ in_front (request note body) old).
-      subst (λ (q : Queue B). HaveComeBack (record { done = done; requests = old }) (record { done = done; requests = q })) (sym waits)
-      (record { back = request note body ∷ []; waiting_is = refl; asked_is = refl; lost_grows = omega arith; done_is = refl }))
-      (λ (lost : new ≡ lose note old).
+  -- a request that came back, for which there was no memory
+  pub one_lost : (note done : ℕ) (old new : Queue B) → new ≡ lose note (settled old) → HaveComeBack (record { done = done; requests = old }) (record { done = done; requests = new })
+  one_lost note done old new lost =
       subst (λ (q : Queue B). HaveComeBack (record { done = done; requests = old }) (record { done = done; requests = q })) (sym lost)
-      (record { back = []; waiting_is = refl; asked_is = refl; lost_grows = omega arith; done_is = refl })) is
+      (record { back = []; waiting_is = refl; came = inr refl; lost_grows = omega arith; done_is = refl })
+
+  -- a request that came back, or for which there was no memory
+  pub one_or_lost : (note : ℕ) (body : B) (term done : ℕ) (old new : Queue B) → note_in term old.asked ≡ Some note → WaitsOrIsLost note (in_front (request note body) (settled old)) (settled old) new
+      → HaveComeBack (record { done = done; requests = old }) (record { done = done; requests = new })
+  one_or_lost note body term done old new last is =
+      ⊎_elim
+      (λ (waits : new ≡ in_front (request note body) (settled old)).
+      subst (λ (q : Queue B). HaveComeBack (record { done = done; requests = old }) (record { done = done; requests = q })) (sym waits)
+      (record { back = request note body ∷ []; waiting_is = refl; came = (term, asked_last term old.asked note last, refl); lost_grows = omega arith; done_is = refl }))
+      (λ (lost : new ≡ lose note (settled old)). one_lost note done old new lost) is
+
+  -- what was asked before comes back no more
+  pub none_again : (done : ℕ) (old new : Queue B) → new ≡ settled old → HaveComeBack (record { done = done; requests = old }) (record { done = done; requests = new })
+  none_again done old new is =
+      subst (λ (q : Queue B). HaveComeBack (record { done = done; requests = old }) (record { done = done; requests = q })) (sym is)
+      (record { back = []; waiting_is = refl; came = inr refl; lost_grows = omega arith; done_is = refl })
 
   lost_if : (late : Bool) (note : ℕ) (q : Queue B) → q.lost ≤ (if late then lose note q else q).lost
   lost_if true note q = omega arith

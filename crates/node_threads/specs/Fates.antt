@@ -1,10 +1,11 @@
 -- What becomes of the requests that a worker is told.
-use Rattle.std.specs.Prelude.{◌≡◌, ◌≤◌, ◌+◌, ◌-◌, ◌^◌, ◌&&◌, ℕ, min, nat_eq, not, Bool, true, false, IsPermutation, List, [], ◌∷◌, ◌++◌, if◌then◌else◌}
+use Rattle.std.specs.Prelude.{◌≡◌, ◌≤◌, ◌+◌, ◌-◌, ◌^◌, ◌&&◌, ℕ, min, nat_eq, not, Bool, true, false, IsPermutation, Option, None, Some, List, [], ◌∷◌, ◌++◌, if◌then◌else◌}
 use Rattle.std.specs.List.{AllByRecursion, sum_by}
 use Rattle.node_notes.specs.declared.note.Note.{Note}
 use Rattle.node_notes.specs.declared.note.Note.TheVariants as note
 use Rattle.node_threads.specs.declared.job.Job.{Job}
 use Rattle.node_threads.specs.declared.job.Job.TheVariants as job
+use Rattle.node_threads.specs.declared.worker_loop.requests.Asked.{Asked}
 use Rattle.node_threads.specs.declared.worker_loop.requests.Request.{Request}
 use Rattle.node_threads.specs.Reports.{is_end, is_told}
 use Rattle.node_threads.specs.Requests.{Queue, request}
@@ -68,6 +69,11 @@ module _ {M A L T P S C E : Type 0} where
   is_restart (job.Restart reply) = true
   is_restart (job.Status reply) = false
 
+-- 1 where the request of this number is the last that was asked, and may come back, else 0
+abbrev pub may_come : ℕ → Option Asked → ℕ
+may_come number None = 0
+may_come number (Some asked) = if asked.may_return && nat_eq asked.note number then 1 else 0
+
 module _ {B : Type 0} where
   -- how often the request of this number is among these
   abbrev pub times : ℕ → List (Request B) → ℕ
@@ -75,7 +81,8 @@ module _ {B : Type 0} where
 
   -- Each request that waited, was told or came back is in exactly one place, as often as it waited, was told and came back: it was asked, or ended
   -- by a restart, or there was no memory for it as it was told, or it waits. Where none came back, ended or found no memory, they were asked in the
-  -- order in which they waited and were told, and those that wait on are the last.
+  -- order in which they waited and were told, and those that wait on are the last. None came back more often than it was asked, and once more where it
+  -- was the last that was asked before, and could come back.
   pub record EachHasOneFate (told asked : List (Request B)) (is_restarted : Bool) (old new : Queue B) : Type 0 where
     pub back : List (Request B)
     pub ended : List (Request B)
@@ -84,9 +91,12 @@ module _ {B : Type 0} where
     pub ended_by_restart : is_restarted ≡ false → ended ≡ []
     pub lost_is_told : AllByRecursion (λ (r : Request B). r.note ≤ new.lost) lost
     pub lost_grows : old.lost ≤ new.lost
+    pub back_once : (number : ℕ) → times number back + may_come number new.asked ≤ times number asked + may_come number old.asked
     pub in_order : back ≡ [] → ended ≡ [] → lost ≡ [] → old.waiting ++ told ≡ asked ++ new.waiting
 
-  -- By its number: as often as it was asked, ended, found no memory and waits on, it waited, was told and came back.
+  -- By its number: as often as it was asked, ended, found no memory and waits on, it waited, was told and came back. And it came back no more often than
+  -- it was asked, and once more where it was the last that was asked before, and could come back.
   abbrev pub IsCounted : List (Request B) → List (Request B) → Queue B → Queue B → List (Request B) → List (Request B) → List (Request B) → ℕ → Type 0
   IsCounted told asked old new back ended lost number =
-      times number asked + times number ended + times number lost + times number new.waiting ≡ times number old.waiting + times number told + times number back
+      (times number asked + times number ended + times number lost + times number new.waiting ≡ times number old.waiting + times number told + times number back)
+      × (times number back + may_come number new.asked ≤ times number asked + may_come number old.asked)

@@ -1,13 +1,18 @@
 -- What an inflow gives.
-use Rattle.std.specs.Prelude.{◌≡◌, List, [], ◌∷◌}
+use Rattle.std.specs.Prelude.{◌≡◌, Bool, false, List, [], ◌∷◌}
 use Rattle.node_threads.specs.declared.inflow.Next.{Next}
 use Rattle.node_threads.specs.declared.inflow.Next.TheVariants as next
 
-module _ {I J : Type 0} (gives : I → Next J → I → Type 0) where
-  -- from the one to the other an inflow gave these, in order, and nothing between
+module _ {I J : Type 0} (gives : I → Bool → Next J → I → Type 0) where
+  -- From the one to the other an inflow gave these, in order, and nothing between. It might wait for the first where this says so, and for no other.
+  abbrev pub GivenInRound : Bool → I → List (Next J) → I → Type 0
+  GivenInRound may_wait i [] k = k ≡ i
+  GivenInRound may_wait i (x ∷ xs) k = (j : I) × gives i may_wait x j × GivenInRound false j xs k
+
+  -- so, and it might wait for any, or not
   abbrev pub Given : I → List (Next J) → I → Type 0
   Given i [] k = k ≡ i
-  Given i (x ∷ xs) k = (j : I) × gives i x j × Given j xs k
+  Given i (x ∷ xs) k = (may_wait : Bool) × (j : I) × gives i may_wait x j × Given j xs k
 
 -- the jobs among these, in order
 abbrev pub jobs_in : {J : Type 0} → List (Next J) → List J

@@ -116,10 +116,10 @@ module _ {M A L T P S C E : Type 0} where
   TakesNext next.Nothing a step b = IsStay step × (b ≡ a)
   TakesNext next.Over a step b = IsOver step × (b ≡ a)
 
-  -- the inbox gave one thing, which was taken up so
-  pub record HasTakenDown {I : Type 0} (gives : I → Next (Job M A L T P S C E) → I → Type 0) (i : I) (a : Account C) (step : DownStep) (k : I) (b : Account C) : Type 0 where
+  -- the inbox, which might wait or not, gave one thing, which was taken up so
+  pub record HasTakenDown {I : Type 0} (gives : I → Bool → Next (Job M A L T P S C E) → I → Type 0) (may_wait : Bool) (i : I) (a : Account C) (step : DownStep) (k : I) (b : Account C) : Type 0 where
     pub came : Next (Job M A L T P S C E)
-    pub given : gives i came k
+    pub given : gives i may_wait came k
     pub takes : TakesNext came a step b
 
 module _ {Hosted Store U O A L T P Setup B E : Type 0} (k : Keeper Store B) (gives : O → Store → Type 0) where

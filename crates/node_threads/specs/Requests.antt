@@ -1,5 +1,5 @@
 -- The requests that wait at a worker.
-use Rattle.std.specs.Prelude.{◌≡◌, ◌⊎◌, ℕ, nat_eq, nat_lt, max, List, [], ◌∷◌, ◌++◌, Option, Some, None, if◌then◌else◌}
+use Rattle.std.specs.Prelude.{◌≡◌, ◌⊎◌, ◌&&◌, ℕ, true, false, nat_eq, nat_lt, max, List, [], ◌∷◌, ◌++◌, Option, Some, None, if◌then◌else◌}
 use Rattle.node_threads.specs.declared.worker_loop.requests.Asked.{Asked}
 use Rattle.node_threads.specs.declared.worker_loop.requests.Request.{Request}
 use Rattle.node_threads.specs.declared.worker_loop.requests.Requests.{Requests}
@@ -10,10 +10,15 @@ pub record Queue (B : Type 0) : Type 0 where
   pub asked : Option Asked
   pub lost : ℕ
 
--- the note of the last request, if it was asked in this term
+-- the note of the last request, if it was asked in this term and may come back
 abbrev pub note_in : ℕ → Option Asked → Option ℕ
 note_in term None = None
-note_in term (Some asked) = if nat_eq asked.term term then Some asked.note else None
+note_in term (Some asked) = if nat_eq asked.term term && asked.may_return then Some asked.note else None
+
+-- the last that was asked, which comes back no more
+abbrev pub at_rest : Option Asked → Option Asked
+at_rest None = None
+at_rest (Some asked) = Some (record asked { may_return = false })
 
 module _ {B : Type 0} where
   abbrev pub queue_of : Requests B → Queue B
@@ -47,7 +52,16 @@ module _ {B : Type 0} where
   in_term term q = lose_before term q.asked q
 
   abbrev pub asked_now : ℕ → ℕ → Queue B → Queue B
-  asked_now note term q = record q { asked = Some (record { note = note; term = term }) }
+  asked_now note term q = record q { asked = Some (record { note = note; term = term; may_return = true }) }
+
+  -- so in the queue
+  abbrev pub settled : Queue B → Queue B
+  settled q = record q { asked = at_rest q.asked }
+
+  -- the last that was asked, once these were asked in this term, in order
+  abbrev pub last_asked : ℕ → List (Request B) → Option Asked → Option Asked
+  last_asked term [] asked = asked
+  last_asked term (r ∷ requests) asked = last_asked term requests (Some (record { note = r.note; term = term; may_return = true }))
 
   -- The first of those that wait, if one does, is asked in this term.
   abbrev pub HasAsked : ℕ → Queue B → Option B → Queue B → Type 0

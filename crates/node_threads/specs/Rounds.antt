@@ -15,7 +15,7 @@ use Rattle.node_cells.specs.declared.mark_turn.MarkTurn.{MarkTurn}
 use Rattle.node_threads.specs.declared.worker_loop.round.Round.{Round}
 use Rattle.node_threads.specs.Forwarding.{forwarded_after}
 use Rattle.node_threads.specs.Reports.{told_fault}
-use Rattle.node_threads.specs.Requests.{Queue}
+use Rattle.node_threads.specs.Requests.{Queue, settled}
 use Rattle.node_threads.specs.Waiting.{AreBack}
 
 -- whether an effect of this class is handed out upstream
@@ -76,9 +76,10 @@ module _ {B E L : Type 0} (class : E → Class L) (term : ℕ) (leader : Option 
   GathersTurn is_request (Err fault) old forwarded requests new now_forwarded now_requests =
       (new ≡ record old { fault = Some (first_fault old.fault (told_fault fault)) }) × (now_forwarded ≡ forwarded) × (now_requests ≡ requests)
 
-  -- of a mark that was not asked, nothing
+  -- What a mark gave is gathered, and no request that was asked before it comes back any more. Of a mark that was not asked, nothing is.
   abbrev pub GathersMark : Result (MarkTurn B E) CellFault → Round E → Option ℕ → Queue B → Round E → Option ℕ → Queue B → Type 0
-  GathersMark (Ok asked) old forwarded requests new now_forwarded now_requests = Gathers true asked.output old forwarded requests new now_forwarded now_requests
+  GathersMark (Ok asked) old forwarded requests new now_forwarded now_requests =
+      (back : Queue B) × Gathers true asked.output old forwarded requests new now_forwarded back × (now_requests ≡ settled back)
   GathersMark (Err fault) old forwarded requests new now_forwarded now_requests = (new ≡ old) × (now_forwarded ≡ forwarded) × (now_requests ≡ requests)
 
 module _ {B : Type 0} where

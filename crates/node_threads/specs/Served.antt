@@ -21,11 +21,11 @@ use Rattle.node_threads.specs.Waiting.{Account}
 use Rattle.node_threads.specs.Work.{Deed, HasDeed, HasHadTurn}
 use Rattle.node_threads.specs.Work.Deed.{Takes, Turns}
 
-module _ {I J : Type 0} (gives : I → Next J → I → Type 0) where
+module _ {I J : Type 0} (gives : I → Bool → Next J → I → Type 0) where
   -- These jobs stand in an inbox: whatever it gives next is the first of them, and behind that the others stand in it.
   abbrev pub StandIn : List J → I → Type 0
   StandIn [] i = Unit {0}
-  StandIn (j ∷ js) i = (x : Next J) (k : I) → gives i x k → (x ≡ next.Job j) × StandIn js k
+  StandIn (j ∷ js) i = (may_wait : Bool) (x : Next J) (k : I) → gives i may_wait x k → (x ≡ next.Job j) × StandIn js k
 
 -- one thing that a worker does with its node
 pub data Act (J B L : Type 0) : Type 0 where
@@ -87,17 +87,18 @@ module _ (M : Machine) {Setup Hosted Store U : Type 0} (tally : U → Tally) whe
     HasActed [] c d = d ≡ c
     HasActed (x ∷ acts) c d = (b : CellOf M Setup Hosted Store U) × HasAct x c b × HasActed acts b d
 
-  module _ (marked : M.Body → Option Mark) (mark : Mark → M.Body) {Action I : Type 0} (gives : I → Next (JobOf M Setup Hosted Action) → I → Type 0) where
-    -- So many rounds were done, each from where the one before ended. Each but the last goes on, and the last does or does not.
-    abbrev pub HasDoneRounds : ℕ → I → Account M.Body → CellOf M Setup Hosted Store U → Bool → I → Account M.Body → CellOf M Setup Hosted Store U → Type 0
-    HasDoneRounds zero i a c goes_on k b d = (goes_on ≡ true) × (k ≡ i) × (b ≡ a) × (d ≡ c)
-    HasDoneRounds (suc n) i a c goes_on k b d =
-        (j : I) × (m : Account M.Body) × (e : CellOf M Setup Hosted Store U) × HasDoneRounds n i a c true j m e
-        × HasDoneRound M tally marked mark gives j m e goes_on k b d
+  module _ (marked : M.Body → Option Mark) (mark : Mark → M.Body) {Action I : Type 0} (gives : I → Bool → Next (JobOf M Setup Hosted Action) → I → Type 0) where
+    -- So many rounds were done, each from where the one before ended. Each but the last goes on, and the last does or does not. In each the inbox might wait
+    -- where the one before left nothing to do.
+    abbrev pub HasDoneRounds : ℕ → Bool → I → Account M.Body → CellOf M Setup Hosted Store U → Bool → Bool → I → Account M.Body → CellOf M Setup Hosted Store U → Type 0
+    HasDoneRounds zero may_wait i a c goes_on leaves_nothing k b d = (goes_on ≡ true) × (leaves_nothing ≡ may_wait) × (k ≡ i) × (b ≡ a) × (d ≡ c)
+    HasDoneRounds (suc n) may_wait i a c goes_on leaves_nothing k b d =
+        (left_nothing : Bool) × (j : I) × (m : Account M.Body) × (e : CellOf M Setup Hosted Store U) × HasDoneRounds n may_wait i a c true left_nothing j m e
+        × HasDoneRound M tally marked mark gives left_nothing j m e goes_on leaves_nothing k b d
 
     -- some rounds were done, and no other comes
-    abbrev pub HasWorkedOff : I → Account M.Body → CellOf M Setup Hosted Store U → I → Account M.Body → CellOf M Setup Hosted Store U → Type 0
-    HasWorkedOff i a c k b d = (n : ℕ) × HasDoneRounds n i a c false k b d
+    abbrev pub HasWorkedOff : Bool → I → Account M.Body → CellOf M Setup Hosted Store U → I → Account M.Body → CellOf M Setup Hosted Store U → Type 0
+    HasWorkedOff may_wait i a c k b d = (n : ℕ) × (leaves_nothing : Bool) × HasDoneRounds n may_wait i a c false leaves_nothing k b d
 
     -- An inbox gave this, and these things were done with the node, in order, and nothing else. Among them each job that came and is for the node was
     -- done, once and in order, and no other. Each request that came waited, under the number of its note, and each that waited has one fate.
@@ -122,24 +123,24 @@ module _ (M : Machine) {Setup Hosted Store U : Type 0} (tally : U → Tally) whe
 
 -- Over any number of rounds, with any inbox: what came is done, and each request that waits or came has one fate.
 abbrev pub WhatComesIsServed : (M : Machine) (Setup Hosted Store : Type 0) {U : Type 0} → (U → Tally) → (M.Body → Option Mark) → (Mark → M.Body) → {Action I : Type 0}
-    → (I → Next (JobOf M Setup Hosted Action) → I → Type 0) → Type 0
+    → (I → Bool → Next (JobOf M Setup Hosted Action) → I → Type 0) → Type 0
 WhatComesIsServed M Setup Hosted Store {U} tally marked mark {Action} {I} gives =
-    (n : ℕ) (i : I) (a : Account M.Body) (c : CellOf M Setup Hosted Store U) (goes_on : Bool) (k : I) (b : Account M.Body) (d : CellOf M Setup Hosted Store U)
-    → HasDoneRounds M tally marked mark gives n i a c goes_on k b d → HasServedRounds M tally marked mark gives n i a c goes_on k b d
+    (n : ℕ) (may_wait : Bool) (i : I) (a : Account M.Body) (c : CellOf M Setup Hosted Store U) (goes_on leaves_nothing : Bool) (k : I) (b : Account M.Body)
+    (d : CellOf M Setup Hosted Store U) → HasDoneRounds M tally marked mark gives n may_wait i a c goes_on leaves_nothing k b d → HasServedRounds M tally marked mark gives n i a c goes_on k b d
 
 -- Of the jobs that stand in an inbox, and maybe others behind them, as many at least are served as rounds are done.
 abbrev pub WhatStandsIsServed : (M : Machine) (Setup Hosted Store : Type 0) {U : Type 0} → (U → Tally) → (M.Body → Option Mark) → (Mark → M.Body) → {Action I : Type 0}
-    → (I → Next (JobOf M Setup Hosted Action) → I → Type 0) → Type 0
+    → (I → Bool → Next (JobOf M Setup Hosted Action) → I → Type 0) → Type 0
 WhatStandsIsServed M Setup Hosted Store {U} tally marked mark {Action} {I} gives =
-    (jobs : List (JobOf M Setup Hosted Action)) (n : ℕ) (i : I) (a : Account M.Body) (c : CellOf M Setup Hosted Store U) (goes_on : Bool) (k : I) (b : Account M.Body)
-    (d : CellOf M Setup Hosted Store U)
-    → StandIn gives jobs i → length jobs ≤ n → HasDoneRounds M tally marked mark gives n i a c goes_on k b d
+    (jobs : List (JobOf M Setup Hosted Action)) (n : ℕ) (may_wait : Bool) (i : I) (a : Account M.Body) (c : CellOf M Setup Hosted Store U) (goes_on leaves_nothing : Bool) (k : I)
+    (b : Account M.Body) (d : CellOf M Setup Hosted Store U)
+    → StandIn gives jobs i → length jobs ≤ n → HasDoneRounds M tally marked mark gives n may_wait i a c goes_on leaves_nothing k b d
     → (came : List (Next (JobOf M Setup Hosted Action))) × (later : List (JobOf M Setup Hosted Action)) × (jobs_in came ≡ jobs ++ later)
     × HasServed M tally marked mark gives came i a c k b d
 
 -- No request is asked again, unless it came back: by its number, over what was served.
 abbrev pub RequestsAreCounted : (M : Machine) (Setup Hosted Store : Type 0) {U : Type 0} → (U → Tally) → (M.Body → Option Mark) → (Mark → M.Body) → {Action I : Type 0}
-    → (I → Next (JobOf M Setup Hosted Action) → I → Type 0) → Type 0
+    → (I → Bool → Next (JobOf M Setup Hosted Action) → I → Type 0) → Type 0
 RequestsAreCounted M Setup Hosted Store {U} tally marked mark {Action} {I} gives =
     (came : List (Next (JobOf M Setup Hosted Action))) (i : I) (a : Account M.Body) (c : CellOf M Setup Hosted Store U) (k : I) (b : Account M.Body) (d : CellOf M Setup Hosted Store U)
     (s : HasServed M tally marked mark gives came i a c k b d) (number : ℕ)

@@ -10,7 +10,7 @@ use Rattle.node_cells.specs.Upstreams.{Tally}
 use Rattle.node_threads.specs.declared.inflow.Next.{Next}
 use Rattle.node_threads.specs.declared.inflow.Next.TheVariants as next
 use Rattle.node_threads.specs.declared.job.Job.{Job}
-use Rattle.node_threads.specs.Inflows.{Given, jobs_in}
+use Rattle.node_threads.specs.Inflows.{GivenInRound, jobs_in}
 use Rattle.node_threads.specs.Reports.{is_end, leads_in}
 use Rattle.node_threads.specs.Together.{HasTurnedAll, HasTurnedTogether, appended, is_idle}
 use Rattle.node_threads.specs.Waiting.{Account, Heeds}
@@ -95,34 +95,35 @@ module _ (M : Machine) {Setup Hosted Store U : Type 0} (tally : U → Tally) whe
     HasDoneAll [] c d = d ≡ c
     HasDoneAll (p ∷ ps) c d = (b : CellOf M Setup Hosted Store U) × HasDonePiece p c b × HasDoneAll ps b d
 
-  module _ (marked : M.Body → Option Mark) (mark : Mark → M.Body) {Action I : Type 0} (gives : I → Next (JobOf M Setup Hosted Action) → I → Type 0) where
-    -- An inbox gave this, and each job among it that is for the node was done, once and in order, and nothing else was; but for those that came last,
+  module _ (marked : M.Body → Option Mark) (mark : Mark → M.Body) {Action I : Type 0} (gives : I → Bool → Next (JobOf M Setup Hosted Action) → I → Type 0) where
+    -- An inbox gave this, and might wait for the first of it where that is said. Each job among it that is for the node was done, once and in order, and nothing else was; but for those that came last,
     -- which are left in these pieces.
-    pub record HasDoneThese (came : List (Next (JobOf M Setup Hosted Action))) (left : List (PieceOf M Setup Hosted Action)) (i : I) (c : CellOf M Setup Hosted Store U)
+    pub record HasDoneThese (may_wait : Bool) (came : List (Next (JobOf M Setup Hosted Action))) (left : List (PieceOf M Setup Hosted Action)) (i : I) (c : CellOf M Setup Hosted Store U)
         (k : I) (d : CellOf M Setup Hosted Store U) : Type 0 where
       pub pieces : List (PieceOf M Setup Hosted Action)
-      pub given : Given gives i came k
+      pub given : GivenInRound gives may_wait i came k
       pub covers : Covers (pieces ++ left) (filter is_for_node (jobs_in came))
       pub done : HasDoneAll marked mark pieces c d
 
     -- So with what came in a round: one thing at least, and not too many, and each request among it waits. The worker is over where it was told to end,
     -- or nothing will come any more.
-    pub record HasDoneGiven (left : List (PieceOf M Setup Hosted Action)) (i : I) (a : Account M.Body) (c : CellOf M Setup Hosted Store U) (over : Bool)
+    pub record HasDoneGiven (may_wait : Bool) (left : List (PieceOf M Setup Hosted Action)) (i : I) (a : Account M.Body) (c : CellOf M Setup Hosted Store U) (over : Bool)
         (k : I) (b : Account M.Body) (d : CellOf M Setup Hosted Store U) : Type 0 where
       pub came : List (Next (JobOf M Setup Hosted Action))
       pub some : 1 ≤ length came
       pub few : length came ≤ batch_limit
       pub over_is : over ≡ list_any is_over came
-      pub these : HasDoneThese came left i c k d
+      pub these : HasDoneThese may_wait came left i c k d
       pub heeds : Heeds (jobs_in came) a b
 
-    -- What came was done, and then what a round does behind its jobs; and another round comes, unless the worker is over.
-    pub record HasDoneRound (i : I) (a : Account M.Body) (c : CellOf M Setup Hosted Store U) (goes_on : Bool) (k : I) (b : Account M.Body)
+    -- What came was done, and then what a round does behind its jobs; and another round comes, unless the worker is over. The inbox might wait for the
+    -- first thing where the round before left nothing to do, and for no other; and it may wait in the next round where this one leaves nothing to do.
+    pub record HasDoneRound (may_wait : Bool) (i : I) (a : Account M.Body) (c : CellOf M Setup Hosted Store U) (goes_on leaves_nothing : Bool) (k : I) (b : Account M.Body)
         (d : CellOf M Setup Hosted Store U) : Type 0 where
       pub between : CellOf M Setup Hosted Store U
       pub over : Bool
       pub forwarded : Option ℕ
       pub account : Account M.Body
-      pub jobs : HasDoneGiven [] i a c over k account between
-      pub rest : HasGoneRound M tally forwarded account between b d
+      pub jobs : HasDoneGiven may_wait [] i a c over k account between
+      pub rest : HasGoneRound M tally forwarded account between leaves_nothing b d
       pub goes_on_is : goes_on ≡ not over

@@ -1,5 +1,5 @@
 -- How the requests that wait at a worker change while it works.
-use Rattle.std.specs.Prelude.{◌≡◌, ◌≤◌, ◌+◌, ◌-◌, ◌^◌, ◌&&◌, ℕ, min, nat_eq, Bool, true, false, List, [], ◌∷◌, ◌++◌, drop, Option, None, Some, if◌then◌else◌}
+use Rattle.std.specs.Prelude.{◌≡◌, ◌⊎◌, ◌≤◌, ◌+◌, ◌-◌, ◌^◌, ◌&&◌, ℕ, min, nat_eq, Bool, true, false, List, [], ◌∷◌, ◌++◌, drop, take, Option, None, Some, if◌then◌else◌}
 use Rattle.raft_log.specs.Batches.{batch_limit}
 use Rattle.raft_log.specs.declared.message.Kind.{Kind}
 use Rattle.raft_log.specs.declared.message.Kind.TheVariants.{RequestVote, Vote, Append, AppendReply, Forward}
@@ -13,7 +13,7 @@ use Rattle.node_threads.specs.declared.worker_loop.WorkerLoop.{WorkerLoop}
 use Rattle.node_threads.specs.declared.worker_loop.requests.Asked.{Asked}
 use Rattle.node_threads.specs.declared.worker_loop.requests.Request.{Request}
 use Rattle.node_threads.specs.Reports.{is_end, is_told}
-use Rattle.node_threads.specs.Requests.{HasAsked, Queue, WaitsOrIsLost, behind, ended, in_front, note_in, queue_of, request}
+use Rattle.node_threads.specs.Requests.{HasAsked, Queue, WaitsOrIsLost, at_rest, behind, ended, in_front, last_asked, note_in, queue_of, request, settled}
 
 -- how many notes a worker has taken up, and the requests that wait at it
 pub record Account (B : Type 0) : Type 0 where
@@ -41,27 +41,34 @@ module _ {B : Type 0} where
   request_of (Some note) (Some body) = Some (request note body)
 
   -- The request that a message brings back to its sender, where its receiver did not take it. The sender is in this term, knows this leader, and asked
-  -- this request last. A request of an earlier term, or to another leader, does not come back.
+  -- this request last, which did not come back yet. A request of an earlier term, or to another leader, does not come back.
   abbrev pub brought_back : ℕ → Option ℕ → Option Asked → Message B → Option (Request B)
   brought_back term leader asked m =
       if nat_eq m.term term && is_leader_of leader m.to then request_of (note_in term asked) (forwarded_body m.kind) else None
 
-  -- it waits before all others, or where there is no memory for it, it may be lost
+  -- it waits before all others, or where there is no memory for it, it may be lost; and it does not come back again
   abbrev pub ComesBack : Option (Request B) → Queue B → Queue B → Type 0
   ComesBack None old new = new ≡ old
-  ComesBack (Some r) old new = WaitsOrIsLost r.note (in_front r old) old new
+  ComesBack (Some r) old new = WaitsOrIsLost r.note (in_front r (settled old)) (settled old) new
 
   -- so with each of these messages, in order
   abbrev pub AreBack : ℕ → Option ℕ → List (Envelope B) → Queue B → Queue B → Type 0
   AreBack term leader [] old new = new ≡ old
   AreBack term leader (e ∷ es) old new = (m : Queue B) × ComesBack (brought_back term leader old.asked e.message) old m × AreBack term leader es m new
 
-  -- Requests came back, and wait before all others. Where there was no memory for one, it may be lost. Nothing else of the requests changed, and no note was
-  -- taken up. Which ones came back this leaves open: of a turn AreBack says it.
+  -- While none was asked, these came back: none, or the request that was asked last, once, where it could still come back. In its term the leader
+  -- did not take it: of a turn AreBack says so.
+  abbrev pub CameBack : Option Asked → List (Request B) → Option Asked → Type 0
+  CameBack asked [] now = (now ≡ asked) ⊎ (now ≡ at_rest asked)
+  CameBack asked (r ∷ []) now = (term : ℕ) × (asked ≡ Some (record { note = r.note; term = term; may_return = true })) × (now ≡ at_rest asked)
+  CameBack asked (r ∷ q ∷ more) now = ⊥
+
+  -- Where a request came back, it waits before all others. Where there was no memory for it, it may be lost. Nothing else of the requests changed, and no
+  -- note was taken up.
   pub record HaveComeBack (old new : Account B) : Type 0 where
     pub back : List (Request B)
     pub waiting_is : new.requests.waiting ≡ back ++ old.requests.waiting
-    pub asked_is : new.requests.asked ≡ old.requests.asked
+    pub came : CameBack old.requests.asked back new.requests.asked
     pub lost_grows : old.requests.lost ≤ new.requests.lost
     pub done_is : new.done ≡ old.done
 
@@ -70,9 +77,10 @@ module _ {B : Type 0} where
   AsksFirst term true old new = (body : B) × (left : Queue B) × HasAsked term old.requests (Some body) left × HaveComeBack (record old { requests = left }) new
   AsksFirst term false old new = new ≡ old
 
-  -- The first of the requests that wait are asked together, as many as go at once, and the others wait on.
-  pub record AsksFront (old new : Account B) : Type 0 where
+  -- The first of the requests that wait are asked together in this term, as many as go at once, and the others wait on.
+  pub record AsksFront (term : ℕ) (old new : Account B) : Type 0 where
     pub waiting_is : new.requests.waiting ≡ drop batch_limit old.requests.waiting
+    pub asked_is : new.requests.asked ≡ last_asked term (take batch_limit old.requests.waiting) old.requests.asked
     pub lost_grows : old.requests.lost ≤ new.requests.lost
     pub done_is : new.done ≡ old.done
 

@@ -1,5 +1,5 @@
 -- What a worker does with its node's cell.
-use Rattle.std.specs.Prelude.{◌≡◌, ◌⊎◌, ◌++◌, ◌&&◌, not, ℕ, zero, suc, Bool, true, false, List, [], ◌∷◌, take, Option, None, Some, Result, Ok, Err, option_map}
+use Rattle.std.specs.Prelude.{◌≡◌, ◌↔◌, ◌⊎◌, ◌++◌, ◌&&◌, not, ℕ, zero, suc, Bool, true, false, List, [], ◌∷◌, take, Option, None, Some, Result, Ok, Err, option_map}
 use Rattle.wire_bytes.specs.declared.mark.Mark.{Mark}
 use Rattle.raft_log.specs.Batches.{batch_limit}
 use Rattle.raft_node.specs.declared.input.Looked.{Looked as PlayedAt}
@@ -25,6 +25,7 @@ use Rattle.node_threads.specs.Reports.{leads_in}
 use Rattle.node_threads.specs.Requests.{Queue}
 use Rattle.node_threads.specs.Waiting.{Account, AsksFirst, AsksFront, HaveComeBack}
 use Rattle.node_threads.specs.Together.{HasTurnedAll, asks_of}
+use Rattle.node_threads.specs.declared.worker_loop.asking.TheConstants.{MOST_ASKED}
 use Rattle.node_threads.specs.declared.worker_loop.turning.TheConstants.{MOST_APPLIED}
 use Rattle.node_threads.specs.declared.job.Job.{Job}
 use Rattle.node_threads.specs.declared.job.Job.TheVariants as job
@@ -33,6 +34,10 @@ use Rattle.node_threads.specs.declared.worker_loop.requests.Request.{Request}
 -- how many places a round applies at most
 abbrev pub apply_limit : ℕ
 apply_limit = MOST_APPLIED
+
+-- how many requests a round asks one by one at most
+abbrev pub ask_limit : ℕ
+ask_limit = MOST_ASKED
 
 -- one thing that a worker does with its node beside its jobs
 pub data Deed (B L : Type 0) : Type 0 where
@@ -145,29 +150,33 @@ module _ (M : Machine) {Setup Hosted Store U : Type 0} where
       pub cell : HasAskedFirstOf a.requests.waiting asked c d
       pub requests : AsksFirst (term_in c) asked a b
 
-    -- requests were asked one by one, so many at most
-    abbrev pub HasAskedSome : ℕ → Account M.Body → CellOf M Setup Hosted Store U → Account M.Body → CellOf M Setup Hosted Store U → Type 0
-    HasAskedSome zero a c b d = (b ≡ a) × (d ≡ c)
-    HasAskedSome (suc n) a c b d =
-        (asked : Bool) × (m : Account M.Body) × (e : CellOf M Setup Hosted Store U) × HasAskedOne a asked c m e × HasAskedSome n m e b d
+    -- Requests were asked one by one, so many at most. Either a try asked none, since none waits or the node may not ask, and with that it is over; or each
+    -- try asked one, and there may be more.
+    abbrev pub HasAskedUpTo : ℕ → Account M.Body → CellOf M Setup Hosted Store U → Bool → Account M.Body → CellOf M Setup Hosted Store U → Type 0
+    HasAskedUpTo zero a c is_over b d = (is_over ≡ false) × (b ≡ a) × (d ≡ c)
+    HasAskedUpTo (suc n) a c is_over b d =
+        (HasAskedOne a false c b d × (is_over ≡ true))
+        ⊎ ((m : Account M.Body) × (e : CellOf M Setup Hosted Store U) × HasAskedOne a true c m e × HasAskedUpTo n m e is_over b d)
 
-    abbrev pub HasAskedEach : Account M.Body → CellOf M Setup Hosted Store U → Account M.Body → CellOf M Setup Hosted Store U → Type 0
-    HasAskedEach a c b d = (n : ℕ) × HasAskedSome n a c b d
+    -- so, as many at most as a round asks one by one
+    abbrev pub HasAskedEach : Account M.Body → CellOf M Setup Hosted Store U → Bool → Account M.Body → CellOf M Setup Hosted Store U → Type 0
+    HasAskedEach a c is_over b d = (n : ℕ) × (n ≡ ask_limit) × HasAskedUpTo n a c is_over b d
 
     -- a node that leads was asked the first of the requests that wait, together, as many as go at once, and the others wait on
     pub record HasAskedTogether (a : Account M.Body) (c : CellOf M Setup Hosted Store U) (b : Account M.Body) (d : CellOf M Setup Hosted Store U) : Type 0 where
       pub leads : leads_in c ≡ true
       pub turned : HasTurnedAll M (asks_of (take batch_limit a.requests.waiting)) c d
-      pub requests : AsksFront a b
+      pub requests : AsksFront (term_in c) a b
 
     -- so, or nothing was done
     abbrev pub HasTriedTogether : Account M.Body → Bool → CellOf M Setup Hosted Store U → Account M.Body → CellOf M Setup Hosted Store U → Type 0
     HasTriedTogether a true c b d = HasAskedTogether a c b d
     HasTriedTogether a false c b d = (b ≡ a) × (d ≡ c)
 
-    -- requests that wait were asked: together, or one by one where the node does not lead, or there is no memory for that
-    abbrev pub HasAskedOn : Account M.Body → CellOf M Setup Hosted Store U → Account M.Body → CellOf M Setup Hosted Store U → Type 0
-    HasAskedOn a c b d = HasAskedTogether a c b d ⊎ HasAskedEach a c b d
+    -- Requests that wait were asked: together, or one by one where the node does not lead, or there is no memory for that. It is over where none waits, or
+    -- the node may not ask more now.
+    abbrev pub HasAskedOn : Account M.Body → CellOf M Setup Hosted Store U → Bool → Account M.Body → CellOf M Setup Hosted Store U → Type 0
+    HasAskedOn a c is_over b d = (HasAskedTogether a c b d × ((is_over ≡ true) ↔ (b.requests.waiting ≡ []))) ⊎ HasAskedEach a c is_over b d
 
     -- the first request that waits is asked, where it is to be asked before the mailboxes are taken
     abbrev pub AsksBefore : Bool → Account M.Body → CellOf M Setup Hosted Store U → Account M.Body → CellOf M Setup Hosted Store U → Type 0
@@ -206,8 +215,10 @@ module _ (M : Machine) {Setup Hosted Store U : Type 0} where
 
     -- What a round does behind its jobs. A node that knows a leader, to which it posted no request last, asks the first that waits. Then the
     -- mailboxes are taken, but for that of the leader to which a request lies that it did not take. Then requests are asked, agreed places are
-    -- applied, and where there is news, the node beats. A request waits until it is asked, and waits again where it comes back.
-    pub record HasGoneRound (forwarded : Option ℕ) (a : Account M.Body) (c : CellOf M Setup Hosted Store U) (b : Account M.Body) (d : CellOf M Setup Hosted Store U) : Type 0 where
+    -- applied, and where there is news, the node beats. A request waits until it is asked, and waits again where it comes back. Nothing is left to do where
+    -- no request was left that the node may ask, nothing to apply and nothing to tell.
+    pub record HasGoneRound (forwarded : Option ℕ) (a : Account M.Body) (c : CellOf M Setup Hosted Store U) (leaves_nothing : Bool) (b : Account M.Body)
+        (d : CellOf M Setup Hosted Store U) : Type 0 where
       pub first : CellOf M Setup Hosted Store U
       pub seen : CellOf M Setup Hosted Store U
       pub heard : CellOf M Setup Hosted Store U
@@ -219,14 +230,18 @@ module _ (M : Machine) {Setup Hosted Store U : Type 0} where
       pub now_forwarded : Option ℕ
       pub left : Option ℕ
       pub has_news : Bool
+      pub all_asked : Bool
+      pub all_applied : Bool
+      pub all_told : Bool
       pub asks_before : AsksBefore (asks_first forwarded (leader_in c)) a c account_first first
       pub leaves : HasLeft (request_at now_forwarded (leader_in first)) first left seen
       pub takes : HasTakenBut left seen heard
       pub taken_back : HaveComeBack account_first account_heard
-      pub asks : HasAskedOn account_heard heard account_asked asked
+      pub asks : HasAskedOn account_heard heard all_asked account_asked asked
       pub applies_on : HasApplied asked applied
       pub beats : HasBeaten has_news applied d
       pub come_back : HaveComeBack account_asked b
+      pub leaves_nothing_is : leaves_nothing ≡ (all_asked && (all_applied && all_told))
 
     module _ (marked : M.Body → Option Mark) (mark : Mark → M.Body) where
       -- the node's next mark was asked for, and this is its number

@@ -16,19 +16,20 @@ pub enum Next<J> {
 /// Gives jobs, one after the other. What is proved of those who take them is proved over any inflow: then
 /// nothing but `next` says that a job came.
 pub trait Inflow<J> {
+    ghost use Rattle.std.specs.Prelude.{Bool};
     ghost use Rattle.node_threads.specs.declared.inflow.Next.{Next};
 
-    /// That it gave this next, and is as it is since.
-    ghost gives: { Self → Next J → Self → Type 0 };
+    /// That it might wait or not, gave this next, and is as it is since.
+    ghost gives: { Self → Bool → Next J → Self → Type 0 };
 
     /// Waits for a job where it may.
     fn next<R: Wait>(&mut self, rt: &R, may_wait: bool) -> Next<J>
-        ensures { gives self.old result self.new };
+        ensures { gives self.old may_wait result self.new };
 }
 
 impl<J: Drop> Inflow<J> for Receiver<J> {
     // what comes out of a channel, no clause says
-    ghost gives = { λ _ _ _. Unit {0} };
+    ghost gives = { λ _ _ _ _. Unit {0} };
 
     fn next<R: Wait>(&mut self, rt: &R, may_wait: bool) -> Next<J> {
         if may_wait {

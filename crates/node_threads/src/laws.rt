@@ -10,7 +10,7 @@ use stable_store::Stable;
 
 /// Over any number of rounds, with whatever comes in its inbox, a worker does each job that is for its node once and in
 /// order. Each request that it is told is asked, or ended by a restart, or found no memory, or waits on: one of these, and
-/// once more each time it comes back. Which requests come back no clause of a round says. The worker's loop does such rounds.
+/// once more each time it comes back. The worker's loop does such rounds.
 pub fn what_comes_is_served<M: Marking, S: Stable<M::Command>, U: Upstream, I: Inflow<Job<M>>>()
     ensures { (s : M.Setup) → WhatComesIsServed (⟦<M as Described>⟧.machine s) M.Setup M S U.tally
         M.marked M.mark I.gives }
@@ -24,7 +24,8 @@ pub fn what_stands_is_served<M: Marking, S: Stable<M::Command>, U: Upstream, I: 
 {}
 
 /// As often as a request was asked, ended by a restart, found no memory or waits on, it had waited, was told or came back.
-/// So none is forgotten, and none is asked once more than it was told and came back.
+/// So none is forgotten, and none is asked once more than it was told and came back. None came back more often than it was
+/// asked, and once more where it was the last that was asked before.
 pub fn requests_are_counted<M: Marking, S: Stable<M::Command>, U: Upstream, I: Inflow<Job<M>>>()
     ensures { (s : M.Setup) → RequestsAreCounted (⟦<M as Described>⟧.machine s) M.Setup M S U.tally
         M.marked M.mark I.gives }

@@ -89,8 +89,8 @@ impl<M: Marking, G: Gate + Drop, O: Outlet<M::Effect>> WorkerLoop<M, G, O> {
     )
         ensures home { IsSameHome cell.old.parts cell.new.parts }
         ensures rounds { HasWorkedOff (⟦<M as Described>⟧.machine cell.old.parts.ether.setup)
-            U.tally M.marked M.mark I.gives inbox.old (account_of self.old) cell.old.parts
-            inbox.new (account_of self.new) cell.new.parts }
+            U.tally M.marked M.mark I.gives self.old.may_wait inbox.old (account_of self.old)
+            cell.old.parts inbox.new (account_of self.new) cell.new.parts }
     {
         for _ in rt.forever() {
             if !self.do_round(rt, cell, inbox) {
@@ -108,8 +108,9 @@ impl<M: Marking, G: Gate + Drop, O: Outlet<M::Effect>> WorkerLoop<M, G, O> {
     ) -> bool
         ensures home { IsSameHome cell.old.parts cell.new.parts }
         ensures round { HasDoneRound (⟦<M as Described>⟧.machine cell.old.parts.ether.setup) U.tally
-            M.marked M.mark I.gives inbox.old (account_of self.old) cell.old.parts result
-            inbox.new (account_of self.new) cell.new.parts }
+            M.marked M.mark I.gives self.old.may_wait inbox.old (account_of self.old)
+            cell.old.parts result self.new.may_wait inbox.new (account_of self.new)
+            cell.new.parts }
     {
         let may_wait = self.may_wait;
         let is_over = self.do_jobs(rt, cell, inbox, may_wait);
@@ -125,7 +126,7 @@ impl<M: Marking, G: Gate + Drop, O: Outlet<M::Effect>> WorkerLoop<M, G, O> {
         cell: &mut NodeCell<M, S, U>,
     ) -> bool
         ensures { HasGoneRound (⟦<M as Described>⟧.machine cell.old.parts.ether.setup) U.tally
-            self.old.forwarded (account_of self.old) cell.old.parts
+            self.old.forwarded (account_of self.old) cell.old.parts result
             (account_of self.new) cell.new.parts }
     {
         self.ask_before(rt, cell);

@@ -1,8 +1,10 @@
 //! How a worker asks the requests that wait.
-ghost use Rattle.std.specs.Prelude.{◌≡◌, ◌≤◌, [], true};
-ghost use Rattle.node_threads.specs.Asking.{HasLeft, HasSeenIf, MayAsk, leader_in};
+ghost use Rattle.std.specs.Prelude.{◌≡◌, ◌≤◌, [], take, true};
+ghost use Rattle.raft_log.specs.Batches.{batch_limit};
+ghost use Rattle.node_threads.specs.Asking.{HasLeft, HasSeenIf, MayAsk, leader_in, term_in};
 ghost use Rattle.node_threads.specs.Forwarding.{asks_first, request_at};
 ghost use Rattle.node_threads.specs.Reports.{leads_in};
+ghost use Rattle.node_threads.specs.Requests.{last_asked};
 ghost use Rattle.node_threads.specs.Together.{AreReady, TakesFront};
 ghost use Rattle.node_threads.specs.Waiting.{account_of};
 ghost use Rattle.node_threads.specs.Work.{AsksBefore, HasAskedEach, HasAskedOn, HasAskedOne, HasTriedTogether};
@@ -52,7 +54,7 @@ impl<M: Marking, G: Gate + Drop, O: Outlet<M::Effect>> WorkerLoop<M, G, O> {
         cell: &mut NodeCell<M, S, U>,
     ) -> bool
         ensures { HasAskedOn (⟦<M as Described>⟧.machine cell.old.parts.ether.setup) U.tally
-            (account_of self.old) cell.old.parts (account_of self.new) cell.new.parts }
+            (account_of self.old) cell.old.parts result (account_of self.new) cell.new.parts }
     {
         if self.ask_together(rt, cell) {
             return !self.requests.has_waiting();
@@ -92,6 +94,9 @@ impl<M: Marking, G: Gate + Drop, O: Outlet<M::Effect>> WorkerLoop<M, G, O> {
         ensures ready { leads_in cell.now.parts ≡ true → AreReady result.items cell.now.parts }
         ensures none { result.items ≡ [] → account_of self.new ≡ account_of self.old }
         ensures lost { self.old.requests.lost ≤ self.new.requests.lost }
+        ensures asked { (result.items ≡ [] → ⊥) → self.new.requests.asked
+            ≡ last_asked (term_in cell.now.parts) (take batch_limit self.old.requests.waiting.items)
+            self.old.requests.asked }
         ensures done { self.new.done ≡ self.old.done }
     {
         let term = cell.state().standing.term;
@@ -115,7 +120,7 @@ impl<M: Marking, G: Gate + Drop, O: Outlet<M::Effect>> WorkerLoop<M, G, O> {
         cell: &mut NodeCell<M, S, U>,
     ) -> bool
         ensures { HasAskedEach (⟦<M as Described>⟧.machine cell.old.parts.ether.setup) U.tally
-            (account_of self.old) cell.old.parts (account_of self.new) cell.new.parts }
+            (account_of self.old) cell.old.parts result (account_of self.new) cell.new.parts }
     {
         for _ in 0..MOST_ASKED {
             if !self.ask_one(rt, cell) {

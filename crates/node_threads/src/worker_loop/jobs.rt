@@ -1,5 +1,5 @@
 //! The jobs of a worker.
-ghost use Rattle.std.specs.Prelude.{◌≡◌, ◌+◌, ◌-◌, ◌^◌, ◌&&◌, [], min, nat_le, not, true, if◌then◌else◌};
+ghost use Rattle.std.specs.Prelude.{◌≡◌, ◌+◌, ◌-◌, ◌^◌, ◌&&◌, [], min, nat_eq, nat_le, not, true, if◌then◌else◌};
 ghost use Rattle.node_notes.specs.declared.note.Note.TheVariants.{Beat};
 ghost use Rattle.node_threads.specs.Reports.{is_told, leads_in};
 ghost use Rattle.node_threads.specs.Taking.{HasDoneGiven, gathered_piece};
@@ -37,7 +37,7 @@ impl<M: Marking, G: Gate + Drop, O: Outlet<M::Effect>> WorkerLoop<M, G, O> {
         may_wait: bool,
     ) -> bool
         ensures { HasDoneGiven (⟦<M as Described>⟧.machine cell.old.parts.ether.setup) U.tally
-            M.marked M.mark I.gives [] inbox.old (account_of self.old) cell.old.parts result
+            M.marked M.mark I.gives may_wait [] inbox.old (account_of self.old) cell.old.parts result
             inbox.new (account_of self.new) cell.new.parts }
     {
         let mut gathered = Vec::new(self.alloc);
@@ -57,8 +57,8 @@ impl<M: Marking, G: Gate + Drop, O: Outlet<M::Effect>> WorkerLoop<M, G, O> {
     ) -> bool
         requires { gathered.old.items ≡ [] }
         ensures done { HasDoneGiven (⟦<M as Described>⟧.machine cell.old.parts.ether.setup) U.tally
-            M.marked M.mark I.gives (gathered_piece gathered.new.items) inbox.old
-            (account_of self.old) cell.old.parts result inbox.new (account_of self.new)
+            M.marked M.mark I.gives may_wait (gathered_piece gathered.new.items)
+            inbox.old (account_of self.old) cell.old.parts result inbox.new (account_of self.new)
             cell.new.parts }
         ensures ready { AreReady gathered.new.items cell.new.parts }
     {
@@ -66,7 +66,7 @@ impl<M: Marking, G: Gate + Drop, O: Outlet<M::Effect>> WorkerLoop<M, G, O> {
         // What a leader only appends of them is saved at once, so that a slow disk is waited for once: a
         // round takes as many as can be saved together.
         for place in 0..BATCH_LIMIT {
-            match inbox.next(rt, may_wait && place == 0) {
+            match inbox.next(rt, waits_at(may_wait, place)) {
                 Next::Job(job) => {
                     if job.is_end() {
                         return true;
@@ -193,4 +193,12 @@ impl<M: Marking, G: Gate + Drop, O: Outlet<M::Effect>> WorkerLoop<M, G, O> {
     {
         self.contacts <= contacts && !leads(cell)
     }
+}
+
+/// Whether the inbox may wait for what comes at this place of a round, from 0 on: for the first alone, where that may
+/// be waited for.
+fn waits_at(may_wait: bool, place: usize) -> bool
+    ensures { result ≡ (may_wait && nat_eq place 0) }
+{
+    may_wait && place == 0
 }

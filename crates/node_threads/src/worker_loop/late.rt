@@ -144,8 +144,8 @@ impl<M: Marking, G: Gate + Drop, O: Outlet<M::Effect>> WorkerLoop<M, G, O> {
         may_wait: bool,
         cause: Cause,
     ) -> DownStep
-        ensures { HasTakenDown I.gives inbox.old (account_of self.old) result inbox.new
-            (account_of self.new) }
+        ensures { HasTakenDown I.gives may_wait inbox.old (account_of self.old) result
+            inbox.new (account_of self.new) }
     {
         match inbox.next(rt, may_wait) {
             Next::Job(job) => {

@@ -1,6 +1,6 @@
 //! The requests that wait at a worker until its node may ask them.
 ghost use Rattle.std.specs.Prelude.{◌≡◌, max, [], None, false};
-ghost use Rattle.node_threads.specs.Requests.{HasAsked, WaitsOrIsLost, behind, ended, in_front, in_term, lose, note_in, queue_of, request};
+ghost use Rattle.node_threads.specs.Requests.{HasAsked, WaitsOrIsLost, behind, ended, in_front, in_term, lose, note_in, queue_of, request, settled};
 
 use std::alloc::Global;
 use std::collections::VecDeque;
@@ -18,6 +18,8 @@ pub struct Request<B> {
 pub struct Asked {
     pub note: u64,
     pub term: Number,
+    /// Whether it may come back: it did not yet, and no mark was asked since.
+    pub may_return: bool,
 }
 
 /// The requests that wait at a worker, in the order in which they are asked.
@@ -65,27 +67,52 @@ impl<B: Drop> Requests<B> {
     {
         let Request { note, body } = self.waiting.pop_front()?;
         self.see(term);
-        self.asked = Some(Asked { note, term });
+        self.asked = Some(Asked {
+            note,
+            term,
+            may_return: true,
+        });
         Some(body)
     }
 
-    /// A request that was asked is not on its way any more, and comes first again. Where there is no memory
-    /// for it, it is lost.
+    /// The last request that was asked is not on its way any more, and comes first again. Where there is no
+    /// memory for it, it is lost. It does not come back a second time.
     pub fn give_back(&mut self, note: u64, body: B)
-        ensures { WaitsOrIsLost note (in_front (request note body) (queue_of self.old))
-            (queue_of self.old) (queue_of self.new) }
+        ensures { WaitsOrIsLost note (in_front (request note body) (settled (queue_of self.old)))
+            (settled (queue_of self.old)) (queue_of self.new) }
     {
+        self.settle();
         if self.waiting.push_front(Request { note, body }).is_err() {
             self.lose(note);
         }
     }
 
-    /// The note of the last request, if it was asked in this term.
+    /// So it is lost.
+    pub fn lose_back(&mut self, note: u64)
+        ensures { queue_of self.new ≡ lose note (settled (queue_of self.old)) }
+    {
+        self.settle();
+        self.lose(note);
+    }
+
+    /// The last request that was asked comes back no more.
+    pub fn settle(&mut self)
+        ensures { queue_of self.new ≡ settled (queue_of self.old) }
+    {
+        if let Some(asked) = self.asked {
+            self.asked = Some(Asked {
+                may_return: false,
+                ..asked
+            });
+        }
+    }
+
+    /// The note of the last request, if it was asked in this term and may come back.
     pub fn asked_in(&self, term: Number) -> Option<u64>
         ensures { result ≡ note_in term self.now.asked }
     {
         match self.asked {
-            Some(asked) if asked.term == term => Some(asked.note),
+            Some(asked) if asked.term == term && asked.may_return => Some(asked.note),
             _ => None,
         }
     }

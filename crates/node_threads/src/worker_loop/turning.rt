@@ -63,7 +63,8 @@ impl<M: Marking, G: Gate + Drop, O: Outlet<M::Effect>> WorkerLoop<M, G, O> {
         }
     }
 
-    /// The node's next mark.
+    /// The node's next mark. No request that was asked before it comes back behind it: what comes back then
+    /// is the mark.
     pub fn mark<R: Wait, S: Stable<M::Command>, U: Upstream>(
         &mut self,
         rt: &R,
@@ -84,6 +85,7 @@ impl<M: Marking, G: Gate + Drop, O: Outlet<M::Effect>> WorkerLoop<M, G, O> {
         match cell.mark() {
             Ok(MarkTurn { number, output }) => {
                 self.gather(cell, output, true);
+                self.requests.settle();
                 Ok(number)
             }
             Err(fault) => Err(fault),
@@ -150,7 +152,7 @@ impl<M: Marking, G: Gate + Drop, O: Outlet<M::Effect>> WorkerLoop<M, G, O> {
         };
         match body.get().copy(self.alloc) {
             Ok(body) => self.requests.give_back(note, body),
-            Err(_) => self.requests.lose(note),
+            Err(_) => self.requests.lose_back(note),
         }
     }
 

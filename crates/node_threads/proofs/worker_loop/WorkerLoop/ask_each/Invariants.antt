@@ -1,9 +1,10 @@
+use Rattle.std.proofs.Common.{◌≡◌, ◌+◌, ℕ, Bool}
 use Rattle.raft_node.specs.Hosts.{hosted}
 use Rattle.raft_node.specs.Machine.{Machine}
 use Rattle.node_cells.specs.Turns.{CellOf}
 use Rattle.node_threads.specs.Homes.{IsSameHome}
 use Rattle.node_threads.specs.Waiting.{Account, account_of}
-use Rattle.node_threads.specs.Work.{HasAskedEach}
+use Rattle.node_threads.specs.Work.{HasAskedEach, HasAskedUpTo, ask_limit}
 use Rattle.node_threads.proofs.worker_loop.WorkerLoop.ask_each.Given as goal
 
 abbrev pub machine : (g : goal.Over) → g.row.M-Setup.Denot → Machine
@@ -16,4 +17,5 @@ invariant-loop g l =
     let first = l.fn.cell.parts in
     let M = machine g first.ether.setup in
     IsSameHome first l.cell.parts
-    × ((b : Account _) (e : CellOf M _ _ _ _) → HasAskedEach M g.U.Upstream.tally (account_of l.self) l.cell.parts b e → HasAskedEach M g.U.Upstream.tally (account_of l.fn.self) first b e)
+    × ((n : ℕ) → n + l.counter ≡ ask_limit → (over : Bool) (b : Account _) (e : CellOf M _ _ _ _) → HasAskedUpTo M g.U.Upstream.tally n (account_of l.self) l.cell.parts over b e
+    → HasAskedEach M g.U.Upstream.tally (account_of l.fn.self) first over b e)

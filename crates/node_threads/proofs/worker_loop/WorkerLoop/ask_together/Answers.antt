@@ -1,4 +1,5 @@
 use Rattle.std.proofs.Common.{rules, ◌≡◌, ◌≤◌, [], true, length, ap, sym, ◌∙◌, subst, arith}
+use Rattle.node_threads.specs.Asking.{term_in}
 use Rattle.node_threads.specs.Reports.{leads_in}
 use Rattle.node_threads.specs.Together.{HasTurnedAll}
 use Rattle.node_threads.specs.Waiting.{Account, AsksFront, account_of}
@@ -29,6 +30,6 @@ returns g c =
     record {
       leads = yes;
       turned = subst (λ l. HasTurnedAll M l first new) is c.turn_all.ensures.turned;
-      requests = subst (λ (b : Account _). AsksFront (account_of c.args.self.now) b) (sym c.turn_all.ensures.requests)
-          (record { waiting_is = behind; lost_grows = c.next_asks-inputs.ensures.lost; done_is = c.next_asks-inputs.ensures.done });
+      requests = subst (λ (b : Account _). AsksFront (term_in first) (account_of c.args.self.now) b) (sym c.turn_all.ensures.requests)
+          (record { waiting_is = behind; asked_is = c.next_asks-inputs.ensures.asked not_none; lost_grows = c.next_asks-inputs.ensures.lost; done_is = c.next_asks-inputs.ensures.done });
     }

@@ -29,9 +29,10 @@ returns g c =
     let marked = g.M.Marking.marked in
     let mark = g.M.Hosted.mark in
     let gives = g.I.Inflow.gives in
+    let may = c.args.may_wait in
     let M = machine g first.ether.setup in
     let taken = c.take_jobs-is_over.ensures.done in
-    let home = home_after_given M tally marked mark gives (gathered_piece gathered) old_inbox start first over inbox account between taken in
+    let home = home_after_given M tally marked mark gives may (gathered_piece gathered) old_inbox start first over inbox account between taken in
     let turned = subst (λ (s : g.row.M-Setup.Denot). HasTurnedAll (machine g s) gathered between new) (ap (λ e. e.setup) home.ether) c.turn_all.ensures.turned in
-    let done = given_all M tally marked mark gives gathered old_inbox start first over inbox account between new taken turned in
-    subst (λ (b : Account _). HasDoneGiven M tally marked mark gives [] old_inbox start first over inbox b new) (sym c.turn_all.ensures.requests) done
+    let done = given_all M tally marked mark gives may gathered old_inbox start first over inbox account between new taken turned in
+    subst (λ (b : Account _). HasDoneGiven M tally marked mark gives may [] old_inbox start first over inbox b new) (sym c.turn_all.ensures.requests) done

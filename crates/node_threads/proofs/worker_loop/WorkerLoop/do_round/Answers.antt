@@ -21,8 +21,8 @@ returns-clause-home g c =
     let between = jobs.new.cell.parts in
     let new = c.go_round-all_done.new.cell.parts in
     let tally = g.U.Upstream.tally in
-    let one = home_after_given (machine g old.ether.setup) tally g.M.Marking.marked g.M.Hosted.mark g.I.Inflow.gives [] c.args.inbox.now (account_of c.args.self.now) old jobs.result jobs.new.inbox (account_of jobs.new.self) between jobs.ensures in
-    let two = home_after_round (machine g between.ether.setup) tally jobs.new.self.forwarded (account_of jobs.new.self) between (account_of c.go_round-all_done.new.self) new c.go_round-all_done.ensures in
+    let one = home_after_given (machine g old.ether.setup) tally g.M.Marking.marked g.M.Hosted.mark g.I.Inflow.gives c.args.self.now.may_wait [] c.args.inbox.now (account_of c.args.self.now) old jobs.result jobs.new.inbox (account_of jobs.new.self) between jobs.ensures in
+    let two = home_after_round (machine g between.ether.setup) tally jobs.new.self.forwarded (account_of jobs.new.self) between c.go_round-all_done.result (account_of c.go_round-all_done.new.self) new c.go_round-all_done.ensures in
     same_home_still old between new one two
 
 pub returns-clause-round : goal.returns-clause-round
@@ -34,13 +34,13 @@ returns-clause-round g c =
     let tally = g.U.Upstream.tally in
     let forwarded = jobs.new.self.forwarded in
     let account = account_of jobs.new.self in
-    let home = home_after_given (machine g old.ether.setup) tally g.M.Marking.marked g.M.Hosted.mark g.I.Inflow.gives [] c.args.inbox.now (account_of c.args.self.now) old jobs.result jobs.new.inbox (account_of jobs.new.self) between jobs.ensures in
+    let home = home_after_given (machine g old.ether.setup) tally g.M.Marking.marked g.M.Hosted.mark g.I.Inflow.gives c.args.self.now.may_wait [] c.args.inbox.now (account_of c.args.self.now) old jobs.result jobs.new.inbox (account_of jobs.new.self) between jobs.ensures in
     record {
       between = between;
       over = jobs.result;
       forwarded = forwarded;
       account = account;
       jobs = jobs.ensures;
-      rest = subst (λ (s : g.row.M-Setup.Denot). HasGoneRound (machine g s) tally forwarded account between (account_of c.go_round-all_done.new.self) new) (ap (λ e. e.setup) home.ether) c.go_round-all_done.ensures;
+      rest = subst (λ (s : g.row.M-Setup.Denot). HasGoneRound (machine g s) tally forwarded account between c.go_round-all_done.result (account_of c.go_round-all_done.new.self) new) (ap (λ e. e.setup) home.ether) c.go_round-all_done.ensures;
       goes_on_is = refl;
     }

@@ -1,10 +1,11 @@
-use Rattle.std.proofs.Common.{rules, ◌≡◌, ◌+◌, ◌-◌, ◌++◌, suc, [], length, min, take, drop, refl, sym, ap, ◌∙◌, subst, arith}
+use Rattle.std.proofs.Common.{rules, ◌≡◌, ◌+◌, ◌-◌, ◌++◌, suc, [], length, min, take, drop, true, Some, refl, sym, ap, ◌∙◌, subst, arith}
 use Rattle.raft_log.specs.Batches.{batch_limit}
+use Rattle.node_threads.specs.Asking.{term_in}
 use Rattle.node_threads.specs.Together.{TakesFront, asks_of}
 use Rattle.node_threads.proofs.Taken.{none_ready}
-use Rattle.node_threads.specs.Requests.{Queue, queue_of}
+use Rattle.node_threads.specs.Requests.{Queue, last_asked, queue_of}
 use Rattle.node_threads.proofs.Waiting.{lost_by_asking, some_pushed}
-use Rattle.node_threads.proofs.Asked.{asks_ready, next_left, next_taken, none_waits_more, so_many}
+use Rattle.node_threads.proofs.Asked.{asks_ready, last_of_all, last_of_many, next_last, next_left, next_taken, none_waits_more, so_many}
 use Rattle.node_threads.proofs.worker_loop.WorkerLoop.next_asks.Goals as goal
 
 pub loop-init : goal.loop-init
@@ -18,6 +19,7 @@ loop-init g c =
       left = λ i. drop (all i) first;
       kept = λ none. refl;
       lost = omega arith;
+      asked = λ i. last_asked (term_in c.args.cell.now.parts) (take (all i) first) c.args.self.now.requests.asked;
       done = refl;
       room = omega (arith, len, room);
     }
@@ -41,6 +43,9 @@ loop-preserved g c =
       left = next_left old new (drop c.min-count.result first) c.in-Some.ensures.0 c.in-Some.request n m next waits c.loop.invariant.left;
       kept = λ none. absurd (some_pushed _ _ (sym c.push_reserved.ensures.items ∙ none));
       lost = let least = c.loop.invariant.lost in let more = lost_by_asking _ (queue_of c.loop.self.requests) c.in-Some.request (queue_of c.ask.new.self) c.in-Some.ensures in omega (arith, least, more);
+      asked = next_last (term_in c.args.cell.now.parts) old new c.in-Some.ensures.0 c.in-Some.request c.loop.self.requests.asked c.ask.new.self.asked _ n m next waits
+          (ap (λ (q : Queue _). q.asked) c.in-Some.ensures.2 ∙ (λ i. Some (record { note = c.in-Some.ensures.0; term = (c.state.ensures.state i).standing.term; may_return = true })))
+          c.loop.invariant.asked;
       done = c.loop.invariant.done;
       room = omega (arith, len, full, room, next);
     }
@@ -68,6 +73,26 @@ returns-in_default-ask-clause-lost g c =
 
 pub returns-in_default-ask-clause-done : goal.returns-in_default-ask-clause-done
 returns-in_default-ask-clause-done g c = c.loop.invariant.done
+
+pub returns-in_default-ask-clause-asked : goal.returns-in_default-ask-clause-asked
+returns-in_default-ask-clause-asked g c =
+    let first = c.args.self.now.requests.waiting.items in
+    let many : c.min-count.result ≡ min batch_limit (length first) = search rules in
+    λ some. ap (λ (q : Queue _). q.asked) c.in_default-ask.ensures.1
+    ∙ last_of_all (term_in c.args.cell.now.parts) first c.loop.self.requests.waiting.items c.args.self.now.requests.asked c.loop.self.requests.asked (c.min-count.result - c.loop.counter)
+    c.min-count.result many c.in_default-ask.ensures.0 c.loop.invariant.asked
+
+pub returns-in_default-clause-asked : goal.returns-in_default-clause-asked
+returns-in_default-clause-asked g c = λ some. absurd (some c.new.ensures.items)
+
+pub returns-clause-asked : goal.returns-clause-asked
+returns-clause-asked g c =
+    let first = c.args.self.now.requests.waiting.items in
+    let many : c.min-count.result ≡ min batch_limit (length first) = search rules in
+    let least = c.loop-test.false in
+    let end : c.min-count.result - c.loop.counter ≡ 0 = omega (arith, least) in
+    λ some. last_of_many (term_in c.args.cell.now.parts) first c.loop.self.requests.waiting.items c.args.self.now.requests.asked c.loop.self.requests.asked (c.min-count.result - c.loop.counter)
+    c.min-count.result many end c.loop.invariant.asked
 
 pub returns-clause-none : goal.returns-clause-none
 returns-clause-none g c = c.loop.invariant.kept

@@ -1,4 +1,4 @@
-use Rattle.std.proofs.Common.{◌≡◌, ◌+◌, true, false, refl, sym, ap, ◌∙◌, subst, arith}
+use Rattle.std.proofs.Common.{◌≡◌, ◌+◌, Bool, true, false, refl, sym, ap, ◌∙◌, subst, arith}
 use Rattle.node_threads.specs.declared.inflow.Next.TheVariants as next
 use Rattle.node_threads.specs.Reports.{is_end}
 use Rattle.node_threads.specs.Taking.{HasTakenUp}
@@ -13,7 +13,7 @@ pub loop-place-init : goal.loop-place-init
 loop-place-init g c =
     let first = c.args.cell.now.parts in
     record {
-      taking = taking_none (machine g first.ether.setup) g.U.Upstream.tally g.M.Marking.marked g.M.Hosted.mark g.I.Inflow.gives c.args.gathered.now.items c.args.inbox.now (account_of c.args.self.now) first c.requires;
+      taking = taking_none (machine g first.ether.setup) g.U.Upstream.tally g.M.Marking.marked g.M.Hosted.mark g.I.Inflow.gives c.args.may_wait c.args.gathered.now.items c.args.inbox.now (account_of c.args.self.now) first c.requires;
       ready = none_ready c.args.gathered.now.items first c.requires;
     }
 
@@ -32,10 +32,10 @@ loop-place-preserved g c =
     let gives = g.I.Inflow.gives in
     let M = machine g first.ether.setup in
     let job = c.in-Job.job in
-    let home = home_after_taking M tally marked mark gives l.place before c.args.inbox.now (account_of c.args.self.now) first l.inbox (account_of l.self) old l.invariant.taking in
+    let home = home_after_taking M tally marked mark gives c.args.may_wait l.place before c.args.inbox.now (account_of c.args.self.now) first l.inbox (account_of l.self) old l.invariant.taking in
     let taken = subst (λ (s : g.row.M-Setup.Denot). HasTakenUp (machine g s) tally marked mark job before old after new) (ap (λ e. e.setup) home.ether) c.take_up.ensures.taken in
-    let gave = c.in-Job.ensures in
-    let more = taking_next M tally marked mark gives l.place (l.place + 1) c.args.inbox.now (account_of c.args.self.now) first l.inbox (account_of l.self) job before old
+    let gave = subst (λ (waits : Bool). gives c.loop-place.inbox waits (next.Job c.in-Job.job) c.next.new.self) c.waits_at.ensures c.in-Job.ensures in
+    let more = taking_next M tally marked mark gives c.args.may_wait l.place (l.place + 1) c.args.inbox.now (account_of c.args.self.now) first l.inbox (account_of l.self) job before old
     c.next.new.self (account_of c.take_up.new.self) after new refl (omega (arith, room)) l.invariant.taking gave (sym c.is_end.ensures ∙ c.if-is_end.false)
     c.take_up.ensures.requests taken in
     record {
@@ -50,8 +50,8 @@ returns-then-is_end-clause-done g c =
     let l = c.loop-place in
     let room = c.loop-place-test.true in
     let gives = g.I.Inflow.gives in
-    let gave = c.in-Job.ensures in
-    taking_end (machine g first.ether.setup) g.U.Upstream.tally g.M.Marking.marked g.M.Hosted.mark gives l.place l.gathered.items c.args.inbox.now (account_of c.args.self.now) first l.inbox
+    let gave = subst (λ (waits : Bool). gives c.loop-place.inbox waits (next.Job c.in-Job.job) c.next.new.self) c.waits_at.ensures c.in-Job.ensures in
+    taking_end (machine g first.ether.setup) g.U.Upstream.tally g.M.Marking.marked g.M.Hosted.mark gives c.args.may_wait l.place l.gathered.items c.args.inbox.now (account_of c.args.self.now) first l.inbox
     (account_of l.self) l.cell.parts
     (next.Job c.in-Job.job) c.next.new.self true l.invariant.taking (omega (arith, room)) gave (over_end c.in-Job.job true ends) (for_node_end c.in-Job.job ends)
     (heeds_stop c.in-Job.job (account_of l.self) ends)
@@ -62,8 +62,8 @@ returns-in-Nothing-clause-done g c =
     let l = c.loop-place in
     let room = c.loop-place-test.true in
     let gives = g.I.Inflow.gives in
-    let gave = c.in-Nothing.ensures in
-    taking_end (machine g first.ether.setup) g.U.Upstream.tally g.M.Marking.marked g.M.Hosted.mark gives l.place l.gathered.items c.args.inbox.now (account_of c.args.self.now) first l.inbox
+    let gave = subst (λ (waits : Bool). gives c.loop-place.inbox waits (next.Nothing) c.next.new.self) c.waits_at.ensures c.in-Nothing.ensures in
+    taking_end (machine g first.ether.setup) g.U.Upstream.tally g.M.Marking.marked g.M.Hosted.mark gives c.args.may_wait l.place l.gathered.items c.args.inbox.now (account_of c.args.self.now) first l.inbox
     (account_of l.self) l.cell.parts
     next.Nothing c.next.new.self false l.invariant.taking (omega (arith, room)) gave refl refl refl
 
@@ -73,8 +73,8 @@ returns-in-Over-clause-done g c =
     let l = c.loop-place in
     let room = c.loop-place-test.true in
     let gives = g.I.Inflow.gives in
-    let gave = c.in-Over.ensures in
-    taking_end (machine g first.ether.setup) g.U.Upstream.tally g.M.Marking.marked g.M.Hosted.mark gives l.place l.gathered.items c.args.inbox.now (account_of c.args.self.now) first l.inbox
+    let gave = subst (λ (waits : Bool). gives c.loop-place.inbox waits (next.Over) c.next.new.self) c.waits_at.ensures c.in-Over.ensures in
+    taking_end (machine g first.ether.setup) g.U.Upstream.tally g.M.Marking.marked g.M.Hosted.mark gives c.args.may_wait l.place l.gathered.items c.args.inbox.now (account_of c.args.self.now) first l.inbox
     (account_of l.self) l.cell.parts
     next.Over c.next.new.self true l.invariant.taking (omega (arith, room)) gave refl refl refl
 
@@ -84,7 +84,7 @@ returns-clause-done g c =
     let l = c.loop-place in
     let least = c.loop-place-test.false in
     let most = l.auto.place-end in
-    taking_stop (machine g first.ether.setup) g.U.Upstream.tally g.M.Marking.marked g.M.Hosted.mark g.I.Inflow.gives l.place l.gathered.items c.args.inbox.now (account_of c.args.self.now) first l.inbox
+    taking_stop (machine g first.ether.setup) g.U.Upstream.tally g.M.Marking.marked g.M.Hosted.mark g.I.Inflow.gives c.args.may_wait l.place l.gathered.items c.args.inbox.now (account_of c.args.self.now) first l.inbox
     (account_of l.self) l.cell.parts
     l.invariant.taking (omega (arith, least)) (omega (arith, most))
 
@@ -103,13 +103,13 @@ returns-then-alone-ge-MOST_ALONE-clause-done g c =
     let gives = g.I.Inflow.gives in
     let M = machine g first.ether.setup in
     let job = c.in-Job.job in
-    let home = home_after_taking M tally marked mark gives l.place before c.args.inbox.now (account_of c.args.self.now) first l.inbox (account_of l.self) old l.invariant.taking in
+    let home = home_after_taking M tally marked mark gives c.args.may_wait l.place before c.args.inbox.now (account_of c.args.self.now) first l.inbox (account_of l.self) old l.invariant.taking in
     let taken = subst (λ (s : g.row.M-Setup.Denot). HasTakenUp (machine g s) tally marked mark job before old after new) (ap (λ e. e.setup) home.ether) c.take_up.ensures.taken in
-    let gave = c.in-Job.ensures in
-    let more = taking_next M tally marked mark gives l.place (l.place + 1) c.args.inbox.now (account_of c.args.self.now) first l.inbox (account_of l.self) job before old
+    let gave = subst (λ (waits : Bool). gives c.loop-place.inbox waits (next.Job c.in-Job.job) c.next.new.self) c.waits_at.ensures c.in-Job.ensures in
+    let more = taking_next M tally marked mark gives c.args.may_wait l.place (l.place + 1) c.args.inbox.now (account_of c.args.self.now) first l.inbox (account_of l.self) job before old
     c.next.new.self (account_of c.take_up.new.self) after new refl (omega (arith, room)) l.invariant.taking gave (sym c.is_end.ensures ∙ c.if-is_end.false)
     c.take_up.ensures.requests taken in
-    taking_stop M tally marked mark gives (l.place + 1) after c.args.inbox.now (account_of c.args.self.now) first c.next.new.self (account_of c.take_up.new.self) new more (omega arith) (omega (arith, room))
+    taking_stop M tally marked mark gives c.args.may_wait (l.place + 1) after c.args.inbox.now (account_of c.args.self.now) first c.next.new.self (account_of c.take_up.new.self) new more (omega arith) (omega (arith, room))
 
 pub returns-then-alone-ge-MOST_ALONE-clause-ready : goal.returns-then-alone-ge-MOST_ALONE-clause-ready
 returns-then-alone-ge-MOST_ALONE-clause-ready g c =
@@ -126,10 +126,10 @@ returns-then-alone-ge-MOST_ALONE-clause-ready g c =
     let gives = g.I.Inflow.gives in
     let M = machine g first.ether.setup in
     let job = c.in-Job.job in
-    let home = home_after_taking M tally marked mark gives l.place before c.args.inbox.now (account_of c.args.self.now) first l.inbox (account_of l.self) old l.invariant.taking in
+    let home = home_after_taking M tally marked mark gives c.args.may_wait l.place before c.args.inbox.now (account_of c.args.self.now) first l.inbox (account_of l.self) old l.invariant.taking in
     let taken = subst (λ (s : g.row.M-Setup.Denot). HasTakenUp (machine g s) tally marked mark job before old after new) (ap (λ e. e.setup) home.ether) c.take_up.ensures.taken in
-    let gave = c.in-Job.ensures in
-    let more = taking_next M tally marked mark gives l.place (l.place + 1) c.args.inbox.now (account_of c.args.self.now) first l.inbox (account_of l.self) job before old
+    let gave = subst (λ (waits : Bool). gives c.loop-place.inbox waits (next.Job c.in-Job.job) c.next.new.self) c.waits_at.ensures c.in-Job.ensures in
+    let more = taking_next M tally marked mark gives c.args.may_wait l.place (l.place + 1) c.args.inbox.now (account_of c.args.self.now) first l.inbox (account_of l.self) job before old
     c.next.new.self (account_of c.take_up.new.self) after new refl (omega (arith, room)) l.invariant.taking gave (sym c.is_end.ensures ∙ c.if-is_end.false)
     c.take_up.ensures.requests taken in
     more.ready

@@ -14,7 +14,7 @@ abbrev pub invariant-loop-place : goal.invariant-loop-place
 invariant-loop-place g l =
     let first = l.fn.cell.parts in
     record {
-      taking : IsTaking (machine g first.ether.setup) g.U.Upstream.tally g.M.Marking.marked g.M.Hosted.mark g.I.Inflow.gives l.place l.gathered.items l.fn.inbox
+      taking : IsTaking (machine g first.ether.setup) g.U.Upstream.tally g.M.Marking.marked g.M.Hosted.mark g.I.Inflow.gives l.fn.may_wait l.place l.gathered.items l.fn.inbox
           (account_of l.fn.self) first l.inbox (account_of l.self) l.cell.parts;
       ready : AreReady l.gathered.items l.cell.parts;
     }

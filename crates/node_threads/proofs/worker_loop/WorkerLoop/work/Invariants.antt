@@ -17,6 +17,6 @@ invariant-loop g l =
     record {
       home : IsSameHome first l.cell.parts;
       count : ℕ;
-      rounds : HasDoneRounds (machine g first.ether.setup) g.U.Upstream.tally g.M.Marking.marked g.M.Hosted.mark g.I.Inflow.gives count l.fn.inbox (account_of l.fn.self) first true
-          l.inbox (account_of l.self) l.cell.parts;
+      rounds : HasDoneRounds (machine g first.ether.setup) g.U.Upstream.tally g.M.Marking.marked g.M.Hosted.mark g.I.Inflow.gives count l.fn.self.may_wait l.fn.inbox (account_of l.fn.self) first true
+          l.self.may_wait l.inbox (account_of l.self) l.cell.parts;
     }
