@@ -1,6 +1,6 @@
 //! A client's connection, and how far the client came.
-ghost use Rattle.std.specs.Prelude.{◌≡◌, ◌||◌, length};
-ghost use Rattle.bouncer_run.specs.Connections.{is_ending};
+ghost use Rattle.std.specs.Prelude.{◌≡◌, ◌||◌, length, IfOk, IsTrue};
+ghost use Rattle.bouncer_run.specs.Connections.{gathered, is_ending, may_wait};
 ghost use Rattle.bouncer_run.specs.Guests.{hold, is_registered, parting};
 
 use crate::connection::Connection;
@@ -54,7 +54,17 @@ impl Guest {
     }
 
     /// It is written these bytes. Whether its connection still stands.
-    pub fn write(&mut self, bytes: &[u8]) -> Result<bool, AllocError> {
+    pub fn write(&mut self, bytes: &[u8]) -> Result<bool, AllocError>
+        ensures stands { IfOk result (λ stands. stands
+            ≡ may_wait self.old.connection.phase self.old.connection.unsent bytes.now) }
+        ensures waits { IfOk result (λ stands. IsTrue stands → self.new.connection.unsent
+            ≡ gathered self.old.connection.phase self.old.connection.unsent bytes.now) }
+        ensures rest { self.new ≡ record self.old {
+          connection = record self.old.connection {
+            unsent = self.new.connection.unsent;
+          };
+        } }
+    {
         self.connection.write(bytes)
     }
 
